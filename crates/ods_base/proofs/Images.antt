@@ -1,0 +1,54 @@
+-- Images, block by block.
+use Rattle.std.proofs.Common.{◌≡◌, ℕ, suc, ◌+◌, ◌-◌, ◌*◌, ◌/◌, ◌%◌, ◌<◌, ◌≤◌, List, [], ◌∷◌, ◌++◌, length, take, drop, get_or, refl, sym, ap, ◌∙◌, arith, append_assoc, length-append, inl, inr}
+use Rattle.std.proofs.lemmas.Bool.{cases_lt}
+use Rattle.std.proofs.lemmas.List.{append-nil, get_or_append_left, get_or_push, length_push, take-append-drop, take-take, drop-take}
+use Rattle.std.specs.List.{All, concat}
+use Rattle.ods_base.specs.Block.{IsBlock}
+
+-- the first i blocks of the bytes stand behind the old blocks
+pub record AreStored (old blocks : List (List ℕ)) (i : ℕ) (bytes : List ℕ) : Type 0 where
+  pub whole : concat blocks ≡ concat old ++ take (512 * i) bytes
+  pub count : length blocks ≡ length old + i
+  pub each : All IsBlock blocks
+
+concat_push : (bs : List (List ℕ)) (b : List ℕ) → concat (bs ++ b ∷ []) ≡ concat bs ++ b
+concat_push [] b = append-nil b
+concat_push (x ∷ xs) b = ap (λ l. x ++ l) (concat_push xs b) ∙ sym (append_assoc x (concat xs) b)
+
+All_push : (bs : List (List ℕ)) (b : List ℕ) → All IsBlock bs → IsBlock b → All IsBlock (bs ++ b ∷ [])
+All_push bs b each block k d h = elim (cases_lt k (length bs)) [
+  | inl below ↦ rw (get_or_append_left bs (b ∷ []) d k below) (each k d below)
+  | inr above ↦ let n = length_push bs b in rw (get_or_push bs b d k (omega arith)) block
+]
+
+-- a longer front of a list is a shorter one and what follows
+pub take_more : (n m : ℕ) (xs : List ℕ) → take (n + m) xs ≡ take n xs ++ take m (drop n xs)
+take_more n m xs =
+    let within : n ≤ n + m = omega arith in
+    sym (take-append-drop n (take (n + m) xs)) ∙ ap (λ l. l ++ drop n (take (n + m) xs)) (take-take n (n + m) xs within) ∙ ap (λ l. take n xs ++ l) (drop-take n m xs)
+
+-- no block is stored yet
+pub none_stored : (old : List (List ℕ)) (bytes : List ℕ) → All IsBlock old → AreStored old old 0 bytes
+none_stored old bytes each = record { whole = sym (append-nil (concat old)); count = omega arith; each = each }
+
+-- the next 512 bytes are stored
+pub one_more_stored : (old blocks : List (List ℕ)) (i : ℕ) (bytes b : List ℕ) → AreStored old blocks i bytes → IsBlock b → b ≡ take 512 (drop (512 * i) bytes) → AreStored old (blocks ++ b ∷ []) (i + 1) bytes
+one_more_stored old blocks i bytes b stored block e = record {
+  whole =
+      concat_push blocks b ∙ ap (λ l. l ++ b) stored.whole ∙ append_assoc (concat old) (take (512 * i) bytes) b
+      ∙ ap (λ l. concat old ++ (take (512 * i) bytes ++ l)) e ∙ ap (λ l. concat old ++ l) (sym (take_more (512 * i) 512 bytes))
+      ∙ ap (λ n. concat old ++ take n bytes) (omega arith);
+  count = length_push blocks b ∙ ap (λ n. n + 1) stored.count ∙ omega arith;
+  each = All_push blocks b stored.each block;
+}
+
+all_tail : (b : List ℕ) (bs : List (List ℕ)) → All IsBlock (b ∷ bs) → All IsBlock bs
+all_tail b bs each k d h = each (suc k) d (omega arith)
+
+-- an image of n blocks has 512 * n bytes
+pub length-concat : (bs : List (List ℕ)) → All IsBlock bs → length (concat bs) ≡ 512 * length bs
+length-concat [] each = refl
+length-concat (b ∷ bs) each =
+    let size = (each 0 [] (omega arith)).size in
+    let rest = length-concat bs (all_tail b bs each) in
+    length-append b (concat bs) ∙ omega arith

@@ -1,0 +1,25 @@
+//! Blocks, words, sums, images and names of Files-11 volumes of structure level 1.
+#![tactic(auto)]
+
+mod block;
+mod faults;
+mod file_id;
+mod image;
+mod laws;
+mod listed;
+mod name;
+mod print;
+mod read;
+#[cfg(test)]
+mod tests;
+mod write;
+
+pub use block::{Block, set_word, sum, word};
+pub use faults::{ImageError, NameFault, NoMemory, WriteFault};
+pub use file_id::{FileId, Uic};
+pub use image::{Image, MAX_BYTES};
+pub use laws::picked_by_keys;
+pub use listed::Listed;
+pub use name::{Name, Pick};
+pub use print::{print_name, print_words};
+pub use write::write_bytes;

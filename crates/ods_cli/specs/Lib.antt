@@ -1,0 +1,2 @@
+pub mod HeaderReply
+pub mod HeaderRun

@@ -1,0 +1,5 @@
+pub mod Missing
+pub mod Octal
+pub mod Places
+pub mod Pointers
+pub mod Written

@@ -1,0 +1,48 @@
+-- The texts of an ident and of a header.
+use Rattle.std.specs.Prelude.{ℕ, zero, suc, ◌+◌, ◌/◌, ◌%◌, false, List, [], ◌∷◌, ◌++◌, codes}
+use Rattle.std.specs.List.{flat_map}
+use Rattle.std.specs.Fmt.{decimal, radix_digits}
+use Rattle.ods_base.specs.Block.{word}
+use Rattle.ods_base.specs.Name.{name_version_text}
+use Rattle.ods_header.specs.declared.header.Run.{Run}
+use Rattle.ods_base.specs.declared.file_id.FileId.{FileId}
+use Rattle.ods_header.specs.declared.header.Header.{Header}
+
+-- this many octal digits, zeros in front
+abbrev pub octal_digits : ℕ → ℕ → List ℕ
+octal_digits zero n = []
+octal_digits (suc width) n = octal_digits width (n / 8) ++ (48 + n % 8) ∷ []
+
+-- a number in octal, without zeros in front
+abbrev pub octal : ℕ → List ℕ
+octal n = radix_digits 8 false n
+
+-- the name and the version of an ident
+abbrev pub ident_text : List ℕ → List ℕ
+ident_text ident = name_version_text (record { words = word ident 0 ∷ word ident 1 ∷ word ident 2 ∷ []; ext = word ident 3 }) (word ident 4)
+
+-- n,s
+abbrev pub file_id_text : FileId → List ℕ
+file_id_text id = decimal id.number ++ 44 ∷ decimal id.sequence
+
+-- a space and LBN+COUNT
+abbrev pub run_text : Run → List ℕ
+run_text r = 32 ∷ decimal r.lbn ++ 43 ∷ decimal r.count
+
+-- HEADER n,s NAME;V
+abbrev pub name_part : Header → List ℕ
+name_part h = codes "HEADER " ++ file_id_text h.file ++ 32 ∷ ident_text h.ident
+
+-- the owner [g,m], the protection in six digits, and both bytes of characteristics in three: [g,m] pppppp uuu,ccc
+abbrev pub owner_part : Header → List ℕ
+owner_part h =
+    codes " [" ++ octal h.owner.group ++ 44 ∷ octal h.owner.member ++ codes "] " ++ octal_digits 6 h.protection
+    ++ 32 ∷ octal_digits 3 h.user_char ++ 44 ∷ octal_digits 3 h.system_char
+
+-- segment e next n,s runs
+abbrev pub place_part : Header → List ℕ
+place_part h = codes " segment " ++ decimal h.segment ++ codes " next " ++ file_id_text h.next ++ codes " runs"
+
+-- HEADER n,s NAME;V [g,m] pppppp uuu,ccc segment e next n,s runs, and the pointers in order
+abbrev pub header_text : Header → List ℕ
+header_text h = name_part h ++ owner_part h ++ place_part h ++ flat_map run_text h.pointers.items

@@ -1,0 +1,131 @@
+//! One line about a header, as it is printed.
+ghost use Rattle.std.specs.Prelude.{◌≡◌, ◌+◌, ◌≤◌, ◌++◌, IfOk, IfErr, OnOk};
+ghost use Rattle.arrayvec.specs.ArrayString.{array_string_len};
+ghost use Rattle.std.specs.String.{string_bytes};
+ghost use Rattle.std.specs.List.{flat_map};
+ghost use Rattle.ods_header.specs.Header.{IsValidHeader, header_of};
+ghost use Rattle.ods_header.specs.Line.{line_block, IsLineFault};
+ghost use Rattle.ods_header.specs.Text.{header_text, name_part, owner_part, place_part, ident_text, run_text, octal as octal_text, octal_digits as octal_digits_text};
+
+use crate::{Header, HeaderFault, Home, LineFault, Run, read_header};
+use arrayvec::ArrayString;
+use ods_base::{Image, print_words};
+use std::alloc::{AllocError, Global};
+
+/// The line of one of the first 16 headers, which follow the index bitmap on the disk: its fields and its
+/// pointers as text, without a line feed. A block that the image lacks is read as zeros.
+pub fn header_line(
+    alloc: Global,
+    image: &Image,
+    home: &Home,
+    number: u16,
+) -> Result<String, LineFault>
+    requires some { 1 ≤ number }
+    requires most { number ≤ 16 }
+    ensures ok { IfOk result (λ line. IsValidHeader (line_block image.now home.now number) number
+        × (string_bytes line ≡ header_text (header_of (line_block image.now home.now number)))) }
+    ensures err { IfErr result (IsLineFault image.now home.now number) }
+{
+    let lbn = home.index_lbn as u64 + home.index_size as u64 + number as u64 - 1;
+    if lbn >= image.len() as u64 {
+        return Err(LineFault::Header(HeaderFault::WrongNumber));
+    }
+    match read_header(image.block(lbn as u32), number) {
+        Ok(header) => Ok(text_of(alloc, &header)?),
+        Err(fault) => Err(LineFault::Header(fault)),
+    }
+}
+
+/// The text of a header.
+fn text_of(alloc: Global, header: &Header) -> Result<String, AllocError>
+    ensures { IfOk result (λ line. string_bytes line ≡ header_text header.now) }
+{
+    let mut line = String::new(alloc);
+    push_name(&mut line, header)?;
+    push_owner(&mut line, header)?;
+    push_place(&mut line, header)?;
+    push_runs(&mut line, header.pointers.as_slice())?;
+    Ok(line)
+}
+
+/// Appends the file ID and the name.
+fn push_name(line: &mut String, header: &Header) -> Result<(), AllocError>
+    ensures { OnOk result (string_bytes line.new ≡ string_bytes line.old ++ name_part header.now) }
+{
+    let file = header.file;
+    let name = print_ident(&header.ident);
+    write!(line, "HEADER {},{} {name}", file.number, file.sequence)
+}
+
+/// Appends the owner, the protection and the characteristics, in octal.
+fn push_owner(line: &mut String, header: &Header) -> Result<(), AllocError>
+    ensures { OnOk result (string_bytes line.new ≡ string_bytes line.old ++ owner_part header.now) }
+{
+    let group = octal(header.owner.group);
+    let member = octal(header.owner.member);
+    let protection = octal_digits(header.protection, 6);
+    let user = octal_digits(header.user_char as u16, 3);
+    let system = octal_digits(header.system_char as u16, 3);
+    write!(line, " [{group},{member}] {protection} {user},{system}")
+}
+
+/// Appends the place in the chain and the next header.
+fn push_place(line: &mut String, header: &Header) -> Result<(), AllocError>
+    ensures { OnOk result (string_bytes line.new ≡ string_bytes line.old ++ place_part header.now) }
+{
+    let segment = header.segment;
+    let next = header.next;
+    write!(line, " segment {segment} next {},{} runs", next.number, next.sequence)
+}
+
+/// Appends the texts of pointers.
+fn push_runs(line: &mut String, runs: &[Run]) -> Result<(), AllocError>
+    ensures { OnOk result (string_bytes line.new ≡ string_bytes line.old ++ flat_map run_text runs.now) }
+{
+    for run in runs {
+        write!(line, " {}+{}", run.lbn, run.count)?;
+    }
+    Ok(())
+}
+
+/// A byte in octal, without zeros in front.
+fn octal(byte: u8) -> ArrayString<6>
+    ensures { result.bytes ≡ octal_text byte }
+{
+    let digits = match byte {
+        0..=7 => 1,
+        8..=63 => 2,
+        _ => 3,
+    };
+    octal_digits(byte as u16, digits)
+}
+
+/// The last octal digits of a number, zeros in front.
+fn octal_digits(number: u16, digits: usize) -> ArrayString<6>
+    requires { digits ≤ 6 }
+    ensures { result.bytes ≡ octal_digits_text digits number }
+{
+    let mut text = ArrayString::new();
+    push_octal(&mut text, number, digits);
+    text
+}
+
+/// Appends the last octal digits of a number: those before the last one, and then that.
+fn push_octal(text: &mut ArrayString<6>, number: u16, digits: usize)
+    requires { array_string_len text.old + digits ≤ 6 }
+    ensures { text.new.bytes ≡ text.old.bytes ++ octal_digits_text digits number }
+{
+    if digits > 0 {
+        push_octal(text, number / 8, digits - 1);
+        text.push(char::from(b'0' + (number % 8) as u8));
+    }
+}
+
+/// The name and the version of an ident, from its 46 bytes: three name words, the type word and the version
+/// word. A word that spells nothing is `???`.
+pub fn print_ident(ident: &[u8; 46]) -> ArrayString<19>
+    ensures { result.bytes ≡ ident_text ident.now }
+{
+    let word = |k: usize| u16::from_le_bytes([ident[2 * k], ident[2 * k + 1]]);
+    print_words([word(0), word(1), word(2)], word(3), word(4))
+}
