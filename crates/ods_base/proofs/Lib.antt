@@ -1,6 +1,10 @@
 pub mod Blocks
 pub mod Images
+pub mod NameCodes
+pub mod NameCuts
+pub mod NameParsing
 pub mod NameTexts
+pub mod NameVersions
 pub mod Picks
 pub mod Pieces
 pub mod Reading

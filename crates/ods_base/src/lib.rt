@@ -8,6 +8,9 @@ mod image;
 mod laws;
 mod listed;
 mod name;
+#[cfg(test)]
+mod name_tests;
+mod parse;
 mod print;
 mod read;
 #[cfg(test)]
@@ -18,8 +21,9 @@ pub use block::{Block, set_word, sum, word};
 pub use faults::{ImageError, NameFault, NoMemory, WriteFault};
 pub use file_id::{FileId, Uic};
 pub use image::{Image, MAX_BYTES};
-pub use laws::picked_by_keys;
+pub use laws::{picked_by_keys, picked_by_one_text};
 pub use listed::Listed;
 pub use name::{Name, Pick};
+pub use parse::parse_name;
 pub use print::{print_name, print_words};
 pub use write::write_bytes;

@@ -2,20 +2,21 @@
 ghost use Rattle.std.specs.Prelude.{◌≡◌, ◌+◌, ◌-◌, ◌≤◌, ◌==◌, ◌++◌, length, take, slice_index};
 ghost use Rattle.std.specs.List.{suffix_len};
 ghost use Rattle.arrayvec.specs.ArrayString.{array_string_len};
-ghost use Rattle.ods_base.specs.Name.{RadName, rad50_codes, rad50_char, part_text, name_version_text};
+ghost use Rattle.ods_base.specs.Name.{rad50_codes, rad50_char, part_text, name_version_text};
 
 use crate::Name;
 use arrayvec::ArrayString;
 use itoa::Buffer;
 
-/// The text of a name with its version, as `A.TXT;1`.
+/// The text of a name with its version, as `A.TXT;1`: at most 19 characters.
 pub fn print_name(name: &Name, version: u16) -> ArrayString<19>
     ensures { result.bytes ≡ name_version_text name.now version }
 {
     print_words(name.words(), name.ext(), version)
 }
 
-/// The text of name words as they stand, with a version: a word of 64,000 or more is shown as `???`.
+/// The text of name words as they stand, with a version; a word of 64,000 or more, which no three
+/// characters have, is shown as `???`.
 pub fn print_words(words: [u16; 3], ext: u16, version: u16) -> ArrayString<19>
     ensures { result.bytes ≡ name_version_text (record { words = words; ext = ext }) version }
 {
@@ -43,7 +44,11 @@ fn codes_of(word: u16) -> [u8; 3]
     ensures { result ≡ rad50_codes word }
 {
     if word < 64_000 {
-        [(word / 1600) as u8, (word / 40 % 40) as u8, (word % 40) as u8]
+        [
+            (word / 1600) as u8,
+            (word / 40 % 40) as u8,
+            (word % 40) as u8,
+        ]
     } else {
         [40, 40, 40]
     }

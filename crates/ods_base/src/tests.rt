@@ -152,19 +152,3 @@ fn words_and_sums_are_little_endian(rt: HostRuntime) -> Result<(), Fail> {
     assert_eq!(rt; sum(&block, 255), 11_408);
     Ok(())
 }
-
-#[test]
-fn names_are_printed(rt: HostRuntime) -> Result<(), Fail> {
-    for (words, ext, version, text) in [
-        ([14964, 8966, 0], 31419, 1, "INDEXF.SYS;1"),
-        ([49230, 49230, 0], 6778, 1, "000000.DIR;1"),
-        ([1600, 0, 0], 32980, 32767, "A.TXT;32767"),
-        ([0, 0, 0], 0, 0, ".;0"),
-        ([63999, 63999, 63999], 63999, 65535, "999999999.999;65535"),
-        ([64000, 1600, 0], 64000, 7, "???A.???;7"),
-    ] {
-        assert_eq!(rt; print_words(words, ext, version).as_str(), text);
-    }
-    assert_eq!(rt; print_name(&Name::new([1600, 0, 0], 32980), 1).as_str(), "A.TXT;1");
-    Ok(())
-}

@@ -10,8 +10,10 @@ use thiserror::Error;
 /// Why there is no header line.
 #[derive(Clone, Copy, Debug, PartialEq, Eq, Error)]
 pub enum LineFault {
+    /// The block at the header's place is no such header.
     #[error("{0}")]
     Header(HeaderFault),
+    /// A growth was refused.
     #[error("NoMemory")]
     NoMemory,
 }
