@@ -3,14 +3,15 @@
 #![tactic(auto)]
 
 use ods_cli::{ServeFault, header_run, sample};
-use std::env;
-use std::io;
 use std::process::ExitCode;
 use std::rt::Env;
+use std::{env, io};
 
 /// The exit status of a refused volume, of wrong words, and of a device or memory that failed.
 const REFUSED: u8 = 1;
+
 const WRONG_WORDS: u8 = 2;
+
 const FAILED: u8 = 3;
 
 fn main(rt: HostRuntime) -> ExitCode {

@@ -62,9 +62,11 @@ sent_on I i written n piece each inside way within =
     let count = way.count in
     let front : length (take written (concat I)) ≡ written = length-take-le written (concat I) (omega arith) in
     let seam : written + n ≡ length (take written (concat I)) + n = omega arith in
-    let few : written + n ≤ 512 * i = omega arith in
-    (sym (take-append-add (take written (concat I)) piece n) ∙ ap (λ m. take m (take written (concat I) ++ piece)) (sym seam)
-    ∙ ap (take (written + n)) way.held ∙ take-take (written + n) (512 * i) (concat I) few, omega arith)
+    let few : written + n ≤ 512 * i = omega arith in (
+      sym (take-append-add (take written (concat I)) piece n) ∙ ap (λ m. take m (take written (concat I) ++ piece)) (sym seam)
+          ∙ ap (take (written + n)) way.held ∙ take-take (written + n) (512 * i) (concat I) few,
+      omega arith,
+    )
 
 -- the writer took a first part of the piece
 pub takes_on : (I : List (List ℕ)) (i written n : ℕ) (piece : List ℕ) (old mid new : Option (List ℕ)) → All IsBlock I → i ≤ length I → IsUnderWay I i written piece → n ≤ length piece →

@@ -19,7 +19,7 @@ impl Image {
     pub fn read_from<R: Read>(alloc: Global, reader: &mut R) -> Result<Image, ImageError>
         ensures { (bytes : List ℕ) × Consumes (R.remaining reader.old) (R.remaining reader.new) bytes
             × MatchResult result (λ image. IsImage image × (image_bytes image ≡ bytes) × IsAtEnd (R.remaining reader.new))
-                (IsNoReading bytes (R.remaining reader.new)) }
+            (IsNoReading bytes (R.remaining reader.new)) }
     {
         let mut piece = zeroed(alloc, PIECE)?;
         let mut blocks = Vec::new(alloc);
@@ -38,7 +38,7 @@ fn read_blocks<R: Read>(
     requires none { blocks.old.items ≡ [] }
     ensures { (bytes : List ℕ) × Consumes (R.remaining reader.old) (R.remaining reader.new) bytes
         × MatchResult result (λ _. IsImage blocks.new.items × (image_bytes blocks.new.items ≡ bytes) × IsAtEnd (R.remaining reader.new))
-            (IsNoReading bytes (R.remaining reader.new)) }
+        (IsNoReading bytes (R.remaining reader.new)) }
 {
     let mut held = 0;
     'pieces: loop {

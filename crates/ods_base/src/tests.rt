@@ -66,8 +66,15 @@ fn images_come_from_bytes(rt: HostRuntime) -> Result<(), Fail> {
     assert_eq!(rt; word(image.block(1), 255), 0x0707);
     let copy = image.copy()?;
     assert!(rt; copy == image);
-    assert!(rt; Image::from_bytes(rt.alloc(), &[]).ok().ok_or("refused")?.is_empty());
-    let fault = Image::from_bytes(rt.alloc(), &bytes[..511]).err().ok_or("taken")?;
+    assert!(rt;
+        Image::from_bytes(rt.alloc(), &[])
+            .ok()
+            .ok_or("refused")?
+            .is_empty()
+    );
+    let fault = Image::from_bytes(rt.alloc(), &bytes[..511])
+        .err()
+        .ok_or("taken")?;
     assert_eq!(rt; fault, ImageError::NotWholeBlocks);
     assert_eq!(rt; fault.code(), 1);
     assert_eq!(rt; fault.name(), "NotWholeBlocks");
@@ -79,13 +86,20 @@ fn images_come_from_bytes(rt: HostRuntime) -> Result<(), Fail> {
 fn readers_may_give_any_pieces(rt: HostRuntime) -> Result<(), Fail> {
     for most in [1, 511, 513, 65_536, 100_000] {
         let mut reader = new_device(200 * 512, most, 0);
-        let image = Image::read_from(rt.alloc(), &mut reader).ok().ok_or("refused")?;
+        let image = Image::read_from(rt.alloc(), &mut reader)
+            .ok()
+            .ok_or("refused")?;
         assert_eq!(rt; image.len(), 200, "in pieces of {most}");
         for lbn in 0..image.len() {
-            assert!(rt; *image.block(lbn) == Block::new([0x5a; 512]), "block {lbn} in pieces of {most}");
+            assert!(rt;
+                *image.block(lbn) == Block::new([0x5a; 512]),
+                "block {lbn} in pieces of {most}"
+            );
         }
     }
-    let fault = Image::read_from(rt.alloc(), &mut new_device(511, 100, 0)).err().ok_or("taken")?;
+    let fault = Image::read_from(rt.alloc(), &mut new_device(511, 100, 0))
+        .err()
+        .ok_or("taken")?;
     assert_eq!(rt; fault, ImageError::NotWholeBlocks);
     Ok(())
 }
@@ -95,7 +109,9 @@ fn readers_may_give_any_pieces(rt: HostRuntime) -> Result<(), Fail> {
 fn failed_reads_are_not_repeated(rt: HostRuntime) -> Result<(), Fail> {
     for fails_at in 1..5 {
         let mut reader = new_device(2048, 512, fails_at);
-        let fault = Image::read_from(rt.alloc(), &mut reader).err().ok_or("taken")?;
+        let fault = Image::read_from(rt.alloc(), &mut reader)
+            .err()
+            .ok_or("taken")?;
         assert_eq!(rt; fault, ImageError::ReadFailed, "at {fails_at}");
         assert_eq!(rt; reader.calls, fails_at);
     }
@@ -111,7 +127,10 @@ fn writers_may_take_any_pieces(rt: HostRuntime) -> Result<(), Fail> {
     assert!(rt; image.write_to(&mut out).is_ok());
     assert!(rt; out.as_slice() == bytes.as_slice());
     for most in [1000, 65_536, 1_000_000] {
-        assert!(rt; image.write_to(&mut new_device(300 * 512, most, 0)).is_ok(), "in pieces of {most}");
+        assert!(rt;
+            image.write_to(&mut new_device(300 * 512, most, 0)).is_ok(),
+            "in pieces of {most}"
+        );
     }
     Ok(())
 }

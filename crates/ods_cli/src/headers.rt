@@ -46,7 +46,7 @@ fn reply_to<R: Read>(alloc: Global, reader: &mut R, number: u16) -> Result<Reply
     requires most { number ≤ 16 }
     ensures { (bytes : List ℕ) × Consumes (R.remaining reader.old) (R.remaining reader.new) bytes
         × MatchResult result (λ reply. IsHeaderReply bytes (R.remaining reader.new) number reply.found (string_bytes reply.line))
-            (IsReplyFault bytes) }
+        (IsReplyFault bytes) }
 {
     let image = match Image::read_from(alloc, reader) {
         Ok(image) => image,

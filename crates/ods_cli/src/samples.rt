@@ -11,6 +11,7 @@ const PROTECTION: u16 = 0o160000;
 
 /// The type words of `SYS` and `DIR`.
 const SYS: u16 = 31419;
+
 const DIR: u16 = 6778;
 
 /// A reserved file: its name, its type and what it maps.

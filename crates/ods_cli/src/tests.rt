@@ -8,7 +8,11 @@ use std::test::Fail;
 /// The sample's bytes that are not zero, but for the free blocks: an LBN, a byte place and the bytes there.
 const SAMPLE: [(u32, usize, &[u8]); 38] = [
     // The home block: H.IBSZ, H.IBLB, H.FMAX, H.SBCL, H.VLEV, H.DFPR, H.CHK1, H.INDF, H.CHK2.
-    (1, 0, b"\x01\x00\x00\x00\x02\x00\x10\x00\x01\x00\x00\x00\x01\x01"),
+    (
+        1,
+        0,
+        b"\x01\x00\x00\x00\x02\x00\x10\x00\x01\x00\x00\x00\x01\x01",
+    ),
     (1, 36, b"\x00\xe0"),
     (1, 58, b"\x15\xe1"),
     (1, 496, b"\x44\x45\x43\x46\x49\x4c\x45\x31\x31\x41\x20\x20"),
@@ -47,11 +51,31 @@ const SAMPLE: [(u32, usize, &[u8]); 38] = [
     // The storage bitmap.
     (20, 2, b"\xc0\xff\xff"),
     // The master directory.
-    (21, 0, b"\x01\x00\x01\x00\x00\x00\x74\x3a\x06\x23\x00\x00\xbb\x7a\x01\x00"),
-    (21, 16, b"\x02\x00\x02\x00\x00\x00\xfc\x0d\x78\x51\x00\x00\xbb\x7a\x01\x00"),
-    (21, 32, b"\x03\x00\x03\x00\x00\x00\xac\x0c\x6b\x0e\x00\x00\xbb\x7a\x01\x00"),
-    (21, 48, b"\x04\x00\x04\x00\x00\x00\x4e\xc0\x4e\xc0\x00\x00\x7a\x1a\x01\x00"),
-    (21, 64, b"\x05\x00\x05\x00\x00\x00\x2a\x15\x4f\x3a\x00\x00\xbb\x7a\x01\x00"),
+    (
+        21,
+        0,
+        b"\x01\x00\x01\x00\x00\x00\x74\x3a\x06\x23\x00\x00\xbb\x7a\x01\x00",
+    ),
+    (
+        21,
+        16,
+        b"\x02\x00\x02\x00\x00\x00\xfc\x0d\x78\x51\x00\x00\xbb\x7a\x01\x00",
+    ),
+    (
+        21,
+        32,
+        b"\x03\x00\x03\x00\x00\x00\xac\x0c\x6b\x0e\x00\x00\xbb\x7a\x01\x00",
+    ),
+    (
+        21,
+        48,
+        b"\x04\x00\x04\x00\x00\x00\x4e\xc0\x4e\xc0\x00\x00\x7a\x1a\x01\x00",
+    ),
+    (
+        21,
+        64,
+        b"\x05\x00\x05\x00\x00\x00\x2a\x15\x4f\x3a\x00\x00\xbb\x7a\x01\x00",
+    ),
     (22, 0, b"\x5a"),
     (39, 511, b"\x5a"),
 ];
@@ -79,7 +103,9 @@ fn sample_has_its_bytes(rt: HostRuntime) -> Result<(), Fail> {
 #[test]
 fn sample_has_its_sums(rt: HostRuntime) -> Result<(), Fail> {
     let bytes = sample(rt.alloc(), 40)?;
-    let image = Image::from_bytes(rt.alloc(), &bytes).ok().ok_or("no image")?;
+    let image = Image::from_bytes(rt.alloc(), &bytes)
+        .ok()
+        .ok_or("no image")?;
     assert_eq!(rt; image.len(), 40);
     for (lbn, words, total) in [
         (1, 29, 57_621),
@@ -103,10 +129,26 @@ fn sample_has_its_sums(rt: HostRuntime) -> Result<(), Fail> {
 fn headers_are_replied(rt: HostRuntime) -> Result<(), Fail> {
     let bytes = sample(rt.alloc(), 40)?;
     for (number, found, reply) in [
-        (1, true, "HEADER 1,1 INDEXF.SYS;1 [1,1] 160000 000,000 segment 0 next 0,0 runs 0+19\n"),
-        (2, true, "HEADER 2,2 BITMAP.SYS;1 [1,1] 160000 000,000 segment 0 next 0,0 runs 19+2\n"),
-        (3, true, "HEADER 3,3 BADBLK.SYS;1 [1,1] 160000 000,000 segment 0 next 0,0 runs\n"),
-        (4, true, "HEADER 4,4 000000.DIR;1 [1,1] 160000 000,000 segment 0 next 0,0 runs 21+1\n"),
+        (
+            1,
+            true,
+            "HEADER 1,1 INDEXF.SYS;1 [1,1] 160000 000,000 segment 0 next 0,0 runs 0+19\n",
+        ),
+        (
+            2,
+            true,
+            "HEADER 2,2 BITMAP.SYS;1 [1,1] 160000 000,000 segment 0 next 0,0 runs 19+2\n",
+        ),
+        (
+            3,
+            true,
+            "HEADER 3,3 BADBLK.SYS;1 [1,1] 160000 000,000 segment 0 next 0,0 runs\n",
+        ),
+        (
+            4,
+            true,
+            "HEADER 4,4 000000.DIR;1 [1,1] 160000 000,000 segment 0 next 0,0 runs 21+1\n",
+        ),
         (6, false, "NO 11 WrongNumber\n"),
         (16, false, "NO 11 WrongNumber\n"),
     ] {
@@ -169,11 +211,25 @@ impl Write for Broken {
 fn devices_may_fail(rt: HostRuntime) -> Result<(), Fail> {
     let bytes = sample(rt.alloc(), 40)?;
     let mut out = Vec::new(rt.alloc());
-    assert_eq!(rt; header_run(rt.alloc(), &mut Broken, 4, &mut out), Err(ServeFault::Read));
+    assert_eq!(rt;
+        header_run(rt.alloc(), &mut Broken, 4, &mut out),
+        Err(ServeFault::Read)
+    );
     assert!(rt; out.is_empty());
-    assert_eq!(rt; header_run(rt.alloc(), &mut bytes.as_slice(), 4, &mut Broken), Err(ServeFault::Write));
+    assert_eq!(rt;
+        header_run(rt.alloc(), &mut bytes.as_slice(), 4, &mut Broken),
+        Err(ServeFault::Write)
+    );
     // A writer without room takes 0 bytes.
     let mut none: [u8; 0] = [];
-    assert_eq!(rt; header_run(rt.alloc(), &mut bytes.as_slice(), 4, &mut none.as_mut_slice()), Err(ServeFault::Write));
+    assert_eq!(rt;
+        header_run(
+            rt.alloc(),
+            &mut bytes.as_slice(),
+            4,
+            &mut none.as_mut_slice()
+        ),
+        Err(ServeFault::Write)
+    );
     Ok(())
 }

@@ -6,6 +6,7 @@ mod find;
 mod header;
 mod home;
 mod line;
+mod map_area;
 mod read;
 mod write;
 
@@ -14,6 +15,7 @@ pub use find::find_home;
 pub use header::{Header, HeaderFault, Run};
 pub use home::{Home, HomeFault};
 pub use line::{header_line, print_ident};
+pub use map_area::{is_valid_header, pointer_at, pointer_count};
 pub use read::read_header;
 pub use write::write_header;
 

@@ -75,7 +75,11 @@ fn push_place(line: &mut String, header: &Header) -> Result<(), AllocError>
 {
     let segment = header.segment;
     let next = header.next;
-    write!(line, " segment {segment} next {},{} runs", next.number, next.sequence)
+    write!(
+        line,
+        " segment {segment} next {},{} runs",
+        next.number, next.sequence
+    )
 }
 
 /// Appends the texts of pointers.

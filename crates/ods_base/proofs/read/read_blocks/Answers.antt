@@ -14,10 +14,11 @@ returns-in_err-count g c =
     let size = length-taken blocks c.pieces.held c.pieces.piece state.each within in
     let remaining = g.R.Read.remaining in
     let failed = c.in_err-count.ensures.err in
-    let p = err_from_is_err_and c.from_residual.result c.from_residual.ensures.1 in
-    (concat blocks ++ take c.pieces.held c.pieces.piece,
-    Consumes-kept (remaining c.args.reader.now) (remaining c.pieces.reader) (remaining c.read_once.new.reader) (concat blocks ++ take c.pieces.held c.pieces.piece) state.taken failed.1,
-    rw (p.1, p.2, failed.0) (omega (arith, state.most)))
+    let p = err_from_is_err_and c.from_residual.result c.from_residual.ensures.1 in (
+      concat blocks ++ take c.pieces.held c.pieces.piece,
+      Consumes-kept (remaining c.args.reader.now) (remaining c.pieces.reader) (remaining c.read_once.new.reader) (concat blocks ++ take c.pieces.held c.pieces.piece) state.taken failed.1,
+      rw (p.1, p.2, failed.0) (omega (arith, state.most)),
+    )
 
 pub returns-then-taken-count-gt-MAX_BYTES : goal.returns-then-taken-count-gt-MAX_BYTES
 returns-then-taken-count-gt-MAX_BYTES g c =
@@ -29,10 +30,11 @@ returns-then-taken-count-gt-MAX_BYTES g c =
     let kept : length c.read_once.new.piece ≡ 65536 = c.read_once.auto.piece ∙ state.size in
     let within : end ≤ length c.read_once.new.piece = omega (arith, c.min-room.ensures, state.held) in
     let size = length-taken blocks end c.read_once.new.piece state.each within in
-    let remaining = g.R.Read.remaining in
-    (concat blocks ++ take end c.read_once.new.piece,
-    read_more (remaining c.args.reader.now) (remaining c.pieces.reader) (remaining c.read_once.new.reader) blocks c.pieces.held c.in_ok-count.count c.pieces.piece c.read_once.new.piece state.taken read.1,
-    size ∙ omega (arith, c.len.ensures, c.pieces.blocks.ok.0, c.min-room.ensures, c.if-taken-count-gt-MAX_BYTES.true))
+    let remaining = g.R.Read.remaining in (
+      concat blocks ++ take end c.read_once.new.piece,
+      read_more (remaining c.args.reader.now) (remaining c.pieces.reader) (remaining c.read_once.new.reader) blocks c.pieces.held c.in_ok-count.count c.pieces.piece c.read_once.new.piece state.taken read.1,
+      size ∙ omega (arith, c.len.ensures, c.pieces.blocks.ok.0, c.min-room.ensures, c.if-taken-count-gt-MAX_BYTES.true),
+    )
 
 pub returns-in_err-store_whole_blocks : goal.returns-in_err-store_whole_blocks
 returns-in_err-store_whole_blocks g c =
@@ -45,10 +47,11 @@ returns-in_err-store_whole_blocks g c =
     let within : end ≤ length c.read_once.new.piece = omega (arith, c.min-room.ensures, state.held) in
     let size = length-taken blocks end c.read_once.new.piece state.each within in
     let remaining = g.R.Read.remaining in
-    let p = err_from_is_err_and c.from_residual-in_err-store_whole_blocks.result c.from_residual-in_err-store_whole_blocks.ensures.1 in
-    (concat blocks ++ take end c.read_once.new.piece,
-    read_more (remaining c.args.reader.now) (remaining c.pieces.reader) (remaining c.read_once.new.reader) blocks c.pieces.held c.in_ok-count.count c.pieces.piece c.read_once.new.piece state.taken read.1,
-    rw (p.1, p.2) (omega (arith, c.len.ensures, c.pieces.blocks.ok.0, c.min-room.ensures)))
+    let p = err_from_is_err_and c.from_residual-in_err-store_whole_blocks.result c.from_residual-in_err-store_whole_blocks.ensures.1 in (
+      concat blocks ++ take end c.read_once.new.piece,
+      read_more (remaining c.args.reader.now) (remaining c.pieces.reader) (remaining c.read_once.new.reader) blocks c.pieces.held c.in_ok-count.count c.pieces.piece c.read_once.new.piece state.taken read.1,
+      rw (p.1, p.2) (omega (arith, c.len.ensures, c.pieces.blocks.ok.0, c.min-room.ensures)),
+    )
 
 pub pieces-preserved : goal.pieces-preserved
 pieces-preserved g c =
@@ -86,10 +89,11 @@ returns-then-held-ne0 g c =
     let kept : length c.read_once.new.piece ≡ 65536 = c.read_once.auto.piece ∙ state.size in
     let within : end ≤ length c.read_once.new.piece = omega (arith, state.held, c.if-count-eq0.true) in
     let size = length-taken blocks end c.read_once.new.piece state.each within in
-    let remaining = g.R.Read.remaining in
-    (concat blocks ++ take end c.read_once.new.piece,
-    read_more (remaining c.args.reader.now) (remaining c.pieces.reader) (remaining c.read_once.new.reader) blocks c.pieces.held c.in_ok-count.count c.pieces.piece c.read_once.new.piece state.taken read.1,
-    (omega (arith, state.most, c.if-count-eq0.true), λ whole. absurd (omega (arith, state.held, c.if-count-eq0.true, c.if-held-ne0.true)), read.1.at_end c.if-count-eq0.true))
+    let remaining = g.R.Read.remaining in (
+      concat blocks ++ take end c.read_once.new.piece,
+      read_more (remaining c.args.reader.now) (remaining c.pieces.reader) (remaining c.read_once.new.reader) blocks c.pieces.held c.in_ok-count.count c.pieces.piece c.read_once.new.piece state.taken read.1,
+      (omega (arith, state.most, c.if-count-eq0.true), λ whole. absurd (omega (arith, state.held, c.if-count-eq0.true, c.if-held-ne0.true)), read.1.at_end c.if-count-eq0.true),
+    )
 
 pub returns : goal.returns
 returns g c =
@@ -99,8 +103,9 @@ returns g c =
     let end : ℕ = c.pieces.held + c.in_ok-count.count in
     let none : end ≡ 0 = omega (arith, c.if-count-eq0.true, c.if-held-ne0.false) in
     let remaining = g.R.Read.remaining in
-    let P : List ℕ → Type 0 = λ bytes. Consumes (remaining c.args.reader.now) (remaining c.read_once.new.reader) bytes in
-    (concat blocks,
-    subst P (none_held blocks end c.read_once.new.piece none)
-    (read_more (remaining c.args.reader.now) (remaining c.pieces.reader) (remaining c.read_once.new.reader) blocks c.pieces.held c.in_ok-count.count c.pieces.piece c.read_once.new.piece state.taken read.1),
-    (IsImage-by_count blocks state.each (omega (arith, state.most)), refl, read.1.at_end c.if-count-eq0.true))
+    let P : List ℕ → Type 0 = λ bytes. Consumes (remaining c.args.reader.now) (remaining c.read_once.new.reader) bytes in (
+      concat blocks,
+      subst P (none_held blocks end c.read_once.new.piece none)
+          (read_more (remaining c.args.reader.now) (remaining c.pieces.reader) (remaining c.read_once.new.reader) blocks c.pieces.held c.in_ok-count.count c.pieces.piece c.read_once.new.piece state.taken read.1),
+      (IsImage-by_count blocks state.each (omega (arith, state.most)), refl, read.1.at_end c.if-count-eq0.true),
+    )

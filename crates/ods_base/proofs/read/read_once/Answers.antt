@@ -7,11 +7,13 @@ returns-in-Ok-clause-ok g c =
     let within = c.requires.room in
     let bound = c.in-Ok.ensures.bound in
     let size : length c.read.new.buf ≡ c.args.most = omega (arith, simp (length-take, length-drop) at c.read.auto.buf) in
-    let few : c.in-Ok.count ≤ length c.read.new.buf = bound.0 in
-    (omega arith, record {
-      got = take c.in-Ok.count c.read.new.buf;
-      size = sym bound.1;
-      consumed = c.in-Ok.ensures.bytes.0;
-      behind = read_behind c.args.piece.now c.read.new.buf c.args.held (c.args.held + c.args.most - c.args.held) c.in-Ok.count (omega arith) few;
-      at_end = λ none. c.in-Ok.ensures.bytes.1 none (let some = c.requires.some in omega arith);
-    })
+    let few : c.in-Ok.count ≤ length c.read.new.buf = bound.0 in (
+      omega arith,
+      record {
+        got = take c.in-Ok.count c.read.new.buf;
+        size = sym bound.1;
+        consumed = c.in-Ok.ensures.bytes.0;
+        behind = read_behind c.args.piece.now c.read.new.buf c.args.held (c.args.held + c.args.most - c.args.held) c.in-Ok.count (omega arith) few;
+        at_end = λ none. c.in-Ok.ensures.bytes.1 none (let some = c.requires.some in omega arith);
+      },
+    )

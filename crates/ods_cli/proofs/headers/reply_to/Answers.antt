@@ -21,7 +21,9 @@ returns-in_err-refused-in-Err g c =
 pub returns : goal.returns
 returns g c =
     let read = c.in-Ok.ensures in
-    let image = read.2 in
-    (read.0, read.1,
-    reply_about_bytes (λ reply. reply.found) (λ reply. string_bytes reply.line) c.reply_about.result read.0 (g.R.Read.remaining c.read_from.new.reader) c.in-Ok.image c.args.number
-    (record { image = image.0; bytes_are = image.1; at_end = image.2 }) (omega (arith, length-concat c.in-Ok.image image.0.blocks, image.0.size, ap length image.1)) c.reply_about.ensures.ok c.reply_about.ensures.err)
+    let image = read.2 in (
+      read.0,
+      read.1,
+      reply_about_bytes (λ reply. reply.found) (λ reply. string_bytes reply.line) c.reply_about.result read.0 (g.R.Read.remaining c.read_from.new.reader) c.in-Ok.image c.args.number
+          (record { image = image.0; bytes_are = image.1; at_end = image.2 }) (omega (arith, length-concat c.in-Ok.image image.0.blocks, image.0.size, ap length image.1)) c.reply_about.ensures.ok c.reply_about.ensures.err,
+    )
