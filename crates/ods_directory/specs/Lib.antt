@@ -1,0 +1,9 @@
+pub mod Entry
+pub mod Names
+pub mod Mark
+pub mod Faults
+pub mod Refusals
+pub mod First
+pub mod Search
+pub mod Entering
+pub mod Lines

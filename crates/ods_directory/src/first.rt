@@ -1,0 +1,72 @@
+//! The first entry of a kind.
+ghost use Rattle.std.specs.Prelude.{◌≡◌, ◌*◌, ◌/◌, ◌<◌, ◌≤◌, length};
+ghost use Rattle.ods_directory.specs.Entry.{entry_at, entry_in};
+ghost use Rattle.ods_directory.specs.First.{IsFirst};
+
+use crate::scan::{Pass, scan};
+use crate::{DirBlocks, entry};
+use ods_base::Block;
+
+/// What kind of entry is looked for.
+#[derive(Clone, Copy, Debug, PartialEq, Eq)]
+pub enum Kind {
+    /// One that names no file.
+    Empty,
+    /// One that names a file and is not good.
+    Bad,
+}
+
+/// The place of the first entry of a kind, so far.
+#[derive(Clone, Copy, Debug, PartialEq, Eq)]
+pub struct First {
+    pub kind: Kind,
+    pub place: Option<u64>,
+}
+
+impl First {
+    /// No place so far.
+    pub fn of(kind: Kind) -> First
+        ensures { result ≡ record { kind = kind; place = None } }
+    {
+        First { kind, place: None }
+    }
+
+    ghost use Rattle.ods_directory.specs.First.{is_kind};
+
+    /// Whether entry `at` of the block is of the kind.
+    fn is_kind(&self, block: &Block, at: usize) -> bool
+        requires { at < 32 }
+        ensures { result ≡ is_kind self.now.kind (entry_in block.now at) }
+    {
+        match self.kind {
+            Kind::Empty => !entry::is_used(block, at),
+            Kind::Bad => entry::is_used(block, at) && !entry::is_good(block, at),
+        }
+    }
+}
+
+impl Pass for First {
+    ghost use Rattle.ods_directory.specs.First.{first_after};
+
+    ghost after = { first_after };
+
+    fn take(&mut self, block: &Block, at: usize, k: u64) {
+        if self.place.is_none() && self.is_kind(block, at) {
+            self.place = Some(k);
+        }
+    }
+
+    fn is_done(&self) -> bool {
+        self.place.is_some()
+    }
+}
+
+/// The place of the first entry before the mark that is of the kind.
+pub fn first_entry<B: DirBlocks>(blocks: &B, mark: u64, kind: Kind) -> Option<u64>
+    requires { mark ≤ 512 * length (B.blocks blocks.now) }
+    ensures { IsFirst kind (entry_at (B.blocks blocks.now)) (mark / 16) result }
+{
+    let mut first = First::of(kind);
+    scan(blocks, mark, &mut first);
+    first.place
+}

@@ -1,0 +1,32 @@
+//! Directories of Files-11 volumes of structure level 1, as finite maps from names to file IDs.
+#![tactic(auto)]
+
+mod blocks;
+mod count;
+mod entering;
+mod entry;
+mod fault;
+mod first;
+mod lines;
+mod listing;
+mod lookup;
+mod mark;
+mod place;
+mod removal;
+mod scan;
+mod search;
+mod slot;
+
+pub use blocks::DirBlocks;
+pub use count::name_count;
+pub use entering::enter;
+pub use fault::{DirFault, Verdict};
+pub use listing::{check, entries};
+pub use lookup::look_up;
+pub use mark::{mark_of, with_mark};
+pub use place::slot_for;
+pub use removal::remove;
+pub use slot::Slot;
+
+#[cfg(test)]
+mod tests;

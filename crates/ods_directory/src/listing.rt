@@ -1,0 +1,44 @@
+//! The check of a directory, and all its names.
+ghost use Rattle.std.specs.Prelude.{◌≡◌, ◌*◌, ◌≤◌, length, IfOk};
+ghost use Rattle.ods_base.specs.Names.{lines_of};
+ghost use Rattle.ods_directory.specs.Entry.{used_entries};
+ghost use Rattle.ods_directory.specs.Names.{IsDirectory, HasBadEntry, HasTwins, names_of};
+
+use crate::first::{Kind, first_entry};
+use crate::lines::{has_twins, read_lines, sort};
+use crate::{DirBlocks, Verdict};
+use ods_base::Listed;
+use std::alloc::{AllocError, Global};
+
+/// Whether the entries before the mark are good, and no two have one name, type and version.
+pub fn check<B: DirBlocks>(alloc: Global, blocks: &B, mark: u64) -> Result<Verdict, AllocError>
+    ensures good { result ≡ Ok Verdict.Good → IsDirectory (B.blocks blocks.now) mark }
+    ensures bad { result ≡ Ok Verdict.BadEntry → HasBadEntry (used_entries (B.blocks blocks.now) mark) }
+    ensures twice { result ≡ Ok Verdict.Twice → HasTwins (used_entries (B.blocks blocks.now) mark) }
+{
+    let cut = mark.min(512 * u64::from(blocks.count()));
+    if first_entry(blocks, cut, Kind::Bad).is_some() {
+        return Ok(Verdict::BadEntry);
+    }
+    let mut lines = read_lines(alloc, blocks, cut)?;
+    sort(&mut lines);
+    if has_twins(&lines) {
+        return Ok(Verdict::Twice);
+    }
+    Ok(Verdict::Good)
+}
+
+/// All names, ascending by name, type and version.
+pub fn entries<B: DirBlocks>(
+    alloc: Global,
+    blocks: &B,
+    mark: u64,
+) -> Result<Vec<Listed>, AllocError>
+    requires directory { IsDirectory (B.blocks blocks.now) mark }
+    requires mark { mark ≤ 512 * length (B.blocks blocks.now) }
+    ensures { IfOk result (λ names. names.items ≡ lines_of (names_of (B.blocks blocks.now) mark)) }
+{
+    let mut lines = read_lines(alloc, blocks, mark)?;
+    sort(&mut lines);
+    Ok(lines)
+}

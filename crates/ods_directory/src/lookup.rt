@@ -1,0 +1,27 @@
+//! Look-ups of names.
+ghost use Rattle.std.specs.Prelude.{◌≡◌, ◌*◌, ◌≤◌, length, IfOk, IfErr};
+ghost use Rattle.ods_base.specs.Names.{Finds};
+ghost use Rattle.ods_directory.specs.Faults.{IsLookUpFault};
+ghost use Rattle.ods_directory.specs.Names.{IsDirectory, names_of};
+
+use crate::search::find_entry;
+use crate::{DirBlocks, DirFault};
+use ods_base::{FileId, Name, Pick};
+
+/// The file and the version that a name with a pick means.
+pub fn look_up<B: DirBlocks>(
+    blocks: &B,
+    mark: u64,
+    name: &Name,
+    pick: Pick,
+) -> Result<(FileId, u16), DirFault>
+    requires directory { IsDirectory (B.blocks blocks.now) mark }
+    requires mark { mark ≤ 512 * length (B.blocks blocks.now) }
+    ensures ok { IfOk result (λ found. Finds (names_of (B.blocks blocks.now) mark) name.now pick found.0 found.1) }
+    ensures err { IfErr result (IsLookUpFault (names_of (B.blocks blocks.now) mark) name.now pick) }
+{
+    match find_entry(blocks, mark, name, pick) {
+        Some(found) => Ok((found.file, found.version)),
+        None => Err(DirFault::NoSuchName),
+    }
+}

@@ -1,0 +1,43 @@
+//! The removal of names.
+ghost use Rattle.std.specs.Prelude.{◌≡◌, ℕ, ◌*◌, ◌/◌, ◌<◌, ◌≤◌, length, replicate, IfOk, IfErr};
+ghost use Rattle.std.specs.FinMap.{remove};
+ghost use Rattle.ods_base.specs.Name.{key_of};
+ghost use Rattle.ods_base.specs.Names.{Finds};
+ghost use Rattle.ods_directory.specs.Entry.{entry_at};
+ghost use Rattle.ods_directory.specs.Faults.{IsLookUpFault};
+ghost use Rattle.ods_directory.specs.Mark.{written};
+ghost use Rattle.ods_directory.specs.Names.{IsDirectory, names_of};
+
+use crate::search::find_entry;
+use crate::{DirBlocks, DirFault};
+use ods_base::{FileId, Name, Pick};
+
+/// The file and the version that a name with a pick means, and the place of their entry in bytes.
+/// With 16 zero bytes at that place the directory has that name no longer; its mark stays.
+pub fn remove<B: DirBlocks>(
+    blocks: &B,
+    mark: u64,
+    name: &Name,
+    pick: Pick,
+) -> Result<(FileId, u16, u64), DirFault>
+    requires directory { IsDirectory (B.blocks blocks.now) mark }
+    requires mark { mark ≤ 512 * length (B.blocks blocks.now) }
+    ensures found { IfOk result (λ r. Finds (names_of (B.blocks blocks.now) mark) name.now pick r.0 r.1) }
+
+    // The place is that of the name's entry. With 16 zero bytes there the directory has that name less.
+    ensures place { IfOk result (λ r. (k : ℕ) × (k < mark / 16) × (r.2 ≡ 16 * k)
+        × (entry_at (B.blocks blocks.now) k ≡ record { file = r.0; volume = 0; key = key_of name.now r.1 })) }
+    ensures names { IfOk result (λ r. names_of (written (B.blocks blocks.now) r.2 (replicate 16 0)) mark
+        ≡ remove (names_of (B.blocks blocks.now) mark) (key_of name.now r.1)) }
+    ensures stays { IfOk result (λ r. IsDirectory (written (B.blocks blocks.now) r.2 (replicate 16 0)) mark) }
+    ensures err { IfErr result (IsLookUpFault (names_of (B.blocks blocks.now) mark) name.now pick) }
+{
+    match find_entry(blocks, mark, name, pick) {
+        Some(found) => {
+            // What is read is a whole block, so the entry can be written there.
+            let _ = blocks.block((found.place / 32) as u32);
+            Ok((found.file, found.version, 16 * found.place))
+        }
+        None => Err(DirFault::NoSuchName),
+    }
+}

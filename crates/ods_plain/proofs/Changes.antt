@@ -1,0 +1,84 @@
+-- A file of a catalogue that is changed where it stands.
+use Rattle.std.proofs.Common.{◌≡◌, ℕ, ◌+◌, ◌<◌, ◌≤◌, max, fold, nat_eq, ◌||◌, Bool, true, false, not, List, [], ◌∷◌, Ok, Err, IfOk, arith, length, get_or, set, Option, Some, None, refl, sym, ap, subst, ◌∙◌, unwrap_or}
+use Rattle.std.specs.Prelude.{Result}
+use Rattle.std.specs.List.{list_any}
+use Rattle.std.proofs.lemmas.Bool.{leb-false, eqb-true}
+use Rattle.std.specs.FinMap as map
+use Rattle.ods_base.specs.declared.file_id.FileId.{FileId}
+use Rattle.ods_base.specs.Name.{RadName, key_of}
+use Rattle.ods_base.specs.Names.{NameMap, last_version, versions_of, entered_version}
+use Rattle.ods_base.proofs.Picks.{among}
+use Rattle.ods_request.specs.Faults.{cannot_enter}
+use Rattle.ods_request.specs.declared.refusals.Refusal.{Refusal}
+use Rattle.ods_request.specs.Catalogue.{Catalogue, File}
+use Rattle.ods_request.specs.Steps.{put, file_at, no_file}
+use Rattle.ods_request.proofs.FaultTable.{NoneHolds, IsThere}
+use Rattle.ods_plain.specs.Rows.{catalogue_in, place_of}
+use Rattle.ods_plain.proofs.RowLists.{IsAt, stands, set_place}
+
+-- a file that a request names first, and its place
+pub record IsFound (rows : List (FileId × File)) (past : List FileId) (protection : ℕ) (C : Catalogue) (id : FileId) (at : ℕ) (checks : File → List (Bool × Refusal)) : Type 0 where
+  pub file : File
+  pub none : NoneHolds (checks file)
+  pub there : map.get C.files id ≡ Some file
+  pub file_is : file_at C id ≡ file
+  pub within : at < length rows
+  pub row : (d : FileId × File) → get_or rows at d ≡ (id, file)
+  pub puts : (f : File) (new : List (FileId × File)) → new ≡ set rows at (id, f) → catalogue_in new past protection ≡ put C id f
+
+pub found_at : (rows : List (FileId × File)) (past : List FileId) (protection : ℕ) (C : Catalogue) (id : FileId) (at : ℕ) (checks : File → List (Bool × Refusal))
+    → catalogue_in rows past protection ≡ C → at ≡ place_of id rows → IsThere (map.get C.files id) checks → IsFound rows past protection C id at checks
+found_at rows past protection C id at checks is place t =
+    let s : IsAt rows id t.file = stands rows id t.file (ap (λ (D : Catalogue). map.get D.files id) is ∙ t.there) in
+    record {
+      file = t.file;
+      none = t.none;
+      there = t.there;
+      file_is = ap (λ o. unwrap_or o no_file) t.there;
+      within = subst (λ n. n < length rows) (sym place) s.within;
+      row = λ d. ap (λ n. get_or rows n d) place ∙ s.row d;
+      puts = λ f new e.
+          ap (λ (l : List (FileId × File)). catalogue_in l past protection) (e ∙ ap (λ n. set rows n (id, f)) place)
+          ∙ ap (λ m. let D : Catalogue = record { files = m; past = (catalogue_in rows past protection).past; default = protection } in D) (set_place id f rows s.within)
+          ∙ ap (λ (D : Catalogue). put D id f) is;
+    }
+
+pub not_false : (b : Bool) → not b ≡ false → b ≡ true
+not_false true h = refl
+not_false false h = absurd (cc)
+
+-- what is known of an Ok, from what was
+pub if_ok : {A E : Type 0} (r : Result A E) (P Q : A → Type 0) → ((x : A) → P x → Q x) → IfOk r P → IfOk r Q
+if_ok (Ok x) P Q f h = f x h
+if_ok (Err e) P Q f h = tt
+
+-- where no version is given, there is one after the last
+pub has_room : (m : NameMap) (n : RadName) (given : Option ℕ) → NoneHolds (cannot_enter m n given) → given ≡ None → last_version m n < 65535
+has_room m n (Some v) h e = absurd (cc)
+has_room m n None h e = omega (arith, leb-false 32767 (last_version m n) h.0)
+
+start_below : (a : ℕ) (vs : List ℕ) → a ≤ fold max a vs
+start_below a [] = omega arith
+start_below a (v ∷ vs) = omega (arith, start_below (max a v) vs)
+
+bounds_above : (w a : ℕ) (vs : List ℕ) → list_any (nat_eq w) vs ≡ true → w ≤ fold max a vs
+bounds_above w a [] h = absurd (cc)
+bounds_above w a (v ∷ vs) h = by (nat_eq w v) refl (bounds_above w (max a v) vs) h
+  where
+    by : (b : Bool) → nat_eq w v ≡ b → (list_any (nat_eq w) vs ≡ true → w ≤ fold max (max a v) vs) → (b || list_any (nat_eq w) vs) ≡ true → w ≤ fold max (max a v) vs
+    by true e rest g = omega (arith, start_below (max a v) vs, eqb-true w v e)
+    by false e rest g = rest g
+
+-- the version under which a name is entered is not there
+pub is_absent : (m : NameMap) (n : RadName) (given : Option ℕ) → length n.words ≡ 3 → NoneHolds (cannot_enter m n given) → map.contains_key m (key_of n (entered_version m n given)) ≡ false
+is_absent m n (Some v) three h = h.0
+is_absent m n None three h = by (map.contains_key m (key_of n (last_version m n + 1))) refl
+  where
+    by : (b : Bool) → map.contains_key m (key_of n (last_version m n + 1)) ≡ b → b ≡ false
+    by false e = refl
+    by true e =
+        let above : last_version m n + 1 ≤ last_version m n = bounds_above (last_version m n + 1) 0 (versions_of m n) (among n three (last_version m n + 1) m ∙ e) in
+        absurd (omega (arith, above))
+
+pub same_file : {x y : File} → Some x ≡ Some y → x ≡ y
+same_file e = cc

@@ -1,0 +1,5 @@
+pub mod Codes
+pub mod Files
+pub mod Lines
+pub mod Rows
+pub mod Steps

@@ -1,0 +1,225 @@
+//! A catalogue: files under their IDs, the IDs that were ever given, and the protection of new files.
+ghost use Rattle.std.specs.Prelude.{◌≡◌, true, None, Some, MatchOption, IsTrue, IfOk, OnOk, OnErr};
+ghost use Rattle.std.specs.FinMap as finite;
+ghost use Rattle.std.specs.FinSet as set;
+ghost use Rattle.ods_request.specs.Faults.{IsAllowed};
+ghost use Rattle.ods_request.specs.Steps.{after, answer_of, created, is_new, new_file as file_made};
+ghost use Rattle.ods_plain.specs.Files.{body_of, file_of, may_have};
+
+use crate::files::File;
+use crate::makes::new_file;
+use crate::rows::{Row, is_used, place, take_out};
+use ods_base::{Block, FileId, Name, Pick, Uic};
+use ods_request::{Answer, Listing, Request, Stamp, Stat};
+use std::alloc::{AllocError, Global};
+use std::marker::Model;
+
+/// A catalogue. A contract sees the catalogue of the definitions.
+#[derive(Drop, Debug)]
+pub struct Catalogue {
+    alloc: Global,
+    rows: Vec<Row>,
+    past: Vec<FileId>,
+    default: u16,
+}
+
+impl Model for Catalogue {
+    ghost use Rattle.ods_request.specs.Catalogue.{Catalogue};
+    ghost use Rattle.ods_plain.specs.Codes.{coded_catalogue};
+    ghost use Rattle.ods_plain.specs.Rows.{catalogue_in};
+
+    ghost Value = { Catalogue };
+
+    ghost coded = { coded_catalogue };
+
+    ghost view = { λ c. catalogue_in c.rows.items c.past.items c.default };
+}
+
+impl Catalogue {
+    /// A catalogue with no file and no past, whose new files get this protection word.
+    pub fn new(alloc: Global, protection: u16) -> Catalogue
+        ensures { result ≡ record { files = finite.empty; past = set.empty; default = protection } }
+    {
+        Catalogue {
+            alloc,
+            rows: Vec::new(alloc),
+            past: Vec::new(alloc),
+            default: protection,
+        }
+    }
+
+    /// The file under an ID.
+    pub fn file(&self, id: FileId) -> Option<&File>
+        ensures { MatchOption result (finite.get self.now.files id ≡ None) (λ f. finite.get self.now.files id ≡ Some (file_of f.now)) }
+    {
+        let rows = self.rows.as_slice();
+        let at = place(rows, id);
+        if at < rows.len() {
+            Some(rows[at].file())
+        } else {
+            None
+        }
+    }
+
+    /// Whether a new file may get this ID: it was never given, and its number, 6 or more, is no file's.
+    pub fn is_new(&self, id: FileId) -> bool
+        ensures { result ≡ is_new self.now id }
+    {
+        if self.past.as_slice().contains(&id) {
+            return false;
+        }
+        if is_used(self.rows.as_slice(), id.number) {
+            return false;
+        }
+        id.number >= 6
+    }
+
+    /// Puts a file under an ID that no file has, which is from then on one of the past.
+    pub fn add(&mut self, id: FileId, file: File) -> Result<(), AllocError>
+        requires absent { finite.get self.old.files id ≡ None }
+        requires lawful { IsTrue (may_have id (body_of file.body)) }
+        ensures ok { OnOk result (self.new ≡ created self.old id (file_of file)) }
+        ensures err { OnErr result (self.new ≡ self.old) }
+    {
+        self.rows.reserve(1)?;
+        self.past.reserve(1)?;
+        self.rows.push(Row::new(id, file))?;
+        self.past.push(id)?;
+        Ok(())
+    }
+
+    /// Makes a Create under this ID.
+    pub(crate) fn create(
+        &mut self,
+        who: Uic,
+        name: &Name,
+        version: u16,
+        blocks: u32,
+        stamp: &Stamp,
+        id: FileId,
+    ) -> Result<(), AllocError>
+        requires { is_new self.old id ≡ true }
+        ensures ok { OnOk result (self.new ≡ created self.old id (file_made self.old who name.now version blocks stamp.now)) }
+        ensures err { OnErr result (self.new ≡ self.old) }
+    {
+        let file = new_file(self.alloc, who, self.default, name, version, blocks, stamp)?;
+        self.add(id, file)
+    }
+
+    /// Makes an Extend: puts blocks of zeros behind a file's own, and answers how many it has then.
+    pub(crate) fn extend(&mut self, file: FileId, blocks: u32) -> Result<u32, AllocError>
+        requires { IsAllowed self.old (Request.Extend file blocks) }
+        ensures count { IfOk result (λ n. Answer.Extended n ≡ answer_of self.old (Request.Extend file blocks)) }
+        ensures ok { OnOk result (self.new ≡ after self.old (Request.Extend file blocks)) }
+        ensures err { OnErr result (self.new ≡ self.old) }
+    {
+        let at = place(self.rows.as_slice(), file);
+        let row = &mut self.rows[at];
+        row.grow(blocks)
+    }
+
+    /// Makes a Delete: takes the file out. Names of it stay.
+    pub(crate) fn delete(&mut self, file: FileId)
+        ensures { self.new ≡ after self.old (Request.Delete file) }
+    {
+        take_out(&mut self.rows, file);
+    }
+
+    /// Makes an Enter, and answers the version under which the file is entered.
+    pub(crate) fn enter(
+        &mut self,
+        dir: FileId,
+        name: Name,
+        given: Option<u16>,
+        file: FileId,
+    ) -> Result<u16, AllocError>
+        requires { IsAllowed self.old (Request.Enter dir name given file) }
+        ensures version { IfOk result (λ v. Answer.Entered v ≡ answer_of self.old (Request.Enter dir name given file)) }
+        ensures ok { OnOk result (self.new ≡ after self.old (Request.Enter dir name given file)) }
+        ensures err { OnErr result (self.new ≡ self.old) }
+    {
+        let at = place(self.rows.as_slice(), dir);
+        let row = &mut self.rows[at];
+        let version = row.file().entered_version(&name, given);
+        prove!(name.words().len() == 3);
+        row.enter(name, version, file)?;
+        Ok(version)
+    }
+
+    /// Makes a Remove, and answers the file and the version whose name is gone.
+    pub(crate) fn remove(&mut self, dir: FileId, name: &Name, pick: Pick) -> (FileId, u16)
+        requires { IsAllowed self.old (Request.Remove dir name.now pick) }
+        ensures answer { Answer.Removed result.0 result.1 ≡ answer_of self.old (Request.Remove dir name.now pick) }
+        ensures left { self.new ≡ after self.old (Request.Remove dir name.now pick) }
+    {
+        let at = place(self.rows.as_slice(), dir);
+        let row = &mut self.rows[at];
+        let (file, version) = row.file().find(name, pick);
+        row.remove(name, version);
+        (file, version)
+    }
+
+    /// Makes a Write: replaces a block of a file.
+    pub(crate) fn write(&mut self, file: FileId, vbn: u32, block: &Block)
+        requires { IsAllowed self.old (Request.Write file vbn block.now) }
+        ensures { self.new ≡ after self.old (Request.Write file vbn block.now) }
+    {
+        let at = place(self.rows.as_slice(), file);
+        let row = &mut self.rows[at];
+        row.write(vbn, block);
+    }
+
+    /// Makes a SetUser: replaces the user attributes of a file.
+    pub(crate) fn set_user(&mut self, file: FileId, attributes: &[u8; 32])
+        requires { IsAllowed self.old (Request.SetUser file attributes.now) }
+        ensures { self.new ≡ after self.old (Request.SetUser file attributes.now) }
+    {
+        let at = place(self.rows.as_slice(), file);
+        let row = &mut self.rows[at];
+        row.set_user(attributes);
+    }
+
+    /// Answers a LookUp: the file and the version that are found.
+    pub(crate) fn look_up(&self, dir: FileId, name: &Name, pick: Pick) -> (FileId, u16)
+        requires { IsAllowed self.now (Request.LookUp dir name.now pick) }
+        ensures { Answer.Found result.0 result.1 ≡ answer_of self.now (Request.LookUp dir name.now pick) }
+    {
+        match self.file(dir) {
+            Some(found) => found.find(name, pick),
+            None => unreachable!(),
+        }
+    }
+
+    /// Answers a Read: the block.
+    pub(crate) fn read(&self, file: FileId, vbn: u32) -> Block
+        requires { IsAllowed self.now (Request.Read file vbn) }
+        ensures { Answer.Bytes result ≡ answer_of self.now (Request.Read file vbn) }
+    {
+        match self.file(file) {
+            Some(found) => *found.block(vbn),
+            None => unreachable!(),
+        }
+    }
+
+    /// Answers a List: the directory's lines.
+    pub(crate) fn list(&self, dir: FileId) -> Result<Listing, AllocError>
+        requires { IsAllowed self.now (Request.List dir) }
+        ensures { IfOk result (λ lines. Answer.Names lines ≡ answer_of self.now (Request.List dir)) }
+    {
+        match self.file(dir) {
+            Some(found) => Ok(Listing::new(found.lines(self.alloc)?)),
+            None => unreachable!(),
+        }
+    }
+
+    /// Answers a Stat: what is shown of the file. A count that its answer has no room for is want of memory.
+    pub(crate) fn stat(&self, file: FileId) -> Result<Stat, AllocError>
+        requires { IsAllowed self.now (Request.Stat file) }
+        ensures { IfOk result (λ stat. Answer.Info stat ≡ answer_of self.now (Request.Stat file)) }
+    {
+        match self.file(file) {
+            Some(found) => found.stat(file),
+            None => unreachable!(),
+        }
+    }
+}

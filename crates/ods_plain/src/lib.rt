@@ -1,0 +1,17 @@
+//! A plain and slow program beside the definitions of requests: a catalogue over vectors, whose calls answer what they define.
+#![tactic(auto)]
+
+mod catalogue;
+mod faults;
+mod files;
+mod makes;
+mod names;
+mod rows;
+mod steps;
+#[cfg(test)]
+mod tests;
+
+pub use catalogue::Catalogue;
+pub use files::{Body, File};
+pub use names::Names;
+pub use steps::StepError;

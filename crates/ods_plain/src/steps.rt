@@ -1,0 +1,105 @@
+//! Steps of a catalogue: a request, its answer, and what it leaves.
+ghost use Rattle.std.specs.Prelude.{◌≡◌, None, Some, IfOk, OnErr, IfErr};
+ghost use Rattle.ods_request.specs.Faults.{fault_of};
+ghost use Rattle.ods_request.specs.Steps.{step as step_of};
+ghost use Rattle.ods_plain.specs.declared.steps.StepError.TheVariants.{NoMemory};
+
+use crate::catalogue::Catalogue;
+use ods_base::{FileId, Uic};
+use ods_request::{Answer, Refusal, Request};
+use std::alloc::AllocError;
+use thiserror::Error;
+
+/// Why a step was not made. The catalogue is then as it was.
+#[derive(Clone, Copy, PartialEq, Eq, Debug, Error)]
+pub enum StepError {
+    /// The request is refused.
+    #[error("{0}")]
+    Refused(Refusal),
+    /// A new file may not get the ID handed in.
+    #[error("NotNew")]
+    NotNew,
+    /// A growth was refused, or a count has no room in its answer.
+    #[error("NoMemory")]
+    NoMemory,
+}
+
+impl From<AllocError> for StepError {
+    ghost from_gives = { λ _ e. e ≡ NoMemory };
+
+    fn from(_error: AllocError) -> StepError {
+        StepError::NoMemory
+    }
+}
+
+impl Catalogue {
+    ghost use Rattle.ods_plain.specs.Steps.{IsStepError};
+
+    /// Makes a request that is not refused. A file that it makes gets the ID handed in.
+    fn change(&mut self, who: Uic, request: &Request, new: FileId) -> Result<Answer, StepError>
+        requires { fault_of self.old who request.now ≡ None }
+        ensures ok { IfOk result (λ a. step_of self.old who request.now a ≡ Some self.new) }
+        ensures err { OnErr result (self.new ≡ self.old) }
+        ensures why { IfErr result (IsStepError self.old who request.now new) }
+    {
+        match request {
+            Request::Create {
+                name,
+                version,
+                blocks,
+                stamp,
+            } => {
+                if !self.is_new(new) {
+                    return Err(StepError::NotNew);
+                }
+                self.create(who, name, *version, *blocks, stamp, new)?;
+                Ok(Answer::Created(new))
+            }
+            Request::Extend {
+                file,
+                blocks: count,
+            } => Ok(Answer::Extended(self.extend(*file, *count)?)),
+            Request::Delete { file } => {
+                self.delete(*file);
+                Ok(Answer::Done)
+            }
+            Request::Enter {
+                dir,
+                name,
+                version,
+                file,
+            } => Ok(Answer::Entered(self.enter(*dir, *name, *version, *file)?)),
+            Request::LookUp { dir, name, pick } => {
+                let (file, version) = self.look_up(*dir, name, *pick);
+                Ok(Answer::Found(file, version))
+            }
+            Request::Remove { dir, name, pick } => {
+                let (file, version) = self.remove(*dir, name, *pick);
+                Ok(Answer::Removed(file, version))
+            }
+            Request::Read { file, vbn } => Ok(Answer::Bytes(self.read(*file, *vbn))),
+            Request::Write { file, vbn, block } => {
+                self.write(*file, *vbn, block);
+                Ok(Answer::Done)
+            }
+            Request::List { dir } => Ok(Answer::Names(self.list(*dir)?)),
+            Request::Stat { file } => Ok(Answer::Info(self.stat(*file)?)),
+            Request::SetUser { file, attributes } => {
+                self.set_user(*file, attributes);
+                Ok(Answer::Done)
+            }
+        }
+    }
+
+    /// Makes a step: answers a request, or says why not. A file that it makes gets the ID handed in.
+    pub fn step(&mut self, who: Uic, request: &Request, new: FileId) -> Result<Answer, StepError>
+        ensures ok { IfOk result (λ a. step_of self.old who request.now a ≡ Some self.new) }
+        ensures err { OnErr result (self.new ≡ self.old) }
+        ensures why { IfErr result (IsStepError self.old who request.now new) }
+    {
+        if let Some(refusal) = self.fault(&who, request) {
+            return Err(StepError::Refused(refusal));
+        }
+        self.change(who, request, new)
+    }
+}

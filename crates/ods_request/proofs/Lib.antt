@@ -1,0 +1,7 @@
+pub mod AnswerTests
+pub mod FaultTable
+pub mod FrameLaws
+pub mod NameLaws
+pub mod Orders
+pub mod RequestTests
+pub mod StepLaws

@@ -1,0 +1,10 @@
+use Rattle.std.proofs.Common.{◌≡◌, sym, ◌∙◌, rules}
+use Rattle.ods_request.specs.Equal.{same_request}
+use Rattle.ods_request.proofs.RequestTests.{requests_decide}
+use Rattle.ods_request.proofs.requests.Request.is_same.Goals as goal
+
+pub returns : goal.returns
+returns c =
+    let test : c.eq.result ≡ same_request c.args.self.now c.args.other.now = search rules in
+    let decides = requests_decide c.args.self.now c.args.other.now in
+    (λ h. decides.0 (sym test ∙ h), λ e. test ∙ decides.1 e)

@@ -1,0 +1,129 @@
+-- Laws of the catalogue, over the definitions alone.
+use Rattle.std.specs.Prelude.{◌≡◌, ℕ, Bool, true, false, List, [], ◌∷◌, ◌++◌, Option, None, Some, IsTrue, is_some}
+use Rattle.std.specs.Option.{option_and_then}
+use Rattle.std.specs.FinMap as map
+use Rattle.std.specs.FinSet as set
+use Rattle.ods_base.specs.declared.file_id.Uic.{Uic}
+use Rattle.ods_base.specs.declared.file_id.FileId.{FileId}
+use Rattle.ods_base.specs.declared.name.Pick.{Pick}
+use Rattle.ods_base.specs.declared.name.Pick.TheVariants.{Exact}
+use Rattle.ods_base.specs.Name.{RadName}
+use Rattle.ods_request.specs.declared.refusals.Refusal.TheVariants as refusal
+use Rattle.ods_request.specs.declared.requests.Request.{Request}
+use Rattle.ods_request.specs.declared.requests.Request.TheVariants.{Create, Extend, Delete, Enter, LookUp, Remove, Read, Write, List as Lines, Stat, SetUser}
+use Rattle.ods_request.specs.declared.answers.Answer.{Answer}
+use Rattle.ods_request.specs.declared.answers.Answer.TheVariants.{Entered, Found, Removed}
+use Rattle.ods_request.specs.declared.answers.Entry.{Entry}
+use Rattle.ods_request.specs.declared.rights.Right.TheVariants as right
+use Rattle.ods_request.specs.Rights.{permits}
+use Rattle.ods_request.specs.Catalogue.{Catalogue}
+use Rattle.ods_request.specs.Faults.{fault_of}
+use Rattle.ods_request.specs.Steps.{step, replay, answer_of, after, created_id, file_at}
+
+-- a step never makes the past smaller
+abbrev pub PastIsKept : Type 0
+PastIsKept = (C D : Catalogue) (who : Uic) (r : Request) (a : Answer) (id : FileId) →
+    step C who r a ≡ Some D → set.contains C.past id ≡ true → set.contains D.past id ≡ true
+
+-- the replay of one entry more is that entry's step on the replay so far
+abbrev pub ReplayGoesOn : Type 0
+ReplayGoesOn = (C : Catalogue) (entries : List Entry) (e : Entry) →
+    replay C (entries ++ e ∷ []) ≡ option_and_then (λ D. step D e.who e.request e.answer) (replay C entries)
+
+-- the requests that change nothing
+abbrev pub only_looks : Request → Bool
+only_looks (LookUp dir name pick) = true
+only_looks (Read file vbn) = true
+only_looks (Stat file) = true
+only_looks (Lines dir) = true
+only_looks (Create name version blocks stamp) = false
+only_looks (Extend file blocks) = false
+only_looks (Delete file) = false
+only_looks (Enter dir name version file) = false
+only_looks (Remove dir name pick) = false
+only_looks (Write file vbn block) = false
+only_looks (SetUser file attributes) = false
+
+-- after a look the catalogue is the one before
+abbrev pub LookingChangesNothing : Type 0
+LookingChangesNothing = (C D : Catalogue) (who : Uic) (r : Request) (a : Answer) →
+    only_looks r ≡ true → step C who r a ≡ Some D → D ≡ C
+
+-- a request that is refused has no step
+abbrev pub RefusedHasNoStep : Type 0
+RefusedHasNoStep = (C : Catalogue) (who : Uic) (r : Request) (a : Answer) →
+    IsTrue (is_some (fault_of C who r)) → step C who r a ≡ None
+
+-- the request makes a file
+abbrev pub creates : Request → Bool
+creates (Create name version blocks stamp) = true
+creates (Extend file blocks) = false
+creates (Delete file) = false
+creates (Enter dir name version file) = false
+creates (LookUp dir name pick) = false
+creates (Remove dir name pick) = false
+creates (Read file vbn) = false
+creates (Write file vbn block) = false
+creates (Lines dir) = false
+creates (Stat file) = false
+creates (SetUser file attributes) = false
+
+-- every request but Create is answered in one way
+abbrev pub AnswerIsDetermined : Type 0
+AnswerIsDetermined = (C D : Catalogue) (who : Uic) (r : Request) (a : Answer) →
+    creates r ≡ false → step C who r a ≡ Some D → (a ≡ answer_of C r) × (D ≡ after C r)
+
+-- A request that is not refused, and is not Create, has that step.
+abbrev pub AnswerIsStep : Type 0
+AnswerIsStep = (C : Catalogue) (who : Uic) (r : Request) →
+    creates r ≡ false → fault_of C who r ≡ None → step C who r (answer_of C r) ≡ Some (after C r)
+
+-- Only Create leaves a choice: two steps by one user and request, one of which is not answered by a new file, have one answer and leave one catalogue.
+abbrev pub AnswersAgree : Type 0
+AnswersAgree = (C D E : Catalogue) (who : Uic) (r : Request) (a b : Answer) →
+    step C who r a ≡ Some D → step C who r b ≡ Some E → created_id a ≡ None → (a ≡ b) × (D ≡ E)
+
+-- the file that a step may change: the one that the request names first, or the one that is made
+abbrev pub changed_file : Request → Answer → Option FileId
+changed_file (Create name version blocks stamp) a = created_id a
+changed_file (Extend file blocks) a = Some file
+changed_file (Delete file) a = Some file
+changed_file (Enter dir name version file) a = Some dir
+changed_file (LookUp dir name pick) a = None
+changed_file (Remove dir name pick) a = Some dir
+changed_file (Read file vbn) a = None
+changed_file (Write file vbn block) a = Some file
+changed_file (Lines dir) a = None
+changed_file (Stat file) a = None
+changed_file (SetUser file attributes) a = Some file
+
+-- a step changes no other file
+abbrev pub OtherFilesStay : Type 0
+OtherFilesStay = (C D : Catalogue) (who : Uic) (r : Request) (a : Answer) (id : FileId) →
+    step C who r a ≡ Some D → ¬ (changed_file r a ≡ Some id) → map.get D.files id ≡ map.get C.files id
+
+-- a file is made under an ID that no file has or ever had, and that is from then on one of the past
+abbrev pub CreatedIsNew : Type 0
+CreatedIsNew = (C D : Catalogue) (who : Uic) (r : Request) (a : Answer) (id : FileId) →
+    step C who r a ≡ Some D → created_id a ≡ Some id →
+    (map.get C.files id ≡ None) × (set.contains C.past id ≡ false) × (set.contains D.past id ≡ true)
+
+-- no step changes the protection of new files
+abbrev pub DefaultStays : Type 0
+DefaultStays = (C D : Catalogue) (who : Uic) (r : Request) (a : Answer) → step C who r a ≡ Some D → D.default ≡ C.default
+
+-- the user may read this file of the catalogue
+abbrev pub may_read : Catalogue → Uic → FileId → Bool
+may_read C who id = permits who (file_at C id).owner (file_at C id).protection right.Read
+
+-- whoever may read a directory finds in it the file that was just entered, by the version that was answered
+abbrev pub EnteredIsFound : Type 0
+EnteredIsFound = (C D : Catalogue) (who reader : Uic) (dir : FileId) (name : RadName) (given : Option ℕ) (file : FileId) (version : ℕ) →
+    step C who (Enter dir name given file) (Entered version) ≡ Some D → IsTrue (may_read D reader dir) →
+    step D reader (LookUp dir name (Exact version)) (Found file version) ≡ Some D
+
+-- whoever may read a directory no longer finds the name that was just removed, in the version that was answered
+abbrev pub RemovedIsGone : Type 0
+RemovedIsGone = (C D : Catalogue) (who reader : Uic) (dir : FileId) (name : RadName) (pick : Pick) (file : FileId) (version : ℕ) →
+    step C who (Remove dir name pick) (Removed file version) ≡ Some D → IsTrue (may_read D reader dir) →
+    fault_of D reader (LookUp dir name (Exact version)) ≡ Some refusal.NoSuchName

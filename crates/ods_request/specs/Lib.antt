@@ -1,0 +1,10 @@
+pub mod Rights
+pub mod Stamps
+pub mod Catalogue
+pub mod Faults
+pub mod Equal
+pub mod Steps
+pub mod Laws
+pub mod Lists
+pub mod Refusals
+pub mod Same

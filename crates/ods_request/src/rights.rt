@@ -1,0 +1,74 @@
+//! Rights: what a file's protection word grants to a user.
+ghost use Rattle.std.specs.Prelude.{◌≡◌, ◌+◌, ◌≤◌, ◌==◌};
+ghost use Rattle.std.specs.Int.{bit_at};
+ghost use Rattle.ods_request.specs.Rights.{permits as is_permitted, right_bit};
+
+use ods_base::Uic;
+
+/// What a user may be allowed to do with a file, in the order of the bits of one class.
+#[derive(Clone, Copy, PartialEq, Eq, Debug)]
+pub enum Right {
+    Read,
+    Write,
+    Extend,
+    Delete,
+}
+
+/// Whether the bit of a right is clear among the four bits that begin at `first`.
+fn grants(protection: u16, first: u32, right: Right) -> bool
+    requires { first ≤ 12 }
+    ensures { result ≡ (bit_at protection (first + right_bit right) == 0) }
+{
+    let place = first
+        + match right {
+            Right::Read => 0,
+            Right::Write => 1,
+            Right::Extend => 2,
+            Right::Delete => 3,
+        };
+    (protection >> place) % 2 == 0
+}
+
+/// Whether a protection word grants a right to a user. It does where any class that the user is in has a clear bit: a system
+/// user (a group of at most 10 octal), the owner, the owner's group, the world.
+#[tactic(auto, unfolding(crate::specs::Rights::permits))]
+pub fn permits(who: &Uic, owner: &Uic, protection: u16, right: Right) -> bool
+    ensures { result ≡ is_permitted who.now owner.now protection right }
+{
+    let same_group = who.group == owner.group;
+    let same_user = same_group && who.member == owner.member;
+    (who.group <= 8 && grants(protection, 0, right))
+        || (same_user && grants(protection, 4, right))
+        || (same_group && grants(protection, 8, right))
+        || grants(protection, 12, right)
+}
+
+#[cfg(test)]
+mod tests {
+    use super::*;
+
+    fn user(group: u8, member: u8) -> Uic {
+        Uic { group, member }
+    }
+
+    #[test]
+    fn any_class_may_grant(rt: HostRuntime) {
+        let owner = user(0o20, 0o10);
+        let rows = [
+            (user(0o1, 0o1), 0o177760, Right::Read, true),
+            (user(0o10, 0o1), 0o177760, Right::Read, true),
+            (user(0o11, 0o1), 0o177760, Right::Read, false),
+            (user(0o20, 0o10), 0o177417, Right::Read, true),
+            (user(0o20, 0o11), 0o170377, Right::Read, true),
+            (user(0o21, 0o1), 0o007777, Right::Read, true),
+            (user(0o20, 0o10), 0o007777, Right::Read, true),
+            (user(0o1, 0o1), 0o177777, Right::Read, false),
+            (user(0o21, 0o1), 0o167777, Right::Read, true),
+            (user(0o21, 0o1), 0o167777, Right::Write, false),
+        ];
+        for (who, protection, right, wanted) in rows {
+            let granted = permits(&who, &owner, protection, right);
+            assert_eq!(rt; granted, wanted, "{who:?} {protection:o} {right:?}");
+        }
+    }
+}
