@@ -1,0 +1,182 @@
+-- What is looked up in a draft, and what an image becomes, with one change more.
+use Rattle.std.proofs.Common.{◌≡◌, ℕ, zero, suc, ◌+◌, ◌-◌, ◌<◌, ◌≤◌, Bool, true, false, cond, nat_eq, List, [], ◌∷◌, ◌++◌, map, length, set, get_or, take, Option, Some, None, refl, sym, ap, ◌∙◌, arith, inl, inr}
+use Rattle.std.specs.Prelude.{unwrap_or}
+use Rattle.std.specs.List.{range_with_len}
+use Rattle.std.proofs.lemmas.Bool.{cases_lt, cases_eq, eqb-true, eqb-false}
+use Rattle.std.proofs.lemmas.List.{append-nil, take_more, length-set, get_or-set_same, get_or-set_other, set_past}
+use Rattle.std.proofs.lemmas.List.FromFn.{fill_by_all, length-map-range_with_len, get_or-map-range_with_len}
+use Rattle.ods_base.specs.Block.{zeros}
+use Rattle.ods_base.specs.Image.{block_at}
+use Rattle.ods_header.specs.declared.header.Run.{Run}
+use Rattle.ods_space.specs.Draft.{Changes, change_at, seen_at, applied, zeroed}
+use Rattle.ods_space.specs.Changes.{changed, changes_after, changes_of}
+use Rattle.ods_space.specs.declared.draft.Change.{Change}
+use Rattle.ods_space.specs.declared.draft.Change.TheVariants.{Set, Zero}
+
+-- what newer changes have, or else this
+abbrev pub or_older : Option (List ℕ) → Option (List ℕ) → Option (List ℕ)
+or_older None older = older
+or_older (Some b) older = Some b
+
+pub change_at-append : (e d : Changes) (lbn : ℕ) → change_at (e ++ d) lbn ≡ or_older (change_at e lbn) (change_at d lbn)
+change_at-append [] d lbn = refl
+change_at-append (c ∷ cs) d lbn = by (nat_eq c.0 lbn) (change_at-append cs d lbn)
+  where
+    by : (b : Bool) → change_at (cs ++ d) lbn ≡ or_older (change_at cs lbn) (change_at d lbn)
+        → cond b (Some c.1) (change_at (cs ++ d) lbn) ≡ or_older (cond b (Some c.1) (change_at cs lbn)) (change_at d lbn)
+    by true rest = refl
+    by false rest = rest
+
+unwrap_or-or_older : (o p : Option (List ℕ)) (b : List ℕ) → unwrap_or (or_older o p) b ≡ unwrap_or o (unwrap_or p b)
+unwrap_or-or_older None p b = refl
+unwrap_or-or_older (Some a) p b = refl
+
+pub seen_at-append : (I : List (List ℕ)) (e d : Changes) (lbn : ℕ) → seen_at I (e ++ d) lbn ≡ unwrap_or (change_at e lbn) (seen_at I d lbn)
+seen_at-append I e d lbn = ap (λ o. unwrap_or o (block_at I lbn)) (change_at-append e d lbn) ∙ unwrap_or-or_older (change_at e lbn) (change_at d lbn) (block_at I lbn)
+
+pub length-applied : (I : List (List ℕ)) (d : Changes) → length (applied I d) ≡ length I
+unfolding applied
+length-applied I d = length-map-range_with_len (seen_at I d) 0 (length I)
+
+pub block_at-applied : (I : List (List ℕ)) (d : Changes) (lbn : ℕ) → lbn < length I → block_at (applied I d) lbn ≡ seen_at I d lbn
+unfolding applied
+block_at-applied I d lbn inside = get_or-map-range_with_len (seen_at I d) 0 (length I) lbn lbn [] inside (omega arith)
+
+-- an image of these blocks is the one with the changes
+pub applied_is : (I J : List (List ℕ)) (d : Changes) → length J ≡ length I → ((k : ℕ) → k < length I → block_at J k ≡ seen_at I d k) → J ≡ applied I d
+unfolding applied
+applied_is I J d size each = fill_by_all (seen_at I d) J (length I) [] size each
+
+pub applied_none : (I : List (List ℕ)) → I ≡ applied I []
+applied_none I = applied_is I I [] refl (λ k inside. refl)
+
+pub applied-applied : (I : List (List ℕ)) (e d : Changes) → applied (applied I d) e ≡ applied I (e ++ d)
+applied-applied I e d = applied_is I (applied (applied I d) e) (e ++ d)
+    (length-applied (applied I d) e ∙ length-applied I d)
+    (λ k inside.
+    let within : k < length (applied I d) = rw (length-applied I d) inside in
+    block_at-applied (applied I d) e k within ∙ ap (λ b. unwrap_or (change_at e k) b) (block_at-applied I d k inside) ∙ sym (seen_at-append I e d k))
+
+-- one block set
+pub applied_set : (I : List (List ℕ)) (lbn : ℕ) (b : List ℕ) → set I lbn b ≡ applied I ((lbn, b) ∷ [])
+applied_set I lbn b = applied_is I (set I lbn b) ((lbn, b) ∷ []) (length-set I lbn b) (λ k inside. by k inside (nat_eq lbn k) refl)
+  where
+    by : (k : ℕ) → k < length I → (t : Bool) → nat_eq lbn k ≡ t → get_or (set I lbn b) k [] ≡ unwrap_or (cond t (Some b) None) (get_or I k [])
+    by k inside true e = let same : lbn ≡ k = eqb-true lbn k e in ap (λ n. get_or (set I n b) k []) same ∙ get_or-set_same I k b [] inside
+    by k inside false e = get_or-set_other I lbn k b [] (λ same. eqb-false lbn k e (sym same))
+
+-- a block past the end
+pub applied_past : (I : List (List ℕ)) (lbn : ℕ) (b : List ℕ) → length I ≤ lbn → I ≡ applied I ((lbn, b) ∷ [])
+applied_past I lbn b past = sym (set_past I lbn b past) ∙ applied_set I lbn b
+
+-- the changes of one run of zeros
+abbrev pub zeros_from : ℕ → ℕ → Changes
+zeros_from a n = map (λ lbn. (lbn, zeros)) (range_with_len a n)
+
+pub change_at-zeros_inside : (a n lbn : ℕ) → a ≤ lbn → lbn < a + n → change_at (zeros_from a n) lbn ≡ Some zeros
+change_at-zeros_inside a zero lbn above below = absurd (omega arith)
+change_at-zeros_inside a (suc n) lbn above below = by (nat_eq a lbn) refl (λ higher. change_at-zeros_inside (a + 1) n lbn higher (omega arith))
+  where
+    by : (t : Bool) → nat_eq a lbn ≡ t → (a + 1 ≤ lbn → change_at (zeros_from (a + 1) n) lbn ≡ Some zeros) → cond t (Some zeros) (change_at (zeros_from (a + 1) n) lbn) ≡ Some zeros
+    by true e rest = refl
+    by false e rest = let ne = eqb-false a lbn e in rest (omega arith)
+
+pub change_at-zeros_below : (a n lbn : ℕ) → lbn < a → change_at (zeros_from a n) lbn ≡ None
+change_at-zeros_below a zero lbn below = refl
+change_at-zeros_below a (suc n) lbn below = by (nat_eq a lbn) refl (change_at-zeros_below (a + 1) n lbn (omega arith))
+  where
+    by : (t : Bool) → nat_eq a lbn ≡ t → change_at (zeros_from (a + 1) n) lbn ≡ None → cond t (Some zeros) (change_at (zeros_from (a + 1) n) lbn) ≡ None
+    by true e rest = let same = eqb-true a lbn e in absurd (omega arith)
+    by false e rest = rest
+
+pub change_at-zeros_above : (a n lbn : ℕ) → a + n ≤ lbn → change_at (zeros_from a n) lbn ≡ None
+change_at-zeros_above a zero lbn above = refl
+change_at-zeros_above a (suc n) lbn above = by (nat_eq a lbn) refl (change_at-zeros_above (a + 1) n lbn (omega arith))
+  where
+    by : (t : Bool) → nat_eq a lbn ≡ t → change_at (zeros_from (a + 1) n) lbn ≡ None → cond t (Some zeros) (change_at (zeros_from (a + 1) n) lbn) ≡ None
+    by true e rest = let same = eqb-true a lbn e in absurd (omega arith)
+    by false e rest = rest
+
+-- an image whose blocks of the run are zeros, and the others as they were
+pub record IsCleared (I J : List (List ℕ)) (from to : ℕ) : Type 0 where
+  pub size : length J ≡ length I
+  pub inside : (k : ℕ) → from ≤ k → k < to → k < length I → block_at J k ≡ zeros
+  pub below : (k : ℕ) → k < from → block_at J k ≡ block_at I k
+  pub above : (k : ℕ) → to ≤ k → block_at J k ≡ block_at I k
+
+pub cleared_none : (I : List (List ℕ)) (from : ℕ) → IsCleared I I from from
+cleared_none I from = record { size = refl; inside = λ k low high within. absurd (omega arith); below = λ k low. refl; above = λ k high. refl }
+
+pub cleared_more : (I J : List (List ℕ)) (from to : ℕ) → from ≤ to → to < length J → IsCleared I J from to → IsCleared I (set J to zeros) from (to + 1)
+cleared_more I J from to order within done = record {
+  size = length-set J to zeros ∙ done.size;
+  inside = λ k low high inside. elim (cases_eq k to) [
+    | inl e ↦ ap (λ n. get_or (set J to zeros) n []) e ∙ get_or-set_same J to zeros [] within
+    | inr n ↦ get_or-set_other J to k zeros [] n ∙ done.inside k low (omega arith) inside
+  ];
+  below = λ k low. let n : k ≡ to → ⊥ = λ e. absurd (omega arith) in get_or-set_other J to k zeros [] n ∙ done.below k low;
+  above = λ k high. let n : k ≡ to → ⊥ = λ e. absurd (omega arith) in get_or-set_other J to k zeros [] n ∙ done.above k (omega arith);
+}
+
+-- a run is cleared as far as the image has its blocks
+pub cleared_all : (I J : List (List ℕ)) (r : Run) (to : ℕ) → IsCleared I J r.lbn to → to ≤ r.lbn + r.count → ((k : ℕ) → to ≤ k → k < r.lbn + r.count → length I ≤ k) → J ≡ applied I (zeroed r [])
+cleared_all I J r to done few rest = applied_is I J (zeroed r []) done.size each
+  where
+    same : change_at (zeroed r []) ≡ change_at (zeros_from r.lbn r.count)
+    same = ap change_at (append-nil (zeros_from r.lbn r.count))
+
+    each : (k : ℕ) → k < length I → block_at J k ≡ seen_at I (zeroed r []) k
+    each k within = elim (cases_lt k r.lbn) [
+      | inl low ↦ done.below k low ∙ sym (ap (λ f. unwrap_or (f k) (block_at I k)) same ∙ ap (λ o. unwrap_or o (block_at I k)) (change_at-zeros_below r.lbn r.count k low))
+      | inr high ↦ elim (cases_lt k (r.lbn + r.count)) [
+        | inl in_run ↦ elim (cases_lt k to) [
+          | inl reached ↦ done.inside k high reached within ∙ sym (ap (λ f. unwrap_or (f k) (block_at I k)) same ∙ ap (λ o. unwrap_or o (block_at I k)) (change_at-zeros_inside r.lbn r.count k high in_run))
+          | inr left ↦ let past = rest k left in_run in absurd (omega arith)
+        ]
+        | inr behind ↦ done.above k (omega arith) ∙ sym (ap (λ f. unwrap_or (f k) (block_at I k)) same ∙ ap (λ o. unwrap_or o (block_at I k)) (change_at-zeros_above r.lbn r.count k behind))
+      ]
+    ]
+
+pub changed_is : (c : Change) (d : Changes) → changed c d ≡ changed c [] ++ d
+changed_is (Set lbn b) d = refl
+changed_is (Zero r) d = ap (λ l. l ++ d) (sym (append-nil (zeros_from r.lbn r.count)))
+
+changes_after_push : (d : Changes) (cs : List Change) (c : Change) → changes_after d (cs ++ c ∷ []) ≡ changed c (changes_after d cs)
+changes_after_push d [] c = refl
+changes_after_push d (b ∷ cs) c = changes_after_push (changed b d) cs c
+
+pub changes_of_push : (cs : List Change) (c : Change) → changes_of (cs ++ c ∷ []) ≡ changed c (changes_of cs)
+changes_of_push cs c = changes_after_push [] cs c
+
+-- the image with one change more
+pub applied_changed : (I : List (List ℕ)) (c : Change) (d : Changes) → applied (applied I d) (changed c []) ≡ applied I (changed c d)
+applied_changed I c d = applied-applied I (changed c []) d ∙ ap (applied I) (sym (changed_is c d))
+
+-- what is looked up with one change more
+pub change_at-changed : (c : Change) (d : Changes) (lbn : ℕ) → change_at (changed c d) lbn ≡ or_older (change_at (changed c []) lbn) (change_at d lbn)
+change_at-changed c d lbn = ap (λ e. change_at e lbn) (changed_is c d) ∙ change_at-append (changed c []) d lbn
+
+changes_of_more : (cs : List Change) (k : ℕ) (c : Change) → k < length cs → c ≡ get_or cs k c → changes_of (take (k + 1) cs) ≡ changed c (changes_of (take k cs))
+changes_of_more cs k c within is = ap changes_of (take_more cs k c within ∙ ap (λ x. take k cs ++ x ∷ []) (sym is)) ∙ changes_of_push (take k cs) c
+
+-- the image with the first k + 1 changes
+pub applied_more : (I J : List (List ℕ)) (cs : List Change) (k : ℕ) (c : Change) → k < length cs → c ≡ get_or cs k c → J ≡ applied I (changes_of (take k cs)) →
+    applied J (changed c []) ≡ applied I (changes_of (take (k + 1) cs))
+applied_more I J cs k c within is before =
+    ap (λ x. applied x (changed c [])) before ∙ applied_changed I c (changes_of (take k cs)) ∙ ap (applied I) (sym (changes_of_more cs k c within is))
+
+-- change k is looked at before the older ones
+module _ (cs : List Change) (k lbn : ℕ) (c : Change) (some : 0 < k) (within : k ≤ length cs) (is : c ≡ get_or cs (k - 1) c) (rest : change_at (changes_of cs) lbn ≡ change_at (changes_of (take k cs)) lbn) where
+  looked : change_at (changes_of cs) lbn ≡ or_older (change_at (changed c []) lbn) (change_at (changes_of (take (k - 1) cs)) lbn)
+  looked =
+      let place : k ≡ (k - 1) + 1 = omega arith in
+      let inside : k - 1 < length cs = omega arith in
+      rest ∙ ap (λ n. change_at (changes_of (take n cs)) lbn) place
+      ∙ ap (λ d. change_at d lbn) (changes_of_more cs (k - 1) c inside is)
+      ∙ change_at-changed c (changes_of (take (k - 1) cs)) lbn
+
+  pub looked_up : (b : List ℕ) → Some b ≡ change_at (changed c []) lbn → change_at (changes_of cs) lbn ≡ Some b
+  looked_up b found = looked ∙ ap (λ o. or_older o (change_at (changes_of (take (k - 1) cs)) lbn)) (sym found)
+
+  pub passed_over : None ≡ change_at (changed c []) lbn → change_at (changes_of cs) lbn ≡ change_at (changes_of (take (k - 1) cs)) lbn
+  passed_over none = looked ∙ ap (λ o. or_older o (change_at (changes_of (take (k - 1) cs)) lbn)) (sym none)

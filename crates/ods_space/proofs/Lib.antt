@@ -1,0 +1,12 @@
+pub mod Chains
+mod Samples
+pub mod Drafts
+pub mod WordBits
+pub mod Scans
+pub mod FreeTests
+pub mod Surveys
+pub mod Walks
+pub mod Sizes
+pub mod Surveyed
+pub mod Layouts
+pub mod Growing

@@ -1,0 +1,122 @@
+-- Walks along a chain: whatever completes the rest completes the whole, and where nothing leads on there is no chain.
+use Rattle.std.proofs.Common.{◌≡◌, ◌≢◌, ℕ, suc, List, [], ◌∷◌, ◌++◌, Option, refl, sym, ◌∙◌, subst}
+use Rattle.std.proofs.lemmas.List.{append-nil}
+use Rattle.ods_header.specs.declared.home.Home.{Home}
+use Rattle.ods_header.specs.Header.{IsLaidOut, next_number_of, next_sequence_of, sequence_of, blocks_of}
+use Rattle.ods_space.specs.Layout.{header_by}
+use Rattle.ods_space.specs.Chain.{known, most, IsSegment, Follows}
+use Rattle.ods_space.specs.Walk.{IsLink, Leads}
+use Rattle.ods_space.proofs.Chains.{head_of, front_begins}
+
+-- A walk from `start` reached header n, whose block is b, at place k; the headers before it name these blocks.
+pub record IsReached (I : List (List ℕ)) (h : Home) (index : Option (List ℕ)) (start : ℕ) (front : List ℕ) (k n : ℕ) (b : List ℕ) : Type 0 where
+  pub segment : IsSegment I h (known index front) (most h index front) n k
+  pub block : b ≡ header_by I h (known index front) n
+  pub completes : (others all : List ℕ) → Follows I h index front k n others all → Leads I h index start all
+  pub only : (others all : List ℕ) → Follows I h index [] 0 start others all → (rest : List ℕ) × Follows I h index front k n rest all
+
+pub reached_first : (I : List (List ℕ)) (h : Home) (index : Option (List ℕ)) (n : ℕ) (b : List ℕ) → IsSegment I h (known index []) (most h index []) n 0 → b ≡ header_by I h (known index []) n → IsReached I h index n [] 0 n b
+reached_first I h index n b segment block = record { segment = segment; block = block; completes = λ others all f. (others, f); only = λ others all f. (others, f) }
+
+-- where the first header is none, there is no chain
+pub none_first : (I : List (List ℕ)) (h : Home) (index : Option (List ℕ)) (n : ℕ) → ¬ IsSegment I h (known index []) (most h index []) n 0 → (blocks : List ℕ) → ¬ Leads I h index n blocks
+none_first I h index n none blocks chain = none (head_of I h index [] 0 n chain.0 blocks chain.1)
+
+-- what a chain from header n on says of its first two headers
+module _ (I : List (List ℕ)) (h : Home) (index : Option (List ℕ)) (front : List ℕ) (k n : ℕ) where
+  abbrev here : List ℕ
+  here = header_by I h (known index front) n
+
+  abbrev reached : List ℕ
+  reached = front ++ blocks_of (header_by I h (known index front) n)
+
+  rest_of : (rest all : List ℕ) → next_number_of here ≢ 0 → Follows I h index front k n rest all → (others : List ℕ) × Follows I h index reached (suc k) (next_number_of here) others all
+  rest_of [] all some f = absurd (some f.1)
+  rest_of (m ∷ ms) all some f = (ms, let P : ℕ → Type 0 = λ x. Follows I h index reached (suc k) x ms all in subst P (sym f.1) f.4)
+
+  link_of : (rest all : List ℕ) → next_number_of here ≢ 0 → Follows I h index front k n rest all → IsLink I h (known index reached) (most h index reached) here (suc k)
+  link_of [] all some f = absurd (some f.1)
+  link_of (m ∷ ms) all some f =
+      let P : ℕ → Type 0 = λ x. sequence_of (header_by I h (known index reached) x) ≡ next_sequence_of here in
+      let Q : ℕ → Type 0 = λ x. IsSegment I h (known index reached) (most h index reached) x (suc k) in
+      record { volume = f.2; sequence = subst P (sym f.1) f.3; segment = subst Q (sym f.1) (head_of I h index reached (suc k) m ms all f.4) }
+
+  more_of : (rest all : List ℕ) → Follows I h index front k n rest all → (more : List ℕ) × (all ≡ reached ++ more)
+  more_of [] all f = ([], f.2 ∙ sym (append-nil reached))
+  more_of (m ∷ ms) all f = front_begins I h index reached (suc k) m ms all f.4
+
+module _ (I : List (List ℕ)) (h : Home) (index : Option (List ℕ)) (start : ℕ) (front : List ℕ) (k n : ℕ) (b : List ℕ) (at : IsReached I h index start front k n b) where
+  -- the last header of the chain
+  pub reached_last : next_number_of b ≡ 0 → Leads I h index start (front ++ blocks_of b)
+  reached_last =
+      let P : List ℕ → Type 0 = λ x. (next_number_of x ≡ 0) → Leads I h index start (front ++ blocks_of x) in
+      subst P (sym at.block) (λ none. at.completes [] (front ++ blocks_of (here I h index front k n)) (at.segment, none, refl))
+
+  -- the header behind it
+  pub reached_next : (c : List ℕ) → next_number_of b ≢ 0 → IsLink I h (known index (front ++ blocks_of b)) (most h index (front ++ blocks_of b)) b (suc k)
+      → c ≡ header_by I h (known index (front ++ blocks_of b)) (next_number_of b) → IsReached I h index start (front ++ blocks_of b) (suc k) (next_number_of b) c
+  reached_next c =
+      let P : List ℕ → Type 0 = λ x. next_number_of x ≢ 0 → IsLink I h (known index (front ++ blocks_of x)) (most h index (front ++ blocks_of x)) x (suc k)
+      → c ≡ header_by I h (known index (front ++ blocks_of x)) (next_number_of x) → IsReached I h index start (front ++ blocks_of x) (suc k) (next_number_of x) c in
+      subst P (sym at.block) (λ some link block. record {
+        segment = link.segment;
+        block = block;
+        completes = λ others all f. at.completes (next_number_of (here I h index front k n) ∷ others) all (at.segment, refl, link.volume, link.sequence, f);
+        only = λ others all f. let g = at.only others all f in rest_of I h index front k n g.0 all some g.1;
+      })
+
+  -- nothing leads on
+  pub reached_end : next_number_of b ≢ 0 → ¬ IsLink I h (known index (front ++ blocks_of b)) (most h index (front ++ blocks_of b)) b (suc k) → (blocks : List ℕ) → ¬ Leads I h index start blocks
+  reached_end =
+      let P : List ℕ → Type 0 = λ x. next_number_of x ≢ 0 → ¬ IsLink I h (known index (front ++ blocks_of x)) (most h index (front ++ blocks_of x)) x (suc k) → (blocks : List ℕ) → ¬ Leads I h index start blocks in
+      subst P (sym at.block) (λ some none blocks chain. let g = at.only chain.0 blocks chain.1 in none (link_of I h index front k n g.0 blocks some g.1))
+
+  -- what the headers so far name is the front of what all name
+  pub reached_blocks : (blocks : List ℕ) → Leads I h index start blocks → (more : List ℕ) × (blocks ≡ (front ++ blocks_of b) ++ more)
+  reached_blocks =
+      let P : List ℕ → Type 0 = λ x. (blocks : List ℕ) → Leads I h index start blocks → (more : List ℕ) × (blocks ≡ (front ++ blocks_of x) ++ more) in
+      subst P (sym at.block) (λ blocks chain. let g = at.only chain.0 blocks chain.1 in more_of I h index front k n g.0 blocks g.1)
+
+  -- its areas lie within the block
+  pub reached_layout : IsLaidOut b
+  reached_layout = subst IsLaidOut (sym at.block) at.segment.valid.header.layout
+
+-- The same for a walk that computed the index and the greatest number at hand.
+module _ (I : List (List ℕ)) (h : Home) (index : Option (List ℕ)) (start at_hand : ℕ) (by : List ℕ) where
+  pub walk_first : (b : List ℕ) → by ≡ known index [] → at_hand ≡ most h index [] → IsSegment I h by at_hand start 0 → b ≡ header_by I h by start → IsReached I h index start [] 0 start b
+  walk_first b by_is most_is segment block =
+      let P : List ℕ → Type 0 = λ x. IsSegment I h x at_hand start 0 × (b ≡ header_by I h x start) in
+      let Q : ℕ → Type 0 = λ x. IsSegment I h (known index []) x start 0 in
+      let both = subst P by_is (segment, block) in
+      reached_first I h index start b (subst Q most_is both.0) both.1
+
+  pub walk_none : by ≡ known index [] → at_hand ≡ most h index [] → ¬ IsSegment I h by at_hand start 0 → (blocks : List ℕ) → ¬ Leads I h index start blocks
+  walk_none by_is most_is none =
+      let P : List ℕ → Type 0 = λ x. ¬ IsSegment I h x at_hand start 0 in
+      let Q : ℕ → Type 0 = λ x. ¬ IsSegment I h (known index []) x start 0 in
+      none_first I h index start (subst Q most_is (subst P by_is none))
+
+  module _ (front : List ℕ) (k n : ℕ) (b : List ℕ) (at : IsReached I h index start front k n b) (whole : List ℕ) (whole_is : whole ≡ front ++ blocks_of b) where
+    pub walk_last : next_number_of b ≡ 0 → Leads I h index start whole
+    walk_last last = subst (Leads I h index start) (sym whole_is) (reached_last I h index start front k n b at last)
+
+    pub walk_next : (c : List ℕ) (j : ℕ) → j ≡ suc k → by ≡ known index whole → at_hand ≡ most h index whole → next_number_of b ≢ 0
+        → IsLink I h by at_hand b j → c ≡ header_by I h by (next_number_of b) → IsReached I h index start whole j (next_number_of b) c
+    walk_next c j place by_is most_is some link block =
+        let P : List ℕ → Type 0 = λ x. IsLink I h x at_hand b j × (c ≡ header_by I h x (next_number_of b)) in
+        let Q : ℕ → Type 0 = λ x. IsLink I h (known index whole) x b j in
+        let R : ℕ → Type 0 = λ x. IsLink I h (known index whole) (most h index whole) b x in
+        let both = subst P by_is (link, block) in
+        let S : List ℕ → Type 0 = λ x. IsLink I h (known index x) (most h index x) b (suc k) × (c ≡ header_by I h (known index x) (next_number_of b)) in
+        let moved = subst S whole_is (subst R place (subst Q most_is both.0), both.1) in
+        let U : List ℕ → Type 0 = λ x. IsReached I h index start x (suc k) (next_number_of b) c in
+        let V : ℕ → Type 0 = λ x. IsReached I h index start whole x (next_number_of b) c in
+        subst V (sym place) (subst U (sym whole_is) (reached_next I h index start front k n b at c some moved.0 moved.1))
+
+    pub walk_end : (j : ℕ) → j ≡ suc k → by ≡ known index whole → at_hand ≡ most h index whole → next_number_of b ≢ 0 → ¬ IsLink I h by at_hand b j → (blocks : List ℕ) → ¬ Leads I h index start blocks
+    walk_end j place by_is most_is some none =
+        let P : List ℕ → Type 0 = λ x. ¬ IsLink I h x at_hand b j in
+        let Q : ℕ → Type 0 = λ x. ¬ IsLink I h (known index whole) x b j in
+        let R : ℕ → Type 0 = λ x. ¬ IsLink I h (known index whole) (most h index whole) b x in
+        let S : List ℕ → Type 0 = λ x. ¬ IsLink I h (known index x) (most h index x) b (suc k) in
+        reached_end I h index start front k n b at some (subst S whole_is (subst R place (subst Q most_is (subst P by_is none))))

@@ -1,0 +1,10 @@
+use Rattle.std.proofs.Common.{◌∷◌, ap, ◌∙◌}
+use Rattle.ods_space.specs.Changes.{changes_of}
+use Rattle.ods_space.specs.declared.draft.Change.TheVariants.{Set}
+use Rattle.ods_space.proofs.Drafts.{changes_of_push}
+use Rattle.ods_space.proofs.draft.Draft.set.Goals as goal
+
+pub returns-clause-ok : goal.returns-clause-ok
+returns-clause-ok c =
+    ap changes_of c.in_ok-push.ensures.items ∙ changes_of_push c.self.inside.changes.items (Set c.args.lbn c.args.block)
+    ∙ ap (λ d. (c.args.lbn, c.args.block) ∷ d) c.self.view_is

@@ -1,0 +1,89 @@
+//! The blocks of a chain, collected.
+ghost use Rattle.std.specs.Prelude.{◌≡◌, ◌++◌, IfOk, IfErr, OnOk};
+ghost use Rattle.std.specs.Option.{option_map};
+ghost use Rattle.ods_header.specs.Header.{IsLaidOut, IsRun, run_blocks, blocks_of};
+ghost use Rattle.ods_space.specs.Chain.{known as known_of, most as most_of};
+ghost use Rattle.ods_space.specs.Walk.{Leads, IsDeadEnd};
+
+use crate::ChainFault;
+use crate::walk::{next_block, next_number, segment_block};
+use ods_base::{Block, Image};
+use ods_header::{Home, Run, pointer_at, pointer_count};
+use std::alloc::{AllocError, Global};
+
+/// The blocks of a run, put behind these.
+fn push_run(named: &mut Vec<u32>, run: &Run) -> Result<(), AllocError>
+    requires { IsRun run.now }
+    ensures { OnOk result (named.new.items ≡ named.old.items ++ run_blocks run.now) }
+{
+    for i in 0..run.count as u32 {
+        named.push(run.lbn + i)?;
+    }
+    Ok(())
+}
+
+/// The blocks that a header's pointers name, put behind these.
+fn push_header(named: &mut Vec<u32>, block: &Block) -> Result<(), AllocError>
+    requires { IsLaidOut block.now }
+    ensures { OnOk result (named.new.items ≡ named.old.items ++ blocks_of block.now) }
+{
+    for k in 0..pointer_count(block) {
+        push_run(named, &pointer_at(block, k))?;
+    }
+    Ok(())
+}
+
+/// The blocks of INDEXF.SYS by which headers are placed: all of them, or those named so far.
+fn known<'a>(index: Option<&'a [u32]>, front: &'a [u32]) -> &'a [u32]
+    ensures { result.now ≡ known_of (option_map (λ x. x.now) index.entry) front.now }
+{
+    match index {
+        Some(index) => index,
+        None => front,
+    }
+}
+
+/// The greatest number that the chain may name.
+pub(crate) fn most(home: &Home, index: Option<&[u32]>, front: &[u32]) -> u16
+    ensures { result ≡ most_of home.now (option_map (λ x. x.now) index.entry) front.now }
+{
+    let size = home.index_size as usize;
+    let headers = match index {
+        Some(index) => index.len().saturating_sub(size + 2),
+        None => front.len().saturating_sub(size + 2).max(16),
+    };
+    (home.max_files as usize).min(4096 * size).min(headers) as u16
+}
+
+/// All blocks of the chain from header `number` on, in order. Without an index they are those of INDEXF.SYS, whose headers are
+/// placed by the blocks that the headers before them name.
+pub(crate) fn collect(
+    alloc: Global,
+    image: &Image,
+    home: &Home,
+    index: Option<&[u32]>,
+    number: u16,
+) -> Result<Vec<u32>, ChainFault>
+    ensures ok { IfOk result (λ blocks. Leads image.now home.now (option_map (λ x. x.now) index.entry) number blocks.items) }
+    ensures err { IfErr result (IsDeadEnd image.now home.now (option_map (λ x. x.now) index.entry) number) }
+{
+    let mut named = Vec::new(alloc);
+    let front = known(index, &[]);
+    let Some(first) = segment_block(image, home, front, most(home, index, &[]), number, 0) else {
+        return Err(ChainFault::BadChain);
+    };
+    let mut block = first;
+    for segment in 0..256 {
+        push_header(&mut named, block)?;
+        if next_number(block) == 0 {
+            return Ok(named);
+        }
+        let front = known(index, &named);
+        let most = most(home, index, &named);
+        let Some(next) = next_block(image, home, front, most, block, segment + 1) else {
+            return Err(ChainFault::BadChain);
+        };
+        block = next;
+    }
+    Err(ChainFault::BadChain)
+}

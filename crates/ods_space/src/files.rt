@@ -1,0 +1,166 @@
+//! The blocks of files.
+ghost use Rattle.std.specs.Prelude.{◌≡◌, ◌≢◌, ◌^◌, ◌≤◌, ℕ, List, length, IfOk, IfErr, IfSome, IfNone, SomeIff};
+ghost use Rattle.std.specs.Option.{option_map};
+ghost use Rattle.std.specs.List.{Contains};
+ghost use Rattle.ods_header.specs.Header.{header_of};
+ghost use Rattle.ods_space.specs.Layout.{header_at};
+ghost use Rattle.ods_space.specs.Chain.{index_for as index_of};
+ghost use Rattle.ods_space.specs.Files.{IsFile, HasBlocks, Holds, IsLayoutOf, AreInside};
+ghost use Rattle.ods_space.specs.Faults.{IsChainFault};
+ghost use Rattle.ods_space.specs.Walk.{IsSurveyOf};
+
+use crate::bits::in_use;
+use crate::collect::collect;
+use crate::headers::{header_block, last_number};
+use crate::survey::Survey;
+use crate::walk::{next_block, next_number, segment_block};
+use crate::{ChainFault, Layout};
+use ods_base::Image;
+use ods_header::{Header, read_header};
+use std::alloc::Global;
+
+/// The first header of a file.
+pub fn file_header(image: &Image, layout: &Layout, number: u16) -> Option<Header>
+    requires { IsLayoutOf image.now layout.now }
+    ensures { SomeIff result (IsFile image.now layout.now number) (header_of (header_at image.now layout.now number)) }
+{
+    if number == 0 || last_number(layout) < number || !in_use(image, layout, number) {
+        return None;
+    }
+    let block = header_block(image, &layout.home(), layout.index(), number)?;
+    match read_header(block, number) {
+        Ok(header) => {
+            if header.segment == 0 {
+                Some(header)
+            } else {
+                None
+            }
+        }
+        Err(_) => None,
+    }
+}
+
+/// All blocks of a file, in order. A number that is no file has no chain.
+pub fn chain(
+    alloc: Global,
+    image: &Image,
+    layout: &Layout,
+    number: u16,
+) -> Result<Vec<u32>, ChainFault>
+    requires { IsLayoutOf image.now layout.now }
+    ensures ok { IfOk result (λ blocks. HasBlocks image.now layout.now number blocks.items) }
+    ensures err { IfErr result (IsChainFault image.now layout.now number) }
+{
+    let index = index_for(layout, number);
+    let blocks = match collect(alloc, image, &layout.home(), index, number) {
+        Ok(blocks) => blocks,
+        Err(fault) => return Err(fault),
+    };
+    match outside(image, &blocks) {
+        Some(lbn) => Err(ChainFault::OutsideVolume(lbn)),
+        None => Ok(blocks),
+    }
+}
+
+/// INDEXF.SYS finds its own headers, any other file's are found by its blocks.
+fn index_for(layout: &Layout, number: u16) -> Option<&[u32]>
+    ensures { option_map (λ x. x.now) result ≡ index_of layout.now number }
+{
+    if number == 1 {
+        None
+    } else {
+        Some(layout.index())
+    }
+}
+
+/// A block that the image lacks.
+pub(crate) fn outside(image: &Image, blocks: &[u32]) -> Option<u32>
+    ensures some { IfSome result (λ lbn. Contains blocks.now lbn × (length image.now ≤ lbn)) }
+    ensures none { IfNone result (AreInside image.now blocks.now) }
+    ensures few { length image.now ≤ 2 ^ 20 }
+{
+    let len = image.len();
+    for lbn in blocks {
+        if len <= *lbn {
+            return Some(*lbn);
+        }
+    }
+    None
+}
+
+/// One block of a file, counted from 1. There is none where the file has no whole chain.
+pub fn locate(image: &Image, layout: &Layout, number: u16, vbn: u32) -> Option<u32>
+    requires { IsLayoutOf image.now layout.now }
+    ensures found { IfSome result (Holds image.now layout.now number vbn) }
+    ensures none { IfNone result ((lbn : ℕ) → ¬ Holds image.now layout.now number vbn lbn) }
+{
+    if vbn == 0 {
+        return None;
+    }
+    survey(image, layout, number, vbn - 1)?.found
+}
+
+/// How many blocks a file has.
+pub fn block_count(image: &Image, layout: &Layout, number: u16) -> Option<u32>
+    requires { IsLayoutOf image.now layout.now }
+    ensures count { IfSome result (λ count. (blocks : List ℕ) × HasBlocks image.now layout.now number blocks × (count ≡ length blocks)) }
+    ensures none { IfNone result ((blocks : List ℕ) → ¬ HasBlocks image.now layout.now number blocks) }
+{
+    Some(survey(image, layout, number, 0)?.count)
+}
+
+/// What a file has: how many blocks, and the one at this place, counted from 0.
+fn survey(image: &Image, layout: &Layout, number: u16, place: u32) -> Option<Survey>
+    requires { IsLayoutOf image.now layout.now }
+    ensures some { IfSome result (λ s. (s.place ≡ place) × (blocks : List ℕ) × HasBlocks image.now layout.now number blocks × IsSurveyOf s blocks) }
+    ensures none { IfNone result ((blocks : List ℕ) → ¬ HasBlocks image.now layout.now number blocks) }
+{
+    // An image has few blocks, and so has a chain.
+    let _ = image.len();
+    if number == 1 {
+        return Some(survey_index(layout, place));
+    }
+    survey_file(image, layout, number, place)
+}
+
+/// What INDEXF.SYS has: its blocks are at hand.
+fn survey_index(layout: &Layout, place: u32) -> Survey
+    requires { length layout.now.index ≤ 6684672 }
+    ensures place { result.place ≡ place }
+    ensures survey { IsSurveyOf result layout.now.index }
+{
+    let index = layout.index();
+    Survey {
+        place,
+        count: index.len() as u32,
+        found: index.get(place as usize).copied(),
+    }
+}
+
+/// What another file than INDEXF.SYS has.
+fn survey_file(image: &Image, layout: &Layout, number: u16, place: u32) -> Option<Survey>
+    requires layout { IsLayoutOf image.now layout.now }
+    requires other { number ≢ 1 }
+    ensures some { IfSome result (λ s. (s.place ≡ place) × (blocks : List ℕ) × HasBlocks image.now layout.now number blocks × IsSurveyOf s blocks) }
+    ensures none { IfNone result ((blocks : List ℕ) → ¬ HasBlocks image.now layout.now number blocks) }
+{
+    let home = layout.home();
+    let index = layout.index();
+    let most = last_number(layout);
+    let mut survey = Survey {
+        place,
+        count: 0,
+        found: None,
+    };
+    let mut block = segment_block(image, &home, index, most, number, 0)?;
+    for segment in 0..256 {
+        if !survey.pass_header(block, image.len()) {
+            return None;
+        }
+        if next_number(block) == 0 {
+            return Some(survey);
+        }
+        block = next_block(image, &home, index, most, block, segment + 1)?;
+    }
+    None
+}

@@ -1,0 +1,103 @@
+//! Where a volume's structures lie.
+ghost use Rattle.std.specs.Prelude.{◌≡◌};
+ghost use Rattle.ods_space.specs.Layout.{place_of};
+
+use crate::LayoutFault;
+use crate::system::{read_bitmap, read_index};
+use ods_base::Image;
+use ods_header::Home;
+use std::alloc::{AllocError, Global};
+use std::marker::Model;
+
+/// The home block's fields, and the blocks of INDEXF.SYS and BITMAP.SYS.
+#[derive(Drop)]
+pub struct Layout {
+    home: Home,
+    index: Vec<u32>,
+    bitmap: Vec<u32>,
+}
+
+impl Model for Layout {
+    ghost use Rattle.std.specs.Prelude.{List, ℕ, ◌+◌, ◌≤◌, ◌^◌};
+    ghost use Rattle.ods_space.specs.Layout.{VolumeLayout};
+
+    ghost Value = { VolumeLayout };
+
+    ghost view = { λ l. record { home = l.home; index = l.index.items; bitmap = l.bitmap.items } };
+
+    // Header 1 stands in an image.
+    ghost invariant = { λ l. l.home.index_lbn + l.home.index_size ≤ 2 ^ 20 };
+}
+
+impl Layout {
+    ghost use Rattle.std.specs.Prelude.{IfOk, IfErr};
+    ghost use Rattle.ods_header.specs.Home.{IsHomeOf};
+    ghost use Rattle.ods_space.specs.Files.{IsLayoutOf};
+    ghost use Rattle.ods_space.specs.Faults.{IsLayoutFault};
+
+    /// The home block's fields with the blocks of INDEXF.SYS and BITMAP.SYS.
+    pub fn read(alloc: Global, image: &Image, home: Home) -> Result<Layout, LayoutFault>
+        requires { IsHomeOf image.now home }
+        ensures ok { IfOk result (λ layout. IsLayoutOf image.now layout × (layout.home ≡ home)) }
+        ensures err { IfErr result (IsLayoutFault image.now home) }
+    {
+        let index = match read_index(alloc, image, &home) {
+            Ok(index) => index,
+            Err(fault) => return Err(fault),
+        };
+        match read_bitmap(alloc, image, &home, &index) {
+            Ok(bitmap) => Ok(Layout {
+                home,
+                index,
+                bitmap,
+            }),
+            Err(fault) => Err(fault),
+        }
+    }
+
+    /// An equal layout.
+    pub fn copy(&self) -> Result<Layout, AllocError>
+        ensures { IfOk result (λ copy. copy ≡ self.now) }
+    {
+        let index = Vec::from_slice(*self.index.allocator(), &self.index)?;
+        let bitmap = Vec::from_slice(*self.bitmap.allocator(), &self.bitmap)?;
+        Ok(Layout {
+            home: self.home,
+            index,
+            bitmap,
+        })
+    }
+
+    /// The home block's fields.
+    pub fn home(&self) -> Home
+        ensures { result ≡ self.now.home }
+    {
+        self.home
+    }
+
+    /// The blocks of INDEXF.SYS.
+    pub fn index(&self) -> &[u32]
+        ensures { result.now ≡ self.now.index }
+    {
+        self.index.as_slice()
+    }
+
+    /// The blocks of BITMAP.SYS.
+    pub fn bitmap(&self) -> &[u32]
+        ensures { result.now ≡ self.now.bitmap }
+    {
+        self.bitmap.as_slice()
+    }
+
+    /// Where header `number` stands.
+    pub fn place(&self, number: u16) -> Option<u32>
+        ensures { result ≡ place_of self.now number }
+    {
+        let size = self.home.index_size as u32;
+        match number {
+            0 => None,
+            1..=16 => Some(self.home.index_lbn + size + number as u32 - 1),
+            _ => self.index.get(1 + size as usize + number as usize).copied(),
+        }
+    }
+}

@@ -1,0 +1,30 @@
+//! Chains of headers, bitmaps and drafts of Files-11 volumes of structure level 1.
+#![tactic(auto)]
+
+mod bits;
+mod clear;
+mod collect;
+mod draft;
+mod fault;
+mod files;
+mod free;
+mod headers;
+mod laws;
+mod layout;
+mod numbers;
+mod survey;
+mod system;
+mod walk;
+mod words;
+
+pub use bits::{in_use, is_free};
+pub use draft::Draft;
+pub use fault::{ChainFault, LayoutFault, SpaceFault};
+pub use files::{block_count, chain, file_header, locate};
+pub use free::{free_count, pick_blocks};
+pub use laws::places_stay;
+pub use layout::Layout;
+pub use numbers::{is_number_free, number_count, pick_numbers};
+
+#[cfg(test)]
+mod tests;
