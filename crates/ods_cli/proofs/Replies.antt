@@ -1,5 +1,5 @@
 -- Replies, from what was read to what is said of it.
-use Rattle.std.proofs.Common.{◌≡◌, ℕ, ◌+◌, ◌^◌, ◌≤◌, Bool, List, length, Option, arith, inr, subst, sym}
+use Rattle.std.proofs.Common.{ℕ, ◌+◌, ◌^◌, ◌≤◌, Bool, List, length, Option, arith, inr, subst, sym}
 use Rattle.std.specs.Prelude.{Result, Ok, Err, IfOk, IsOkUnless, MatchResult}
 use Rattle.ods_base.specs.Image.{IsNoReading}
 use Rattle.ods_base.specs.declared.faults.ImageError.{ImageError}

@@ -1,5 +1,5 @@
 -- How a run that asks for one header ends.
-use Rattle.std.specs.Prelude.{◌≡◌, ℕ, ◌+◌, ◌≤◌, ◌^◌, Bool, List, length, Option, Result, Ok, Err}
+use Rattle.std.specs.Prelude.{ℕ, ◌+◌, ◌≤◌, ◌^◌, Bool, List, length, Option, Result, Ok, Err}
 use Rattle.std.specs.Io.KnownBytes.{Appends, Keeps}
 use Rattle.ods_base.specs.Image.{TookBytes}
 use Rattle.ods_cli.specs.declared.fault.ServeFault.{ServeFault}

@@ -1,6 +1,6 @@
 -- A block that the image lacks is no header.
-use Rattle.std.proofs.Common.{◌≡◌, ℕ, ◌≤◌, [], refl, arith}
-use Rattle.ods_base.specs.Block.{word, sum_of}
+use Rattle.std.proofs.Common.{ℕ, ◌≤◌, [], refl, arith}
+use Rattle.ods_base.specs.Block.{sum_of}
 use Rattle.ods_header.specs.declared.header.HeaderFault.TheVariants.{WrongNumber}
 use Rattle.ods_header.specs.Header.{IsFirstFault}
 

@@ -1,5 +1,5 @@
 -- A byte in octal has the digits that it needs, and no more.
-use Rattle.std.proofs.Common.{◌≡◌, ℕ, zero, suc, ◌+◌, ◌/◌, ◌%◌, ◌<◌, ◌≤◌, true, false, [], ◌∷◌, ◌++◌, subst, length, length-append, refl, eqb-true, eq-eqb, zero-add, arith, ◌∙◌, ap}
+use Rattle.std.proofs.Common.{◌≡◌, ℕ, zero, suc, ◌+◌, ◌/◌, ◌%◌, ◌<◌, ◌≤◌, true, false, [], ◌∷◌, subst, length, length-append, refl, eqb-true, eq-eqb, zero-add, arith, ◌∙◌, ap}
 use Rattle.std.proofs.lemmas.Bool.{lt-ltb, le-ltb}
 use Rattle.std.specs.Prelude.{nat_eq, nat_lt, if◌then◌else◌}
 use Rattle.std.specs.List.{list_all, range_with_len}

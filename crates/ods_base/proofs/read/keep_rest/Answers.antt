@@ -1,4 +1,4 @@
-use Rattle.std.proofs.Common.{◌%◌, ◌∙◌, ap, take, arith}
+use Rattle.std.proofs.Common.{◌%◌, ◌∙◌, ap, take}
 use Rattle.ods_base.proofs.Pieces.{rest_kept}
 use Rattle.ods_base.proofs.read.keep_rest.Goals as goal
 

@@ -1,4 +1,4 @@
-use Rattle.std.proofs.Common.{◌≡◌, ◌+◌, ◌-◌, ◌<◌, ◌≤◌, arith, sym, take, length, length-take, length-drop}
+use Rattle.std.proofs.Common.{◌≡◌, ◌+◌, ◌-◌, ◌≤◌, arith, sym, take, length, length-take, length-drop}
 use Rattle.ods_base.proofs.Pieces.{read_behind}
 use Rattle.ods_base.proofs.read.read_once.Goals as goal
 

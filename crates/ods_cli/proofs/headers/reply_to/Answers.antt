@@ -1,5 +1,4 @@
-use Rattle.std.proofs.Common.{◌≡◌, ◌∙◌, length, inl, ap, sym, arith}
-use Rattle.std.specs.List.{concat}
+use Rattle.std.proofs.Common.{length, ap, arith}
 use Rattle.std.specs.String.{string_bytes}
 use Rattle.std.proofs.lemmas.Result.{err_from_is_err_and}
 use Rattle.ods_base.proofs.Images.{length-concat}

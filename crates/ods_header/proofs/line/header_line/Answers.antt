@@ -1,4 +1,4 @@
-use Rattle.std.proofs.Common.{◌≡◌, ◌+◌, ◌-◌, ◌≤◌, List, ℕ, [], length, sym, subst, arith}
+use Rattle.std.proofs.Common.{◌+◌, ◌-◌, ◌≤◌, List, ℕ, [], length, sym, subst}
 use Rattle.std.proofs.lemmas.List.{get_or_past}
 use Rattle.ods_header.specs.declared.header.HeaderFault.TheVariants.{WrongNumber}
 use Rattle.ods_header.specs.Header.{IsFirstFault}

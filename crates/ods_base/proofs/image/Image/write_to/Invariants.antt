@@ -1,4 +1,4 @@
-use Rattle.std.proofs.Common.{◌<◌, ◌*◌, length, take}
+use Rattle.std.proofs.Common.{◌<◌, length, take}
 use Rattle.std.specs.List.{concat}
 use Rattle.std.specs.Io.KnownBytes.{Appends}
 use Rattle.ods_base.proofs.Sending.{IsUnderWay}
