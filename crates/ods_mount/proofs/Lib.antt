@@ -1,0 +1,12 @@
+pub mod Checked
+pub mod Decided
+pub mod Each
+pub mod Headers
+pub mod Holders
+pub mod Layouts
+pub mod Linked
+pub mod Sets
+pub mod Sharing
+pub mod Soundness
+pub mod Tables
+pub mod Unlaid

@@ -1,0 +1,48 @@
+use Rattle.std.proofs.Common.{◌≡◌, ℕ, List, Ok, length, map, ap, ◌∙◌, subst, arith}
+use Rattle.std.proofs.lemmas.List.{length-map}
+use Rattle.ods_base.specs.Image.{block_at}
+use Rattle.ods_directory.specs.Names.{IsDirectory, HasBadEntry, HasTwins}
+use Rattle.ods_directory.specs.Entry.{used_entries}
+use Rattle.ods_directory.specs.Mark.{mark_in}
+use Rattle.ods_space.specs.Chain.{index_for}
+use Rattle.ods_space.proofs.Sizes.{chain_size}
+use Rattle.ods_mount.proofs.directory.check_directory.Goals as goal
+
+pub new-blocks-requires-clause-few : goal.new-blocks-requires-clause-few
+new-blocks-requires-clause-few c =
+    let has = c.requires.blocks in
+    let small = chain_size c.args.image.now c.args.layout.now.home (index_for c.args.layout.now c.args.number) c.args.number has.others c.args.blocks.now c.len.ensures.image has.whole.chain in
+    omega arith
+
+-- what was found of the blocks and the mark at hand is so of those of the file
+moved : (P : List (List ℕ) → ℕ → Type 0) (I J : List (List ℕ)) (xs ys : List ℕ) (attributes at_hand : List ℕ) (mark count : ℕ) → (J ≡ I) → (ys ≡ xs) → (at_hand ≡ attributes)
+    → count ≡ length (map (block_at J) ys) → mark ≡ mark_in at_hand count → P (map (block_at J) ys) mark → P (map (block_at I) xs) (mark_in attributes (length xs))
+moved P I J xs ys attributes at_hand mark count same_image same_blocks same_attributes count_is mark_is found =
+    let size : count ≡ length xs = count_is ∙ length-map ys (block_at J) ∙ ap length same_blocks in
+    let end : mark ≡ mark_in attributes (length xs) = mark_is ∙ ap (λ l. mark_in l count) same_attributes ∙ ap (mark_in attributes) size in
+    let Q : ℕ → Type 0 = λ m. P (map (block_at J) ys) m in
+    let R : List ℕ → Type 0 = λ l. P (map (block_at J) l) (mark_in attributes (length xs)) in
+    let S : List (List ℕ) → Type 0 = λ K. P (map (block_at K) xs) (mark_in attributes (length xs)) in
+    subst S same_image (subst R same_blocks (subst Q end found))
+
+pub returns-in-Ok-Good-clause-ok : goal.returns-in-Ok-Good-clause-ok
+returns-in-Ok-Good-clause-ok c _ = moved IsDirectory c.args.image.now _ c.args.blocks.now _ _ c.args.attributes.now c.mark_of-mark.result c.count.result
+    c.new-blocks.ensures.0 c.new-blocks.ensures.1 c.requires.attributes c.count.ensures c.mark_of-mark.ensures (c.in-Ok-Good.ensures.good (ap Ok c.in-Ok-Good.field-0-is))
+
+pub returns-in-Ok-BadEntry-clause-err : goal.returns-in-Ok-BadEntry-clause-err
+returns-in-Ok-BadEntry-clause-err c _ = (
+  c.if-not-is_directory.ensures,
+  c.args.blocks.now,
+  c.requires.blocks,
+  moved (λ bs m. HasBadEntry (used_entries bs m)) c.args.image.now _ c.args.blocks.now _ _ c.args.attributes.now c.mark_of-mark.result c.count.result
+      c.new-blocks.ensures.0 c.new-blocks.ensures.1 c.requires.attributes c.count.ensures c.mark_of-mark.ensures (c.in-Ok-BadEntry.ensures.bad (ap Ok c.in-Ok-BadEntry.field-0-is)),
+)
+
+pub returns-in-Ok-Twice-clause-err : goal.returns-in-Ok-Twice-clause-err
+returns-in-Ok-Twice-clause-err c _ = (
+  c.if-not-is_directory.ensures,
+  c.args.blocks.now,
+  c.requires.blocks,
+  moved (λ bs m. HasTwins (used_entries bs m)) c.args.image.now _ c.args.blocks.now _ _ c.args.attributes.now c.mark_of-mark.result c.count.result
+      c.new-blocks.ensures.0 c.new-blocks.ensures.1 c.requires.attributes c.count.ensures c.mark_of-mark.ensures (c.in-Ok-Twice.ensures.twice (ap Ok c.in-Ok-Twice.field-0-is)),
+)

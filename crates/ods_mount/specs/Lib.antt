@@ -1,0 +1,6 @@
+pub mod Faults
+pub mod Sound
+pub mod Checks
+pub mod Tables
+pub mod Links
+pub mod Refusals

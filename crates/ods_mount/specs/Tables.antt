@@ -1,0 +1,31 @@
+-- Tables of what files have: blocks, or headers. A table is a set of numbers, one bit each.
+use Rattle.std.specs.Prelude.{◌≡◌, ℕ, ◌/◌, ◌%◌, ◌<◌, ◌⊎◌, Bool, ◌==◌, true, false, List, Some, slice_get, slice_index}
+use Rattle.std.specs.Int.{bit_at}
+
+-- b is in the set that these words of 64 bits are
+abbrev pub has : List ℕ → ℕ → Bool
+has words b = bit_at (slice_index words (b / 64)) (b % 64) == 1
+
+-- b is put into the set, and all else stays
+abbrev pub IsWith : List ℕ → List ℕ → ℕ → Type 0
+IsWith new old b = (has new b ≡ true) × ((c : ℕ) → (c ≡ b → ⊥) → has new c ≡ has old c)
+
+-- the first i of these numbers are put into the set, each once, and it had none of them
+pub record IsNoted (old new : List ℕ) (xs : List ℕ) (i : ℕ) : Type 0 where
+  pub stays : (b : ℕ) → has old b ≡ true → has new b ≡ true
+  pub some : (j b : ℕ) → j < i → slice_get xs j ≡ Some b → has new b ≡ true
+  pub only : (b : ℕ) → has new b ≡ true → (has old b ≡ true) ⊎ ((j : ℕ) × (j < i) × (slice_get xs j ≡ Some b))
+  pub apart : (j b : ℕ) → j < i → slice_get xs j ≡ Some b → has old b ≡ false
+  pub distinct : (j k b : ℕ) → j < i → k < i → slice_get xs j ≡ Some b → slice_get xs k ≡ Some b → j ≡ k
+
+-- the number is one of these, and it is in the set, or among those before it
+pub record IsThere (old : List ℕ) (xs : List ℕ) (number : ℕ) : Type 0 where
+  pub place : ℕ
+  pub named : slice_get xs place ≡ Some number
+  pub there : (has old number ≡ true) ⊎ ((j : ℕ) × (j < place) × (slice_get xs j ≡ Some number))
+
+-- The set is what the files below n have, each thing once. `Has m v b` says that file m has b at place v.
+pub record IsTable (Has : ℕ → ℕ → ℕ → Type 0) (n : ℕ) (set : List ℕ) : Type 0 where
+  pub all : (m v b : ℕ) → m < n → Has m v b → has set b ≡ true
+  pub only : (b : ℕ) → has set b ≡ true → (m : ℕ) × (v : ℕ) × (m < n) × Has m v b
+  pub once : (m k v w b : ℕ) → m < n → k < n → Has m v b → Has k w b → (m ≡ k) × (v ≡ w)

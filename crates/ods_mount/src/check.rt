@@ -1,0 +1,64 @@
+//! The whole check of an image.
+ghost use Rattle.std.specs.Prelude.{◌≡◌, ◌≢◌, IfOk, IfErr, OnOk};
+ghost use Rattle.ods_header.specs.Home.{IsHomeAt};
+ghost use Rattle.ods_space.specs.Files.{IsLayoutOf};
+ghost use Rattle.ods_mount.specs.Faults.{FaultIsTrue, IsSound};
+ghost use Rattle.ods_mount.specs.Checks.{IsFault, IsChecked};
+ghost use Rattle.ods_mount.specs.Sound.{IsSoundBy};
+
+use crate::file::check_files;
+use crate::formats::check_formats;
+use crate::index::check_index;
+use crate::layout::read_layout;
+use crate::system::check_system_files;
+use crate::{MountFault, Mounted};
+use ods_base::Image;
+use ods_space::Layout;
+use std::alloc::Global;
+
+/// The image with its layout, where it is sound. Else the image as it came, and one of its faults.
+pub fn mount(alloc: Global, image: Image) -> Result<Mounted, (Image, MountFault)>
+    ensures mounted { IfOk result (λ m. (m.image ≡ image) × IsSoundBy image m.layout) }
+    ensures sound { IfOk result (λ _. IsSound image) }
+    ensures unchanged { IfErr result (λ e. e.0 ≡ image) }
+    ensures fault { IfErr result (λ e. e.1 ≢ MountFault.NoMemory → FaultIsTrue image e.1) }
+{
+    match check_image(alloc, &image) {
+        Ok(layout) => Ok(Mounted::new(image, layout)),
+        Err(fault) => Err((image, fault)),
+    }
+}
+
+/// The layout of an image that passes each check.
+fn check_image(alloc: Global, image: &Image) -> Result<Layout, MountFault>
+    ensures ok { IfOk result (IsChecked image.now) }
+    ensures err { IfErr result (λ e. e ≢ MountFault.NoMemory → FaultIsTrue image.now e) }
+{
+    let (home, layout) = match read_layout(alloc, image) {
+        Ok(found) => found,
+        Err(fault) => return Err(fault),
+    };
+    match check_volume(alloc, image, &layout, home) {
+        Ok(()) => Ok(layout),
+        Err(fault) => Err(fault),
+    }
+}
+
+/// Each check of an image that has this layout, and its home block at the LBN `home`.
+fn check_volume(alloc: Global, image: &Image, layout: &Layout, home: u32) -> Result<(), MountFault>
+    requires layout { IsLayoutOf image.now layout.now }
+    requires home { IsHomeAt image.now home }
+    ensures ok { OnOk result (IsChecked image.now layout.now) }
+    ensures err { IfErr result (IsFault image.now layout.now) }
+{
+    if let Err(fault) = check_index(image, layout, home) {
+        return Err(fault);
+    }
+    if let Err(fault) = check_system_files(image, layout) {
+        return Err(fault);
+    }
+    if let Err(fault) = check_formats(image, layout) {
+        return Err(fault);
+    }
+    check_files(alloc, image, layout, home)
+}

@@ -1,0 +1,53 @@
+//! What INDEXF.SYS maps: the index bitmap, headers 1 to 16 and the home block.
+ghost use Rattle.std.specs.Prelude.{◌≡◌, ◌≢◌, Some, slice_get, MatchBool, OnOk, IfErr};
+ghost use Rattle.ods_header.specs.Home.{IsHomeAt};
+ghost use Rattle.ods_mount.specs.Faults.{IsTrueOf};
+ghost use Rattle.ods_mount.specs.Checks.{IsWellIndexed, IsBadlyIndexed, NoPlaceIsFree};
+
+use crate::MountFault;
+use crate::places::check_free_places;
+use ods_base::Image;
+use ods_space::Layout;
+
+/// INDEXF.SYS maps what headers are found by and the home block, and no lower place of a home block is free.
+pub(crate) fn check_index(image: &Image, layout: &Layout, home: u32) -> Result<(), MountFault>
+    requires { IsHomeAt image.now home }
+    ensures ok { OnOk result (IsWellIndexed layout.now home × NoPlaceIsFree image.now layout.now home) }
+    ensures err { IfErr result (IsTrueOf image.now layout.now) }
+{
+    if !is_well_indexed(layout, home) {
+        return Err(MountFault::BadIndex);
+    }
+    check_free_places(image, layout, home)
+}
+
+/// Whether INDEXF.SYS maps the index bitmap and headers 1 to 16 from VBN 3 on, and the home block as VBN 1 or 2.
+fn is_well_indexed(layout: &Layout, home: u32) -> bool
+    ensures { MatchBool result (IsWellIndexed layout.now home) (IsBadlyIndexed layout.now home) }
+{
+    let index = layout.index();
+    let first = layout.home().index_lbn as u64;
+    let size = layout.home().index_size as usize;
+    if index.len() < size + 18 {
+        return false;
+    }
+    if !is_at(index, 0, home as u64) && !is_at(index, 1, home as u64) {
+        return false;
+    }
+    for i in 0..size + 16 {
+        if !is_at(index, 2 + i, first + i as u64) {
+            return false;
+        }
+    }
+    true
+}
+
+/// Whether INDEXF.SYS maps this LBN as this block, counted from 0.
+fn is_at(index: &[u32], place: usize, lbn: u64) -> bool
+    ensures { MatchBool result (slice_get index.now place ≡ Some lbn) (slice_get index.now place ≢ Some lbn) }
+{
+    match index.get(place) {
+        Some(mapped) => *mapped as u64 == lbn,
+        None => false,
+    }
+}

@@ -1,0 +1,51 @@
+//! Where the volume's structures lie, or why that cannot be found.
+ghost use Rattle.std.specs.Prelude.{◌≡◌, ◌≢◌, IfOk, IfErr};
+ghost use Rattle.ods_header.specs.Home.{IsHomeAt};
+ghost use Rattle.ods_space.specs.Files.{IsLayoutOf};
+ghost use Rattle.ods_mount.specs.Faults.{FaultIsTrue};
+ghost use Rattle.ods_mount.specs.Checks.{mount_fault_of};
+
+use crate::MountFault;
+use ods_base::Image;
+use ods_header::find_home;
+use ods_space::{ChainFault, Layout, LayoutFault};
+use std::alloc::Global;
+
+/// The LBN of the home block, and the layout of the volume.
+pub(crate) fn read_layout(alloc: Global, image: &Image) -> Result<(u32, Layout), MountFault>
+    ensures home { IfOk result (λ found. IsHomeAt image.now found.0) }
+    ensures layout { IfOk result (λ found. IsLayoutOf image.now found.1) }
+    ensures err { IfErr result (λ e. e ≢ MountFault.NoMemory → FaultIsTrue image.now e) }
+{
+    // The blocks of an image have bytes, so a chain has at most 256 headers.
+    let _ = image.len();
+    let (lbn, home) = match find_home(image) {
+        Ok(found) => found,
+        Err(_) => return Err(MountFault::NoHome),
+    };
+    match Layout::read(alloc, image, home) {
+        Ok(layout) => Ok((lbn, layout)),
+        Err(fault) => Err(mount_fault(fault)),
+    }
+}
+
+/// The fault of an image that has no layout.
+fn mount_fault(fault: LayoutFault) -> MountFault
+    ensures { result ≡ mount_fault_of fault }
+{
+    match fault {
+        LayoutFault::NoFile(number) => {
+            if number == 1 {
+                MountFault::BadIndex
+            } else {
+                MountFault::BadStorageMap
+            }
+        }
+        LayoutFault::Chain(number, ChainFault::BadChain) => MountFault::BadChain(number),
+        LayoutFault::Chain(number, ChainFault::OutsideVolume(lbn)) => {
+            MountFault::OutsideVolume(number, lbn)
+        }
+        LayoutFault::Chain(_, ChainFault::NoMemory) => MountFault::NoMemory,
+        LayoutFault::NoMemory => MountFault::NoMemory,
+    }
+}

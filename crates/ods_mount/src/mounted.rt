@@ -1,0 +1,61 @@
+//! A sound image with its layout.
+ghost use Rattle.std.specs.Prelude.{◌≡◌};
+ghost use Rattle.ods_mount.specs.Sound.{IsSoundBy};
+
+use ods_base::Image;
+use ods_space::Layout;
+use std::marker::Model;
+
+/// A sound image with its layout.
+#[derive(Drop)]
+pub struct Mounted {
+    image: Image,
+    layout: Layout,
+}
+
+impl Model for Mounted {
+    ghost use Rattle.ods_space.specs.Layout.{Disk};
+    ghost use Rattle.ods_mount.specs.Sound.{IsSoundBy};
+
+    ghost Value = { Disk };
+
+    ghost view = { λ m. record { image = m.image; layout = m.layout } };
+
+    ghost invariant = { λ m. IsSoundBy m.image m.layout };
+}
+
+impl Mounted {
+    ghost use Rattle.ods_mount.specs.Checks.{IsChecked};
+
+    /// An image that passed each check, with its layout.
+    pub(crate) fn new(image: Image, layout: Layout) -> Mounted
+        requires { IsChecked image layout }
+        ensures { (result.image ≡ image) × (result.layout ≡ layout) }
+    {
+        Mounted { image, layout }
+    }
+
+    /// The image.
+    pub fn image(&self) -> &Image
+        ensures value { result.now ≡ self.now.image }
+        ensures sound { IsSoundBy self.now.image self.now.layout }
+    {
+        &self.image
+    }
+
+    /// The layout of the image.
+    pub fn layout(&self) -> &Layout
+        ensures value { result.now ≡ self.now.layout }
+        ensures sound { IsSoundBy self.now.image self.now.layout }
+    {
+        &self.layout
+    }
+
+    /// The image and its layout.
+    pub fn into_parts(self) -> (Image, Layout)
+        ensures value { (result.0 ≡ self.image) × (result.1 ≡ self.layout) }
+        ensures sound { IsSoundBy self.image self.layout }
+    {
+        (self.image, self.layout)
+    }
+}

@@ -1,0 +1,58 @@
+//! What stands below the home block, where a lower one could come to stand.
+ghost use Rattle.std.specs.Prelude.{◌≡◌, ◌↔◌, ◌<◌, ℕ, IsTrue, MatchBool, OnOk, IfErr};
+ghost use Rattle.ods_header.specs.Home.{IsHomeAt, IsHomePlace};
+ghost use Rattle.ods_space.specs.Files.{HasBlocks};
+ghost use Rattle.ods_space.specs.Free.{is_free_block};
+ghost use Rattle.ods_mount.specs.Faults.{IsTrueOf};
+ghost use Rattle.ods_mount.specs.Checks.{NoPlaceIsFree, NoneIsPlace};
+
+use crate::MountFault;
+use ods_base::Image;
+use ods_space::{Layout, is_free};
+
+/// Whether the LBN is a place of a home block: 1, 256, 512, 768 and so on.
+fn is_home_place(lbn: u32) -> bool
+    ensures { IsTrue result ↔ IsHomePlace lbn }
+{
+    lbn == 1 || (0 < lbn && lbn % 256 == 0)
+}
+
+/// No place of a home block below this one is free.
+pub(crate) fn check_free_places(image: &Image, layout: &Layout, home: u32) -> Result<(), MountFault>
+    requires { IsHomeAt image.now home }
+    ensures ok { OnOk result (NoPlaceIsFree image.now layout.now home) }
+    ensures err { IfErr result (IsTrueOf image.now layout.now) }
+{
+    for lbn in 0..home {
+        if is_home_place(lbn) && is_free(image, layout, lbn) {
+            return Err(MountFault::BadIndex);
+        }
+    }
+    Ok(())
+}
+
+/// No block of this file that a request can change is a place of a home block below this one.
+pub(crate) fn check_held_places(
+    image: &Image,
+    layout: &Layout,
+    home: u32,
+    number: u16,
+    blocks: &[u32],
+) -> Result<(), MountFault>
+    requires home { IsHomeAt image.now home }
+    requires blocks { HasBlocks image.now layout.now number blocks.now }
+    ensures ok { OnOk result (NoneIsPlace home number blocks.now) }
+    ensures err { IfErr result (IsTrueOf image.now layout.now) }
+{
+    if number == 3 || number == 5 {
+        return Ok(());
+    }
+    // The first two blocks of INDEXF.SYS are the boot block and the home block.
+    let fixed = if number == 1 { 2 } else { 0 };
+    for i in fixed..blocks.len() {
+        if blocks[i] < home && is_home_place(blocks[i]) {
+            return Err(MountFault::BadIndex);
+        }
+    }
+    Ok(())
+}

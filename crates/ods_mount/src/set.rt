@@ -1,0 +1,68 @@
+//! Sets of numbers, one bit each.
+ghost use Rattle.std.specs.Prelude.{◌≡◌, ◌≢◌, ℕ, ◌*◌, ◌<◌, ◌≤◌, false, List, length, slice_get, Some, ◌⊎◌, IfOk, IfErr, OnOk};
+ghost use Rattle.std.specs.List.{All};
+ghost use Rattle.ods_mount.specs.Tables.{has, IsWith, IsNoted, IsThere};
+
+use std::alloc::{AllocError, Global};
+use std::marker::Model;
+
+/// A set of numbers below 64 times the count of its words.
+#[derive(Drop)]
+pub(crate) struct NumberSet {
+    words: Vec<u64>,
+}
+
+impl Model for NumberSet {
+    ghost use Rattle.std.specs.Prelude.{List, ℕ};
+
+    ghost Value = { List ℕ };
+
+    ghost view = { λ s. s.words.items };
+}
+
+impl NumberSet {
+    /// An empty set, with room for the numbers below `len`.
+    pub fn new(alloc: Global, len: u32) -> Result<NumberSet, AllocError>
+        ensures empty { IfOk result (λ set. (b : ℕ) → has set b ≡ false) }
+        ensures room { IfOk result (λ set. len ≤ 64 * length set) }
+    {
+        let words = vec![in alloc; 0; len.div_ceil(64) as usize]?;
+        Ok(NumberSet { words })
+    }
+
+    /// Whether the number is in the set.
+    pub fn contains(&self, number: u32) -> bool
+        ensures { result ≡ has self.now number }
+    {
+        match self.words.get(number as usize / 64) {
+            Some(word) => (*word >> (number % 64)) & 1 == 1,
+            None => false,
+        }
+    }
+
+    /// Puts the number into the set.
+    pub fn insert(&mut self, number: u32)
+        requires { number < 64 * length self.old }
+        ensures with { IsWith self.new self.old number }
+        ensures room { length self.new ≡ length self.old }
+    {
+        let at = number as usize / 64;
+        self.words[at] = self.words[at] | 1 << (number % 64);
+    }
+
+    /// Puts these numbers into the set. The first that is there already is an error.
+    pub fn insert_all(&mut self, numbers: &[u32]) -> Result<(), u32>
+        requires { All (λ b. b < 64 * length self.old) numbers.now }
+        ensures ok { OnOk result (IsNoted self.old self.new numbers.now (length numbers.now)) }
+        ensures err { IfErr result (IsThere self.old numbers.now) }
+        ensures room { length self.new ≡ length self.old }
+    {
+        for i in 0..numbers.len() {
+            if self.contains(numbers[i]) {
+                return Err(numbers[i]);
+            }
+            self.insert(numbers[i]);
+        }
+        Ok(())
+    }
+}
