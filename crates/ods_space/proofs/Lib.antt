@@ -10,3 +10,4 @@ pub mod Sizes
 pub mod Surveyed
 pub mod Layouts
 pub mod Growing
+pub mod Onward

@@ -49,10 +49,10 @@ pub record IsSurveyed (I : List (List ℕ)) (L : VolumeLayout) (n : ℕ) (s : Su
   pub count : s.count ≤ 26112 * k
   pub same : s.place ≡ place
 
-left_part : (P : ℕ → Type 0) (xs ys : List ℕ) → All P (xs ++ ys) → All P xs
+pub left_part : (P : ℕ → Type 0) (xs ys : List ℕ) → All P (xs ++ ys) → All P xs
 left_part P xs ys all = let Q : List ℕ → Type 0 = λ l. All P l in subst Q (take_at xs ys (length xs) refl) (All-take P (length xs) (xs ++ ys) all)
 
-right_end : (P : ℕ → Type 0) (xs ys : List ℕ) → All P (xs ++ ys) → All P ys
+pub right_end : (P : ℕ → Type 0) (xs ys : List ℕ) → All P (xs ++ ys) → All P ys
 right_end P xs ys all = let Q : List ℕ → Type 0 = λ l. All P l in subst Q (drop_at xs ys (length xs) refl) (All-drop P (length xs) (xs ++ ys) all)
 
 module _ (I : List (List ℕ)) (L : VolumeLayout) (n : ℕ) (other : n ≢ 1) (h : Home) (h_is : h ≡ L.home) (by : List ℕ) (by_is : by ≡ L.index) (limit : ℕ) (limit_is : limit ≡ last_number L) where

@@ -15,7 +15,7 @@ use crate::headers::{header_block, last_number};
 use crate::survey::Survey;
 use crate::walk::{next_block, next_number, segment_block};
 use crate::{ChainFault, Layout};
-use ods_base::Image;
+use ods_base::{Block, Image};
 use ods_header::{Header, read_header};
 use std::alloc::Global;
 
@@ -38,6 +38,21 @@ pub fn file_header(image: &Image, layout: &Layout, number: u16) -> Option<Header
         }
         Err(_) => None,
     }
+}
+
+/// The block of a file's first header. It is looked at in place, with no copy of its fields.
+pub fn first_header<'a>(image: &'a Image, layout: &Layout, number: u16) -> Option<&'a Block>
+    ensures some { IfSome result (λ block. IsFile image.now layout.now number × (block.now ≡ header_at image.now layout.now number)) }
+    ensures none { IfNone result (¬ IsFile image.now layout.now number) }
+{
+    segment_block(
+        image,
+        &layout.home(),
+        layout.index(),
+        last_number(layout),
+        number,
+        0,
+    )
 }
 
 /// All blocks of a file, in order. A number that is no file has no chain.
