@@ -1,8 +1,7 @@
 -- The blocks of a file, one by one.
 use Rattle.std.proofs.Common.{◌≡◌, ℕ, ◌+◌, ◌-◌, ◌<◌, ◌≤◌, List, length, slice_get, Some, inl, inr, sym, ap, ◌∙◌, subst, arith}
-use Rattle.std.specs.Prelude.{slice_index}
 use Rattle.std.proofs.lemmas.Bool.{cases_lt}
-use Rattle.std.proofs.lemmas.Option.{slice_get-get_or, slice_get_within}
+use Rattle.std.proofs.lemmas.Option.{slice_get_within}
 use Rattle.ods_space.specs.Layout.{VolumeLayout}
 use Rattle.ods_space.specs.Files.{HasBlocks, Holds}
 use Rattle.ods_mount.proofs.Layouts.{same_blocks}
@@ -11,15 +10,15 @@ use Rattle.ods_mount.proofs.Layouts.{same_blocks}
 abbrev pub EachBefore : (ℕ → ℕ → Type 0) → List ℕ → ℕ → Type 0
 EachBefore P xs i = (j b : ℕ) → j < i → slice_get xs j ≡ Some b → P j b
 
-pub each_more : (P : ℕ → ℕ → Type 0) (xs : List ℕ) (i : ℕ) → i < length xs → EachBefore P xs i → P i (slice_index xs i) → EachBefore P xs (i + 1)
-each_more P xs i within before this j b low at = elim (cases_lt j i) [
-  | inl less ↦ before j b less at
+pub each_next : (P : ℕ → ℕ → Type 0) (xs : List ℕ) (i b : ℕ) → slice_get xs i ≡ Some b → EachBefore P xs i → P i b → EachBefore P xs (i + 1)
+each_next P xs i b here before this j c low at = elim (cases_lt j i) [
+  | inl less ↦ before j c less at
   | inr more ↦
       let e : i ≡ j = omega arith in
-      let found : Some (slice_index xs i) ≡ Some b = sym (slice_get-get_or xs i 0 within) ∙ ap (slice_get xs) e ∙ at in
-      let is : slice_index xs i ≡ b = cc in
+      let found : Some b ≡ Some c = sym here ∙ ap (slice_get xs) e ∙ at in
+      let is : b ≡ c = cc in
       let Q : ℕ → Type 0 = λ y. P i y in
-      let R : ℕ → Type 0 = λ y. P y b in
+      let R : ℕ → Type 0 = λ y. P y c in
       subst R e (subst Q is this)
 ]
 

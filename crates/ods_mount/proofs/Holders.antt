@@ -1,10 +1,5 @@
 -- Which files hold a block.
-use Rattle.std.proofs.Common.{◌≡◌, ◌≢◌, ℕ, suc, ◌+◌, ◌<◌, ◌≤◌, Bool, true, false, ◌||◌, nat_eq, List, [], ◌∷◌, length, slice_get, Some, inl, inr, refl, sym, ap, ◌∙◌, subst, arith}
-use Rattle.std.specs.Prelude.{MatchBool, slice_index}
-use Rattle.std.specs.List.{list_any}
-use Rattle.std.proofs.lemmas.Bool.{eqb-true, eq-eqb}
-use Rattle.std.proofs.lemmas.Option.{slice_get_within, get_or_from_slice_get}
-use Rattle.std.proofs.lemmas.List.Folds.{list_any_at}
+use Rattle.std.proofs.Common.{◌≡◌, ◌≢◌, ℕ, ◌+◌, ◌<◌, ◌≤◌, List, [], length, inl, inr, refl, sym, subst, arith}
 use Rattle.ods_space.specs.Layout.{VolumeLayout}
 use Rattle.ods_space.specs.Chain.{index_for}
 use Rattle.ods_space.specs.Files.{IsFile, HasBlocks, Holds, AreInside}
@@ -13,31 +8,14 @@ use Rattle.ods_space.specs.declared.fault.ChainFault.{ChainFault}
 use Rattle.ods_space.specs.declared.fault.ChainFault.TheVariants.{BadChain, OutsideVolume, NoMemory}
 use Rattle.ods_space.proofs.Chains.{same_chain}
 use Rattle.ods_mount.specs.Tables.{has, IsNoted, IsThere, IsTable}
+use Rattle.ods_space.specs.declared.fault.LayoutFault.TheVariants.{Chain}
+use Rattle.ods_mount.specs.declared.fault.MountFault.{MountFault}
 use Rattle.ods_mount.specs.declared.fault.MountFault.TheVariants.{DoublyUsed}
 use Rattle.ods_mount.specs.Faults.{IsTrueOf}
-use Rattle.ods_mount.specs.Checks.{IsHeldTwice}
+use Rattle.ods_mount.specs.Checks.{IsFault, IsHeldTwice, mount_fault_of}
 use Rattle.ods_mount.proofs.Each.{holds_at, held_at}
 use Rattle.ods_mount.proofs.Tables.{table_done}
 use Rattle.ods_mount.proofs.Soundness.{all_at}
-
--- where the number stands
-where_is : (xs : List ℕ) (b : ℕ) → list_any (λ y. nat_eq y b) xs ≡ true → (j : ℕ) × (slice_get xs j ≡ Some b)
-where_is [] b e = absurd (let clash : false ≡ true = e in cc)
-where_is (x ∷ xs) b e = by (nat_eq x b) refl e (where_is xs b)
-  where
-    by : (t : Bool) → nat_eq x b ≡ t → (t || list_any (λ y. nat_eq y b) xs) ≡ true → (list_any (λ y. nat_eq y b) xs ≡ true → (j : ℕ) × (slice_get xs j ≡ Some b)) → (j : ℕ) × (slice_get (x ∷ xs) j ≡ Some b)
-    by true is e rest = (0, ap Some (eqb-true x b is))
-    by false is e rest = let r = rest e in (suc r.0, r.1)
-
--- whether a file with these blocks holds the block
-pub held_answer : (I : List (List ℕ)) (L : VolumeLayout) (n : ℕ) (blocks : List ℕ) (b : ℕ) (answer : Bool) → HasBlocks I L n blocks → answer ≡ list_any (λ y. nat_eq y b) blocks
-    → MatchBool answer ((v : ℕ) × Holds I L n v b) ((v : ℕ) → ¬ Holds I L n v b)
-held_answer I L n blocks b true has is = let at = where_is blocks b (sym is) in (at.0 + 1, holds_at I L n blocks at.0 b has at.1)
-held_answer I L n blocks b false has is = λ v held.
-    let at = held_at I L n blocks v b has held in
-    let found : slice_index blocks at.0 ≡ b = get_or_from_slice_get blocks at.0 b 0 at.2 in
-    let clash : false ≡ true = is ∙ list_any_at (λ y. nat_eq y b) blocks at.0 0 (slice_get_within blocks at.0 b at.2) (eq-eqb (slice_index blocks at.0) b found) in
-    cc
 
 -- a file with no whole chain holds nothing
 pub not_held : (I : List (List ℕ)) (L : VolumeLayout) (n b : ℕ) (fault : ChainFault) → IsChainFault I L n fault → fault ≢ NoMemory → (v : ℕ) → ¬ Holds I L n v b
@@ -88,3 +66,14 @@ table_held I L n blocks old new has t noted = table_done (Holds I L) n blocks ol
 -- no file has a number above H.FMAX
 pub file_small : (I : List (List ℕ)) (L : VolumeLayout) (n : ℕ) → IsFile I L n → n ≤ L.home.max_files
 file_small I L n file = let last = file.last in omega arith
+
+-- the fault of a chain, in words of the mount
+pub chain_is_fault : (I : List (List ℕ)) (L : VolumeLayout) (n : ℕ) (fault : ChainFault) (e : MountFault) → IsFile I L n → IsChainFault I L n fault → e ≡ mount_fault_of (Chain n fault) → IsFault I L e
+chain_is_fault I L n fault e file true_of is some =
+    let P : MountFault → Type 0 = λ x. IsFault I L x in
+    subst P (sym is) (by fault true_of) some
+  where
+    by : (f : ChainFault) → IsChainFault I L n f → IsFault I L (mount_fault_of (Chain n f))
+    by BadChain none other = (file, inl none)
+    by (OutsideVolume lbn) f other = (file, f.0, f.1, f.2, f.3, f.4)
+    by NoMemory f other = absurd (other refl)

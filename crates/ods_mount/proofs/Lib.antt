@@ -5,6 +5,8 @@ pub mod Headers
 pub mod Holders
 pub mod Layouts
 pub mod Linked
+pub mod Naming
+pub mod Passing
 pub mod Sets
 pub mod Sharing
 pub mod Soundness

@@ -1,7 +1,8 @@
 -- That no two files share a header, by a table of the headers that the files before have.
 use Rattle.std.proofs.Common.{◌≡◌, ◌≢◌, ℕ, zero, suc, ◌+◌, ◌*◌, ◌<◌, ◌≤◌, List, [], ◌∷◌, ◌++◌, length, get_or, slice_get, Some, inl, inr, refl, sym, ap, ◌∙◌, subst, arith, append_assoc}
-use Rattle.std.specs.List.{All, Contains}
-use Rattle.std.proofs.lemmas.Option.{slice_get-get_or, slice_get_within, get_or_from_slice_get}
+use Rattle.std.specs.Prelude.{slice_index}
+use Rattle.std.specs.List.{All}
+use Rattle.std.proofs.lemmas.Option.{slice_get-get_or, slice_get_within}
 use Rattle.std.proofs.lemmas.List.{append-nil, length-append}
 use Rattle.ods_base.specs.Image.{IsImage}
 use Rattle.ods_header.specs.Header.{map_word, next_number_of}
@@ -9,6 +10,7 @@ use Rattle.ods_space.specs.Layout.{VolumeLayout, header_at, place_of}
 use Rattle.ods_space.specs.Chain.{IsChain}
 use Rattle.ods_space.specs.Files.{IsFile, HasBlocks, IsLayoutOf}
 use Rattle.ods_space.proofs.Chains.{small_of}
+use Rattle.ods_space.proofs.Parts.{contains_at}
 use Rattle.ods_mount.specs.declared.fault.MountFault.TheVariants.{BadChain}
 use Rattle.ods_mount.specs.Faults.{IsTrueOf}
 use Rattle.ods_mount.specs.Checks.{HasHeader}
@@ -51,6 +53,13 @@ links_at I L k n (m ∷ ms) (suc j) x f at =
     let place : suc k + j ≡ k + suc j = omega arith in
     let Q : ℕ → Type 0 = λ y. IsPlaced I L y x in
     subst Q place (links_at I L (suc k) (next_number_of (header_at I L n)) ms j x f.2 at)
+
+-- header i of the list, where it has as many
+pub link_here : (I : List (List ℕ)) (L : VolumeLayout) (n i : ℕ) (ns : List ℕ) → Links I L 0 n ns → i < length ns → IsPlaced I L i (slice_index ns i)
+link_here I L n i ns f within =
+    let place : 0 + i ≡ i = omega arith in
+    let Q : ℕ → Type 0 = λ k. IsPlaced I L k (slice_index ns i) in
+    subst Q place (links_at I L 0 n ns i (slice_index ns i) f (slice_get-get_or ns i 0 within))
 
 -- a chain is short
 pub place_small : (I : List (List ℕ)) (L : VolumeLayout) (k n : ℕ) → IsImage I → IsPlaced I L k n → k < 256
@@ -148,9 +157,6 @@ module _ (I : List (List ℕ)) (L : VolumeLayout) (n : ℕ) (blocks xs : List �
         )
     | inr (j, low, at) ↦ let same = once_here j there.place x at there.named in absurd (omega arith)
   ]
-    where
-      contains_at : (ys : List ℕ) (i y : ℕ) → slice_get ys i ≡ Some y → Contains ys y
-      contains_at ys i y at = (i, slice_get_within ys i y at, get_or_from_slice_get ys i y y at)
 
 -- a number that is no file changes nothing
 pub table_unnamed : (I : List (List ℕ)) (L : VolumeLayout) (n : ℕ) (set : List ℕ) → ¬ IsFile I L n → IsTable (HasHeader I L) n set → IsTable (HasHeader I L) (n + 1) set

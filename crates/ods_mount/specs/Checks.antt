@@ -13,6 +13,7 @@ use Rattle.ods_space.specs.declared.fault.ChainFault.TheVariants as chain
 use Rattle.ods_space.specs.declared.fault.LayoutFault.{LayoutFault}
 use Rattle.ods_space.specs.declared.fault.LayoutFault.TheVariants as layout
 use Rattle.ods_space.specs.declared.fault.LayoutFault.TheVariants.{NoFile, Chain}
+use Rattle.ods_mount.specs.Tables.{IsNoted, IsTable}
 use Rattle.ods_mount.specs.Faults.{IsTrueOf, IsDirectoryFile, contents_of, mark_at}
 
 -- The fault of an image that has no layout: files 1 and 2 have faults of their own where they do not exist.
@@ -59,6 +60,20 @@ NoneIsFree I L blocks = (i b : ℕ) → slice_get blocks i ≡ Some b → is_fre
 -- these blocks of file n are no places of a home block below this LBN, but for those that no request changes
 abbrev pub NoneIsPlace : ℕ → ℕ → List ℕ → Type 0
 NoneIsPlace home n blocks = (i b : ℕ) → slice_get blocks i ≡ Some b → IsHomePlace b → b < home → IsFixed n i
+
+-- file n holds these blocks one after another, the first as its block `first`, counted from 0
+abbrev pub HoldsFrom : List (List ℕ) → VolumeLayout → ℕ → ℕ → List ℕ → Type 0
+HoldsFrom I L n first xs = (j b : ℕ) → slice_get xs j ≡ Some b → Holds I L n (first + j + 1) b
+
+-- The first i blocks of file n are checked, and noted in the set beside the blocks of the files before it: none is free, and a home block below this LBN could be put into none.
+pub record IsPassed (I : List (List ℕ)) (L : VolumeLayout) (home n i : ℕ) (set : List ℕ) : Type 0 where
+  pub blocks : List ℕ
+  pub has : HasBlocks I L n blocks
+  pub before : List ℕ
+  pub table : IsTable (Holds I L) n before
+  pub noted : IsNoted before set blocks i
+  pub not_free : (j b : ℕ) → j < i → slice_get blocks j ≡ Some b → is_free_block I L b ≡ false
+  pub no_place : (j b : ℕ) → j < i → slice_get blocks j ≡ Some b → IsHomePlace b → b < home → IsFixed n j
 
 -- file n has a whole chain with these blocks, and passes each check that looks at one file
 pub record IsCheckedFile (I : List (List ℕ)) (L : VolumeLayout) (home n : ℕ) : Type 0 where

@@ -13,7 +13,7 @@ use ods_space::Layout;
 use std::alloc::{AllocError, Global};
 
 /// The numbers of all headers of a chain, of which this is the first.
-fn header_numbers(
+pub(crate) fn header_numbers(
     alloc: Global,
     image: &Image,
     layout: &Layout,
@@ -35,14 +35,15 @@ fn header_numbers(
 
 /// Notes the headers of one file more in the table of what files have. No file before it has one of them.
 pub(crate) fn check_apart(
-    alloc: Global,
     image: &Image,
     layout: &Layout,
     number: u16,
+    numbers: &[u32],
     named: &mut NumberSet,
 ) -> Result<(), MountFault>
     requires layout { IsLayoutOf image.now layout.now }
     requires blocks { (blocks : List ℕ) × HasBlocks image.now layout.now number blocks }
+    requires numbers { Links image.now layout.now 0 number numbers.now }
     requires room { 65536 ≤ 64 * length named.old }
     requires table { IsTable (HasHeader image.now layout.now) number named.old }
     ensures ok { OnOk result (IsTable (HasHeader image.now layout.now) (number + 1) named.new) }
@@ -51,10 +52,7 @@ pub(crate) fn check_apart(
 {
     // The blocks of an image have bytes, so the number of a header is a word.
     let _ = image.len();
-    let Ok(numbers) = header_numbers(alloc, image, layout, number) else {
-        return Err(MountFault::NoMemory);
-    };
-    match named.insert_all(&numbers) {
+    match named.insert_all(numbers) {
         Ok(()) => Ok(()),
         Err(_) => Err(MountFault::BadChain(number)),
     }

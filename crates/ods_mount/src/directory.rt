@@ -1,8 +1,8 @@
 //! The check of a file that is a directory.
-ghost use Rattle.std.specs.Prelude.{◌≡◌, MatchBool, OnOk, IfErr};
+ghost use Rattle.std.specs.Prelude.{◌≡◌, List, ℕ, MatchBool, OnOk, IfOk, IfErr};
 ghost use Rattle.ods_header.specs.Header.{attributes_of};
 ghost use Rattle.ods_space.specs.Layout.{header_at};
-ghost use Rattle.ods_space.specs.Files.{IsFile, HasBlocks};
+ghost use Rattle.ods_space.specs.Files.{IsFile, HasBlocks, IsLayoutOf};
 ghost use Rattle.ods_directory.specs.Names.{IsDirectory};
 ghost use Rattle.ods_mount.specs.Faults.{IsTrueOf, IsDirectoryFile, contents_of, mark_at};
 ghost use Rattle.ods_mount.specs.Checks.{IsFault};
@@ -10,9 +10,10 @@ ghost use Rattle.ods_mount.specs.Checks.{IsFault};
 use crate::MountFault;
 use crate::blocks::FileBlocks;
 use crate::header::header_block;
+use crate::layout::chain_fault;
 use ods_base::{Image, word};
 use ods_directory::{DirBlocks, Verdict, check, mark_of};
-use ods_space::Layout;
+use ods_space::{Layout, chain};
 use std::alloc::Global;
 
 /// The type DIR.
@@ -25,12 +26,12 @@ pub(crate) fn check_directory(
     layout: &Layout,
     number: u16,
     attributes: &[u8; 32],
-    blocks: &[u32],
 ) -> Result<(), MountFault>
-    requires blocks { HasBlocks image.now layout.now number blocks.now }
+    requires layout { IsLayoutOf image.now layout.now }
+    requires file { IsFile image.now layout.now number }
     requires attributes { attributes.now ≡ attributes_of (header_at image.now layout.now number) }
-    ensures ok { OnOk result (IsDirectoryFile image.now layout.now number
-        → IsDirectory (contents_of image.now blocks.now) (mark_at image.now layout.now number blocks.now)) }
+    ensures ok { OnOk result ((blocks : List ℕ) → HasBlocks image.now layout.now number blocks → IsDirectoryFile image.now layout.now number
+        → IsDirectory (contents_of image.now blocks) (mark_at image.now layout.now number blocks)) }
     ensures err { IfErr result (IsFault image.now layout.now) }
 {
     if !is_directory(image, layout, number) {
@@ -38,13 +39,35 @@ pub(crate) fn check_directory(
     }
     // An image has few blocks, and so has a chain.
     let _ = image.len();
-    let blocks = FileBlocks::new(image, blocks);
+    let lbns = match file_blocks(alloc, image, layout, number) {
+        Ok(lbns) => lbns,
+        Err(fault) => return Err(fault),
+    };
+    let blocks = FileBlocks::new(image, &lbns);
     let mark = mark_of(attributes, blocks.count());
     match check(alloc, &blocks, mark) {
         Ok(Verdict::Good) => Ok(()),
         Ok(Verdict::BadEntry) => Err(MountFault::BadDirectory(number)),
         Ok(Verdict::Twice) => Err(MountFault::DuplicateName(number)),
         Err(_) => Err(MountFault::NoMemory),
+    }
+}
+
+/// All blocks of a file. A chain that is not whole is a fault.
+fn file_blocks(
+    alloc: Global,
+    image: &Image,
+    layout: &Layout,
+    number: u16,
+) -> Result<Vec<u32>, MountFault>
+    requires layout { IsLayoutOf image.now layout.now }
+    requires file { IsFile image.now layout.now number }
+    ensures ok { IfOk result (λ blocks. HasBlocks image.now layout.now number blocks.items) }
+    ensures err { IfErr result (IsFault image.now layout.now) }
+{
+    match chain(alloc, image, layout, number) {
+        Ok(blocks) => Ok(blocks),
+        Err(fault) => Err(chain_fault(number, fault)),
     }
 }
 

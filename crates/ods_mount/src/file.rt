@@ -1,38 +1,30 @@
 //! The checks that look at one file after another.
-ghost use Rattle.std.specs.Prelude.{◌≡◌, ℕ, ◌+◌, ◌*◌, ◌≤◌, ◌<◌, length, OnOk, IfOk, IfErr};
+ghost use Rattle.std.specs.Prelude.{◌≡◌, ℕ, ◌+◌, ◌*◌, ◌≤◌, ◌<◌, List, length, OnOk, IfOk, IfErr};
 ghost use Rattle.ods_header.specs.Home.{IsHomeAt};
 ghost use Rattle.ods_space.specs.Files.{IsFile, HasBlocks, Holds, IsLayoutOf};
 ghost use Rattle.ods_mount.specs.Checks.{IsFault, IsCheckedFile, HasHeader};
 ghost use Rattle.ods_mount.specs.Tables.{IsTable};
 
 use crate::MountFault;
-use crate::apart::check_apart;
+use crate::apart::{check_apart, header_numbers};
 use crate::directory::check_directory;
-use crate::free::check_not_free;
-use crate::once::check_once;
-use crate::places::check_held_places;
+use crate::held::check_blocks;
+use crate::layout::chain_fault;
 use crate::set::NumberSet;
 use ods_base::Image;
-use ods_space::{ChainFault, Layout, chain, file_header};
+use ods_space::{Layout, check_chain, file_header};
 use std::alloc::Global;
 
-/// All blocks of a file. A chain that is not whole is a fault.
-fn file_blocks(
-    alloc: Global,
-    image: &Image,
-    layout: &Layout,
-    number: u16,
-) -> Result<Vec<u32>, MountFault>
+/// The chain of a file is whole.
+fn check_whole(image: &Image, layout: &Layout, number: u16) -> Result<(), MountFault>
     requires layout { IsLayoutOf image.now layout.now }
     requires file { IsFile image.now layout.now number }
-    ensures ok { IfOk result (λ blocks. HasBlocks image.now layout.now number blocks.items) }
+    ensures ok { OnOk result ((blocks : List ℕ) × HasBlocks image.now layout.now number blocks) }
     ensures err { IfErr result (IsFault image.now layout.now) }
 {
-    match chain(alloc, image, layout, number) {
-        Ok(blocks) => Ok(blocks),
-        Err(ChainFault::BadChain) => Err(MountFault::BadChain(number)),
-        Err(ChainFault::OutsideVolume(lbn)) => Err(MountFault::OutsideVolume(number, lbn)),
-        Err(ChainFault::NoMemory) => Err(MountFault::NoMemory),
+    match check_chain(image, layout, number) {
+        Ok(()) => Ok(()),
+        Err(fault) => Err(chain_fault(number, fault)),
     }
 }
 
@@ -64,23 +56,19 @@ fn check_file(
     let Some(header) = file_header(image, layout, number) else {
         return Ok(());
     };
-    let blocks = match file_blocks(alloc, image, layout, number) {
-        Ok(blocks) => blocks,
-        Err(fault) => return Err(fault),
+    if let Err(fault) = check_whole(image, layout, number) {
+        return Err(fault);
+    }
+    let Ok(numbers) = header_numbers(alloc, image, layout, number) else {
+        return Err(MountFault::NoMemory);
     };
-    if let Err(fault) = check_apart(alloc, image, layout, number, named) {
+    if let Err(fault) = check_apart(image, layout, number, &numbers, named) {
         return Err(fault);
     }
-    if let Err(fault) = check_once(alloc, image, layout, number, &blocks, held) {
+    if let Err(fault) = check_blocks(image, layout, home, number, &numbers, held) {
         return Err(fault);
     }
-    if let Err(fault) = check_not_free(image, layout, number, &blocks) {
-        return Err(fault);
-    }
-    if let Err(fault) = check_held_places(image, layout, home, number, &blocks) {
-        return Err(fault);
-    }
-    if let Err(fault) = check_directory(alloc, image, layout, number, &header.attributes, &blocks) {
+    if let Err(fault) = check_directory(alloc, image, layout, number, &header.attributes) {
         return Err(fault);
     }
     Ok(())

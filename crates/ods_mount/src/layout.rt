@@ -41,11 +41,18 @@ fn mount_fault(fault: LayoutFault) -> MountFault
                 MountFault::BadStorageMap
             }
         }
-        LayoutFault::Chain(number, ChainFault::BadChain) => MountFault::BadChain(number),
-        LayoutFault::Chain(number, ChainFault::OutsideVolume(lbn)) => {
-            MountFault::OutsideVolume(number, lbn)
-        }
-        LayoutFault::Chain(_, ChainFault::NoMemory) => MountFault::NoMemory,
+        LayoutFault::Chain(number, fault) => chain_fault(number, fault),
         LayoutFault::NoMemory => MountFault::NoMemory,
+    }
+}
+
+/// The fault of a file whose chain has this one.
+pub(crate) fn chain_fault(number: u16, fault: ChainFault) -> MountFault
+    ensures { result ≡ mount_fault_of (LayoutFault.Chain number fault) }
+{
+    match fault {
+        ChainFault::BadChain => MountFault::BadChain(number),
+        ChainFault::OutsideVolume(lbn) => MountFault::OutsideVolume(number, lbn),
+        ChainFault::NoMemory => MountFault::NoMemory,
     }
 }

@@ -1,71 +1,84 @@
 //! Blocks that are held twice.
-ghost use Rattle.std.specs.Prelude.{◌≡◌, ◌≢◌, ℕ, ◌+◌, ◌*◌, ◌<◌, ◌≤◌, ◌⊎◌, length, Some, slice_get, MatchBool, MatchOption, OnOk, IfOk, IfErr};
-ghost use Rattle.ods_space.specs.Files.{HasBlocks, Holds, IsLayoutOf};
-ghost use Rattle.ods_mount.specs.Checks.{IsFault, IsHeldTwice};
-ghost use Rattle.ods_mount.specs.Tables.{IsTable};
+ghost use Rattle.std.specs.Prelude.{◌≡◌, ℕ, List, MatchBool};
+ghost use Rattle.std.specs.List.{Contains};
+ghost use Rattle.ods_header.specs.Header.{IsLaidOut, blocks_of};
+ghost use Rattle.ods_space.specs.Layout.{header_at};
+ghost use Rattle.ods_space.specs.Files.{Holds, IsLayoutOf};
+ghost use Rattle.ods_mount.specs.Faults.{IsTrueOf};
+ghost use Rattle.ods_mount.specs.Checks.{IsHeldTwice};
+ghost use Rattle.ods_mount.specs.Links.{Links, named_by};
 
 use crate::MountFault;
-use crate::set::NumberSet;
+use crate::header::{header_block, next_number};
 use ods_base::Image;
-use ods_space::{ChainFault, Layout, chain};
-use std::alloc::{AllocError, Global};
-
-/// Notes the blocks of one file more in the table of what files hold. None is held already.
-pub(crate) fn check_once(
-    alloc: Global,
-    image: &Image,
-    layout: &Layout,
-    number: u16,
-    blocks: &[u32],
-    held: &mut NumberSet,
-) -> Result<(), MountFault>
-    requires layout { IsLayoutOf image.now layout.now }
-    requires blocks { HasBlocks image.now layout.now number blocks.now }
-    requires room { length image.now ≤ 64 * length held.old }
-    requires table { IsTable (Holds image.now layout.now) number held.old }
-    ensures ok { OnOk result (IsTable (Holds image.now layout.now) (number + 1) held.new) }
-    ensures err { IfErr result (IsFault image.now layout.now) }
-    ensures room { length held.new ≡ length held.old }
-{
-    match held.insert_all(blocks) {
-        Ok(()) => Ok(()),
-        Err(lbn) => Err(double_use(alloc, image, layout, number, lbn)),
-    }
-}
+use ods_header::{pointer_at, pointer_count};
+use ods_space::{Layout, check_chain};
 
 /// The fault of a file that has a block which is held twice: by a file before it too, or by itself.
-fn double_use(alloc: Global, image: &Image, layout: &Layout, number: u16, lbn: u32) -> MountFault
+pub(crate) fn double_use(image: &Image, layout: &Layout, number: u16, lbn: u32) -> MountFault
     requires layout { IsLayoutOf image.now layout.now }
     requires twice { IsHeldTwice image.now layout.now number lbn }
-    ensures { IsFault image.now layout.now result }
+    ensures { IsTrueOf image.now layout.now result }
 {
     for other in 1..number {
-        match holds(alloc, image, layout, other, lbn) {
-            Ok(true) => return MountFault::DoublyUsed(other, number, lbn),
-            Ok(false) => {}
-            Err(_) => return MountFault::NoMemory,
+        if holds(image, layout, other, lbn) {
+            return MountFault::DoublyUsed(other, number, lbn);
         }
     }
     MountFault::DoublyUsed(number, number, lbn)
 }
 
 /// Whether this number is a file with a whole chain that has this block.
-fn holds(
-    alloc: Global,
-    image: &Image,
-    layout: &Layout,
-    number: u16,
-    lbn: u32,
-) -> Result<bool, AllocError>
+fn holds(image: &Image, layout: &Layout, number: u16, lbn: u32) -> bool
     requires { IsLayoutOf image.now layout.now }
-    ensures { IfOk result (λ answer. MatchBool answer
+    ensures { MatchBool result
         ((v : ℕ) × Holds image.now layout.now number v lbn)
-        ((v : ℕ) → ¬ Holds image.now layout.now number v lbn)) }
+        ((v : ℕ) → ¬ Holds image.now layout.now number v lbn) }
 {
-    match chain(alloc, image, layout, number) {
-        Ok(blocks) => Ok(blocks.contains(&lbn)),
-        Err(ChainFault::NoMemory) => Err(AllocError),
-        Err(ChainFault::BadChain) => Ok(false),
-        Err(ChainFault::OutsideVolume(_)) => Ok(false),
+    match check_chain(image, layout, number) {
+        Ok(()) => one_names(image, layout, number, lbn),
+        Err(_) => false,
     }
+}
+
+/// Whether one of the headers of a chain, of which this is the first, names this block.
+fn one_names(image: &Image, layout: &Layout, number: u16, lbn: u32) -> bool
+    requires { (numbers : List ℕ) × Links image.now layout.now 0 number numbers }
+    ensures { MatchBool result
+        ((numbers : List ℕ) × Links image.now layout.now 0 number numbers × Contains (named_by image.now layout.now numbers) lbn)
+        ((numbers : List ℕ) → Links image.now layout.now 0 number numbers → ¬ Contains (named_by image.now layout.now numbers) lbn) }
+{
+    // The blocks of an image have bytes, so a chain has at most 256 headers.
+    let _ = image.len();
+    let mut header = number;
+    for _k in 0..256u32 {
+        if header == 0 {
+            return false;
+        }
+        if names(image, layout, header, lbn) {
+            return true;
+        }
+        header = next_number(image, layout, header);
+    }
+    false
+}
+
+/// Whether this header names this block.
+fn names(image: &Image, layout: &Layout, header: u16, lbn: u32) -> bool
+    requires { IsLaidOut (header_at image.now layout.now header) }
+    ensures { MatchBool result
+        (Contains (blocks_of (header_at image.now layout.now header)) lbn)
+        (¬ Contains (blocks_of (header_at image.now layout.now header)) lbn) }
+{
+    let Some(block) = header_block(image, layout, header) else {
+        return false;
+    };
+    for k in 0..pointer_count(block) {
+        let run = pointer_at(block, k);
+        let end = run.lbn + run.count as u32;
+        if run.lbn <= lbn && lbn < end {
+            return true;
+        }
+    }
+    false
 }

@@ -1,10 +1,9 @@
 //! What stands below the home block, where a lower one could come to stand.
 ghost use Rattle.std.specs.Prelude.{◌≡◌, ◌↔◌, ◌<◌, ℕ, IsTrue, MatchBool, OnOk, IfErr};
 ghost use Rattle.ods_header.specs.Home.{IsHomeAt, IsHomePlace};
-ghost use Rattle.ods_space.specs.Files.{HasBlocks};
 ghost use Rattle.ods_space.specs.Free.{is_free_block};
 ghost use Rattle.ods_mount.specs.Faults.{IsTrueOf};
-ghost use Rattle.ods_mount.specs.Checks.{NoPlaceIsFree, NoneIsPlace};
+ghost use Rattle.ods_mount.specs.Checks.{NoPlaceIsFree, IsFixed};
 
 use crate::MountFault;
 use ods_base::Image;
@@ -31,28 +30,12 @@ pub(crate) fn check_free_places(image: &Image, layout: &Layout, home: u32) -> Re
     Ok(())
 }
 
-/// No block of this file that a request can change is a place of a home block below this one.
-pub(crate) fn check_held_places(
-    image: &Image,
-    layout: &Layout,
-    home: u32,
-    number: u16,
-    blocks: &[u32],
-) -> Result<(), MountFault>
-    requires home { IsHomeAt image.now home }
-    requires blocks { HasBlocks image.now layout.now number blocks.now }
-    ensures ok { OnOk result (NoneIsPlace home number blocks.now) }
-    ensures err { IfErr result (IsTrueOf image.now layout.now) }
+/// Whether this block of a file, at this place counted from 0, is a place of a home block below this one, and a request can change
+/// it. None changes files 3 and 5, nor the first two blocks of INDEXF.SYS, the boot block and the home block.
+pub(crate) fn is_loose_place(home: u32, number: u16, place: u32, lbn: u32) -> bool
+    ensures { MatchBool result
+        (IsHomePlace lbn × (lbn < home) × ¬ IsFixed number place)
+        (IsHomePlace lbn → lbn < home → IsFixed number place) }
 {
-    if number == 3 || number == 5 {
-        return Ok(());
-    }
-    // The first two blocks of INDEXF.SYS are the boot block and the home block.
-    let fixed = if number == 1 { 2 } else { 0 };
-    for i in fixed..blocks.len() {
-        if blocks[i] < home && is_home_place(blocks[i]) {
-            return Err(MountFault::BadIndex);
-        }
-    }
-    Ok(())
+    lbn < home && is_home_place(lbn) && number != 3 && number != 5 && (number != 1 || 2 <= place)
 }

@@ -253,6 +253,7 @@ fn faults_of_files(rt: HostRuntime) -> Result<(), Fail> {
     let to_8 = added(6, A_TXT, 0, 8, ArrayVec::new());
     let also_to_8 = added(7, B_TXT, 0, 8, ArrayVec::new());
     let shared = added(8, A_TXT, 1, 0, ArrayVec::new());
+    let second = added(8, A_TXT, 1, 0, one(22, 1));
     for (what, used, free, headers, wanted) in [
         ("no file 4", 0x17, 0xc0, [none, none, none], BadMaster),
         ("no file 2", 0x1d, 0xc0, [none, none, none], BadStorageMap),
@@ -276,6 +277,13 @@ fn faults_of_files(rt: HostRuntime) -> Result<(), Fail> {
             0x7f,
             0x80,
             [a, b, none],
+            DoublyUsed(6, 7, 22),
+        ),
+        (
+            "two files on one block, one by its second header",
+            0xff,
+            0x80,
+            [to_8, b, second],
             DoublyUsed(6, 7, 22),
         ),
         (

@@ -11,3 +11,5 @@ pub mod Surveyed
 pub mod Layouts
 pub mod Growing
 pub mod Onward
+pub mod Parts
+pub mod Wholes

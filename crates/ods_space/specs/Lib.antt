@@ -9,3 +9,4 @@ pub mod Faults
 pub mod Changes
 pub mod Refusals
 pub mod Growth
+pub mod Past

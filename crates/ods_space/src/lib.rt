@@ -16,6 +16,7 @@ mod numbers;
 mod survey;
 mod system;
 mod walk;
+mod whole;
 mod words;
 
 pub use bits::{in_use, is_free};
@@ -27,6 +28,7 @@ pub use known::{count_whole, locate_whole};
 pub use laws::places_stay;
 pub use layout::Layout;
 pub use numbers::{is_number_free, number_count, pick_numbers};
+pub use whole::check_chain;
 
 #[cfg(test)]
 mod tests;

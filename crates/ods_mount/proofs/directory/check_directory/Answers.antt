@@ -6,12 +6,14 @@ use Rattle.ods_directory.specs.Entry.{used_entries}
 use Rattle.ods_directory.specs.Mark.{mark_in}
 use Rattle.ods_space.specs.Chain.{index_for}
 use Rattle.ods_space.proofs.Sizes.{chain_size}
+use Rattle.ods_mount.proofs.Layouts.{same_blocks}
 use Rattle.ods_mount.proofs.directory.check_directory.Goals as goal
 
 pub new-blocks-requires-clause-few : goal.new-blocks-requires-clause-few
 new-blocks-requires-clause-few c =
-    let has = c.requires.blocks in
-    let small = chain_size c.args.image.now c.args.layout.now.home (index_for c.args.layout.now c.args.number) c.args.number has.others c.args.blocks.now c.len.ensures.image has.whole.chain in
+    let has = c.in-Ok.ensures.ok in
+    let size : length c.deref.result.now ≡ length c.in-Ok.lbns.items = ap length c.deref.ensures.value in
+    let small = chain_size c.args.image.now c.args.layout.now.home (index_for c.args.layout.now c.args.number) c.args.number has.others c.in-Ok.lbns.items c.len.ensures.image has.whole.chain in
     omega arith
 
 -- what was found of the blocks and the mark at hand is so of those of the file
@@ -26,23 +28,28 @@ moved P I J xs ys attributes at_hand mark count same_image same_blocks same_attr
     subst S same_image (subst R same_blocks (subst Q end found))
 
 pub returns-in-Ok-Good-clause-ok : goal.returns-in-Ok-Good-clause-ok
-returns-in-Ok-Good-clause-ok c _ = moved IsDirectory c.args.image.now _ c.args.blocks.now _ _ c.args.attributes.now c.mark_of-mark.result c.count.result
-    c.new-blocks.ensures.0 c.new-blocks.ensures.1 c.requires.attributes c.count.ensures c.mark_of-mark.ensures (c.in-Ok-Good.ensures.good (ap Ok c.in-Ok-Good.field-0-is))
+returns-in-Ok-Good-clause-ok c blocks has _ =
+    let same = same_blocks c.args.image.now c.args.layout.now c.args.number c.in-Ok.lbns.items blocks c.in-Ok.ensures.ok has in
+    moved IsDirectory c.args.image.now _ blocks _ _ c.args.attributes.now c.mark_of-mark.result c.count.result
+    c.new-blocks.ensures.0 (c.new-blocks.ensures.1 ∙ c.deref.ensures.value ∙ same) c.requires.attributes c.count.ensures c.mark_of-mark.ensures (c.in-Ok-Good.ensures.good (ap Ok c.in-Ok-Good.field-0-is))
 
 pub returns-in-Ok-BadEntry-clause-err : goal.returns-in-Ok-BadEntry-clause-err
 returns-in-Ok-BadEntry-clause-err c _ = (
   c.if-not-is_directory.ensures,
-  c.args.blocks.now,
-  c.requires.blocks,
-  moved (λ bs m. HasBadEntry (used_entries bs m)) c.args.image.now _ c.args.blocks.now _ _ c.args.attributes.now c.mark_of-mark.result c.count.result
-      c.new-blocks.ensures.0 c.new-blocks.ensures.1 c.requires.attributes c.count.ensures c.mark_of-mark.ensures (c.in-Ok-BadEntry.ensures.bad (ap Ok c.in-Ok-BadEntry.field-0-is)),
+  c.in-Ok.lbns.items,
+  c.in-Ok.ensures.ok,
+  moved (λ bs m. HasBadEntry (used_entries bs m)) c.args.image.now _ c.in-Ok.lbns.items _ _ c.args.attributes.now c.mark_of-mark.result c.count.result
+      c.new-blocks.ensures.0 (c.new-blocks.ensures.1 ∙ c.deref.ensures.value) c.requires.attributes c.count.ensures c.mark_of-mark.ensures (c.in-Ok-BadEntry.ensures.bad (ap Ok c.in-Ok-BadEntry.field-0-is)),
 )
 
 pub returns-in-Ok-Twice-clause-err : goal.returns-in-Ok-Twice-clause-err
 returns-in-Ok-Twice-clause-err c _ = (
   c.if-not-is_directory.ensures,
-  c.args.blocks.now,
-  c.requires.blocks,
-  moved (λ bs m. HasTwins (used_entries bs m)) c.args.image.now _ c.args.blocks.now _ _ c.args.attributes.now c.mark_of-mark.result c.count.result
-      c.new-blocks.ensures.0 c.new-blocks.ensures.1 c.requires.attributes c.count.ensures c.mark_of-mark.ensures (c.in-Ok-Twice.ensures.twice (ap Ok c.in-Ok-Twice.field-0-is)),
+  c.in-Ok.lbns.items,
+  c.in-Ok.ensures.ok,
+  moved (λ bs m. HasTwins (used_entries bs m)) c.args.image.now _ c.in-Ok.lbns.items _ _ c.args.attributes.now c.mark_of-mark.result c.count.result
+      c.new-blocks.ensures.0 (c.new-blocks.ensures.1 ∙ c.deref.ensures.value) c.requires.attributes c.count.ensures c.mark_of-mark.ensures (c.in-Ok-Twice.ensures.twice (ap Ok c.in-Ok-Twice.field-0-is)),
 )
+
+pub returns-then-not-is_directory-clause-ok : goal.returns-then-not-is_directory-clause-ok
+returns-then-not-is_directory-clause-ok c blocks has dir = absurd (c.if-not-is_directory.ensures dir)

@@ -7,9 +7,9 @@ use Rattle.ods_mount.proofs.once.double_use.Goals as goal
 pub loop-other-init : goal.loop-other-init
 loop-other-init c m v low held = let some = holder_some c.args.image.now c.args.layout.now m v c.args.lbn held in omega arith
 
-pub returns-in-Ok-true : goal.returns-in-Ok-true
-returns-in-Ok-true c _ =
-    let found = rw c.in-Ok-true.field-0-test at c.in-Ok-true.ensures in
+pub returns-then-holds : goal.returns-then-holds
+returns-then-holds c =
+    let found = c.if-holds.ensures in
     double_with c.args.image.now c.args.layout.now c.args.number c.args.lbn c.loop-other.other found.0 c.requires.twice c.loop-other-test.true found.1
 
 pub loop-other-preserved : goal.loop-other-preserved
@@ -18,11 +18,10 @@ loop-other-preserved c m v low held = elim (cases_lt m c.loop-other.other) [
   | inr more ↦
       let e : m ≡ c.loop-other.other = omega arith in
       let P : ℕ → Type 0 = λ x. Holds c.args.image.now c.args.layout.now x v c.args.lbn in
-      let none = rw c.in-Ok-false.field-0-test at c.in-Ok-false.ensures in
-      none v (subst P e held)
+      c.if-holds.ensures v (subst P e held)
 ]
 
 pub returns : goal.returns
-returns c _ =
+returns c =
     let end = c.loop-other-test.false in
     double_own c.args.image.now c.args.layout.now c.args.number c.args.lbn c.requires.twice (λ m v low. c.loop-other.invariant m v (omega arith))

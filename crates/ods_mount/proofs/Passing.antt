@@ -1,0 +1,124 @@
+-- The blocks of a file, one by one, as its headers and their pointers name them.
+use Rattle.std.proofs.Common.{◌≡◌, ℕ, ◌+◌, ◌-◌, ◌<◌, true, false, List, [], ◌∷◌, ◌++◌, length, take, slice_get, Some, sym, ap, ◌∙◌, subst, arith}
+use Rattle.std.specs.List.{flat_map}
+use Rattle.std.proofs.lemmas.List.{take_more, flat_map_more}
+use Rattle.std.proofs.lemmas.Option.{slice_get_within, get_or_from_slice_get}
+use Rattle.ods_header.specs.declared.header.Run.{Run}
+use Rattle.ods_header.specs.Header.{run_blocks, runs_of, blocks_of}
+use Rattle.ods_header.specs.Home.{IsHomePlace}
+use Rattle.ods_space.specs.Layout.{VolumeLayout, header_at}
+use Rattle.ods_space.specs.Files.{HasBlocks, Holds, IsLayoutOf}
+use Rattle.ods_space.specs.Free.{is_free_block}
+use Rattle.ods_space.proofs.Parts.{block_of_run, contains_at, part_at, split_at}
+use Rattle.ods_space.proofs.Surveys.{first_blocks}
+use Rattle.ods_mount.specs.Tables.{has, IsWith, IsNoted, IsTable}
+use Rattle.ods_mount.specs.Links.{Links, named_by}
+use Rattle.ods_mount.specs.Checks.{HoldsFrom, IsPassed, IsFixed, IsHeldTwice, NoneIsFree, NoneIsPlace}
+use Rattle.ods_mount.proofs.Each.{each_next, each_of, holds_at, held_at}
+use Rattle.ods_mount.proofs.Layouts.{same_blocks}
+use Rattle.ods_mount.proofs.Sets.{noted_first, noted_more, noted_there}
+use Rattle.ods_mount.proofs.Linked.{chain_of}
+use Rattle.ods_mount.proofs.Sharing.{same_links}
+use Rattle.ods_mount.proofs.Soundness.{all_at}
+use Rattle.ods_mount.proofs.Holders.{held_twice, table_held}
+
+-- what a file holds is a block of the image
+pub holds_inside : (I : List (List ℕ)) (L : VolumeLayout) (n v b : ℕ) → Holds I L n v b → b < length I
+holds_inside I L n v b held =
+    all_at held.blocks (length I) b held.file.whole.inside (contains_at held.blocks (v - 1) b held.named)
+
+-- what a file holds from a block on, seen from a block further on
+pub holds_part : (I : List (List ℕ)) (L : VolumeLayout) (n first next : ℕ) (whole front xs rest : List ℕ) → whole ≡ front ++ (xs ++ rest) → next ≡ first + length front → HoldsFrom I L n first whole → HoldsFrom I L n next xs
+holds_part I L n first next whole front xs rest parts place all j b at =
+    let found : slice_get whole (length front + j) ≡ Some b = part_at whole front xs rest j b parts at in
+    let e : first + (length front + j) + 1 ≡ next + j + 1 = omega arith in
+    let P : ℕ → Type 0 = λ v. Holds I L n v b in
+    subst P e (all (length front + j) b found)
+
+-- the blocks of a file, from its first on
+pub holds_all : (I : List (List ℕ)) (L : VolumeLayout) (n : ℕ) (blocks : List ℕ) → HasBlocks I L n blocks → HoldsFrom I L n 0 blocks
+holds_all I L n blocks has j b at =
+    let e : j + 1 ≡ 0 + j + 1 = omega arith in
+    let P : ℕ → Type 0 = λ v. Holds I L n v b in
+    subst P e (holds_at I L n blocks j b has at)
+
+-- the headers of a file's chain name all its blocks
+pub named_all : (I : List (List ℕ)) (L : VolumeLayout) (n : ℕ) (ns blocks : List ℕ) → IsLayoutOf I L → Links I L 0 n ns → HasBlocks I L n blocks → blocks ≡ named_by I L ns
+named_all I L n ns blocks layout links has =
+    let chain = chain_of I L n has.others blocks layout has.whole.chain in
+    chain.1 ∙ ap (named_by I L) (sym (same_links I L 0 n ns (n ∷ has.others) links chain.0))
+
+-- block j of a run
+pub holds_run : (I : List (List ℕ)) (L : VolumeLayout) (n first : ℕ) (r : Run) (j : ℕ) → HoldsFrom I L n first (run_blocks r) → j < r.count → Holds I L n (first + j + 1) (r.lbn + j)
+holds_run I L n first r j all within = all j (r.lbn + j) (block_of_run r j within)
+
+-- what one header more names
+pub named_more : (I : List (List ℕ)) (L : VolumeLayout) (ns : List ℕ) (i x : ℕ) → slice_get ns i ≡ Some x → named_by I L (take (i + 1) ns) ≡ named_by I L (take i ns) ++ blocks_of (header_at I L x)
+named_more I L ns i x at =
+    let within = slice_get_within ns i x at in
+    let f : ℕ → List ℕ = λ m. blocks_of (header_at I L m) in
+    ap (flat_map f) (take_more ns i x within ∙ ap (λ y. take i ns ++ y ∷ []) (get_or_from_slice_get ns i x x at)) ∙ sym (flat_map_more f [] (take i ns) x)
+
+-- what the headers of a chain name, from its header i on
+pub names_at : (I : List (List ℕ)) (L : VolumeLayout) (n i x first : ℕ) (ns blocks : List ℕ) → IsLayoutOf I L → Links I L 0 n ns → HasBlocks I L n blocks → slice_get ns i ≡ Some x
+    → first ≡ length (named_by I L (take i ns)) → HoldsFrom I L n first (blocks_of (header_at I L x))
+names_at I L n i x first ns blocks layout links has at place =
+    let all = named_all I L n ns blocks layout links has in
+    let parts = split_at (λ m. blocks_of (header_at I L m)) ns i x at in
+    holds_part I L n 0 first blocks (named_by I L (take i ns)) (blocks_of (header_at I L x)) parts.0 (all ∙ parts.1) (omega arith) (holds_all I L n blocks has)
+
+-- what header k of a chain names, from its pointer i on
+pub names_run : (I : List (List ℕ)) (L : VolumeLayout) (n first next : ℕ) (b : List ℕ) (i : ℕ) (r : Run) → slice_get (runs_of b) i ≡ Some r → next ≡ first + length (first_blocks b i) → HoldsFrom I L n first (blocks_of b) → HoldsFrom I L n next (run_blocks r)
+names_run I L n first next b i r at place all =
+    let parts = split_at run_blocks (runs_of b) i r at in
+    holds_part I L n first next (blocks_of b) (first_blocks b i) (run_blocks r) parts.0 parts.1 place all
+
+-- nothing is passed so far
+pub passed_none : (I : List (List ℕ)) (L : VolumeLayout) (home n : ℕ) (blocks set : List ℕ) → HasBlocks I L n blocks → IsTable (Holds I L) n set → IsPassed I L home n 0 set
+passed_none I L home n blocks set has t = record {
+  blocks = blocks;
+  has = has;
+  before = set;
+  table = t;
+  noted = noted_first set blocks;
+  not_free = λ j b low. absurd (omega arith);
+  no_place = λ j b low. absurd (omega arith);
+}
+
+module _ (I : List (List ℕ)) (L : VolumeLayout) (home n i : ℕ) (set : List ℕ) (p : IsPassed I L home n i set) (b : ℕ) (held : Holds I L n (i + 1) b) where
+  -- the block is the next one
+  next_block : slice_get p.blocks i ≡ Some b
+  next_block =
+      let at = held_at I L n p.blocks (i + 1) b p.has held in
+      let e : at.0 ≡ i = let f = at.1 in omega arith in
+      let P : ℕ → Type 0 = λ x. slice_get p.blocks x ≡ Some b in
+      subst P e at.2
+
+  -- a block more is passed
+  pub passed_more : (new : List ℕ) → has set b ≡ false → IsWith new set b → is_free_block I L b ≡ false → (IsHomePlace b → b < home → IsFixed n i) → IsPassed I L home n (i + 1) new
+  passed_more new absent with_b taken fixed = record {
+    blocks = p.blocks;
+    has = p.has;
+    before = p.before;
+    table = p.table;
+    noted = noted_more p.before p.blocks i b set new p.noted next_block absent with_b;
+    not_free = each_next (λ _ c. is_free_block I L c ≡ false) p.blocks i b next_block p.not_free taken;
+    no_place = each_next (λ j c. IsHomePlace c → c < home → IsFixed n j) p.blocks i b next_block p.no_place fixed;
+  }
+
+  -- a block that the table has already is held twice
+  pub passed_twice : has set b ≡ true → IsHeldTwice I L n b
+  passed_twice member = held_twice I L n p.blocks p.before b p.has p.table (noted_there p.before set p.blocks i b p.noted next_block member)
+
+-- all blocks are passed
+pub passed_all : (I : List (List ℕ)) (L : VolumeLayout) (home n i : ℕ) (set blocks : List ℕ) → IsPassed I L home n i set → HasBlocks I L n blocks → length blocks ≡ i
+    → IsTable (Holds I L) (n + 1) set × NoneIsFree I L blocks × NoneIsPlace home n blocks
+passed_all I L home n i set blocks p has size =
+    let same : p.blocks ≡ blocks = same_blocks I L n p.blocks blocks p.has has in
+    let count : i ≡ length p.blocks = sym (ap length same ∙ size) in
+    let P : ℕ → Type 0 = λ k. IsNoted p.before set p.blocks k in
+    let Q : List ℕ → Type 0 = λ xs. NoneIsFree I L xs × NoneIsPlace home n xs in
+    let free : NoneIsFree I L p.blocks = each_of (λ _ b. is_free_block I L b ≡ false) p.blocks i (omega arith) p.not_free in
+    let place : NoneIsPlace home n p.blocks = each_of (λ j b. IsHomePlace b → b < home → IsFixed n j) p.blocks i (omega arith) p.no_place in
+    let moved = subst Q same (free, place) in
+    (table_held I L n p.blocks p.before set p.has p.table (subst P count p.noted), moved.0, moved.1)
