@@ -1,13 +1,15 @@
-//! `f11`: a processor of RSX-11 volumes, structure level 1. The work is done by `ods_cli`; here are the words,
+//! `f11`: a processor of RSX-11 volumes, structure level 1. The work is done by `ods_cli`; here are the files,
 //! the streams and the exit status.
 #![tactic(auto)]
 
-use ods_cli::{ServeFault, header_run, sample};
-use std::process::ExitCode;
-use std::rt::Env;
-use std::{env, io};
+ghost use Rattle.std.specs.Prelude.{◌≤◌, IfSome};
 
-/// The exit status of a refused volume, of wrong words, and of a device or memory that failed.
+use ods_cli::{ServeFault, Words, WordsFault, check_run, header_run, parse_words, sample};
+use std::process::ExitCode;
+use std::rt::{Env, Files};
+use std::{env, fs, io};
+
+/// The exit status of a refused image, of wrong words, and of a device or memory that failed.
 const REFUSED: u8 = 1;
 
 const WRONG_WORDS: u8 = 2;
@@ -15,29 +17,85 @@ const WRONG_WORDS: u8 = 2;
 const FAILED: u8 = 3;
 
 fn main(rt: HostRuntime) -> ExitCode {
-    let words = match env::args(&rt) {
-        Ok(args) => args.count(),
-        Err(_) => return failed(&rt, ServeFault::NoMemory),
+    match run(&rt) {
+        Ok(status) => status,
+        Err(fault) => {
+            let _ = eprintln!(rt; "f11: {fault}");
+            ExitCode::from(FAILED)
+        }
+    }
+}
+
+/// Does what the words of the command line ask for.
+fn run<R: Env + Files + AllocGlobal + Print + Eprint>(rt: &R) -> Result<ExitCode, ServeFault> {
+    let words = match env::args(rt) {
+        Ok(args) => args.skip(1).collect::<Vec<String>>(rt.alloc())?,
+        Err(error) if error.kind() == io::ErrorKind::InvalidData => {
+            return Ok(wrong(rt, "error: a word is no UTF-8 text"));
+        }
+        Err(_) => return Err(ServeFault::NoMemory),
     };
-    if words > 1 {
-        let _ = eprintln!(rt; "f11: no words are known yet");
-        return ExitCode::from(WRONG_WORDS);
-    }
-    match header_of_sample(&rt) {
-        Ok(true) => ExitCode::SUCCESS,
-        Ok(false) => ExitCode::from(REFUSED),
-        Err(fault) => failed(&rt, fault),
+    match parse_words(rt.alloc(), words.as_slice()) {
+        Ok(words) if serve(rt, words)? => Ok(ExitCode::SUCCESS),
+        Ok(_) => Ok(ExitCode::from(REFUSED)),
+        Err(WordsFault::Help(text)) => match print!(rt; "{text}") {
+            Ok(()) => Ok(ExitCode::SUCCESS),
+            Err(_) => Err(ServeFault::Write),
+        },
+        Err(WordsFault::Wrong(line)) => Ok(wrong(rt, line.as_str())),
+        Err(WordsFault::NoMemory) => Err(ServeFault::NoMemory),
     }
 }
 
-/// Prints the line of header 4 of the sample volume of 40 blocks.
-fn header_of_sample(rt: &(impl AllocGlobal + Print)) -> Result<bool, ServeFault> {
+/// Replies about the image that is meant, and answers whether it is what was asked for.
+fn serve<R: Files + AllocGlobal + Print>(rt: &R, words: Words<'_>) -> Result<bool, ServeFault>
+    requires { IfSome words.header (λ number. (1 ≤ number) × (number ≤ 16)) }
+{
+    match (words.image, words.header) {
+        (None, None) => header_of_sample(rt, 4),
+        (None, Some(number)) => header_of_sample(rt, number),
+        (Some(path), None) => check_file(rt, path),
+        (Some(path), Some(number)) => header_of_file(rt, path, number),
+    }
+}
+
+/// Prints the line of a header of the sample volume of 40 blocks.
+fn header_of_sample(rt: &(impl AllocGlobal + Print), number: u16) -> Result<bool, ServeFault>
+    requires { (1 ≤ number) × (number ≤ 16) }
+{
     let bytes = sample(rt.alloc(), 40)?;
-    header_run(rt.alloc(), &mut bytes.as_slice(), 4, &mut io::writer(rt))
+    header_run(
+        rt.alloc(),
+        &mut bytes.as_slice(),
+        number,
+        &mut io::writer(rt),
+    )
 }
 
-/// One line about a fault that is no refusal.
-fn failed(rt: &impl Eprint, fault: ServeFault) -> ExitCode {
-    let _ = eprintln!(rt; "f11: {fault}");
-    ExitCode::from(FAILED)
+/// Prints the line of a header of the image at this path.
+fn header_of_file<R: Files + AllocGlobal + Print>(
+    rt: &R,
+    path: &str,
+    number: u16,
+) -> Result<bool, ServeFault>
+    requires { (1 ≤ number) × (number ≤ 16) }
+{
+    match fs::open(rt, path) {
+        Ok(mut file) => header_run(rt.alloc(), &mut file, number, &mut io::writer(rt)),
+        Err(_) => Err(ServeFault::Read),
+    }
+}
+
+/// Checks the image at this path.
+fn check_file<R: Files + AllocGlobal + Print>(rt: &R, path: &str) -> Result<bool, ServeFault> {
+    match fs::open(rt, path) {
+        Ok(mut file) => check_run(rt.alloc(), &mut file, &mut io::writer(rt)),
+        Err(_) => Err(ServeFault::Read),
+    }
+}
+
+/// One line about wrong words.
+fn wrong(rt: &impl Eprint, line: &str) -> ExitCode {
+    let _ = eprintln!(rt; "{line}");
+    ExitCode::from(WRONG_WORDS)
 }

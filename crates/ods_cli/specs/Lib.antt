@@ -1,2 +1,6 @@
+pub mod Reply
+pub mod Run
 pub mod HeaderReply
 pub mod HeaderRun
+pub mod CheckReply
+pub mod CheckRun

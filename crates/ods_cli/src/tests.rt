@@ -5,6 +5,9 @@ use std::io;
 use std::io::{Read, Write};
 use std::test::Fail;
 
+mod checks;
+mod words;
+
 /// The sample's bytes that are not zero, but for the free blocks: an LBN, a byte place and the bytes there.
 const SAMPLE: [(u32, usize, &[u8]); 38] = [
     // The home block: H.IBSZ, H.IBLB, H.FMAX, H.SBCL, H.VLEV, H.DFPR, H.CHK1, H.INDF, H.CHK2.

@@ -1,0 +1,47 @@
+-- What is replied to a reader whose bytes are to be an image.
+use Rattle.std.specs.Prelude.{◌≡◌, ℕ, ◌+◌, ◌≤◌, ◌^◌, Bool, false, ◌⊎◌, List, [], ◌∷◌, ◌++◌, length, codes, Option}
+use Rattle.std.specs.Fmt.{decimal}
+use Rattle.std.specs.Io.KnownBytes.{IsAtEnd}
+use Rattle.ods_base.specs.Image.{IsImage, IsNoReading, image_bytes}
+use Rattle.ods_base.specs.Refusals.{code_of, name_of}
+use Rattle.ods_base.specs.declared.faults.ImageError.{ImageError}
+use Rattle.ods_base.specs.declared.faults.ImageError.TheVariants as image
+use Rattle.ods_cli.specs.declared.fault.ServeFault.{ServeFault}
+use Rattle.ods_cli.specs.declared.fault.ServeFault.TheVariants.{Read, Write, NoMemory}
+
+-- a refusal as it is printed: NO, its number and its name, and a line feed
+abbrev pub refusal_line : ℕ → List ℕ → List ℕ
+refusal_line number name = codes "NO " ++ decimal number ++ 32 ∷ name ++ 10 ∷ []
+
+-- the refusals of bytes that are no image; a device's fault and want of memory are none
+abbrev pub IsRefusal : ImageError → Type 0
+IsRefusal image.NotWholeBlocks = Unit {0}
+IsRefusal image.TooBig = Unit {0}
+IsRefusal image.ReadFailed = ⊥
+IsRefusal image.NoMemory = ⊥
+
+-- all bytes that a reader had, of which `rest` is left, are those of an image
+pub record AreImageBytes (bytes : List ℕ) (rest : Option (List ℕ)) (I : List (List ℕ)) : Type 0 where
+  pub image : IsImage I
+  pub bytes_are : image_bytes I ≡ bytes
+  pub at_end : IsAtEnd rest
+
+-- the bytes are no image, and this is the line that says so
+pub record IsNoImageLine (bytes : List ℕ) (rest : Option (List ℕ)) (reply : List ℕ) : Type 0 where
+  pub refusal : ImageError
+  pub is_refusal : IsRefusal refusal
+  pub reason : IsNoReading bytes rest refusal
+  pub line : reply ≡ refusal_line (code_of refusal) (name_of refusal)
+
+-- The reply to what a reader gave: the bytes are no image, or it is a reply about their image, as `About` says of an image, of whether
+-- the reply says what was asked for, and of its text.
+abbrev pub IsReply : (List (List ℕ) → Bool → List ℕ → Type 0) → List ℕ → Option (List ℕ) → Bool → List ℕ → Type 0
+IsReply About bytes rest found reply =
+    ((found ≡ false) × IsNoImageLine bytes rest reply)
+    ⊎ ((I : List (List ℕ)) × AreImageBytes bytes rest I × About I found reply)
+
+-- why there is no reply to a reader that gave these bytes: a device may fail, and memory run out, at any moment
+abbrev pub IsReplyFault : List ℕ → ServeFault → Type 0
+IsReplyFault bytes Read = length bytes ≤ 2 ^ 29
+IsReplyFault bytes Write = ⊥
+IsReplyFault bytes NoMemory = length bytes ≤ 2 ^ 29 + 1

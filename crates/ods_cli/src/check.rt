@@ -1,0 +1,92 @@
+//! The whole check of the bytes of an image.
+ghost use Rattle.std.specs.Prelude.{◌≡◌, ◌≢◌, ℕ, List, true, false, length, IfOk, IsOkUnless, MatchResult};
+ghost use Rattle.std.specs.String.{string_bytes};
+ghost use Rattle.std.specs.Io.KnownBytes.{Consumes};
+ghost use Rattle.ods_space.specs.Free.{free_blocks, free_numbers};
+ghost use Rattle.ods_cli.specs.Reply.{IsReplyFault};
+ghost use Rattle.ods_cli.specs.CheckReply.{IsCheckReply, IsMountReply, count_lines, fault_line};
+ghost use Rattle.ods_cli.specs.CheckRun.{EndsCheckRun};
+
+use crate::ServeFault;
+use crate::reply::{Reply, read_image, refused, send};
+use ods_base::Image;
+use ods_mount::{MountFault, Mounted, mount};
+use ods_space::{free_count, number_count};
+use std::alloc::{AllocError, Global};
+use std::io::{Read, Write};
+
+/// Reads an image and checks it whole. The reply is `free n` and `numbers n`, the counts of free blocks and of
+/// free file numbers, each on a line, and `true`; or one line `NO number Name` and `false`, for bytes that are
+/// no image (1, 2) or an image that is not sound (14, 15, 20, 21, 50 to 56). Behind the name of a fault of the
+/// image stands what it carries, each in decimal after a space: numbers of files, and then the LBN of a block.
+pub fn check_run<R: Read, W: Write>(
+    alloc: Global,
+    reader: &mut R,
+    replies: &mut W,
+) -> Result<bool, ServeFault>
+    ensures { (bytes : List ℕ) × Consumes (R.remaining reader.old) (R.remaining reader.new) bytes
+        × EndsCheckRun bytes (R.remaining reader.new) (W.contents replies.old) (W.contents replies.new) result }
+{
+    let reply = check_reply(alloc, reader)?;
+    send(replies, &reply)
+}
+
+/// The reply to what the reader gives.
+fn check_reply<R: Read>(alloc: Global, reader: &mut R) -> Result<Reply, ServeFault>
+    ensures { (bytes : List ℕ) × Consumes (R.remaining reader.old) (R.remaining reader.new) bytes
+        × MatchResult result (λ reply. IsCheckReply bytes (R.remaining reader.new) reply.found (string_bytes reply.text))
+        (IsReplyFault bytes) }
+{
+    match read_image(alloc, reader)? {
+        Ok(image) => mount_reply(alloc, image),
+        Err(refusal) => Ok(refusal),
+    }
+}
+
+/// The reply about an image.
+fn mount_reply(alloc: Global, image: Image) -> Result<Reply, ServeFault>
+    ensures ok { IfOk result (λ reply. IsMountReply image reply.found (string_bytes reply.text)) }
+    ensures err { IsOkUnless result ServeFault.NoMemory }
+{
+    match mount(alloc, image) {
+        Ok(mounted) => Ok(counted(alloc, &mounted)?),
+        Err((_, fault)) => faulty(alloc, fault),
+    }
+}
+
+/// The reply about a sound image: what is free in it.
+fn counted(alloc: Global, mounted: &Mounted) -> Result<Reply, AllocError>
+    ensures { IfOk result (λ reply. (reply.found ≡ true)
+        × (string_bytes reply.text ≡ count_lines (length (free_blocks mounted.now.image mounted.now.layout)) (length (free_numbers mounted.now.image mounted.now.layout)))) }
+{
+    let blocks = free_count(mounted.image(), mounted.layout());
+    let numbers = number_count(mounted.image(), mounted.layout());
+    let text = format!(in alloc; "free {blocks}\nnumbers {numbers}\n")?;
+    Ok(Reply { found: true, text })
+}
+
+/// The reply with a fault of an image. Want of memory is none.
+fn faulty(alloc: Global, fault: MountFault) -> Result<Reply, ServeFault>
+    ensures ok { IfOk result (λ reply. (fault ≢ MountFault.NoMemory) × (reply.found ≡ false) × (string_bytes reply.text ≡ fault_line fault)) }
+    ensures err { IsOkUnless result ServeFault.NoMemory }
+{
+    let (number, name) = (fault.code(), fault.name());
+    let text = match fault {
+        MountFault::UnsupportedMap(file)
+        | MountFault::BadChain(file)
+        | MountFault::BadDirectory(file)
+        | MountFault::DuplicateName(file) => format!(in alloc; "NO {number} {name} {file}\n")?,
+        MountFault::OutsideVolume(file, block) | MountFault::MarkedFree(file, block) => {
+            format!(in alloc; "NO {number} {name} {file} {block}\n")?
+        }
+        MountFault::DoublyUsed(one, other, block) => {
+            format!(in alloc; "NO {number} {name} {one} {other} {block}\n")?
+        }
+        MountFault::NoHome
+        | MountFault::BadIndex
+        | MountFault::BadStorageMap
+        | MountFault::BadMaster => return Ok(refused(alloc, number, name)?),
+        MountFault::NoMemory => return Err(ServeFault::NoMemory),
+    };
+    Ok(Reply { found: false, text })
+}
