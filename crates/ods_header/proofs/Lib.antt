@@ -1,3 +1,4 @@
+pub mod AttributesSet
 pub mod Missing
 pub mod Octal
 pub mod Places

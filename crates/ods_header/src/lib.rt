@@ -1,6 +1,7 @@
 //! Home blocks and file headers of Files-11 volumes of structure level 1.
 #![tactic(auto)]
 
+mod attributes;
 mod fault;
 mod find;
 mod header;
@@ -10,6 +11,7 @@ mod map_area;
 mod read;
 mod write;
 
+pub use attributes::with_attributes;
 pub use fault::LineFault;
 pub use find::find_home;
 pub use header::{Header, HeaderFault, Run};
