@@ -8,3 +8,4 @@ pub mod Laws
 pub mod Lists
 pub mod Refusals
 pub mod Same
+pub mod Lines

@@ -1,8 +1,10 @@
 //! What a request is answered, and the entry under which a list keeps an accepted request.
-ghost use Rattle.std.specs.Prelude.{◌≡◌, ◌↔◌, IsTrue};
+ghost use Rattle.std.specs.Prelude.{◌≡◌, ◌↔◌, IsTrue, IfOk, OnErr};
+ghost use Rattle.ods_request.specs.Lines.{HasLines};
 
 use crate::requests::Request;
 use ods_base::{Block, FileId, Listed, Uic};
+use std::alloc::AllocError;
 use std::marker::Model;
 
 /// The lines of a directory, in the order of their names and versions. A contract sees the list.
@@ -41,6 +43,14 @@ impl Listing {
     {
         let Listing { names } = self;
         names
+    }
+
+    /// An equal listing, in memory of its own.
+    pub fn copy(&self) -> Result<Listing, AllocError>
+        ensures { IfOk result (λ copy. copy ≡ self.now) }
+    {
+        let names = Vec::from_slice(*self.names.allocator(), &self.names)?;
+        Ok(Listing { names })
     }
 }
 
@@ -121,6 +131,27 @@ impl Answer {
     {
         self == other
     }
+
+    /// An equal answer. Only the lines of a directory take memory.
+    pub fn copy(&self) -> Result<Answer, AllocError>
+        ensures ok { IfOk result (λ copy. copy ≡ self.now) }
+        ensures err { OnErr result (HasLines self.now) }
+    {
+        match self {
+            Answer::Created(id) => Ok(Answer::Created(*id)),
+            Answer::Extended(count) => Ok(Answer::Extended(*count)),
+            Answer::Done => Ok(Answer::Done),
+            Answer::Entered(version) => Ok(Answer::Entered(*version)),
+            Answer::Found(file, version) => Ok(Answer::Found(*file, *version)),
+            Answer::Removed(file, version) => Ok(Answer::Removed(*file, *version)),
+            Answer::Bytes(block) => Ok(Answer::Bytes(*block)),
+            Answer::Names(lines) => match lines.copy() {
+                Ok(copy) => Ok(Answer::Names(copy)),
+                Err(error) => Err(error),
+            },
+            Answer::Info(stat) => Ok(Answer::Info(*stat)),
+        }
+    }
 }
 
 /// An accepted request with its answer.
@@ -170,7 +201,9 @@ mod tests {
         let listing = Listing::new(lines);
         assert_eq!(rt; listing.names(), [line].as_slice());
         let empty = Listing::new(Vec::new(rt.alloc()));
-        assert!(rt; Answer::Names(empty) != Answer::Names(listing));
+        let answer = Answer::Names(listing);
+        assert!(rt; Answer::Names(empty) != answer);
+        assert!(rt; answer.copy()? == answer);
         let names = Listing::new([line].to_vec(rt.alloc())?).into_names();
         assert_eq!(rt; names.as_slice(), [line].as_slice());
         Ok(())
