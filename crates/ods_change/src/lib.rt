@@ -1,0 +1,11 @@
+//! What requests make of a volume's blocks: each is a draft of changes, proved to carry the request out, or a true refusal.
+#![tactic(auto)]
+
+mod set_attributes;
+mod write_block;
+
+pub use set_attributes::set_user;
+pub use write_block::write;
+
+#[cfg(test)]
+mod tests;

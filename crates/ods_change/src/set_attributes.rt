@@ -1,0 +1,40 @@
+//! The draft of a SetUser.
+ghost use Rattle.std.specs.Prelude.{MatchResult};
+ghost use Rattle.ods_mount.specs.Sound.{IsSoundBy};
+ghost use Rattle.ods_request.specs.declared.answers.Answer.TheVariants.{Done};
+ghost use Rattle.ods_request.specs.declared.requests.Request.TheVariants.{SetUser};
+ghost use Rattle.ods_space.specs.Draft.{applied};
+ghost use Rattle.ods_state.specs.Change.{IsCarriedOut, IsRefusedBy};
+
+use crate::write_block::one_block;
+use ods_base::{FileId, Image, Uic};
+use ods_header::with_attributes;
+use ods_look::place_to_set;
+use ods_request::Refusal;
+use ods_space::{Draft, Layout};
+use std::alloc::Global;
+
+/// The draft that puts these attributes into the first header of a file, or why that is refused.
+pub fn set_user(
+    alloc: Global,
+    image: &Image,
+    layout: &Layout,
+    who: Uic,
+    file: FileId,
+    attributes: [u8; 32],
+) -> Result<Draft, Refusal>
+    requires { IsSoundBy image.now layout.now }
+    ensures { MatchResult result
+        (λ draft. IsCarriedOut image.now layout.now who (SetUser file attributes) Done (applied image.now draft))
+        (λ f. IsRefusedBy image.now layout.now who (SetUser file attributes) f) }
+{
+    let lbn = match place_to_set(image, layout, who, file) {
+        Ok(lbn) => lbn,
+        Err(refusal) => return Err(refusal),
+    };
+    let header = with_attributes(image.block(lbn), &attributes);
+    match one_block(alloc, lbn, header) {
+        Ok(draft) => Ok(draft),
+        Err(_) => Err(Refusal::NoMemory),
+    }
+}

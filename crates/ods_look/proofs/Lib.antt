@@ -1,0 +1,9 @@
+pub mod Looking
+pub mod Known
+pub mod Lacking
+pub mod Placed
+pub mod InOrder
+pub mod Held
+pub mod InDirectory
+pub mod Bodies
+pub mod Pointed

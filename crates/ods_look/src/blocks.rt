@@ -1,0 +1,87 @@
+//! The blocks of a directory on the volume, each found by its place in the file, with no list of them.
+ghost use Rattle.std.specs.Prelude.{◌≡◌, ◌≢◌, ◌≤◌, ℕ, List, length};
+ghost use Rattle.ods_space.specs.Layout.{header_at};
+ghost use Rattle.ods_space.specs.Files.{IsFile, HasBlocks};
+ghost use Rattle.ods_mount.specs.Faults.{contents_of};
+ghost use Rattle.ods_mount.specs.Sound.{IsSoundBy};
+
+use crate::pointers::lbn_in_header;
+use ods_base::{Block, Image};
+use ods_directory::DirBlocks;
+use ods_space::{Layout, count_whole, locate_whole};
+use std::marker::Model;
+
+/// The blocks of a file of a sound image, any but INDEXF.SYS. A contract sees the list of them.
+#[derive(Drop)]
+pub(crate) struct DirectoryBlocks<'a> {
+    image: &'a Image,
+    layout: &'a Layout,
+    number: u16,
+    count: u32,
+    /// The first header: most directories have their blocks in its pointers.
+    header: &'a Block,
+}
+
+impl<'a> Model for DirectoryBlocks<'a> {
+    ghost use Rattle.std.specs.Prelude.{◌≡◌, ◌≢◌, ◌≤◌, ℕ, List, length};
+    ghost use Rattle.ods_space.specs.Layout.{header_at};
+    ghost use Rattle.ods_space.specs.Files.{HasBlocks};
+    ghost use Rattle.ods_mount.specs.Faults.{contents_of};
+    ghost use Rattle.ods_mount.specs.Sound.{IsSoundBy};
+    ghost use Rattle.ods_look.specs.Blocks.{blocks_in_order};
+
+    ghost Value = { List (List ℕ) };
+
+    ghost view = { λ d. contents_of d.image.now (blocks_in_order d.image.now d.layout.now d.number) };
+
+    ghost invariant = { λ d. IsSoundBy d.image.now d.layout.now
+        × HasBlocks d.image.now d.layout.now d.number (blocks_in_order d.image.now d.layout.now d.number)
+        × (d.count ≡ length (blocks_in_order d.image.now d.layout.now d.number))
+        × (length (blocks_in_order d.image.now d.layout.now d.number) ≤ 6684672)
+        × (d.header.now ≡ header_at d.image.now d.layout.now d.number)
+        × (d.number ≢ 1) };
+}
+
+impl<'a> DirectoryBlocks<'a> {
+    /// The blocks of the file with this first header.
+    pub fn of(
+        image: &'a Image,
+        layout: &'a Layout,
+        number: u16,
+        header: &'a Block,
+    ) -> DirectoryBlocks<'a>
+        requires sound { IsSoundBy image.now layout.now }
+        requires file { IsFile image.now layout.now number }
+        requires other { number ≢ 1 }
+        requires header { header.now ≡ header_at image.now layout.now number }
+        ensures contents { (held : List ℕ) → HasBlocks image.now layout.now number held → result ≡ contents_of image.now held }
+        ensures few { length result ≤ 6684672 }
+    {
+        // An image has few blocks, and so has a chain.
+        let _ = image.len();
+        let count = count_whole(image, layout, number, header);
+        DirectoryBlocks {
+            image,
+            layout,
+            number,
+            count,
+            header,
+        }
+    }
+}
+
+impl DirBlocks for DirectoryBlocks<'_> {
+    ghost blocks = { λ d. d };
+
+    fn count(&self) -> u32 {
+        self.count
+    }
+
+    fn block(&self, i: u32) -> &Block {
+        if let Some(lbn) = lbn_in_header(self.header, i) {
+            return self.image.block(lbn);
+        }
+        let lbn = locate_whole(self.image, self.layout, self.number, self.header, i + 1).unwrap();
+        self.image.block(lbn)
+    }
+}

@@ -1,0 +1,83 @@
+-- One header is replaced by one that links alike: the blocks show the same files, but for the header's own.
+use Rattle.std.proofs.Common.{◌≡◌, ◌≢◌, ℕ, refl, ap, sym, ◌∙◌, subst, List, Some, inl, inr}
+use Rattle.std.specs.Prelude.{◌⊎◌, slice_set}
+use Rattle.ods_base.specs.declared.file_id.FileId.{FileId}
+use Rattle.ods_header.specs.Header.{sequence_of}
+use Rattle.ods_space.specs.Layout.{VolumeLayout, place_of, header_at}
+use Rattle.ods_space.specs.Files.{HasBlocks}
+use Rattle.ods_mount.specs.Faults.{contents_of}
+use Rattle.ods_mount.specs.Sound.{IsSoundBy}
+use Rattle.ods_request.specs.Catalogue.{Catalogue, File}
+use Rattle.ods_request.specs.Steps.{put}
+use Rattle.ods_state.specs.Contents.{body_of, file_of, IsFileIn, ShowsBy}
+use Rattle.ods_state.specs.Links.{SameLinks}
+use Rattle.ods_state.proofs.HeaderChange.{contents_stay, has_blocks, had_blocks}
+use Rattle.ods_state.proofs.OneBlock.{same_or_not}
+use Rattle.ods_state.proofs.OneHeader.{header_here, header_there}
+use Rattle.ods_state.proofs.Shown.{shows_put}
+
+-- of INDEXF.SYS the contents are not shown
+index_shown : (b : List ℕ) (cs ds : List (List ℕ)) → file_of 1 b cs ≡ file_of 1 b ds
+unfolding file_of body_of
+index_shown b cs ds = refl
+
+module _ (I : List (List ℕ)) (L : VolumeLayout) (S : IsSoundBy I L) (id : FileId) (x : ℕ) (b : List ℕ) (place : place_of L id.number ≡ Some x)
+    (to : SameLinks (header_at I L id.number) b id.number) (back : SameLinks b (header_at I L id.number) id.number) where
+  abbrev J : List (List ℕ)
+  J = slice_set I x b
+
+  -- another file shows what it did
+  others_shown : (m : ℕ) → m ≢ id.number → (blocks : List ℕ) → HasBlocks I L m blocks
+      → file_of m (header_at J L m) (contents_of J blocks) ≡ file_of m (header_at I L m) (contents_of I blocks)
+  others_shown m ne blocks file = by_number (same_or_not m 1)
+    where
+      header : header_at J L m ≡ header_at I L m
+      header = header_there I L S id.number x b place m ne
+
+      by_number : (m ≡ 1) ⊎ (m ≢ 1) → file_of m (header_at J L m) (contents_of J blocks) ≡ file_of m (header_at I L m) (contents_of I blocks)
+      by_number (inl e) =
+          ap (λ c. file_of m c (contents_of J blocks)) header
+          ∙ subst (λ k. file_of k (header_at I L m) (contents_of J blocks) ≡ file_of k (header_at I L m) (contents_of I blocks)) (sym e)
+          (index_shown (header_at I L m) (contents_of J blocks) (contents_of I blocks))
+      by_number (inr other) = let contents = contents_stay I L S id.number x b place m blocks file other in λ i. file_of m (header i) (contents i)
+
+  stays : (q : FileId) (g : File) → q.number ≢ id.number → IsFileIn I L q g → IsFileIn J L q g
+  stays q g ne p = record {
+    blocks = p.blocks;
+    held = has_blocks I L S id.number x b place to back q.number p.blocks p.held;
+    sequence = ap sequence_of (header_there I L S id.number x b place q.number ne) ∙ p.sequence;
+    shown = others_shown q.number ne p.blocks p.held ∙ p.shown;
+  }
+
+  was : (q : FileId) (g : File) → q.number ≢ id.number → IsFileIn J L q g → IsFileIn I L q g
+  was q g ne p =
+      let old : HasBlocks I L q.number p.blocks = had_blocks I L S id.number x b place to back q.number p.blocks p.held in
+      record {
+        blocks = p.blocks;
+        held = old;
+        sequence = ap sequence_of (sym (header_there I L S id.number x b place q.number ne)) ∙ p.sequence;
+        shown = sym (others_shown q.number ne p.blocks old) ∙ p.shown;
+      }
+
+  module _ (sequence : sequence_of (header_at I L id.number) ≡ id.sequence) where
+    -- another file has another number, in the old image and in the new one
+    other_number : (q : FileId) → q ≢ id → sequence_of (header_at I L q.number) ≡ q.sequence → q.number ≢ id.number
+    other_number q ne known e = ne (λ i. record { number = e i; sequence = same i })
+      where
+        same : q.sequence ≡ id.sequence
+        same = sym known ∙ ap (λ m. sequence_of (header_at I L m)) e ∙ sequence
+
+    other_number_now : (q : FileId) → q ≢ id → sequence_of (header_at J L q.number) ≡ q.sequence → q.number ≢ id.number
+    other_number_now q ne known e = ne (λ i. record { number = e i; sequence = same i })
+      where
+        now : sequence_of (header_at J L id.number) ≡ id.sequence
+        now = ap sequence_of (header_here I L S id.number x b place) ∙ to.sequence ∙ sequence
+
+        same : q.sequence ≡ id.sequence
+        same = sym known ∙ ap (λ m. sequence_of (header_at J L m)) e ∙ now
+
+    -- the catalogue is the one with that file put
+    pub header_is_shown : (C : Catalogue) (f : File) → ShowsBy I L C → IsFileIn J L id f → ShowsBy J L (put C id f)
+    header_is_shown C f shown here = shows_put I J L C id f shown here
+        (λ q g ne p. stays q g (other_number q ne p.sequence) p)
+        (λ q g ne p. was q g (other_number_now q ne p.sequence) p)

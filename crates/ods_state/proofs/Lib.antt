@@ -1,0 +1,15 @@
+pub mod Frame
+pub mod Data
+pub mod Shown
+pub mod OneBlock
+pub mod One
+pub mod Steps
+pub mod Untouched
+pub mod Links
+pub mod Exists
+pub mod Opening
+pub mod LinksStay
+pub mod OneHeader
+pub mod HeaderChange
+pub mod HeaderShown
+pub mod OtherAttributes

@@ -1,0 +1,5 @@
+use Rattle.ods_state.proofs.One.{layout_is_one, catalogue_is_one, replay_is_one}
+use Rattle.ods_state.proofs.laws.catalogue_is_one.Goals as goal
+
+pub returns : goal.returns
+returns c = record { layout = layout_is_one; catalogue = catalogue_is_one; replay = replay_is_one }

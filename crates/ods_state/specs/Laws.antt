@@ -1,0 +1,49 @@
+-- Laws of what blocks show, over the definitions alone.
+use Rattle.std.specs.Prelude.{◌≡◌, ◌<◌, ℕ, List, [], ◌∷◌, ◌++◌, length, slice_set, Some}
+use Rattle.std.specs.List.{Contains}
+use Rattle.ods_space.specs.Layout.{VolumeLayout, header_at, is_in_use, place_of}
+use Rattle.ods_space.specs.Chain.{IsChain}
+use Rattle.ods_space.specs.Files.{IsFile, HasBlocks, IsLayoutOf}
+use Rattle.ods_mount.specs.Sound.{IsSoundBy}
+use Rattle.ods_request.specs.declared.answers.Entry.{Entry}
+use Rattle.ods_request.specs.Catalogue.{Catalogue}
+use Rattle.ods_request.specs.Steps.{step}
+use Rattle.ods_state.specs.Contents.{ShowsBy, IsCatalogueOf}
+use Rattle.ods_state.specs.Links.{SameLinks}
+use Rattle.ods_state.specs.Version.{State, IsReplay, IsPresent, IsLawful, PastIsSpent}
+
+-- a sound image has a catalogue
+abbrev pub HasCatalogue : Type 0
+HasCatalogue = (I : List (List ℕ)) (L : VolumeLayout) → IsSoundBy I L → (C : Catalogue) × IsCatalogueOf I C × ShowsBy I L C
+
+-- it has only one, by its one layout, and entries make only one of it
+pub record CatalogueIsOne : Type 0 where
+  pub layout : (I : List (List ℕ)) (L M : VolumeLayout) → IsLayoutOf I L → IsLayoutOf I M → L ≡ M
+  pub catalogue : (I : List (List ℕ)) (C D : Catalogue) → IsCatalogueOf I C → IsCatalogueOf I D → C ≡ D
+  pub replay : (M : List (List ℕ)) (E : List Entry) (C D : Catalogue) → IsReplay M E C → IsReplay M E D → C ≡ D
+
+-- a sound image with an empty list is a lawful volume
+abbrev pub MountedIsLawful : Type 0
+MountedIsLawful = (I : List (List ℕ)) (L : VolumeLayout) (limit : ℕ) → IsSoundBy I L
+    → IsLawful (record { mounted = I; entries = []; image = I; layout = L; limit = limit })
+
+-- A lawful volume stays lawful by one entry more, where its blocks become a sound image that shows what the entry's step makes of
+-- the present catalogue, and no ID of the past can be given again.
+abbrev pub StepStaysLawful : Type 0
+StepStaysLawful = (v : State) (e : Entry) (J : List (List ℕ)) (L : VolumeLayout) (C D : Catalogue) → IsLawful v → length v.entries < v.limit
+    → IsPresent v C → step C e.who e.request e.answer ≡ Some D → IsSoundBy J L → ShowsBy J L D → PastIsSpent J L D
+    → IsLawful (record { mounted = v.mounted; entries = v.entries ++ e ∷ []; image = J; layout = L; limit = v.limit })
+
+-- Where headers and index bits change of these numbers alone, and a file whose first header is not among them has no header among them,
+-- such a file has the blocks that it had.
+abbrev pub UntouchedFilesStay : Type 0
+UntouchedFilesStay = (I J : List (List ℕ)) (L : VolumeLayout) (changed : List ℕ) → IsSoundBy I L → length J ≡ length I
+    → ((n : ℕ) → ¬ Contains changed n → (header_at J L n ≡ header_at I L n) × (is_in_use J L.home n ≡ is_in_use I L.home n))
+    → ((n : ℕ) (others blocks : List ℕ) → IsFile I L n → IsChain I L n others blocks → ¬ Contains changed n → (m : ℕ) → Contains (n ∷ others) m → ¬ Contains changed m)
+    → (n : ℕ) (blocks : List ℕ) → ¬ Contains changed n → HasBlocks I L n blocks → HasBlocks J L n blocks
+
+-- Where header n is replaced by one that links alike, every file has the blocks that it had.
+abbrev pub LinkedHeaderKeepsBlocks : Type 0
+LinkedHeaderKeepsBlocks = (I : List (List ℕ)) (L : VolumeLayout) (n lbn : ℕ) (b : List ℕ) → IsSoundBy I L → place_of L n ≡ Some lbn
+    → SameLinks (header_at I L n) b n → SameLinks b (header_at I L n) n
+    → (m : ℕ) (blocks : List ℕ) → HasBlocks I L m blocks → HasBlocks (slice_set I lbn b) L m blocks

@@ -1,0 +1,9 @@
+pub mod Contents
+pub mod Version
+pub mod Extend
+pub mod Wants
+pub mod Moves
+pub mod Outcome
+pub mod Laws
+pub mod Links
+pub mod Change

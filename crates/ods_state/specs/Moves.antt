@@ -1,0 +1,147 @@
+-- How the blocks that files hold, the free blocks and the free numbers move in an accepted request, and which blocks it may change.
+use Rattle.std.specs.Prelude.{◌≡◌, ◌≢◌, ◌↔◌, ℕ, ◌+◌, ◌⊎◌, not, ◌&&◌, ◌||◌, ◌==◌, nat_lt, List, [], ◌∷◌, ◌++◌, length, replicate, take, drop, slice_get, if◌then◌else◌, Some}
+use Rattle.std.specs.List.{Contains}
+use Rattle.ods_base.specs.Image.{block_at}
+use Rattle.ods_base.specs.Name.{RadName, directory_type}
+use Rattle.ods_header.specs.Header.{sequence_of, attributes_of}
+use Rattle.ods_space.specs.Layout.{Disk, header_at}
+use Rattle.ods_space.specs.Files.{HasBlocks, Holds}
+use Rattle.ods_space.specs.Free.{is_free_block, is_free_number, is_covered}
+use Rattle.ods_directory.specs.Mark.{marked}
+use Rattle.ods_request.specs.declared.requests.Request.{Request}
+use Rattle.ods_request.specs.declared.requests.Request.TheVariants.{Create, Extend, Delete, Enter, LookUp, Remove, Read, Write, List as Lines, Stat, SetUser}
+use Rattle.ods_request.specs.declared.answers.Answer.{Answer}
+use Rattle.ods_request.specs.declared.answers.Answer.TheVariants.{Created}
+use Rattle.ods_space.specs.Chain.{IsChain}
+use Rattle.ods_state.specs.Extend.{GivesBits, IsHeaderPlace, IsIndexBitmap, IsStorageBitmap, TakesBits, chain_runs, cut, deleted, is_one_of}
+use Rattle.ods_state.specs.Wants.{HasHeaders, Wants, taken_blocks, taken_numbers}
+
+-- header n of a disk, and what a file of it holds
+abbrev pub header_on : Disk → ℕ → List ℕ
+header_on D n = header_at D.image D.layout n
+
+-- file n of a disk holds this LBN as this block
+abbrev pub holds_on : Disk → ℕ → ℕ → ℕ → Type 0
+holds_on D n vbn lbn = Holds D.image D.layout n vbn lbn
+
+-- nothing moves: each chain stays, and so does what is held and what is free
+pub record NothingMoves (D E : Disk) : Type 0 where
+  pub chains : (n : ℕ) (others blocks : List ℕ) → IsChain D.image D.layout n others blocks → IsChain E.image E.layout n others blocks
+  pub held : (n vbn lbn : ℕ) → holds_on D n vbn lbn ↔ holds_on E n vbn lbn
+  pub free : (lbn : ℕ) → is_free_block E.image E.layout lbn ≡ is_free_block D.image D.layout lbn
+  pub numbers : (n : ℕ) → is_free_number E.image E.layout n ≡ is_free_number D.image D.layout n
+
+-- Blocks and numbers were taken for a file that had these headers and blocks: its number is the first of all its headers.
+pub record AreTaken (D E : Disk) (headers blocks : List ℕ) (count : ℕ) : Type 0 where
+  pub number : ℕ
+  pub chain : HasHeaders E.image E.layout number (headers ++ taken_numbers D.image D.layout headers count) (blocks ++ taken_blocks D.image D.layout count)
+  pub pointers : chain_runs E.image E.layout (headers ++ taken_numbers D.image D.layout headers count) ≡ chain_runs D.image D.layout headers ++ cut (taken_blocks D.image D.layout count)
+  pub held : (n vbn lbn : ℕ) → holds_on E n vbn lbn
+      ↔ (holds_on D n vbn lbn ⊎ ((k : ℕ) × (n ≡ number) × (vbn ≡ length blocks + k + 1) × (slice_get (taken_blocks D.image D.layout count) k ≡ Some lbn)))
+  pub free : (lbn : ℕ) → is_free_block E.image E.layout lbn
+      ≡ (is_free_block D.image D.layout lbn && not (is_one_of (taken_blocks D.image D.layout count) lbn))
+  pub numbers : (n : ℕ) → is_free_number E.image E.layout n
+      ≡ (is_free_number D.image D.layout n && not (is_one_of (taken_numbers D.image D.layout headers count) n))
+  -- of the two bitmaps just the bits of these change
+  pub bits : TakesBits D.image D.layout (taken_blocks D.image D.layout count) (taken_numbers D.image D.layout headers count) E.image
+  -- each new header has the old sequence number plus one
+  pub sequences : (n : ℕ) → Contains (taken_numbers D.image D.layout headers count) n → sequence_of (header_on E n) ≡ sequence_of (header_on D n) + 1
+
+-- the blocks and the numbers of a file were given back
+pub record AreGivenBack (D E : Disk) (number : ℕ) : Type 0 where
+  pub headers : List ℕ
+  pub blocks : List ℕ
+  pub file : HasHeaders D.image D.layout number headers blocks
+  pub held : (n vbn lbn : ℕ) → holds_on E n vbn lbn ↔ (holds_on D n vbn lbn × (n ≢ number))
+  pub free : (lbn : ℕ) → is_free_block E.image E.layout lbn
+      ≡ (is_free_block D.image D.layout lbn || (is_one_of blocks lbn && is_covered D.layout lbn))
+  pub numbers : (n : ℕ) → is_free_number E.image E.layout n
+      ≡ (is_free_number D.image D.layout n || (is_one_of headers n && (nat_lt 5 n && nat_lt (sequence_of (header_on D n)) 65535)))
+  -- of the two bitmaps just the bits of these change
+  pub bits : GivesBits D.image D.layout blocks headers E.image
+  -- a header that is given back keeps its bytes but its number, now 0, and its sum
+  pub kept : (n : ℕ) → Contains headers n → header_on E n ≡ deleted (header_on D n)
+
+-- an ID that is created is the first number taken, with its new sequence number
+abbrev pub IsCreatedId : Disk → Disk → Answer → Type 0
+IsCreatedId D E (Created id) = (id.sequence ≡ sequence_of (header_on E id.number)) × (slice_get (taken_numbers D.image D.layout [] 0) 0 ≡ Some id.number)
+IsCreatedId D E _ = Unit {0}
+
+-- The attributes of a new file are zeros; of a new directory they say that its records have 16 bytes, how many blocks it has, and that its names end at byte 0.
+abbrev pub new_attributes : RadName → ℕ → List ℕ
+new_attributes name count =
+    if name.ext == directory_type then marked (1 ∷ 0 ∷ 16 ∷ 0 ∷ replicate 28 0) 0 count
+    else replicate 32 0
+
+-- a file that was created has the attributes of a new one
+abbrev pub HasNewAttributes : Disk → Answer → RadName → ℕ → Type 0
+HasNewAttributes E (Created id) name count = attributes_of (header_on E id.number) ≡ new_attributes name count
+HasNewAttributes E _ name count = Unit {0}
+
+-- the attributes of a directory are as they were, or have another mark and its count of blocks
+abbrev pub IsMarkedAnew : Disk → Disk → ℕ → Type 0
+IsMarkedAnew D E n =
+    (attributes_of (header_on E n) ≡ attributes_of (header_on D n))
+    ⊎ ((mark : ℕ) × (blocks : List ℕ) × HasBlocks E.image E.layout n blocks
+    × (attributes_of (header_on E n) ≡ marked (attributes_of (header_on D n)) mark (length blocks)))
+
+-- the attributes of a directory stay but for F.HIBK, F.EFBK and F.FFBY, bytes 4 to 13
+abbrev pub KeepsOtherAttributes : Disk → Disk → ℕ → Type 0
+KeepsOtherAttributes D E n =
+    let old = attributes_of (header_on D n) in
+    let new = attributes_of (header_on E n) in
+    (take 4 new ≡ take 4 old) × (drop 14 new ≡ drop 14 old)
+
+-- it takes blocks and they are taken, or it takes none and nothing moves
+abbrev pub MayTake : Disk → Disk → Request → Type 0
+MayTake D E r =
+    ((headers : List ℕ) (blocks : List ℕ) (count : ℕ) → Wants D.image D.layout r headers blocks count → AreTaken D E headers blocks count)
+    × (((headers : List ℕ) (blocks : List ℕ) (count : ℕ) → ¬ Wants D.image D.layout r headers blocks count) → NothingMoves D E)
+
+-- what an accepted request moves, case by case
+abbrev pub Moves : Disk → Request → Answer → Disk → Type 0
+Moves D (Create name version count stamp) a E =
+    MayTake D E (Create name version count stamp) × IsCreatedId D E a × HasNewAttributes E a name count
+Moves D (Extend file count) a E = MayTake D E (Extend file count)
+Moves D (Delete file) a E = AreGivenBack D E file.number
+Moves D (Enter dir name version file) a E =
+    MayTake D E (Enter dir name version file) × KeepsOtherAttributes D E dir.number × IsMarkedAnew D E dir.number
+Moves D (Remove dir name pick) a E = NothingMoves D E × KeepsOtherAttributes D E dir.number
+Moves D (LookUp dir name pick) a E = NothingMoves D E
+Moves D (Read file vbn) a E = NothingMoves D E
+Moves D (Write file vbn block) a E = NothingMoves D E
+Moves D (Lines dir) a E = NothingMoves D E
+Moves D (Stat file) a E = NothingMoves D E
+Moves D (SetUser file attributes) a E = NothingMoves D E
+
+-- file n holds LBN x
+abbrev pub IsBlockOf : Disk → ℕ → ℕ → Type 0
+IsBlockOf D n x = (vbn : ℕ) × holds_on D n vbn x
+
+-- the request may change the block at x, where it takes blocks
+abbrev pub TouchedByTaking : Disk → Request → Disk → ℕ → Type 0
+TouchedByTaking D r E x =
+    (headers : List ℕ) × (blocks : List ℕ) × (count : ℕ) × Wants D.image D.layout r headers blocks count
+    × (IsIndexBitmap D.layout x ⊎ IsStorageBitmap D.layout x ⊎ IsHeaderPlace D.layout (headers ++ taken_numbers D.image D.layout headers count) x
+    ⊎ Contains (taken_blocks D.image D.layout count) x)
+
+-- the request may change the block at x
+abbrev pub Touches : Disk → Request → Disk → ℕ → Type 0
+Touches D (Create name version count stamp) E x = TouchedByTaking D (Create name version count stamp) E x
+Touches D (Extend file count) E x = TouchedByTaking D (Extend file count) E x
+Touches D (Delete file) E x =
+    IsIndexBitmap D.layout x ⊎ IsStorageBitmap D.layout x
+    ⊎ ((headers : List ℕ) × (blocks : List ℕ) × HasHeaders D.image D.layout file.number headers blocks × IsHeaderPlace D.layout headers x)
+Touches D (Enter dir name version file) E x =
+    TouchedByTaking D (Enter dir name version file) E x ⊎ IsHeaderPlace D.layout (dir.number ∷ []) x ⊎ IsBlockOf D dir.number x
+Touches D (Remove dir name pick) E x = IsBlockOf D dir.number x
+Touches D (Write file vbn block) E x = holds_on D file.number vbn x
+Touches D (SetUser file attributes) E x = IsHeaderPlace D.layout (file.number ∷ []) x
+Touches D (LookUp dir name pick) E x = ⊥
+Touches D (Read file vbn) E x = ⊥
+Touches D (Lines dir) E x = ⊥
+Touches D (Stat file) E x = ⊥
+
+-- each other block is as before
+abbrev pub ChangesOnlyTouched : Disk → Request → Disk → Type 0
+ChangesOnlyTouched D r E = (length E.image ≡ length D.image) × ((x : ℕ) → ¬ Touches D r E x → block_at E.image x ≡ block_at D.image x)

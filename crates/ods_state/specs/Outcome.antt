@@ -1,0 +1,94 @@
+-- What a request makes of a volume, and why it is refused.
+use Rattle.std.specs.Prelude.{◌≡◌, ℕ, ◌<◌, ◌≤◌, MatchResult, Bool, true, false, List, [], ◌∷◌, ◌++◌, length, IsSome, Some}
+use Rattle.ods_base.specs.declared.file_id.Uic.{Uic}
+use Rattle.ods_space.specs.Draft.{Changes, applied}
+use Rattle.ods_request.specs.declared.requests.Request.{Request}
+use Rattle.ods_request.specs.declared.requests.Request.TheVariants.{Create, Enter, LookUp, Read, Stat}
+use Rattle.ods_request.specs.declared.requests.Query.{Query}
+use Rattle.ods_request.specs.declared.requests.Query.TheVariants as query
+use Rattle.std.specs.declared.result.Result.{Result}
+use Rattle.ods_space.specs.Layout.{Disk, VolumeLayout}
+use Rattle.ods_state.specs.Contents.{ShowsBy}
+use Rattle.ods_request.specs.declared.answers.Answer.{Answer}
+use Rattle.ods_request.specs.declared.answers.Entry.{Entry}
+use Rattle.ods_request.specs.declared.refusals.Refusal.{Refusal}
+use Rattle.ods_request.specs.declared.refusals.Refusal.TheVariants as refusal
+use Rattle.ods_request.specs.Catalogue.{Catalogue}
+use Rattle.ods_request.specs.Faults.{fault_of}
+use Rattle.ods_request.specs.Steps.{step}
+use Rattle.ods_state.specs.Version.{State, IsPresent, IsLawful}
+use Rattle.ods_state.specs.Wants.{Lacks}
+use Rattle.ods_state.specs.Moves.{Moves, ChangesOnlyTouched}
+
+-- the blocks of a volume with their layout
+abbrev pub disk_of : State → Disk
+disk_of v = record { image = v.image; layout = v.layout }
+
+-- The request is accepted with this answer: it is a step of the present catalogue, and stands at the end of the list; blocks and numbers move as it says; no other block changes.
+pub record Accepts (old : State) (e : Entry) (new : State) : Type 0 where
+  pub steps : (C : Catalogue) → IsPresent old C → IsSome (step C e.who e.request e.answer)
+  pub entries : new.entries ≡ old.entries ++ e ∷ []
+  pub moves : Moves (disk_of old) e.request e.answer (disk_of new)
+  pub elsewhere : ChangesOnlyTouched (disk_of old) e.request (disk_of new)
+  pub mounted : new.mounted ≡ old.mounted
+  pub limit : new.limit ≡ old.limit
+
+-- the requests that may be refused for want of memory
+abbrev pub takes_memory : Request → Bool
+takes_memory (LookUp dir name pick) = false
+takes_memory (Read file vbn) = false
+takes_memory (Stat file) = false
+takes_memory _ = true
+
+-- why a request is refused
+pub data IsReason (v : State) (who : Uic) (r : Request) : Refusal → Type 0 where
+  list_full : length v.entries ≡ v.limit → IsReason v who r refusal.ListFull
+  fault_is : (C : Catalogue) (f : Refusal) → IsPresent v C → fault_of C who r ≡ Some f → IsReason v who r f
+  lacks : (f : Refusal) → Lacks v.image v.layout r f → IsReason v who r f
+  no_memory : takes_memory r ≡ true → IsReason v who r refusal.NoMemory
+
+-- a request that is accepted, with its answer, and the blocks that it changes
+pub record Plan : Type 0 where
+  pub entry : Entry
+  pub changes : Changes
+
+-- the volume with the plan made
+unfoldable pub carried_out : State → Plan → State
+carried_out v p = record {
+  mounted = v.mounted;
+  entries = v.entries ++ p.entry ∷ [];
+  image = applied v.image p.changes;
+  layout = v.layout;
+  limit = v.limit;
+}
+
+-- the plan is lawful for this volume
+pub record IsLawfulPlan (v : State) (p : Plan) : Type 0 where
+  pub room : length v.entries < v.limit
+  pub accepts : Accepts v p.entry (carried_out v p)
+  pub lawful : IsLawful (carried_out v p)
+
+-- a version that is given is 1 to 32,767
+abbrev pub IsVersionNumber : ℕ → Type 0
+IsVersionNumber v = (1 ≤ v) × (v ≤ 32767)
+
+-- the versions that a request gives are versions
+abbrev pub CanBeAsked : Request → Type 0
+CanBeAsked (Create name version blocks stamp) = IsVersionNumber version
+CanBeAsked (Enter dir name (Some version) file) = IsVersionNumber version
+CanBeAsked _ = Unit {0}
+
+-- a query as a request
+abbrev pub request_of : Query → Request
+request_of (query.LookUp dir name pick) = LookUp dir name pick
+request_of (query.Read file vbn) = Read file vbn
+request_of (query.Stat file) = Stat file
+
+-- by the catalogue that the blocks show: the fault, or else an answer that is a step
+abbrev pub AnswersQuery : List (List ℕ) → VolumeLayout → Uic → Query → Result Answer Refusal → Type 0
+AnswersQuery I L who q answer = (C : Catalogue) → ShowsBy I L C →
+    MatchResult answer (λ a. IsSome (step C who (request_of q) a)) (λ f. fault_of C who (request_of q) ≡ Some f)
+
+-- the entry of an accepted request
+abbrev pub entry_of : ℕ → ℕ → Uic → Request → Answer → Entry
+entry_of session nth who r a = record { session = session; nth = nth; who = who; request = r; answer = a }

@@ -1,0 +1,68 @@
+-- What a request wants of a volume, blocks and numbers for headers, and what the volume lacks.
+use Rattle.std.specs.Prelude.{◌≡◌, ℕ, ◌+◌, ◌/◌, true, nat_lt, List, [], ◌∷◌, length, take, Option, Some}
+use Rattle.ods_header.specs.Header.{room_of}
+use Rattle.ods_space.specs.Layout.{VolumeLayout, header_at}
+use Rattle.ods_space.specs.Files.{IsWhole}
+use Rattle.ods_space.specs.Free.{free_blocks, free_numbers}
+use Rattle.ods_state.specs.Extend.{cut, headers_needed, last_of}
+use Rattle.ods_directory.specs.declared.slot.Slot.{Slot}
+use Rattle.ods_directory.specs.Mark.{IsSlot}
+use Rattle.ods_mount.specs.Faults.{contents_of, mark_at}
+use Rattle.ods_request.specs.declared.requests.Request.{Request}
+use Rattle.ods_request.specs.declared.requests.Request.TheVariants.{Create, Extend, Enter}
+use Rattle.ods_request.specs.declared.refusals.Refusal.{Refusal}
+use Rattle.ods_request.specs.declared.refusals.Refusal.TheVariants as refusal
+use Rattle.ods_request.specs.Faults.{first_of}
+
+-- the headers of file n are these, and they name these blocks
+abbrev pub HasHeaders : List (List ℕ) → VolumeLayout → ℕ → List ℕ → List ℕ → Type 0
+HasHeaders I L n headers blocks = (others : List ℕ) × (headers ≡ n ∷ others) × IsWhole I L n others blocks
+
+-- a name entered in directory n needs a block more
+abbrev pub EnterGrows : List (List ℕ) → VolumeLayout → ℕ → List ℕ → Type 0
+EnterGrows I L n blocks = (slot : Slot) × IsSlot (contents_of I blocks) (mark_at I L n blocks) slot × (slot.grows ≡ true)
+
+-- The request wants so many blocks, for a file that has these headers and these blocks: for a new file none.
+abbrev pub Wants : List (List ℕ) → VolumeLayout → Request → List ℕ → List ℕ → ℕ → Type 0
+Wants I L (Create name version count stamp) headers blocks n = (headers ≡ []) × (blocks ≡ []) × (n ≡ count)
+Wants I L (Extend file count) headers blocks n = HasHeaders I L file.number headers blocks × (n ≡ count)
+Wants I L (Enter dir name version file) headers blocks n =
+    HasHeaders I L dir.number headers blocks × EnterGrows I L dir.number blocks × (n ≡ 1)
+Wants I L _ headers blocks n = ⊥
+
+-- the room in words for pointers: that of the last header; a new header has 204
+abbrev pub room_in : List (List ℕ) → VolumeLayout → List ℕ → ℕ
+room_in I L [] = 204
+room_in I L (n ∷ others) = room_of (header_at I L (last_of n others))
+
+-- how many new headers these runs need: a new file's first, and one for each 102 runs past the room
+abbrev pub new_headers : List ℕ → ℕ → ℕ → ℕ
+new_headers [] room runs = 1 + headers_needed 102 runs
+new_headers (n ∷ headers) room runs = headers_needed (room / 2) runs
+
+-- the blocks that are taken, lowest first; the runs that they are cut into; the numbers of new headers, lowest first
+abbrev pub taken_blocks : List (List ℕ) → VolumeLayout → ℕ → List ℕ
+taken_blocks I L n = take n (free_blocks I L)
+
+-- how many new headers it takes
+abbrev pub taken_count : List (List ℕ) → VolumeLayout → List ℕ → ℕ → ℕ
+taken_count I L headers n = new_headers headers (room_in I L headers) (length (cut (taken_blocks I L n)))
+
+-- the numbers of those headers, lowest first
+abbrev pub taken_numbers : List (List ℕ) → VolumeLayout → List ℕ → ℕ → List ℕ
+taken_numbers I L headers n = take (taken_count I L headers n) (free_numbers I L)
+
+-- what the volume lacks, for a file with these headers that is to get n blocks
+unfoldable pub lack_of : List (List ℕ) → VolumeLayout → List ℕ → ℕ → Option Refusal
+lack_of I L headers n = first_of (
+    (nat_lt (length (free_blocks I L)) n, refusal.VolumeFull)
+    ∷ (nat_lt (length (free_numbers I L)) (taken_count I L headers n), refusal.HeadersFull)
+    ∷ (nat_lt 256 (length headers + taken_count I L headers n), refusal.ChainFull) ∷ [])
+
+-- the volume lacks what the request takes, and this is the refusal
+pub record Lacks (I : List (List ℕ)) (L : VolumeLayout) (r : Request) (f : Refusal) : Type 0 where
+  pub headers : List ℕ
+  pub blocks : List ℕ
+  pub count : ℕ
+  pub wants : Wants I L r headers blocks count
+  pub lacking : lack_of I L headers count ≡ Some f

@@ -1,0 +1,4 @@
+pub mod Looks
+pub mod Lawful
+pub mod Reasons
+pub mod Carried

@@ -1,0 +1,77 @@
+-- A look is carried out by changing nothing.
+use Rattle.std.proofs.Common.{◌≡◌, ℕ, refl, sym, subst, true, List, [], arith}
+use Rattle.ods_base.specs.declared.file_id.Uic.{Uic}
+use Rattle.ods_space.specs.Layout.{Disk, VolumeLayout}
+use Rattle.ods_space.specs.Draft.{Changes, applied}
+use Rattle.ods_space.proofs.Drafts.{applied_none}
+use Rattle.ods_mount.specs.Sound.{IsSoundBy}
+use Rattle.ods_request.specs.declared.requests.Request.{Request}
+use Rattle.ods_request.specs.declared.requests.Request.TheVariants.{Create, Extend, Delete, Enter, LookUp, Remove, Read, Write, List as Lines, Stat, SetUser}
+use Rattle.ods_request.specs.declared.requests.Query.{Query}
+use Rattle.ods_request.specs.declared.requests.Query.TheVariants as query
+use Rattle.ods_request.specs.declared.answers.Answer.{Answer}
+use Rattle.ods_request.specs.Catalogue.{Catalogue}
+use Rattle.ods_request.specs.Steps.{after}
+use Rattle.ods_request.specs.Laws.{only_looks}
+use Rattle.ods_state.specs.Contents.{ShowsBy}
+use Rattle.ods_state.specs.Moves.{Moves, NothingMoves}
+use Rattle.ods_state.specs.Outcome.{request_of}
+use Rattle.ods_state.specs.Change.{disk, IsAnsweredBy, IsCarriedOut}
+
+nothing_moves : (D : Disk) → NothingMoves D D
+nothing_moves D = record {
+  chains = λ n others blocks h. h;
+  held = λ n vbn lbn. (λ h. h, λ h. h);
+  free = λ lbn. refl;
+  numbers = λ n. refl;
+}
+
+after_look : (C : Catalogue) (r : Request) → only_looks r ≡ true → after C r ≡ C
+unfolding after
+after_look C (LookUp dir name pick) h = refl
+after_look C (Read file vbn) h = refl
+after_look C (Stat file) h = refl
+after_look C (Lines dir) h = refl
+after_look C (Create name version blocks stamp) h = absurd (cc)
+after_look C (Extend file blocks) h = absurd (cc)
+after_look C (Delete file) h = absurd (cc)
+after_look C (Enter dir name version file) h = absurd (cc)
+after_look C (Remove dir name pick) h = absurd (cc)
+after_look C (Write file vbn block) h = absurd (cc)
+after_look C (SetUser file attributes) h = absurd (cc)
+
+-- a query only looks
+pub query_looks : (q : Query) → only_looks (request_of q) ≡ true
+query_looks (query.LookUp dir name pick) = refl
+query_looks (query.Read file vbn) = refl
+query_looks (query.Stat file) = refl
+
+look_moves : (D : Disk) (r : Request) (a : Answer) → only_looks r ≡ true → Moves D r a D
+look_moves D (LookUp dir name pick) a h = nothing_moves D
+look_moves D (Read file vbn) a h = nothing_moves D
+look_moves D (Stat file) a h = nothing_moves D
+look_moves D (Lines dir) a h = nothing_moves D
+look_moves D (Create name version blocks stamp) a h = absurd (cc)
+look_moves D (Extend file blocks) a h = absurd (cc)
+look_moves D (Delete file) a h = absurd (cc)
+look_moves D (Enter dir name version file) a h = absurd (cc)
+look_moves D (Remove dir name pick) a h = absurd (cc)
+look_moves D (Write file vbn block) a h = absurd (cc)
+look_moves D (SetUser file attributes) a h = absurd (cc)
+
+module _ (I : List (List ℕ)) (L : VolumeLayout) (S : IsSoundBy I L) (who : Uic) (r : Request) (a : Answer) (looks : only_looks r ≡ true) (answered : IsAnsweredBy I L who r a) where
+  look_is_carried_out : IsCarriedOut I L who r a I
+  look_is_carried_out = record {
+    answered = answered;
+    sound = S;
+    shown = λ C shown. subst (ShowsBy I L) (sym (after_look C r looks)) shown;
+    sequences = λ n. omega arith;
+    moves = look_moves (disk I L) r a looks;
+    elsewhere = (refl, λ x untouched. refl);
+  }
+
+  -- by a draft without a change
+  pub look_by_none : (d : Changes) → d ≡ [] → IsCarriedOut I L who r a (applied I d)
+  look_by_none d none =
+      subst (λ (e : Changes). IsCarriedOut I L who r a (applied I e)) (sym none)
+      (subst (IsCarriedOut I L who r a) (applied_none I) look_is_carried_out)

@@ -1,0 +1,16 @@
+use Rattle.std.proofs.Common.{sym, subst, arith, ◌∙◌}
+use Rattle.ods_state.specs.Version.{IsLawful}
+use Rattle.ods_state.proofs.Opening.{new_is_lawful}
+use Rattle.ods_volume.proofs.volume.Volume.new.Goals as goal
+
+pub invariant_of-result : goal.invariant_of-result
+invariant_of-result c =
+    let m = c.args.mounted in
+    let none = c.in-Ok-with_capacity.ensures.items in
+    let parts = c.into_parts-image.ensures.value in
+    let copied = c.in-Ok.ensures ∙ c.image.ensures.value in
+    record {
+      lawful = subst IsLawful (λ i. record { mounted = sym parts.0 i; entries = sym none i; image = sym copied i; layout = sym parts.1 i; limit = c.args.limit })
+          (new_is_lawful m.image m.layout c.into_parts-image.ensures.sound c.args.limit);
+      reserved = omega (arith, c.in-Ok-with_capacity.ensures.exact);
+    }

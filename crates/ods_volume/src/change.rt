@@ -1,0 +1,67 @@
+//! Requests that are accepted: their change, and their entry in the list.
+ghost use Rattle.std.specs.Prelude.{◌≡◌, ◌≢◌, ◌<◌, false, length, IfOk, IfErr, IsErr, OnErr, Some};
+ghost use Rattle.ods_request.specs.declared.refusals.Refusal.{Refusal};
+ghost use Rattle.ods_request.specs.Catalogue.{Catalogue};
+ghost use Rattle.ods_request.specs.Faults.{fault_of};
+ghost use Rattle.ods_state.specs.Version.{IsPresent};
+ghost use Rattle.ods_state.specs.Wants.{Lacks};
+ghost use Rattle.ods_state.specs.Outcome.{Accepts, IsReason, IsLawfulPlan, carried_out, entry_of, takes_memory};
+ghost use Rattle.ods_volume.specs.Serving.{IsServed};
+
+use crate::planned::Prepared;
+use crate::volume::Volume;
+use ods_base::Uic;
+use ods_request::{Answer, Refusal, Request};
+
+impl Volume {
+    /// Makes a change that was prepared for this volume as it is, puts its entry into the list and gives its answer. It takes
+    /// no memory and never fails.
+    pub fn apply(&mut self, prepared: Prepared) -> Answer
+        requires { IsLawfulPlan self.old prepared }
+        ensures changed { self.new ≡ carried_out self.old prepared }
+        ensures answered { result ≡ prepared.entry.answer }
+    {
+        let Prepared {
+            entry,
+            answer,
+            draft,
+        } = prepared;
+        match self.entries.push(entry) {
+            Ok(()) => {
+                draft.apply(&mut self.image);
+                answer
+            }
+            Err(_) => unreachable!(),
+        }
+    }
+
+    /// Prepares a request and makes its change.
+    pub fn request(
+        &mut self,
+        session: u16,
+        nth: u32,
+        who: Uic,
+        request: Request,
+    ) -> Result<Answer, Refusal>
+        requires { IsServed request }
+        // At the limit nothing else is looked at.
+        ensures full { length self.old.entries ≡ self.old.limit → result ≡ Err Refusal.ListFull }
+        // Below it the first fault that holds of the present catalogue is the answer.
+        ensures refused { (C : Catalogue) (f : Refusal) → length self.old.entries < self.old.limit → IsPresent self.old C
+            → fault_of C who request ≡ Some f → result ≡ Err f }
+        // Accepted, it is one step of that catalogue and one entry more.
+        ensures accepted { IfOk result (λ a. Accepts self.old (entry_of session nth who request a) self.new) }
+        // What the volume lacks is never given.
+        ensures lacking { (f : Refusal) → Lacks self.old.image self.old.layout request f → IsErr result }
+        ensures reason { IfErr result (λ f. IsReason self.old who request f) }
+        // LookUp, Read and Stat are never refused for want of memory.
+        ensures memory { takes_memory request ≡ false → result ≢ Err Refusal.NoMemory }
+        // Refused, it changes nothing.
+        ensures unchanged { OnErr result (self.new ≡ self.old) }
+    {
+        match self.prepare(session, nth, who, request) {
+            Ok(prepared) => Ok(self.apply(prepared)),
+            Err(refusal) => Err(refusal),
+        }
+    }
+}

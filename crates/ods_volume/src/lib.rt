@@ -1,0 +1,10 @@
+//! A volume: a mounted image that changes by requests, and the list of those that were accepted.
+#![tactic(auto)]
+
+mod change;
+mod planned;
+mod prepare;
+mod volume;
+
+pub use planned::Prepared;
+pub use volume::Volume;

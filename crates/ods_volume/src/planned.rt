@@ -1,0 +1,59 @@
+//! A request that is accepted, before its change is made.
+ghost use Rattle.std.specs.Prelude.{◌≡◌, IfOk, OnErr};
+ghost use Rattle.ods_request.specs.Lines.{HasLines};
+
+use ods_request::{Answer, Entry};
+use ods_space::Draft;
+use std::alloc::AllocError;
+use std::marker::Model;
+
+/// A request that is accepted, with its answer, and the blocks that it changes. The answer is there twice, once for the list
+/// and once for the caller, so that making the change takes no memory.
+#[derive(Drop)]
+pub struct Prepared {
+    pub(crate) entry: Entry,
+    pub(crate) answer: Answer,
+    pub(crate) draft: Draft,
+}
+
+impl Model for Prepared {
+    ghost use Rattle.std.specs.Prelude.{◌≡◌};
+    ghost use Rattle.ods_state.specs.Outcome.{Plan};
+
+    ghost Value = { Plan };
+
+    ghost view = { λ p. record { entry = p.entry; changes = p.draft } };
+
+    ghost invariant = { λ p. p.answer ≡ p.entry.answer };
+}
+
+impl Prepared {
+    /// The accepted request of this entry, which changes these blocks. Only the lines of a directory take memory.
+    pub(crate) fn new(entry: Entry, draft: Draft) -> Result<Prepared, AllocError>
+        ensures ok { IfOk result (λ p. (p.entry ≡ entry) × (p.changes ≡ draft)) }
+        ensures err { OnErr result (HasLines entry.answer) }
+    {
+        match entry.answer.copy() {
+            Ok(answer) => Ok(Prepared {
+                entry,
+                answer,
+                draft,
+            }),
+            Err(error) => Err(error),
+        }
+    }
+
+    /// The blocks that it changes.
+    pub fn changes(&self) -> &Draft
+        ensures { result.now ≡ self.now.changes }
+    {
+        &self.draft
+    }
+
+    /// What it is answered.
+    pub fn answer(&self) -> &Answer
+        ensures { result.now ≡ self.now.entry.answer }
+    {
+        &self.answer
+    }
+}

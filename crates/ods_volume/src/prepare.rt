@@ -1,0 +1,129 @@
+//! What a request would do, with all the memory that it takes. Here alone the calls of the layers below are made that answer a
+//! request or draft its change.
+ghost use Rattle.std.specs.Prelude.{◌≡◌, ◌≢◌, ◌<◌, false, length, MatchResult, IfOk, IfErr, IsErr, Some};
+ghost use Rattle.ods_space.specs.Draft.{applied};
+ghost use Rattle.ods_mount.specs.Sound.{IsSoundBy};
+ghost use Rattle.ods_request.specs.declared.refusals.Refusal.{Refusal};
+ghost use Rattle.ods_request.specs.Catalogue.{Catalogue};
+ghost use Rattle.ods_request.specs.Faults.{fault_of};
+ghost use Rattle.ods_state.specs.Version.{IsPresent};
+ghost use Rattle.ods_state.specs.Wants.{Lacks};
+ghost use Rattle.ods_state.specs.Change.{IsCarriedOut};
+ghost use Rattle.ods_state.specs.Outcome.{IsReason, IsLawfulPlan, entry_of, request_of, takes_memory};
+ghost use Rattle.ods_volume.specs.Serving.{IsServed, IsRefused};
+
+use crate::planned::Prepared;
+use crate::volume::Volume;
+use ods_base::{Image, Uic};
+use ods_change::{set_user, write};
+use ods_look::{list, look};
+use ods_request::{Answer, Entry, Query, Refusal, Request};
+use ods_space::{Draft, Layout};
+use std::alloc::Global;
+
+/// What a query is answered. It changes no block.
+fn look_only(
+    alloc: Global,
+    image: &Image,
+    layout: &Layout,
+    who: Uic,
+    query: Query,
+) -> Result<(Answer, Draft), Refusal>
+    requires { IsSoundBy image.now layout.now }
+    ensures { MatchResult result (λ p. IsCarriedOut image.now layout.now who (request_of query) p.0 (applied image.now p.1))
+        (IsRefused image.now layout.now who (request_of query)) }
+{
+    match look(image, layout, who, query) {
+        Ok(answer) => Ok((answer, Draft::new(alloc))),
+        Err(refusal) => Err(refusal),
+    }
+}
+
+/// What a request is answered, and the blocks that it changes.
+fn carry_out(
+    alloc: Global,
+    image: &Image,
+    layout: &Layout,
+    who: Uic,
+    request: &Request,
+) -> Result<(Answer, Draft), Refusal>
+    requires served { IsServed request.now }
+    requires sound { IsSoundBy image.now layout.now }
+    ensures { MatchResult result (λ p. IsCarriedOut image.now layout.now who request.now p.0 (applied image.now p.1))
+        (IsRefused image.now layout.now who request.now) }
+{
+    match *request {
+        Request::LookUp { dir, name, pick } => {
+            let query = Query::LookUp { dir, name, pick };
+            look_only(alloc, image, layout, who, query)
+        }
+        Request::Read { file, vbn } => {
+            let query = Query::Read { file, vbn };
+            look_only(alloc, image, layout, who, query)
+        }
+        Request::Stat { file } => { look_only(alloc, image, layout, who, Query::Stat { file }) }
+        Request::List { dir } => match list(alloc, image, layout, who, dir) {
+            Ok(lines) => Ok((Answer::Names(lines), Draft::new(alloc))),
+            Err(refusal) => Err(refusal),
+        },
+        Request::Write { file, vbn, block } => {
+            match write(alloc, image, layout, who, file, vbn, &block) {
+                Ok(draft) => Ok((Answer::Done, draft)),
+                Err(refusal) => Err(refusal),
+            }
+        }
+        Request::SetUser { file, attributes } => {
+            match set_user(alloc, image, layout, who, file, attributes) {
+                Ok(draft) => Ok((Answer::Done, draft)),
+                Err(refusal) => Err(refusal),
+            }
+        }
+        // No other request is served.
+        _ => unreachable!(),
+    }
+}
+
+impl Volume {
+    /// What a request would do, with all the memory that it takes: where it is given, the change itself takes none.
+    pub fn prepare(
+        &self,
+        session: u16,
+        nth: u32,
+        who: Uic,
+        request: Request,
+    ) -> Result<Prepared, Refusal>
+        requires { IsServed request }
+        // At the limit nothing else is looked at.
+        ensures full { length self.now.entries ≡ self.now.limit → result ≡ Err Refusal.ListFull }
+        // Below it the first fault that holds of the present catalogue is the answer.
+        ensures refused { (C : Catalogue) (f : Refusal) → length self.now.entries < self.now.limit → IsPresent self.now C
+            → fault_of C who request ≡ Some f → result ≡ Err f }
+        ensures plan { IfOk result (λ p. IsLawfulPlan self.now p × (p.entry ≡ entry_of session nth who request p.entry.answer)) }
+        // What the volume lacks is never given.
+        ensures lacking { (f : Refusal) → Lacks self.now.image self.now.layout request f → IsErr result }
+        ensures reason { IfErr result (λ f. IsReason self.now who request f) }
+        // LookUp, Read and Stat are never refused for want of memory.
+        ensures memory { takes_memory request ≡ false → result ≢ Err Refusal.NoMemory }
+    {
+        if self.entries.len() >= self.limit as usize {
+            return Err(Refusal::ListFull);
+        }
+        let alloc = *self.entries.allocator();
+        match carry_out(alloc, &self.image, &self.layout, who, &request) {
+            Ok((answer, draft)) => {
+                let entry = Entry {
+                    session,
+                    nth,
+                    who,
+                    request,
+                    answer,
+                };
+                match Prepared::new(entry, draft) {
+                    Ok(prepared) => Ok(prepared),
+                    Err(_) => Err(Refusal::NoMemory),
+                }
+            }
+            Err(refusal) => Err(refusal),
+        }
+    }
+}

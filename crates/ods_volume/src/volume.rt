@@ -1,0 +1,120 @@
+//! The volume: how it begins, and what is shown of it.
+ghost use Rattle.std.specs.Prelude.{◌≡◌, ◌≤◌, [], length, IfOk, IfErr};
+ghost use Rattle.ods_space.specs.Free.{free_blocks, free_numbers};
+ghost use Rattle.ods_request.specs.Catalogue.{Catalogue};
+ghost use Rattle.ods_state.specs.Version.{IsVersionBy, IsPresent, IsLawful};
+
+use ods_base::{Image, NoMemory};
+use ods_mount::Mounted;
+use ods_request::Entry;
+use ods_space::Layout;
+use std::alloc::Global;
+use std::marker::Model;
+
+/// A mounted image that changes by requests, and the list of those that were accepted.
+#[derive(Drop)]
+pub struct Volume {
+    pub(crate) mounted: Image,
+    pub(crate) image: Image,
+    pub(crate) layout: Layout,
+    pub(crate) entries: Vec<Entry>,
+    pub(crate) limit: u32,
+}
+
+impl Model for Volume {
+    ghost use Rattle.ods_state.specs.Version.{State};
+
+    ghost Value = { State };
+
+    ghost use Rattle.std.specs.Vec.{vec_capacity};
+    ghost use Rattle.ods_volume.specs.Kept.{state_of, IsKept};
+
+    ghost view = { state_of };
+
+    ghost invariant = { λ v. IsKept (state_of v) (vec_capacity v.entries) };
+}
+
+impl Volume {
+    /// The mounted image and an empty list, with room for as many entries as the limit. All the memory that the list takes is
+    /// taken here. After an error the mounted image comes back.
+    pub fn new(alloc: Global, mounted: Mounted, limit: u32) -> Result<Volume, (Mounted, NoMemory)>
+        requires low { 1 ≤ limit }
+        requires high { limit ≤ 65536 }
+        ensures ok { IfOk result (λ v. v ≡ record { mounted = mounted.image; entries = []; image = mounted.image; layout = mounted.layout; limit = limit }) }
+        ensures err { IfErr result (λ e. e.0 ≡ mounted) }
+    {
+        let now = match mounted.image().copy() {
+            Ok(now) => now,
+            Err(_) => return Err((mounted, NoMemory)),
+        };
+        let entries = match Vec::with_capacity(alloc, limit as usize) {
+            Ok(entries) => entries,
+            Err(_) => return Err((mounted, NoMemory)),
+        };
+        let (image, layout) = mounted.into_parts();
+        Ok(Volume {
+            mounted: image,
+            image: now,
+            layout,
+            entries,
+            limit,
+        })
+    }
+
+    /// Each volume has a catalogue now.
+    pub fn present(&self)
+        ensures { (C : Catalogue) × IsPresent self.now C }
+    {
+        let _ = &self.limit;
+    }
+
+    /// What is true of each volume.
+    pub fn is_lawful(&self)
+        ensures { IsLawful self.now }
+    {
+        let _ = &self.limit;
+    }
+
+    /// The accepted requests, the oldest first.
+    pub fn entries(&self) -> &[Entry]
+        ensures { result.now ≡ self.now.entries }
+    {
+        self.entries.as_slice()
+    }
+
+    /// The image now. It is a version of the mounted one.
+    pub fn image(&self) -> &Image
+        ensures value { result.now ≡ self.now.image }
+        ensures version { IsVersionBy self.now.mounted self.now.entries self.now.image self.now.layout }
+    {
+        &self.image
+    }
+
+    /// Where the image's structures lie.
+    pub fn layout(&self) -> &Layout
+        ensures { result.now ≡ self.now.layout }
+    {
+        &self.layout
+    }
+
+    /// The image as it was mounted.
+    pub fn mounted(&self) -> &Image
+        ensures { result.now ≡ self.now.mounted }
+    {
+        &self.mounted
+    }
+
+    /// How many blocks are free.
+    pub fn free_count(&self) -> u32
+        ensures { result ≡ length (free_blocks self.now.image self.now.layout) }
+    {
+        ods_space::free_count(&self.image, &self.layout)
+    }
+
+    /// How many file numbers are free.
+    pub fn number_count(&self) -> u32
+        ensures { result ≡ length (free_numbers self.now.image self.now.layout) }
+    {
+        ods_space::number_count(&self.image, &self.layout)
+    }
+}
