@@ -322,3 +322,22 @@ fn faults_of_directories(rt: HostRuntime) -> Result<(), Fail> {
     assert_eq!(rt; counts(rt.alloc(), twins), Err(DuplicateName(4)));
     Ok(())
 }
+
+/// Run with each allocation refused in turn, this passes or ends with want of memory of its own: the mount answers as ever, or
+/// NoMemory with an equal image.
+#[test]
+fn refused_memory_hands_the_image_back(rt: HostRuntime) -> Result<(), Fail> {
+    let image = volume(rt.alloc(), 512)?;
+    let same = image.copy()?;
+    match mount(rt.alloc(), image) {
+        Ok(mounted) => {
+            assert!(rt; *mounted.image() == same);
+            assert_eq!(rt; free_count(mounted.image(), mounted.layout()), 490);
+        }
+        Err((back, fault)) => {
+            assert_eq!(rt; fault, MountFault::NoMemory);
+            assert!(rt; back == same);
+        }
+    }
+    Ok(())
+}

@@ -347,3 +347,62 @@ fn reserved_files_are_refused(rt: HostRuntime) -> Result<(), Fail> {
     assert_eq!(rt; running.volume.entries().len(), 0);
     Ok(())
 }
+
+/// Makes a request whose memory may be refused: it is answered as wanted, or refused for want of memory with the volume as it was.
+fn ask_poor(
+    rt: &impl Abort,
+    volume: &mut Volume,
+    request: Request,
+    wanted: Result<Answer, Refusal>,
+) -> Result<(), Fail>
+    requires { IsServed request }
+{
+    let image = volume.image().copy()?;
+    let mounted = volume.mounted().copy()?;
+    let before = volume.entries().len();
+    let answer = volume.request(1, 1, USER, request);
+    if answer == Err(Refusal::NoMemory) {
+        assert!(rt; *volume.image() == image, "the image changed");
+        assert_eq!(rt; volume.entries().len(), before);
+    } else {
+        assert!(rt; answer == wanted, "{request:?} was answered {answer:?}");
+    }
+    assert!(rt; *volume.mounted() == mounted, "the mounted image changed");
+    Ok(())
+}
+
+/// Run with each allocation refused in turn, this passes or ends with want of memory of its own.
+#[test]
+fn refused_memory_changes_nothing(rt: HostRuntime) -> Result<(), Fail> {
+    let alloc = rt.alloc();
+    let mut it = start(&rt, alloc, contiguous_file(alloc)?, 4_096)?;
+    let lines = master_lines(&rt, alloc)?;
+    let running = &mut it.volume;
+    let old = Answer::Bytes(Block::new([0x5a; 512]));
+    ask_poor(&rt, running, read(FILE, 1), Ok(old))?;
+    ask_poor(&rt, running, read(FILE, 2), Err(Refusal::NoSuchBlock))?;
+    let list = Request::List { dir: MASTER };
+    ask_poor(&rt, running, list, Ok(Answer::Names(lines)))?;
+    let stat = Request::Stat { file: FILE };
+    let shown = Answer::Info(contiguous_stat([0; 32]));
+    ask_poor(&rt, running, stat, Ok(shown))?;
+    let look = Request::LookUp {
+        dir: MASTER,
+        name: system_name(&rt, [3_580, 20_856], SYS),
+        pick: Pick::Highest,
+    };
+    let found = Answer::Found(system_id(2), 1);
+    ask_poor(&rt, running, look, Ok(found))?;
+    let set = Request::SetUser {
+        file: FILE,
+        attributes: [2; 32],
+    };
+    ask_poor(&rt, running, set, Ok(Answer::Done))?;
+    let write = Request::Write {
+        file: FILE,
+        vbn: 1,
+        block: first_byte(0x41),
+    };
+    ask_poor(&rt, running, write, Ok(Answer::Done))?;
+    Ok(())
+}
