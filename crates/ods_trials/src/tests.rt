@@ -109,6 +109,15 @@ fn same_catalogue(rt: &impl Abort, alloc: Global, trial: &mut Trial) -> Result<(
     Ok(())
 }
 
+/// The plain program answers as the volume has to.
+fn agree(plain: &Result<Answer, StepError>, wanted: &Result<Answer, Refusal>) -> bool {
+    match (plain, wanted) {
+        (Ok(one), Ok(other)) => one == other,
+        (Err(StepError::Refused(one)), Err(other)) => one == other,
+        _ => false,
+    }
+}
+
 /// Makes a request of session 1 and compares the answer, the entries, the plain program's answer, and what the blocks show.
 fn ask(
     rt: &impl Abort,
@@ -127,12 +136,8 @@ fn ask(
     assert_eq!(rt; after, before.wrapping_add(usize::from(answer.is_ok())));
     if wanted != Err(Refusal::ListFull) {
         let plain = trial.plain.step(USER, &request, NONE);
-        let said = match wanted {
-            Ok(answer) => plain == Ok(answer),
-            Err(refusal) => plain == Err(StepError::Refused(refusal)),
-        };
         assert!(rt;
-            said,
+            agree(&plain, &wanted),
             "{request:?} is answered {plain:?} by the plain program"
         );
     }
