@@ -3,3 +3,7 @@ pub mod Allowed
 pub mod PlainFiles
 pub mod Writing
 pub mod SettingUser
+pub mod Directories
+pub mod RemovingName
+pub mod Marks
+pub mod EnteringName

@@ -23,8 +23,9 @@ use Rattle.ods_mount.specs.Faults.{contents_of}
 use Rattle.ods_mount.specs.Sound.{IsSoundBy}
 use Rattle.ods_request.specs.declared.refusals.Refusal.{Refusal}
 use Rattle.ods_request.specs.declared.refusals.Refusal.TheVariants as refusal
-use Rattle.ods_request.specs.declared.requests.Request.TheVariants.{LookUp, List as Lines}
-use Rattle.ods_request.specs.declared.answers.Answer.TheVariants.{Found, Names}
+use Rattle.ods_request.specs.declared.rights.Right.{Right}
+use Rattle.ods_request.specs.declared.requests.Request.TheVariants.{LookUp, List as Lines, Remove}
+use Rattle.ods_request.specs.declared.answers.Answer.TheVariants.{Found, Names, Removed}
 use Rattle.ods_request.specs.Catalogue.{Catalogue, File, System, Directory, Plain, names_of}
 use Rattle.ods_request.specs.Faults.{on_file}
 use Rattle.ods_request.specs.Steps.{answer_of, file_at, no_file, no_id, found_version, found_file}
@@ -89,21 +90,21 @@ refused_memory o e = subst (λ p. MatchOption p (refusal.NoMemory ≡ refusal.No
 abbrev pub unnamed : RadName → Pick → Rows
 unnamed name pick d = (is_none (picked_version (names_of d.body) name pick), refusal.NoSuchName) ∷ []
 
-module _ (I : List (List ℕ)) (L : VolumeLayout) (id : FileId) (who : Uic) (C : Catalogue) (p : PassesChecks I L id (directory_checks who) C)
+module _ (I : List (List ℕ)) (L : VolumeLayout) (id : FileId) (who : Uic) (r : Right) (C : Catalogue) (p : PassesChecks I L id (directory_checks who r) C)
     (dir : is_directory_header id.number (header_at I L id.number) ≡ true) (b : List ℕ) (header : b ≡ header_at I L id.number)
     (blocks : List (List ℕ)) (mark : ℕ) (is_blocks : (held : List ℕ) → HasBlocks I L id.number held → blocks ≡ contents_of I held)
     (is_mark : mark ≡ mark_in (attributes_of b) (length blocks)) where
   abbrev d : File
   d = file_of id.number (header_at I L id.number) (contents_of I p.blocks)
 
-  names_found : names_of d.body ≡ names_in blocks mark
+  pub names_found : names_of d.body ≡ names_in blocks mark
   unfolding file_of
   names_found =
       let same : contents_of I p.blocks ≡ blocks = sym (is_blocks p.blocks p.held) in
       names_are id.number (header_at I L id.number) (contents_of I p.blocks) dir
       ∙ (λ i. names_in (same i) (mark_in (attributes_of (sym header i)) (length (same i)))) ∙ ap (names_in blocks) (sym is_mark)
 
-  names_there : names_of (file_at C id).body ≡ names_in blocks mark
+  pub names_there : names_of (file_at C id).body ≡ names_in blocks mark
   names_there = ap (λ o. names_of (unwrap_or o no_file).body) p.there ∙ names_found
 
   pub lines_there : answer_of C (Lines id) ≡ Names (lines_of (names_in blocks mark))
@@ -114,7 +115,7 @@ module _ (I : List (List ℕ)) (L : VolumeLayout) (id : FileId) (who : Uic) (C :
     picked_there : (o : Option ℕ) → picked_version (names_in blocks mark) name pick ≡ o → picked_version (names_of d.body) name pick ≡ o
     picked_there o e = ap (λ m. picked_version m name pick) names_found ∙ e
 
-    pub not_found : HasNone (names_in blocks mark) name pick → on_file (map.get C.files id) (directory_checks who (unnamed name pick)) ≡ Some refusal.NoSuchName
+    pub not_found : HasNone (names_in blocks mark) name pick → on_file (map.get C.files id) (directory_checks who r (unnamed name pick)) ≡ Some refusal.NoSuchName
     not_found none = p.left (unnamed name pick) ∙ holds (is_none (picked_version (names_of d.body) name pick)) refusal.NoSuchName []
         (ap is_none (picked_there None (none_picked (names_in blocks mark) name three pick none)))
 
@@ -122,7 +123,7 @@ module _ (I : List (List ℕ)) (L : VolumeLayout) (id : FileId) (who : Uic) (C :
       picked_is : picked_version (names_in blocks mark) name pick ≡ Some version
       picked_is = picked (names_in blocks mark) name three pick version found.0
 
-      pub no_fault : on_file (map.get C.files id) (directory_checks who (unnamed name pick)) ≡ None
+      pub no_fault : on_file (map.get C.files id) (directory_checks who r (unnamed name pick)) ≡ None
       no_fault = p.left (unnamed name pick) ∙ passes (is_none (picked_version (names_of d.body) name pick)) refusal.NoSuchName [] None (ap is_none (picked_there (Some version) picked_is)) refl
 
       version_is : found_version C id name pick ≡ version
@@ -134,3 +135,7 @@ module _ (I : List (List ℕ)) (L : VolumeLayout) (id : FileId) (who : Uic) (C :
       pub found_is : answer_of C (LookUp id name pick) ≡ Found file version
       unfolding answer_of
       found_is = λ i. Found (file_is i) (version_is i)
+
+      pub removed_is : answer_of C (Remove id name pick) ≡ Removed file version
+      unfolding answer_of
+      removed_is = λ i. Removed (file_is i) (version_is i)

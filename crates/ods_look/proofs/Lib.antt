@@ -7,3 +7,5 @@ pub mod Held
 pub mod InDirectory
 pub mod Bodies
 pub mod Pointed
+pub mod EntryPlaces
+pub mod NewEntries

@@ -17,7 +17,6 @@ use Rattle.ods_mount.specs.Sound.{IsSoundBy}
 use Rattle.ods_request.specs.declared.refusals.Refusal.{Refusal}
 use Rattle.ods_request.specs.declared.refusals.Refusal.TheVariants as refusal
 use Rattle.ods_request.specs.declared.rights.Right.{Right}
-use Rattle.ods_request.specs.declared.rights.Right.TheVariants as right
 use Rattle.ods_request.specs.Rights.{permits}
 use Rattle.ods_request.specs.Catalogue.{Catalogue, File, System, Directory, Plain, blocks_of, is_directory}
 use Rattle.ods_request.specs.Faults.{first_of, on_file, is_denied}
@@ -99,21 +98,21 @@ module _ (id : FileId) (reserved : ℕ) (who : Uic) (r : Right) (rest : Rows) (o
     pub plain_left : is_directory f.body ≡ false → is_denied f who r ≡ false → on_file o (plain_checks id reserved who r rest) ≡ first_of (rest f)
     plain_left e granted = plain_past (first_of (rest f)) (passes (is_directory f.body) refusal.IsDirectory from_right (first_of (rest f)) e (passes (is_denied f who r) refusal.Denied (rest f) (first_of (rest f)) granted refl))
 
-module _ (who : Uic) (rest : Rows) (o : Option File) (d : File) (there : o ≡ Some d) where
+module _ (who : Uic) (r : Right) (rest : Rows) (o : Option File) (d : File) (there : o ≡ Some d) where
   abbrev behind_kind : List (Bool × Refusal)
-  behind_kind = (is_denied d who right.Read, refusal.Denied) ∷ rest d
+  behind_kind = (is_denied d who r, refusal.Denied) ∷ rest d
 
-  directory_by : (p : Option Refusal) → first_of (directory_checks who rest d) ≡ p → on_file o (directory_checks who rest) ≡ p
-  directory_by p e = ap (λ q. on_file q (directory_checks who rest)) there ∙ e
+  directory_by : (p : Option Refusal) → first_of (directory_checks who r rest d) ≡ p → on_file o (directory_checks who r rest) ≡ p
+  directory_by p e = ap (λ q. on_file q (directory_checks who r rest)) there ∙ e
 
-  pub directory_other : is_directory d.body ≡ false → on_file o (directory_checks who rest) ≡ Some refusal.NotADirectory
+  pub directory_other : is_directory d.body ≡ false → on_file o (directory_checks who r rest) ≡ Some refusal.NotADirectory
   directory_other e = directory_by (Some refusal.NotADirectory) (holds (not (is_directory d.body)) refusal.NotADirectory behind_kind (ap not e))
 
-  pub directory_denied : is_directory d.body ≡ true → is_denied d who right.Read ≡ true → on_file o (directory_checks who rest) ≡ Some refusal.Denied
-  directory_denied e denied = directory_by (Some refusal.Denied) (passes (not (is_directory d.body)) refusal.NotADirectory behind_kind (Some refusal.Denied) (ap not e) (holds (is_denied d who right.Read) refusal.Denied (rest d) denied))
+  pub directory_denied : is_directory d.body ≡ true → is_denied d who r ≡ true → on_file o (directory_checks who r rest) ≡ Some refusal.Denied
+  directory_denied e denied = directory_by (Some refusal.Denied) (passes (not (is_directory d.body)) refusal.NotADirectory behind_kind (Some refusal.Denied) (ap not e) (holds (is_denied d who r) refusal.Denied (rest d) denied))
 
-  pub directory_left : is_directory d.body ≡ true → is_denied d who right.Read ≡ false → on_file o (directory_checks who rest) ≡ first_of (rest d)
-  directory_left e granted = directory_by (first_of (rest d)) (passes (not (is_directory d.body)) refusal.NotADirectory behind_kind (first_of (rest d)) (ap not e) (passes (is_denied d who right.Read) refusal.Denied (rest d) (first_of (rest d)) granted refl))
+  pub directory_left : is_directory d.body ≡ true → is_denied d who r ≡ false → on_file o (directory_checks who r rest) ≡ first_of (rest d)
+  directory_left e granted = directory_by (first_of (rest d)) (passes (not (is_directory d.body)) refusal.NotADirectory behind_kind (first_of (rest d)) (ap not e) (passes (is_denied d who r) refusal.Denied (rest d) (first_of (rest d)) granted refl))
 
 module _ (I : List (List ℕ)) (L : VolumeLayout) (S : IsSoundBy I L) (C : Catalogue) (shown : ShowsBy I L C) (id : FileId) where
   pub no_such_number : ¬ IsFile I L id.number → map.get C.files id ≡ None
@@ -166,11 +165,11 @@ module _ (I : List (List ℕ)) (L : VolumeLayout) (S : IsSoundBy I L) (C : Catal
       left = λ rest. plain_left id reserved who r rest (map.get C.files id) file_found found_there high (found_kind ∙ plain) granted;
     }
 
-    pub directory_opens : (who : Uic) → is_directory_header id.number (header_at I L id.number) ≡ true
-        → is_denied file_found who right.Read ≡ false → PassesChecks I L id (directory_checks who) C
-    directory_opens who dir granted = record {
+    pub directory_opens : (who : Uic) (r : Right) → is_directory_header id.number (header_at I L id.number) ≡ true
+        → is_denied file_found who r ≡ false → PassesChecks I L id (directory_checks who r) C
+    directory_opens who r dir granted = record {
       blocks = blocks_found;
       held = (found is.0 is.1).1;
       there = found_there;
-      left = λ rest. directory_left who rest (map.get C.files id) file_found found_there (found_kind ∙ dir) granted;
+      left = λ rest. directory_left who r rest (map.get C.files id) file_found found_there (found_kind ∙ dir) granted;
     }

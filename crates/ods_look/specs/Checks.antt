@@ -10,7 +10,6 @@ use Rattle.ods_mount.specs.Faults.{contents_of}
 use Rattle.ods_request.specs.declared.refusals.Refusal.{Refusal}
 use Rattle.ods_request.specs.declared.refusals.Refusal.TheVariants as refusal
 use Rattle.ods_request.specs.declared.rights.Right.{Right}
-use Rattle.ods_request.specs.declared.rights.Right.TheVariants as right
 use Rattle.ods_request.specs.Catalogue.{Catalogue, File, is_directory}
 use Rattle.ods_request.specs.Faults.{first_of, on_file, is_denied}
 use Rattle.ods_state.specs.Contents.{file_of, is_directory_header, ShowsBy}
@@ -24,10 +23,10 @@ abbrev pub plain_checks : FileId → ℕ → Uic → Right → Rows → Rows
 plain_checks id reserved who r rest f =
     (nat_le id.number reserved, refusal.Reserved) ∷ (is_directory f.body, refusal.IsDirectory) ∷ (is_denied f who r, refusal.Denied) ∷ rest f
 
--- what a look at a directory checks before the rows of its own: it is a directory, and the user may read it
-abbrev pub directory_checks : Uic → Rows → Rows
-directory_checks who rest d =
-    (not (is_directory d.body), refusal.NotADirectory) ∷ (is_denied d who right.Read, refusal.Denied) ∷ rest d
+-- what a request on a directory checks before the rows of its own: it is a directory, and the user has the right
+abbrev pub directory_checks : Uic → Right → Rows → Rows
+directory_checks who r rest d =
+    (not (is_directory d.body), refusal.NotADirectory) ∷ (is_denied d who r, refusal.Denied) ∷ rest d
 
 -- the ID is that of a file
 abbrev pub IsFileId : List (List ℕ) → VolumeLayout → FileId → Type 0
@@ -51,7 +50,7 @@ IsOpenPlain I L id reserved who r =
     × ((C : Catalogue) → ShowsBy I L C → PassesChecks I L id (plain_checks id reserved who r) C)
 
 -- the file is a directory, and passes the checks
-abbrev pub IsOpenDirectory : List (List ℕ) → VolumeLayout → FileId → Uic → Type 0
-IsOpenDirectory I L id who =
+abbrev pub IsOpenDirectory : List (List ℕ) → VolumeLayout → FileId → Uic → Right → Type 0
+IsOpenDirectory I L id who r =
     IsFileId I L id × (is_directory_header id.number (header_at I L id.number) ≡ true)
-    × ((C : Catalogue) → ShowsBy I L C → PassesChecks I L id (directory_checks who) C)
+    × ((C : Catalogue) → ShowsBy I L C → PassesChecks I L id (directory_checks who r) C)

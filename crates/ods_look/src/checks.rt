@@ -38,16 +38,17 @@ pub(crate) fn open_plain<'a>(
     Ok(block)
 }
 
-/// The first header of a directory that the user may read; or the first fault.
+/// The first header of a directory on which the user has this right; or the first fault.
 pub(crate) fn open_directory<'a>(
     image: &'a Image,
     layout: &Layout,
     who: Uic,
     dir: FileId,
+    right: Right,
 ) -> Result<&'a Block, Refusal>
     requires { IsSoundBy image.now layout.now }
-    ensures ok { IfOk result (λ block. IsOpenDirectory image.now layout.now dir who × (block.now ≡ header_at image.now layout.now dir.number)) }
-    ensures err { IfErr result (IsRefusedByChecks image.now layout.now dir (directory_checks who)) }
+    ensures ok { IfOk result (λ block. IsOpenDirectory image.now layout.now dir who right × (block.now ≡ header_at image.now layout.now dir.number)) }
+    ensures err { IfErr result (IsRefusedByChecks image.now layout.now dir (directory_checks who right)) }
 {
     let Some(block) = named_header(image, layout, dir) else {
         return Err(Refusal::NoSuchFile);
@@ -55,7 +56,7 @@ pub(crate) fn open_directory<'a>(
     if !is_directory(dir.number, block) {
         return Err(Refusal::NotADirectory);
     }
-    if !permits(&who, &owner(block), word(block, 5), Right::Read) {
+    if !permits(&who, &owner(block), word(block, 5), right) {
         return Err(Refusal::Denied);
     }
     Ok(block)

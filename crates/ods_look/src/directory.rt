@@ -17,7 +17,7 @@ use crate::checks::open_directory;
 use crate::facts::attributes;
 use ods_base::{Block, FileId, Image, Name, Pick, Uic};
 use ods_directory::{DirBlocks, entries, mark_of};
-use ods_request::{Listing, Refusal};
+use ods_request::{Listing, Refusal, Right};
 use ods_space::Layout;
 use std::alloc::Global;
 
@@ -34,7 +34,7 @@ pub fn look_up(
     ensures { MatchResult result (λ found. IsAnsweredBy image.now layout.now who (LookUp dir name pick) (Found found.0 found.1))
         (IsFaultBy image.now layout.now who (LookUp dir name pick)) }
 {
-    let block = match open_directory(image, layout, who, dir) {
+    let block = match open_directory(image, layout, who, dir, Right::Read) {
         Ok(block) => block,
         Err(refusal) => return Err(refusal),
     };
@@ -60,7 +60,7 @@ pub fn list(
     ensures { MatchResult result (λ lines. IsAnsweredBy image.now layout.now who (Lines dir) (Names lines))
         (IsRefusedBy image.now layout.now who (Lines dir)) }
 {
-    let block = match open_directory(image, layout, who, dir) {
+    let block = match open_directory(image, layout, who, dir, Right::Read) {
         Ok(block) => block,
         Err(refusal) => return Err(refusal),
     };

@@ -4,6 +4,7 @@
 mod blocks;
 mod checks;
 mod directory;
+mod entries;
 mod facts;
 mod pointers;
 mod query;
@@ -11,6 +12,7 @@ mod reading;
 mod shown;
 
 pub use directory::{list, look_up};
+pub use entries::{EntryPlace, NewEntry, place_to_enter, place_to_remove};
 pub use query::look;
 pub use reading::{place_to_set, place_to_write, read};
 pub use shown::stat;

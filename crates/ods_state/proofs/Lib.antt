@@ -13,3 +13,5 @@ pub mod OneHeader
 pub mod HeaderChange
 pub mod HeaderShown
 pub mod OtherAttributes
+pub mod BlockShown
+pub mod TwoChanges

@@ -1,6 +1,5 @@
 pub mod Contents
 pub mod Version
-pub mod Extend
 pub mod Wants
 pub mod Moves
 pub mod Outcome

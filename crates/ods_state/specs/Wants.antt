@@ -4,7 +4,7 @@ use Rattle.ods_header.specs.Header.{room_of}
 use Rattle.ods_space.specs.Layout.{VolumeLayout, header_at}
 use Rattle.ods_space.specs.Files.{IsWhole}
 use Rattle.ods_space.specs.Free.{free_blocks, free_numbers}
-use Rattle.ods_state.specs.Extend.{cut, headers_needed, last_of}
+use Rattle.ods_growth.specs.Extend.{cut, headers_needed, last_of}
 use Rattle.ods_directory.specs.declared.slot.Slot.{Slot}
 use Rattle.ods_directory.specs.Mark.{IsSlot}
 use Rattle.ods_mount.specs.Faults.{contents_of, mark_at}

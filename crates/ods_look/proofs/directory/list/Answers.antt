@@ -1,5 +1,6 @@
 use Rattle.std.proofs.Common.{[], ◌∙◌, ap, sym}
 use Rattle.ods_request.specs.declared.answers.Answer.TheVariants.{Names}
+use Rattle.ods_request.specs.declared.rights.Right.TheVariants as right
 use Rattle.ods_request.proofs.FaultTable.{fault_list}
 use Rattle.ods_look.proofs.InDirectory.{lines_there, refused_by, refused_memory}
 use Rattle.ods_look.proofs.directory.list.Goals as goal
@@ -13,7 +14,7 @@ returns-in-Ok-entries c = λ C shown.
     let p = known.0.2 C shown in
     let names = c.names_of-blocks.ensures in (
       fault_list C c.args.who c.args.dir ∙ p.left (λ d. []),
-      lines_there c.args.image.now c.args.layout.now c.args.dir c.args.who C p known.0.1 c.in-Ok.block.now known.1 c.names_of-blocks.result.0 c.names_of-blocks.result.1 names.contents names.mark
+      lines_there c.args.image.now c.args.layout.now c.args.dir c.args.who right.Read C p known.0.1 c.in-Ok.block.now known.1 c.names_of-blocks.result.0 c.names_of-blocks.result.1 names.contents names.mark
           ∙ ap Names (sym (c.new.ensures ∙ c.in-Ok-entries.ensures)),
     )
 

@@ -1,0 +1,17 @@
+pub mod Cuts
+pub mod PointersAt
+pub mod HeaderPlaces
+pub mod HeaderSteps
+pub mod OneBit
+pub mod ManyBits
+pub mod Places
+pub mod Giving
+pub mod Made
+pub mod NewHeaders
+pub mod Longer
+pub mod Grown
+pub mod Walking
+pub mod Written
+pub mod Chained
+pub mod Fields
+pub mod Extending

@@ -1,0 +1,5 @@
+pub mod Extend
+pub mod Pointing
+pub mod Marks
+pub mod Extension
+pub mod Chains

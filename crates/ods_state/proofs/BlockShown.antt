@@ -1,0 +1,114 @@
+-- One block of a file is replaced, any but files 1, 2, 3 and 5: nothing moves, and the blocks show the same files, but for that one.
+-- This serves each change of a directory's names.
+use Rattle.std.proofs.Common.{◌≡◌, ◌≢◌, ℕ, ◌-◌, ◌≤◌, refl, ap, sym, ◌∙◌, subst, List, [], arith, inl, inr}
+use Rattle.std.specs.Prelude.{◌⊎◌, slice_set}
+use Rattle.ods_base.specs.declared.file_id.FileId.{FileId}
+use Rattle.ods_header.specs.Header.{sequence_of}
+use Rattle.ods_space.specs.Layout.{VolumeLayout, header_at}
+use Rattle.ods_space.specs.Chain.{index_for}
+use Rattle.ods_space.specs.Files.{HasBlocks, Holds}
+use Rattle.ods_directory.specs.Names.{IsDirectory}
+use Rattle.ods_mount.specs.Faults.{IsDirectoryFile, contents_of, mark_at}
+use Rattle.ods_mount.specs.Sound.{IsSoundBy}
+use Rattle.ods_request.specs.Catalogue.{Catalogue, File}
+use Rattle.ods_request.specs.Steps.{put}
+use Rattle.ods_state.specs.Change.{disk}
+use Rattle.ods_state.specs.Contents.{file_of, IsFileIn, ShowsBy}
+use Rattle.ods_state.specs.Moves.{NothingMoves}
+use Rattle.ods_state.proofs.Data.{IsDataChange, header_stays, blocks_stay, blocks_were, sound_stays, holds_stays, chain_kept, held_before, free_stays, free_number_stays}
+use Rattle.ods_state.proofs.Frame.{chain_is_one}
+use Rattle.ods_state.proofs.OneBlock.{same_or_not, data_changes, others_contents, own_contents}
+use Rattle.ods_state.proofs.Shown.{shows_put}
+
+module _ (I : List (List ℕ)) (L : VolumeLayout) (S : IsSoundBy I L) (id : FileId) (vbn x : ℕ) (b : List ℕ) (h : Holds I L id.number vbn x)
+    (one : id.number ≢ 1) (two : id.number ≢ 2) (three : id.number ≢ 3) (five : id.number ≢ 5) where
+  abbrev J : List (List ℕ)
+  J = slice_set I x b
+
+  -- the contents of the file after the change
+  abbrev pub contents_now : List (List ℕ)
+  contents_now = slice_set (contents_of I h.blocks) (vbn - 1) b
+
+  changes : IsDataChange I J L
+  changes = data_changes I L S id.number vbn x b h one two three five
+
+  -- the file keeps its blocks
+  pub held_now : HasBlocks J L id.number h.blocks
+  held_now = blocks_stay I J L S changes id.number h.blocks h.file
+
+  pub headers_stay : (n : ℕ) → header_at J L n ≡ header_at I L n
+  headers_stay = header_stays I J L S changes
+
+  -- no sequence word changes
+  pub sequences_stay : (n : ℕ) → sequence_of (header_at I L n) ≤ sequence_of (header_at J L n)
+  sequences_stay n = omega (arith, ap sequence_of (headers_stay n))
+
+  pub nothing_moves : NothingMoves (disk I L) (disk J L)
+  nothing_moves = record {
+    chains = chain_kept I J L S changes;
+    held = λ n v y. (holds_stays I J L S changes n v y, held_before I J L S changes n v y);
+    free = free_stays I J L S changes;
+    numbers = free_number_stays I J L S changes;
+  }
+
+  -- the changed image is sound, where the file is still a directory if it was one
+  pub block_is_sound : (IsDirectoryFile I L id.number → IsDirectory contents_now (mark_at I L id.number h.blocks)) → IsSoundBy J L
+  block_is_sound own = sound_stays I J L S changes (λ m blocks d held. by_number m blocks d held (same_or_not m id.number))
+    where
+      by_number : (m : ℕ) (blocks : List ℕ) → IsDirectoryFile I L m → HasBlocks I L m blocks → (m ≡ id.number) ⊎ (m ≢ id.number) → IsDirectory (contents_of J blocks) (mark_at I L m blocks)
+      by_number m blocks d held (inr ne) =
+          subst (λ c. IsDirectory c (mark_at I L m blocks)) (sym (others_contents I L S id.number vbn x b h m blocks held ne)) (S.directories m blocks d held)
+      by_number m blocks d held (inl e) =
+          let mine : HasBlocks I L id.number blocks = subst (λ k. HasBlocks I L k blocks) e held in
+          let is : blocks ≡ h.blocks = (chain_is_one I L.home (index_for L id.number) [] 0 id.number mine.others h.file.others blocks h.blocks mine.whole.chain h.file.whole.chain).1 in
+          let now : IsDirectory (contents_of J h.blocks) (mark_at I L id.number h.blocks) =
+          subst (λ c. IsDirectory c (mark_at I L id.number h.blocks)) (sym (own_contents I L S id.number vbn x b h)) (own (subst (λ k. IsDirectoryFile I L k) e d)) in
+          subst (λ k. IsDirectory (contents_of J blocks) (mark_at I L k blocks)) (sym e) (subst (λ bs. IsDirectory (contents_of J bs) (mark_at I L id.number bs)) (sym is) now)
+
+  module _ (sequence : sequence_of (header_at I L id.number) ≡ id.sequence) where
+    -- the file that the blocks showed, and the one that they show now
+    pub file_was : IsFileIn I L id (file_of id.number (header_at I L id.number) (contents_of I h.blocks))
+    file_was = record { blocks = h.blocks; held = h.file; sequence = sequence; shown = refl }
+
+    pub file_now : IsFileIn J L id (file_of id.number (header_at I L id.number) contents_now)
+    file_now = record {
+      blocks = h.blocks;
+      held = held_now;
+      sequence = ap sequence_of (headers_stay id.number) ∙ sequence;
+      shown = λ i. file_of id.number (headers_stay id.number i) (own_contents I L S id.number vbn x b h i);
+    }
+
+    -- another file has another number
+    other_number : (q : FileId) → q ≢ id → sequence_of (header_at I L q.number) ≡ q.sequence → q.number ≢ id.number
+    other_number q ne known e = ne (λ i. record { number = e i; sequence = same i })
+      where
+        same : q.sequence ≡ id.sequence
+        same = sym known ∙ ap (λ m. sequence_of (header_at I L m)) e ∙ sequence
+
+    stays : (q : FileId) (g : File) → q ≢ id → IsFileIn I L q g → IsFileIn J L q g
+    stays q g ne p =
+        let header = headers_stay q.number in
+        let contents = others_contents I L S id.number vbn x b h q.number p.blocks p.held (other_number q ne p.sequence) in
+        record {
+          blocks = p.blocks;
+          held = blocks_stay I J L S changes q.number p.blocks p.held;
+          sequence = ap sequence_of header ∙ p.sequence;
+          shown = (λ i. file_of q.number (header i) (contents i)) ∙ p.shown;
+        }
+
+    was : (q : FileId) (g : File) → q ≢ id → IsFileIn J L q g → IsFileIn I L q g
+    was q g ne p =
+        let header = headers_stay q.number in
+        let held : HasBlocks I L q.number p.blocks = blocks_were I J L S changes q.number p.blocks p.held in
+        let known : sequence_of (header_at I L q.number) ≡ q.sequence = ap sequence_of (sym header) ∙ p.sequence in
+        let contents = others_contents I L S id.number vbn x b h q.number p.blocks held (other_number q ne known) in
+        record {
+          blocks = p.blocks;
+          held = held;
+          sequence = known;
+          shown = (λ i. file_of q.number (sym header i) (sym contents i)) ∙ p.shown;
+        }
+
+    -- the catalogue is the one with that file put
+    pub block_is_shown : (C : Catalogue) → ShowsBy I L C → ShowsBy J L (put C id (file_of id.number (header_at I L id.number) contents_now))
+    block_is_shown C shown = shows_put I J L C id (file_of id.number (header_at I L id.number) contents_now) shown file_now stays was
