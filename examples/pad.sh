@@ -7,10 +7,7 @@ here=$(cd "$(dirname "$0")" && pwd)
 # A volume with one more file, A.TXT: header 6, whose pointer maps block 39, which was never written.
 make_volume whole.dsk
 put whole.dsk 2 0 '\077'
-put whole.dsk 8 0 '\027\056\006\000\001\000\001\001\001\001\000\340'
-put whole.dsk 8 46 '\100\006\000\000\000\000\324\200\001\000'
-put whole.dsk 8 98 '\001\003\002\314\000\000\047\000'
-put whole.dsk 8 510 '\137\146'
+header whole.dsk 6 1 '\100\006\000\000\000\000\324\200' '\002\314\000\000\047\000' '\137\146'
 put whole.dsk 20 4 '\177'
 dd if=whole.dsk of=short.dsk bs=1 count=11300 2>/dev/null
 

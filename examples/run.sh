@@ -1,15 +1,19 @@
 #!/bin/sh
-# Runs each example and compares what it prints with the .out file beside it. Ends with 1 where one differs.
+# Runs each example and compares what it prints with the .out file beside it. The last line is 'N passed, M failed', and the status
+# is 1 where one differs.
 here=$(cd "$(dirname "$0")" && pwd)
-"$here/../f11" --help >/dev/null || exit 1
-status=0
+"$here/../f11" --help >/dev/null || { echo '0 passed, 1 failed'; exit 1; }
+passed=0
+failed=0
 for expected in "$here"/*.out; do
     name=$(basename "$expected" .out)
     if sh "$here/$name.sh" | diff "$expected" -; then
         echo "$name: as expected"
+        passed=$((passed + 1))
     else
         echo "$name: differs"
-        status=1
+        failed=$((failed + 1))
     fi
 done
-exit $status
+echo "$passed passed, $failed failed"
+[ $failed -eq 0 ]

@@ -2,7 +2,7 @@
 #![tactic(auto)]
 
 use anyhow::Context;
-use ods_base::{Block, FileId, Image, Pick, Uic, parse_name};
+use ods_base::{Block, Coded, FileId, Image, Pick, Uic, parse_name};
 use ods_cli::sample;
 use ods_mount::mount;
 use ods_request::{Answer, Request};

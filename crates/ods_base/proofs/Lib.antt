@@ -1,3 +1,4 @@
+pub mod BitWords
 pub mod Blocks
 pub mod Images
 pub mod NameCodes
@@ -5,6 +6,7 @@ pub mod NameCuts
 pub mod NameParsing
 pub mod NameTexts
 pub mod NameVersions
+pub mod OneBit
 pub mod Picks
 pub mod Pieces
 pub mod Reading

@@ -37,18 +37,20 @@ same_word v w low small e =
     let third : v % 40 ≡ w % 40 = cc in
     omega arith
 
+-- the words of a name are those of three codes each
+words_small : (n : RadName) → IsName n → (slice_index n.words 0 < 64000) × (slice_index n.words 1 < 64000) × (slice_index n.words 2 < 64000)
+words_small n name = (name.words 0 0 (omega (arith, name.three)), name.words 1 0 (omega (arith, name.three)), name.words 2 0 (omega (arith, name.three)))
+
 -- the parts of a name
 pub name_part : (n : RadName) → IsName n → IsPart (part_text (name_codes n)) 9 (name_codes n)
 name_part n name =
     let a = slice_index n.words 0 in
     let b = slice_index n.words 1 in
     let c = slice_index n.words 2 in
-    let front : a < 64000 = name.words 0 0 (omega (arith, name.three)) in
-    let middle : b < 64000 = name.words 1 0 (omega (arith, name.three)) in
-    let last : c < 64000 = name.words 2 0 (omega (arith, name.three)) in
+    let small = words_small n name in
     record {
-      size = rw (codes_are a front, codes_are b middle, codes_are c last) refl;
-      each = All-append (λ x. x < 40) (rad50_codes a ++ rad50_codes b) (rad50_codes c) (All-append (λ x. x < 40) (rad50_codes a) (rad50_codes b) (codes_small a front) (codes_small b middle)) (codes_small c last);
+      size = rw (codes_are a small.0, codes_are b small.1, codes_are c small.2) refl;
+      each = All-append (λ x. x < 40) (rad50_codes a ++ rad50_codes b) (rad50_codes c) (All-append (λ x. x < 40) (rad50_codes a) (rad50_codes b) (codes_small a small.0) (codes_small b small.1)) (codes_small c small.2);
       spelled = refl;
     }
 
@@ -130,15 +132,13 @@ same_name n cs ds a b c e name words is_name is_ext =
     let x = slice_index n.words 0 in
     let y = slice_index n.words 1 in
     let z = slice_index n.words 2 in
-    let front : x < 64000 = name.words 0 0 (omega (arith, name.three)) in
-    let middle : y < 64000 = name.words 1 0 (omega (arith, name.three)) in
-    let last : z < 64000 = name.words 2 0 (omega (arith, name.three)) in
-    let first : take 3 (name_codes n) ≡ rad50_codes x = rw (codes_are x front) refl in
-    let second : take 3 (drop 3 (name_codes n)) ≡ rad50_codes y = rw (codes_are x front, codes_are y middle) refl in
-    let third : take 3 (drop 6 (name_codes n)) ≡ rad50_codes z = rw (codes_are x front, codes_are y middle, codes_are z last) refl in
-    let same_a : a ≡ x = same_word a x words.small.0 front (words.first ∙ ap (take 3) is_name ∙ first) in
-    let same_b : b ≡ y = same_word b y words.small.1 middle (words.second ∙ ap (λ l. take 3 (drop 3 l)) is_name ∙ second) in
-    let same_c : c ≡ z = same_word c z words.small.2 last (words.third ∙ ap (λ l. take 3 (drop 6 l)) is_name ∙ third) in
+    let small = words_small n name in
+    let first : take 3 (name_codes n) ≡ rad50_codes x = rw (codes_are x small.0) refl in
+    let second : take 3 (drop 3 (name_codes n)) ≡ rad50_codes y = rw (codes_are x small.0, codes_are y small.1) refl in
+    let third : take 3 (drop 6 (name_codes n)) ≡ rad50_codes z = rw (codes_are x small.0, codes_are y small.1, codes_are z small.2) refl in
+    let same_a : a ≡ x = same_word a x words.small.0 small.0 (words.first ∙ ap (take 3) is_name ∙ first) in
+    let same_b : b ≡ y = same_word b y words.small.1 small.1 (words.second ∙ ap (λ l. take 3 (drop 3 l)) is_name ∙ second) in
+    let same_c : c ≡ z = same_word c z words.small.2 small.2 (words.third ∙ ap (λ l. take 3 (drop 6 l)) is_name ∙ third) in
     let same_e : e ≡ n.ext = same_word e n.ext words.small.3 name.ext (words.type_word ∙ is_ext) in
     let same_words : a ∷ b ∷ c ∷ [] ≡ n.words = rw (same_a, same_b, same_c) (sym (three_of n.words name.three)) in
     λ i. record { words = same_words i; ext = same_e i }

@@ -69,7 +69,7 @@ impl Image {
         &self.blocks[lbn as usize]
     }
 
-    /// Puts another block in place of the one at this LBN.
+    /// Replaces the block at this LBN.
     pub fn set_block(&mut self, lbn: u32, block: Block)
         requires { lbn < length self.old }
         ensures { self.new ≡ slice_set self.old lbn block }

@@ -1,6 +1,7 @@
 //! Blocks, words, sums, images and names of Files-11 volumes of structure level 1.
 #![tactic(auto)]
 
+mod bits;
 mod block;
 mod faults;
 mod file_id;
@@ -8,15 +9,13 @@ mod image;
 mod laws;
 mod listed;
 mod name;
-#[cfg(test)]
-mod name_tests;
 mod parse;
 mod print;
 mod read;
-#[cfg(test)]
-mod tests;
+mod refusal;
 mod write;
 
+pub use bits::{bit, bit_word, with_bit};
 pub use block::{Block, set_word, sum, word};
 pub use faults::{ImageError, NameFault, NoMemory, WriteFault};
 pub use file_id::{FileId, Uic};
@@ -26,4 +25,5 @@ pub use listed::Listed;
 pub use name::{Name, Pick};
 pub use parse::parse_name;
 pub use print::{print_name, print_words};
+pub use refusal::{Coded, Row};
 pub use write::write_bytes;

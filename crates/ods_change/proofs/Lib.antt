@@ -1,9 +1,8 @@
-pub mod Refusing
-pub mod Allowed
-pub mod PlainFiles
 pub mod Writing
+pub mod AttributesReplaced
 pub mod SettingUser
-pub mod Directories
+pub mod EntryReplaced
 pub mod RemovingName
 pub mod Marks
+pub mod NewEntries
 pub mod EnteringName

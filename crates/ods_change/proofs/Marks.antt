@@ -1,16 +1,15 @@
 -- The end mark of a directory: where a slot in its blocks lies, and what attributes with another mark say.
 use Rattle.std.proofs.Common.{◌≡◌, ◌≢◌, ℕ, ◌+◌, ◌-◌, ◌*◌, ◌/◌, ◌%◌, ◌<◌, ◌≤◌, ap, sym, ◌∙◌, true, false, cond, List, length, take, drop, arith, inl, inr}
 use Rattle.std.specs.Prelude.{◌==◌, min, nat_le, slice_set}
-use Rattle.std.proofs.lemmas.List.{length-set, length-take-le, length-drop, get_or-set_other, take-set-le, drop-set-lt}
+use Rattle.std.proofs.lemmas.List.{length-set, get_or-set_other, take-set-le, drop-set-lt}
 use borrow.Author.Tests.{ne_eqb, leb-false}
 use Rattle.ods_base.specs.Block.{byte, word, with_word}
 use Rattle.ods_base.proofs.Blocks.{word-with_word}
-use Rattle.ods_header.specs.Header.{attributes_of}
 use Rattle.ods_directory.specs.declared.slot.Slot.{Slot}
 use Rattle.ods_directory.specs.Mark.{IsSlot, end_block, mark_in, marked}
 use Rattle.ods_directory.specs.Names.{IsDirectory}
 use Rattle.ods_directory.specs.Entry.{entry_at, is_used}
-use Rattle.ods_directory.proofs.Used.{by_places, from_places}
+use Rattle.ods_directory.proofs.Used.{by_positions, from_positions}
 
 -- ---- slots
 
@@ -51,17 +50,13 @@ no_growth blocks mark slot other (inr p) stays (inr q) grows =
 -- the blocks are a directory up to each lower mark
 pub directory_before : (blocks : List (List ℕ)) (m n : ℕ) → m / 16 ≤ n / 16 → IsDirectory blocks n → IsDirectory blocks m
 directory_before blocks m n low directory =
-    let was = by_places blocks n directory in
-    from_places blocks m (record {
+    let was = by_positions blocks n directory in
+    from_positions blocks m (record {
       good = λ k below used. was.good k (omega arith) used;
       apart = λ i j from below within used_i used_j. was.apart i j from below (omega arith) used_i used_j;
     })
 
 -- ---- attributes
-
--- a header has 32 bytes of them
-pub attributes_size : (b : List ℕ) → 46 ≤ length b → length (attributes_of b) ≡ 32
-attributes_size b whole = length-take-le 32 (drop 14 b) (omega (arith, length-drop 14 b))
 
 word_beside : (a : List ℕ) (k v j : ℕ) → j ≢ k → word (with_word a k v) j ≡ word a j
 word_beside a k v j ne =

@@ -1,4 +1,4 @@
-//! The draft of a Remove.
+//! A Remove: its checks, and the draft of the block with the entry.
 ghost use Rattle.std.specs.Prelude.{MatchResult};
 ghost use Rattle.ods_mount.specs.Sound.{IsSoundBy};
 ghost use Rattle.ods_request.specs.declared.answers.Answer.TheVariants.{Removed};
@@ -6,10 +6,10 @@ ghost use Rattle.ods_request.specs.declared.requests.Request.TheVariants.{Remove
 ghost use Rattle.ods_space.specs.Draft.{applied};
 ghost use Rattle.ods_state.specs.Change.{IsCarriedOut, IsRefusedBy};
 
-use crate::write_block::one_block;
+use crate::drafting::{one_block, with_entry};
 use ods_base::{FileId, Image, Name, Pick, Uic};
-use ods_look::place_to_remove;
-use ods_request::Refusal;
+use ods_look::opening::open_directory;
+use ods_request::{Refusal, Right};
 use ods_space::{Draft, Layout};
 use std::alloc::Global;
 
@@ -29,14 +29,19 @@ pub fn remove(
         (λ r. IsCarriedOut image.now layout.now who (Remove dir name pick) (Removed r.1 r.2) (applied image.now r.0))
         (λ f. IsRefusedBy image.now layout.now who (Remove dir name pick) f) }
 {
-    let entry = match place_to_remove(image, layout, who, dir, name, pick) {
-        Ok(entry) => entry,
+    let opened = match open_directory(image, layout, who, dir, Right::Write) {
+        Ok(opened) => opened,
         Err(refusal) => return Err(refusal),
     };
-    let mut block = *image.block(entry.lbn);
-    block.set_bytes(entry.at, &[0; 16]);
-    match one_block(alloc, entry.lbn, block) {
-        Ok(draft) => Ok((draft, entry.file, entry.version)),
+    // A name has three words.
+    let _ = name.words();
+    let entry = match ods_directory::remove(&opened.blocks, opened.mark, &name, pick) {
+        Ok(entry) => entry,
+        Err(_) => return Err(Refusal::NoSuchName),
+    };
+    let (lbn, block) = with_entry(image, layout, dir.number, &opened, entry.2, [0; 16]);
+    match one_block(alloc, lbn, block) {
+        Ok(draft) => Ok((draft, entry.0, entry.1)),
         Err(_) => Err(Refusal::NoMemory),
     }
 }

@@ -1,4 +1,4 @@
-//! The draft of a SetUser.
+//! A SetUser: its checks, and the draft of the first header.
 ghost use Rattle.std.specs.Prelude.{MatchResult};
 ghost use Rattle.ods_mount.specs.Sound.{IsSoundBy};
 ghost use Rattle.ods_request.specs.declared.answers.Answer.TheVariants.{Done};
@@ -6,11 +6,11 @@ ghost use Rattle.ods_request.specs.declared.requests.Request.TheVariants.{SetUse
 ghost use Rattle.ods_space.specs.Draft.{applied};
 ghost use Rattle.ods_state.specs.Change.{IsCarriedOut, IsRefusedBy};
 
-use crate::write_block::one_block;
+use crate::drafting::one_block;
 use ods_base::{FileId, Image, Uic};
 use ods_header::with_attributes;
-use ods_look::place_to_set;
-use ods_request::Refusal;
+use ods_look::opening::open_plain;
+use ods_request::{Refusal, Right};
 use ods_space::{Draft, Layout};
 use std::alloc::Global;
 
@@ -28,11 +28,12 @@ pub fn set_user(
         (λ draft. IsCarriedOut image.now layout.now who (SetUser file attributes) Done (applied image.now draft))
         (λ f. IsRefusedBy image.now layout.now who (SetUser file attributes) f) }
 {
-    let lbn = match place_to_set(image, layout, who, file) {
-        Ok(lbn) => lbn,
+    let first = match open_plain(image, layout, who, file, 5, Right::Write) {
+        Ok(first) => first,
         Err(refusal) => return Err(refusal),
     };
-    let header = with_attributes(image.block(lbn), &attributes);
+    let header = with_attributes(first, &attributes);
+    let lbn = layout.place(file.number).unwrap();
     match one_block(alloc, lbn, header) {
         Ok(draft) => Ok(draft),
         Err(_) => Err(Refusal::NoMemory),

@@ -1,14 +1,14 @@
 -- What is replied when an image is checked: what is free in it, or a fault of it.
-use Rattle.std.specs.Prelude.{◌≡◌, ℕ, Bool, true, false, List, [], ◌∷◌, ◌++◌, length, codes, Option}
+use Rattle.std.specs.Prelude.{◌≡◌, ℕ, Bool, true, false, List, [], ◌∷◌, ◌++◌, length, codes}
 use Rattle.std.specs.Fmt.{decimal}
 use Rattle.ods_space.specs.Layout.{VolumeLayout}
 use Rattle.ods_space.specs.Free.{free_blocks, free_numbers}
 use Rattle.ods_mount.specs.declared.fault.MountFault.{MountFault}
 use Rattle.ods_mount.specs.declared.fault.MountFault.TheVariants as mount
-use Rattle.ods_mount.specs.Refusals.{code_of, name_of}
+use Rattle.ods_mount.specs.Refusals.{mount_row}
 use Rattle.ods_mount.specs.Faults.{FaultIsTrue}
 use Rattle.ods_mount.specs.Sound.{IsSoundBy}
-use Rattle.ods_cli.specs.Reply.{IsReply, refusal_line}
+use Rattle.ods_cli.specs.Reply.{refusal_line}
 
 -- the two lines about a sound image: so many blocks are free, and so many file numbers
 abbrev pub count_lines : ℕ → ℕ → List ℕ
@@ -31,7 +31,7 @@ carried_text mount.NoMemory = []
 
 -- the line of a fault
 abbrev pub fault_line : MountFault → List ℕ
-fault_line fault = refusal_line (code_of fault) (name_of fault ++ carried_text fault)
+fault_line fault = refusal_line (mount_row fault).0 ((mount_row fault).1 ++ carried_text fault)
 
 -- the image is sound, and these are the lines about it
 pub record AreCountLines (I : List (List ℕ)) (reply : List ℕ) : Type 0 where
@@ -49,7 +49,3 @@ pub record IsFaultLine (I : List (List ℕ)) (reply : List ℕ) : Type 0 where
 abbrev pub IsMountReply : List (List ℕ) → Bool → List ℕ → Type 0
 IsMountReply I true reply = AreCountLines I reply
 IsMountReply I false reply = IsFaultLine I reply
-
--- the reply to what a reader gave
-abbrev pub IsCheckReply : List ℕ → Option (List ℕ) → Bool → List ℕ → Type 0
-IsCheckReply bytes rest sound reply = IsReply IsMountReply bytes rest sound reply

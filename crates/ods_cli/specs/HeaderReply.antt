@@ -1,13 +1,13 @@
 -- What is replied when one header of an image is asked for: its line, or why there is none.
-use Rattle.std.specs.Prelude.{◌≡◌, ℕ, Bool, true, false, ◌⊎◌, List, [], ◌∷◌, ◌++◌, codes, Option}
+use Rattle.std.specs.Prelude.{◌≡◌, ℕ, Bool, true, false, ◌⊎◌, List, [], ◌∷◌, ◌++◌, codes}
 use Rattle.ods_header.specs.declared.home.Home.{Home}
 use Rattle.ods_header.specs.declared.header.HeaderFault.{HeaderFault}
 use Rattle.ods_header.specs.Header.{IsValidHeader, IsFirstFault, header_of}
 use Rattle.ods_header.specs.Home.{IsHomeOf, HasNoHome}
 use Rattle.ods_header.specs.Line.{line_block}
-use Rattle.ods_header.specs.Refusals.{header_code, header_name}
+use Rattle.ods_header.specs.Refusals.{header_row}
 use Rattle.ods_header.specs.Text.{header_text}
-use Rattle.ods_cli.specs.Reply.{IsReply, refusal_line}
+use Rattle.ods_cli.specs.Reply.{refusal_line}
 
 -- the image has no home block, and this is the line that says so
 pub record IsNoHomeLine (I : List (List ℕ)) (reply : List ℕ) : Type 0 where
@@ -20,7 +20,7 @@ pub record IsNoHeaderLine (I : List (List ℕ)) (n : ℕ) (reply : List ℕ) : T
   pub fault : HeaderFault
   pub home_is : IsHomeOf I home
   pub reason : IsFirstFault (line_block I home n) n fault
-  pub line : reply ≡ refusal_line (header_code fault) (header_name fault)
+  pub line : reply ≡ refusal_line (header_row fault).0 (header_row fault).1
 
 -- the block at the place of header n is a valid header n, and this is its line
 pub record IsHeaderLine (I : List (List ℕ)) (n : ℕ) (reply : List ℕ) : Type 0 where
@@ -33,7 +33,3 @@ pub record IsHeaderLine (I : List (List ℕ)) (n : ℕ) (reply : List ℕ) : Typ
 abbrev pub IsImageReply : ℕ → List (List ℕ) → Bool → List ℕ → Type 0
 IsImageReply n I true reply = IsHeaderLine I n reply
 IsImageReply n I false reply = IsNoHomeLine I reply ⊎ IsNoHeaderLine I n reply
-
--- the reply about header n of what a reader gave
-abbrev pub IsHeaderReply : List ℕ → Option (List ℕ) → ℕ → Bool → List ℕ → Type 0
-IsHeaderReply bytes rest n found reply = IsReply (IsImageReply n) bytes rest found reply

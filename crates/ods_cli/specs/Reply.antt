@@ -3,7 +3,7 @@ use Rattle.std.specs.Prelude.{◌≡◌, ℕ, ◌+◌, ◌≤◌, ◌^◌, Bool,
 use Rattle.std.specs.Fmt.{decimal}
 use Rattle.std.specs.Io.KnownBytes.{IsAtEnd}
 use Rattle.ods_base.specs.Image.{IsImage, IsNoReading, image_bytes}
-use Rattle.ods_base.specs.Refusals.{code_of, name_of}
+use Rattle.ods_base.specs.Refusals.{image_row}
 use Rattle.ods_base.specs.declared.faults.ImageError.{ImageError}
 use Rattle.ods_base.specs.declared.faults.ImageError.TheVariants as image
 use Rattle.ods_cli.specs.declared.fault.ServeFault.{ServeFault}
@@ -31,7 +31,7 @@ pub record IsNoImageLine (bytes : List ℕ) (rest : Option (List ℕ)) (reply : 
   pub refusal : ImageError
   pub is_refusal : IsRefusal refusal
   pub reason : IsNoReading bytes rest refusal
-  pub line : reply ≡ refusal_line (code_of refusal) (name_of refusal)
+  pub line : reply ≡ refusal_line (image_row refusal).0 (image_row refusal).1
 
 -- The reply to what a reader gave: the bytes are no image, or it is a reply about their image, as `About` says of an image, of whether
 -- the reply says what was asked for, and of its text.

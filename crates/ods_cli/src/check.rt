@@ -1,17 +1,17 @@
 //! The whole check of the bytes of an image.
-ghost use Rattle.std.specs.Prelude.{◌≡◌, ◌≢◌, ℕ, List, true, false, length, IfOk, IsOkUnless, MatchResult};
+ghost use Rattle.std.specs.Prelude.{◌≡◌, ◌≢◌, ℕ, List, true, false, length, IfOk, IsOkUnless};
 ghost use Rattle.std.specs.String.{string_bytes};
 ghost use Rattle.std.specs.Io.KnownBytes.{Consumes};
 ghost use Rattle.ods_space.specs.Free.{free_blocks, free_numbers};
-ghost use Rattle.ods_cli.specs.Reply.{IsReplyFault};
-ghost use Rattle.ods_cli.specs.CheckReply.{IsCheckReply, IsMountReply, count_lines, fault_line};
+ghost use Rattle.ods_cli.specs.CheckReply.{IsMountReply, count_lines, fault_line};
 ghost use Rattle.ods_cli.specs.CheckRun.{EndsCheckRun};
 
 use crate::ServeFault;
-use crate::reply::{Reply, read_image, refused, send};
-use ods_base::Image;
+use crate::reply::{Reply, refused};
+use crate::run::{Question, run};
+use ods_alloc::{free_count, number_count};
+use ods_base::{Coded, Image};
 use ods_mount::{MountFault, Mounted, mount};
-use ods_space::{free_count, number_count};
 use std::alloc::{AllocError, Global};
 use std::io::{Read, Write};
 
@@ -27,19 +27,20 @@ pub fn check_run<R: Read, W: Write>(
     ensures { (bytes : List ℕ) × Consumes (R.remaining reader.old) (R.remaining reader.new) bytes
         × EndsCheckRun bytes (R.remaining reader.new) (W.contents replies.old) (W.contents replies.new) result }
 {
-    let reply = check_reply(alloc, reader)?;
-    send(replies, &reply)
+    run(alloc, reader, &WholeCheck, replies)
 }
 
-/// The reply to what the reader gives.
-fn check_reply<R: Read>(alloc: Global, reader: &mut R) -> Result<Reply, ServeFault>
-    ensures { (bytes : List ℕ) × Consumes (R.remaining reader.old) (R.remaining reader.new) bytes
-        × MatchResult result (λ reply. IsCheckReply bytes (R.remaining reader.new) reply.found (string_bytes reply.text))
-        (IsReplyFault bytes) }
-{
-    match read_image(alloc, reader)? {
-        Ok(image) => mount_reply(alloc, image),
-        Err(refusal) => Ok(refusal),
+/// The check of a whole image.
+#[derive(Drop)]
+struct WholeCheck;
+
+impl Question for WholeCheck {
+    ghost is_lawful = { λ _. Unit {0} };
+
+    ghost about = { λ _. IsMountReply };
+
+    fn reply(&self, alloc: Global, image: Image) -> Result<Reply, ServeFault> {
+        mount_reply(alloc, image)
     }
 }
 

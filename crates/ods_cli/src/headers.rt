@@ -1,14 +1,14 @@
 //! One header line from the bytes of an image.
-ghost use Rattle.std.specs.Prelude.{◌≡◌, ◌≤◌, ◌++◌, ℕ, List, [], ◌∷◌, true, IfOk, IsOkUnless, MatchResult};
+ghost use Rattle.std.specs.Prelude.{◌≡◌, ◌≤◌, ◌++◌, ℕ, List, [], ◌∷◌, true, IfOk, IsOkUnless};
 ghost use Rattle.std.specs.String.{string_bytes};
 ghost use Rattle.std.specs.Io.KnownBytes.{Consumes};
-ghost use Rattle.ods_cli.specs.Reply.{IsReplyFault};
-ghost use Rattle.ods_cli.specs.HeaderReply.{IsHeaderReply, IsImageReply};
+ghost use Rattle.ods_cli.specs.HeaderReply.{IsImageReply};
 ghost use Rattle.ods_cli.specs.HeaderRun.{EndsHeaderRun};
 
 use crate::ServeFault;
-use crate::reply::{Reply, read_image, refused, send};
-use ods_base::Image;
+use crate::reply::{Reply, refused};
+use crate::run::{Question, run};
+use ods_base::{Coded, Image};
 use ods_header::{LineFault, find_home, header_line};
 use std::alloc::{AllocError, Global};
 use std::io::{Read, Write};
@@ -27,21 +27,20 @@ pub fn header_run<R: Read, W: Write>(
     ensures { (bytes : List ℕ) × Consumes (R.remaining reader.old) (R.remaining reader.new) bytes
         × EndsHeaderRun bytes (R.remaining reader.new) number (W.contents replies.old) (W.contents replies.new) result }
 {
-    let reply = reply_to(alloc, reader, number)?;
-    send(replies, &reply)
+    run(alloc, reader, &HeaderNumber(number), replies)
 }
 
-/// The reply about a header of what the reader gives.
-fn reply_to<R: Read>(alloc: Global, reader: &mut R, number: u16) -> Result<Reply, ServeFault>
-    requires some { 1 ≤ number }
-    requires most { number ≤ 16 }
-    ensures { (bytes : List ℕ) × Consumes (R.remaining reader.old) (R.remaining reader.new) bytes
-        × MatchResult result (λ reply. IsHeaderReply bytes (R.remaining reader.new) number reply.found (string_bytes reply.text))
-        (IsReplyFault bytes) }
-{
-    match read_image(alloc, reader)? {
-        Ok(image) => reply_about(alloc, &image, number),
-        Err(refusal) => Ok(refusal),
+/// The number of a header that is asked for.
+#[derive(Drop)]
+struct HeaderNumber(u16);
+
+impl Question for HeaderNumber {
+    ghost is_lawful = { λ q. (1 ≤ q.0) × (q.0 ≤ 16) };
+
+    ghost about = { λ q. IsImageReply q.0 };
+
+    fn reply(&self, alloc: Global, image: Image) -> Result<Reply, ServeFault> {
+        reply_about(alloc, &image, self.0)
     }
 }
 

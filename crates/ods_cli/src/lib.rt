@@ -5,6 +5,7 @@ mod check;
 mod fault;
 mod headers;
 mod reply;
+mod run;
 mod samples;
 mod words;
 
@@ -13,6 +14,3 @@ pub use fault::ServeFault;
 pub use headers::header_run;
 pub use samples::sample;
 pub use words::{Words, WordsFault, parse_words};
-
-#[cfg(test)]
-mod tests;

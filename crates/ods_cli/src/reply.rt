@@ -6,7 +6,7 @@ ghost use Rattle.ods_base.specs.Image.{TookBytes};
 ghost use Rattle.ods_cli.specs.Reply.{AreImageBytes, IsNoImageLine, IsReplyFault, refusal_line};
 
 use crate::ServeFault;
-use ods_base::{Image, ImageError, write_bytes};
+use ods_base::{Coded, Image, ImageError, write_bytes};
 use std::alloc::{AllocError, Global};
 use std::io::{Read, Write};
 

@@ -11,19 +11,19 @@ use Rattle.ods_directory.proofs.Used.{used_from}
 -- entry k of block i
 pub entry_of_block : (blocks : List (List ℕ)) (i k : ℕ) → k < 32 → entry_in (block_at blocks i) k ≡ entry_at blocks (32 * i + k)
 entry_of_block blocks i k below =
-    let place : i ≡ (32 * i + k) / 32 = omega arith in
+    let position : i ≡ (32 * i + k) / 32 = omega arith in
     let rest : k ≡ (32 * i + k) % 32 = omega arith in
-    λ t. entry_in (block_at blocks (place t)) (rest t)
+    λ t. entry_in (block_at blocks (position t)) (rest t)
 
 -- a pass that took the entries before block i, and then n of that block
 pub one_block_more : {S : Type 0} (after : S → ℕ → Entry → S) (blocks : List (List ℕ)) (b : List ℕ) (s t u : S) (i first n : ℕ) → first ≡ 32 * i → n ≤ 32 → b ≡ block_at blocks i
     → t ≡ fold (λ s k. after s k (entry_at blocks k)) s (range_with_len 0 first)
     → u ≡ fold (λ s k. after s (first + k) (entry_in b k)) t (range_with_len 0 n)
     → u ≡ fold (λ s k. after s k (entry_at blocks k)) s (range_with_len 0 (first + n))
-one_block_more after blocks b s t u i first n place few same before now =
+one_block_more after blocks b s t u i first n position few same before now =
     now ∙ ap (λ v. fold (λ s k. after s (first + k) (entry_in b k)) v (range_with_len 0 n)) before
     ∙ fold_onward (λ s k. after s k (entry_at blocks k)) (λ s k. after s (first + k) (entry_in b k)) s first n
-    (λ v k below. ap (after v (first + k)) (ap (λ c. entry_in c k) same ∙ entry_of_block blocks i k (omega arith) ∙ ap (λ j. entry_at blocks (j + k)) (sym place)))
+    (λ v k below. ap (after v (first + k)) (ap (λ c. entry_in c k) same ∙ entry_of_block blocks i k (omega arith) ∙ ap (λ j. entry_at blocks (j + k)) (sym position)))
 
 kept_append : (b : Bool) (e : Entry) (es fs : List Entry) → cond b (e ∷ (es ++ fs)) (es ++ fs) ≡ cond b (e ∷ es) es ++ fs
 kept_append true e es fs = refl
@@ -37,9 +37,9 @@ used_from-split entry a zero n =
     ap (used_from entry a) none ∙ ap (λ j. used_from entry j n) here
 used_from-split entry a (suc m) n =
     let more : suc m + n ≡ suc (m + n) = omega arith in
-    let place : a + 1 + m ≡ a + suc m = omega arith in
+    let position : a + 1 + m ≡ a + suc m = omega arith in
     ap (used_from entry a) more
-    ∙ ap (λ es. cond (is_used (entry a)) (entry a ∷ es) es) (used_from-split entry (a + 1) m n ∙ ap (λ j. used_from entry (a + 1) m ++ used_from entry j n) place)
+    ∙ ap (λ es. cond (is_used (entry a)) (entry a ∷ es) es) (used_from-split entry (a + 1) m n ∙ ap (λ j. used_from entry (a + 1) m ++ used_from entry j n) position)
     ∙ kept_append (is_used (entry a)) (entry a) (used_from entry (a + 1) m) (used_from entry (a + suc m) n)
 
 used_alike : (f g : ℕ → Entry) (a b n : ℕ) → ((k : ℕ) → k < n → f (a + k) ≡ g (b + k)) → used_from f a n ≡ used_from g b n
@@ -57,8 +57,8 @@ used_alike f g a b (suc n) same =
 -- the used entries of block i are a stretch of the directory's
 pub used_of_block : (blocks : List (List ℕ)) (i n : ℕ) → n ≤ 32 → used_from (entry_in (block_at blocks i)) 0 n ≡ used_from (entry_at blocks) (32 * i) n
 used_of_block blocks i n few = used_alike (entry_in (block_at blocks i)) (entry_at blocks) 0 (32 * i) n (λ k below.
-    let place : 0 + k ≡ k = omega arith in
-    ap (entry_in (block_at blocks i)) place ∙ entry_of_block blocks i k (omega arith))
+    let position : 0 + k ≡ k = omega arith in
+    ap (entry_in (block_at blocks i)) position ∙ entry_of_block blocks i k (omega arith))
 
 -- the used entries before the mark and before block i + 1
 pub used_before_next : (blocks : List (List ℕ)) (b : List ℕ) (mark i n : ℕ) → b ≡ block_at blocks i → n ≡ min (mark / 16 - 32 * i) 32 → 0 < n
@@ -66,11 +66,11 @@ pub used_before_next : (blocks : List (List ℕ)) (b : List ℕ) (mark i n : ℕ
 used_before_next blocks b mark i n same e some =
     let whole : min (32 * (i + 1)) (mark / 16) ≡ 32 * i + n = omega arith in
     let front : 32 * i ≡ min (32 * i) (mark / 16) = omega arith in
-    let place : 0 + 32 * i ≡ 32 * i = omega arith in
+    let position : 0 + 32 * i ≡ 32 * i = omega arith in
     ap (used_from (entry_at blocks) 0) whole ∙ used_from-split (entry_at blocks) 0 (32 * i) n
     ∙ ap (λ j. used_from (entry_at blocks) 0 j ++ used_from (entry_at blocks) (0 + 32 * i) n) front
     ∙ ap (λ es. used_from (entry_at blocks) 0 (min (32 * i) (mark / 16)) ++ es)
-    (ap (λ j. used_from (entry_at blocks) j n) place ∙ sym (used_of_block blocks i n (omega arith)) ∙ ap (λ c. used_from (entry_in c) 0 n) (sym same))
+    (ap (λ j. used_from (entry_at blocks) j n) position ∙ sym (used_of_block blocks i n (omega arith)) ∙ ap (λ c. used_from (entry_in c) 0 n) (sym same))
 
 -- one more entry
 used_from_more : (entry : ℕ → Entry) (n : ℕ) → used_from entry 0 (n + 1) ≡ used_from entry 0 n ++ cond (is_used (entry n)) (entry n ∷ []) []

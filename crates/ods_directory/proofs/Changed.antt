@@ -7,7 +7,7 @@ use Rattle.std.specs.FinMap.{get-insert, get-remove, same_map, slice_cmp-IsAntis
 use Rattle.ods_base.specs.declared.file_id.FileId.{FileId}
 use Rattle.ods_directory.specs.Entry.{IsGoodEntry, is_used, entry_at}
 use Rattle.ods_directory.specs.Names.{IsDirectory, names_of}
-use Rattle.ods_directory.proofs.Used.{by_places, from_places}
+use Rattle.ods_directory.proofs.Used.{by_positions, from_positions}
 use Rattle.ods_directory.proofs.Keyed.{same_key, same_key-true, same_key-itself, same_option}
 use Rattle.ods_directory.proofs.Lookups.{IsEntered, entry_of_name, name_of_entry}
 
@@ -43,8 +43,8 @@ module _ (old new : List (List ℕ)) (mark k : ℕ) (same : IsSameBut old new ma
 
   pub directory_less : IsDirectory new mark
   directory_less =
-      let was = by_places old mark directory in
-      from_places new mark (record {
+      let was = by_positions old mark directory in
+      from_positions new mark (record {
         good = λ i below there.
             let e = (same.kept i below (other i there)).1 in
             subst IsGoodEntry (sym e) (was.good i below (ap is_used (sym e) ∙ there));
@@ -57,7 +57,7 @@ module _ (old new : List (List ℕ)) (mark k : ℕ) (same : IsSameBut old new ma
   -- no other entry had that key
   alone : (i : ℕ) → i < mark / 16 → is_used (entry_at old i) ≡ true → (entry_at old i).key ≡ (entry_at old k).key → i ≡ k
   alone i below there keys =
-      let apart = (by_places old mark directory).apart in
+      let apart = (by_positions old mark directory).apart in
       elim (cases_order i k) [
         | inl e ↦ e
         | inr o ↦ elim o [
@@ -103,8 +103,8 @@ module _ (old new : List (List ℕ)) (mark next k : ℕ) (key : List ℕ) (file 
 
   pub directory_more : IsDirectory new next
   directory_more =
-      let was = by_places old mark directory in
-      from_places new next (record {
+      let was = by_positions old mark directory in
+      from_positions new next (record {
         good = λ i below there. elim (cases_eq i k) [
           | inl e ↦ subst (λ j. IsGoodEntry (entry_at new j)) (sym e) good
           | inr apart ↦ let e = same.kept i below apart in subst IsGoodEntry (sym e.1) (was.good i e.0 (ap is_used (sym e.1) ∙ there))

@@ -8,7 +8,7 @@ use Rattle.ods_directory.specs.Entry.{Entry, IsGoodEntry, is_used, is_good, entr
 use Rattle.ods_directory.specs.First.{IsFirst}
 use Rattle.ods_directory.specs.Names.{HasBadEntry}
 use Rattle.ods_directory.proofs.Blockwise.{used_from-split}
-use Rattle.ods_directory.proofs.Used.{used_from, among_used, used_entries-is, good_from_places}
+use Rattle.ods_directory.proofs.Used.{used_from, among_used, used_entries-is, good_from_positions}
 
 -- the test and the fact
 good_of_test : (e : Entry) → is_good e ≡ true → IsGoodEntry e
@@ -50,12 +50,12 @@ a_fault false good h = absurd (cc)
 
 module _ (blocks : List (List ℕ)) (mark : ℕ) where
   -- there is no first bad entry: all are good
-  pub all_good : (place : Option ℕ) → IsFirst Bad (entry_at blocks) (mark / 16) place → is_some place ≡ false → All IsGoodEntry (used_entries blocks mark)
+  pub all_good : (position : Option ℕ) → IsFirst Bad (entry_at blocks) (mark / 16) position → is_some position ≡ false → All IsGoodEntry (used_entries blocks mark)
   all_good (Some k) h none = absurd (cc)
-  all_good None h none = good_from_places blocks mark (λ k below used. good_of_test (entry_at blocks k) (no_fault (is_used (entry_at blocks k)) (is_good (entry_at blocks k)) (h k below) used))
+  all_good None h none = good_from_positions blocks mark (λ k below used. good_of_test (entry_at blocks k) (no_fault (is_used (entry_at blocks k)) (is_good (entry_at blocks k)) (h k below) used))
 
   -- there is a first bad entry
-  pub one_bad : (place : Option ℕ) → IsFirst Bad (entry_at blocks) (mark / 16) place → is_some place ≡ true → HasBadEntry (used_entries blocks mark)
+  pub one_bad : (position : Option ℕ) → IsFirst Bad (entry_at blocks) (mark / 16) position → is_some position ≡ true → HasBadEntry (used_entries blocks mark)
   one_bad None h some = absurd (cc)
   one_bad (Some k) h some =
       let fault = a_fault (is_used (entry_at blocks k)) (is_good (entry_at blocks k)) h.1 in

@@ -84,8 +84,7 @@ module _ (blocks : List (List ℕ)) (mark : ℕ) (n : RadName) (version : ℕ) (
   written_there : (bytes : List ℕ) → bytes ≡ entry_bytes file (key_of n version) → written (grown blocks slot) slot.at bytes ≡ after
   written_there bytes e = ap (λ at. written (grown blocks slot) at bytes) room.at ∙ ap (written (grown blocks slot) (16 * k)) e
 
-  pub entered_stays : (bytes : List ℕ) → bytes ≡ entry_bytes file (key_of n version) → IsDirectory (written (grown blocks slot) slot.at bytes) slot.mark
-  entered_stays bytes e = subst (λ J. IsDirectory J slot.mark) (sym (written_there bytes e)) stays
-
-  pub entered_names : (bytes : List ℕ) → bytes ≡ entry_bytes file (key_of n version) → names_of (written (grown blocks slot) slot.at bytes) slot.mark ≡ names.insert (names_of blocks mark) (key_of n version) file
-  entered_names bytes e = ap (λ J. names_of J slot.mark) (written_there bytes e) ∙ more
+  -- a directory it stays, with the one name more
+  pub entered_so : (bytes : List ℕ) → bytes ≡ entry_bytes file (key_of n version)
+      → IsDirectory (written (grown blocks slot) slot.at bytes) slot.mark × (names_of (written (grown blocks slot) slot.at bytes) slot.mark ≡ names.insert (names_of blocks mark) (key_of n version) file)
+  entered_so bytes e = (subst (λ J. IsDirectory J slot.mark) (sym (written_there bytes e)) stays, ap (λ J. names_of J slot.mark) (written_there bytes e) ∙ more)

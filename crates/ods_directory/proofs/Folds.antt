@@ -5,27 +5,27 @@ use Rattle.std.specs.List.{range_with_len}
 module _ {S : Type 0} where
   -- one more number at the end
   pub fold_more : (f : S → ℕ → S) (s : S) (a n : ℕ) → fold f s (range_with_len a (n + 1)) ≡ f (fold f s (range_with_len a n)) (a + n)
-  fold_more f s a zero = let place : a ≡ a + 0 = omega arith in ap (f s) place
+  fold_more f s a zero = let position : a ≡ a + 0 = omega arith in ap (f s) position
   fold_more f s a (suc n) =
       let more : suc n + 1 ≡ suc (n + 1) = omega arith in
-      let place : a + 1 + n ≡ a + suc n = omega arith in
-      rw more (fold_more f (f s a) (a + 1) n ∙ ap (f (fold f (f s a) (range_with_len (a + 1) n))) place)
+      let position : a + 1 + n ≡ a + suc n = omega arith in
+      rw more (fold_more f (f s a) (a + 1) n ∙ ap (f (fold f (f s a) (range_with_len (a + 1) n))) position)
 
   pub fold_next : (f : S → ℕ → S) (s : S) (n : ℕ) → fold f s (range_with_len 0 (n + 1)) ≡ f (fold f s (range_with_len 0 n)) n
-  fold_next f s n = let place : 0 + n ≡ n = omega arith in fold_more f s 0 n ∙ ap (f (fold f s (range_with_len 0 n))) place
+  fold_next f s n = let position : 0 + n ≡ n = omega arith in fold_more f s 0 n ∙ ap (f (fold f s (range_with_len 0 n))) position
 
   -- more numbers at the end, under another function that agrees there
   pub fold_onward : (f g : S → ℕ → S) (s : S) (a n : ℕ) → ((t : S) (k : ℕ) → k < n → g t k ≡ f t (a + k)) → fold g (fold f s (range_with_len 0 a)) (range_with_len 0 n) ≡ fold f s (range_with_len 0 (a + n))
-  fold_onward f g s a zero same = let place : a ≡ a + 0 = omega arith in ap (λ m. fold f s (range_with_len 0 m)) place
+  fold_onward f g s a zero same = let position : a ≡ a + 0 = omega arith in ap (λ m. fold f s (range_with_len 0 m)) position
   fold_onward f g s a (suc n) same =
       let before : fold g (fold f s (range_with_len 0 a)) (range_with_len 0 n) ≡ fold f s (range_with_len 0 (a + n)) = fold_onward f g s a n (λ t k below. same t k (omega arith)) in
-      let place : 0 + (a + n) ≡ a + n = omega arith in
+      let position : 0 + (a + n) ≡ a + n = omega arith in
       let last : 0 + n ≡ n = omega arith in
       let more : suc n ≡ n + 1 = omega arith in
       let whole : a + suc n ≡ a + n + 1 = omega arith in
       ap (λ m. fold g (fold f s (range_with_len 0 a)) (range_with_len 0 m)) more ∙ fold_more g (fold f s (range_with_len 0 a)) 0 n ∙ ap (λ t. g t (0 + n)) before ∙ ap (g (fold f s (range_with_len 0 (a + n)))) last
       ∙ same (fold f s (range_with_len 0 (a + n))) n (omega arith)
-      ∙ ap (f (fold f s (range_with_len 0 (a + n)))) (sym place) ∙ sym (fold_more f s 0 (a + n)) ∙ ap (λ m. fold f s (range_with_len 0 m)) (sym whole)
+      ∙ ap (f (fold f s (range_with_len 0 (a + n)))) (sym position) ∙ sym (fold_more f s 0 (a + n)) ∙ ap (λ m. fold f s (range_with_len 0 m)) (sym whole)
 
   -- a value that no step changes
   pub fold_kept : (f : S → ℕ → S) (s : S) (a n : ℕ) → ((k : ℕ) → f s k ≡ s) → fold f s (range_with_len a n) ≡ s

@@ -13,6 +13,7 @@ use Rattle.std.proofs.lemmas.List.Sums.{sum_by-cons}
 use Rattle.std.proofs.lemmas.List.Sorted.{sum_by-IsPermutation, Contains-permutation}
 use Rattle.std.proofs.lemmas.Option.{same_Some, slice_get_within, slice_get-get_or, get_or_from_slice_get}
 use Rattle.ods_base.specs.declared.file_id.FileId.{FileId}
+use Rattle.ods_directory.specs.Names.{HasTwoOf}
 
 tied : (r : Ordering) → is_eq r ≡ true → r ≡ Equal
 tied Less h = absurd (cc)
@@ -95,17 +96,6 @@ module _ {X : Type 0} (key : X → List ℕ) (file : X → FileId) where
       (λ f h. find_keyed xs q f alone_xs (moved ys xs q f back (find_element ys q f h)))
 
 module _ {X : Type 0} (key : X → List ℕ) where
-  -- two elements have one key
-  pub record HasTwoOf (xs : List X) : Type 0 where
-    pub i : ℕ
-    pub j : ℕ
-    pub apart : i < j
-    pub one : X
-    pub other : X
-    pub first : slice_get xs i ≡ Some one
-    pub second : slice_get xs j ≡ Some other
-    pub same : key one ≡ key other
-
   record HasOneOf (q : List ℕ) (xs : List X) : Type 0 where
     at : ℕ
     element : X
@@ -148,11 +138,11 @@ module _ {X : Type 0} (key : X → List ℕ) where
       by true e g ih = record { at = 0; element = x; there = refl; same = sym (same_key-true q (key x) e) }
       by false e g ih = let rest = ih (omega (arith, g)) in record { at = suc rest.at; element = rest.element; there = rest.there; same = rest.same }
 
-  two_counted : (q : List ℕ) (xs : List X) → 2 ≤ count q xs → HasTwoOf xs
+  two_counted : (q : List ℕ) (xs : List X) → 2 ≤ count q xs → HasTwoOf key xs
   two_counted q [] h = absurd (omega (arith, h))
   two_counted q (x ∷ xs) h = by (same_key q (key x)) refl (subst (λ n. 2 ≤ n) (count_cons q x xs) h) (two_counted q xs)
     where
-      by : (b : Bool) → same_key q (key x) ≡ b → 2 ≤ cond b 1 0 + count q xs → (2 ≤ count q xs → HasTwoOf xs) → HasTwoOf (x ∷ xs)
+      by : (b : Bool) → same_key q (key x) ≡ b → 2 ≤ cond b 1 0 + count q xs → (2 ≤ count q xs → HasTwoOf key xs) → HasTwoOf key (x ∷ xs)
       by true e g ih =
           let rest = one_counted q xs (omega (arith, g)) in
           record { i = 0; j = suc rest.at; apart = omega arith; one = x; other = rest.element; first = refl; second = rest.there; same = sym (same_key-true q (key x) e) ∙ sym rest.same }
@@ -161,7 +151,7 @@ module _ {X : Type 0} (key : X → List ℕ) where
           record { i = suc rest.i; j = suc rest.j; apart = omega (arith, rest.apart); one = rest.one; other = rest.other; first = rest.first; second = rest.second; same = rest.same }
 
   -- two of one key stay two in another order
-  pub two_moved : (xs ys : List X) → IsPermutation xs ys → HasTwoOf xs → HasTwoOf ys
+  pub two_moved : (xs ys : List X) → IsPermutation xs ys → HasTwoOf key xs → HasTwoOf key ys
   two_moved xs ys permuted h =
       let q = key h.one in
       two_counted q ys (omega (arith, sum_by-IsPermutation (λ x. cond (same_key q (key x)) 1 0) xs ys permuted, counts_two q xs h.i h.j h.one h.other h.apart h.first h.second refl (sym h.same)))

@@ -15,9 +15,9 @@ use Rattle.ods_base.specs.declared.listed.Listed.{Listed}
 use Rattle.ods_base.specs.Names.{name_of, version_of, lines_of}
 use Rattle.ods_directory.specs.Entry.{Entry, entry_at, used_entries}
 use Rattle.ods_directory.specs.Lines.{line_of, line_key, IsInOrder, HasTwinLines, HasNoTwinLines}
-use Rattle.ods_directory.specs.Names.{AreDistinct, HasTwins, IsDirectory, names_of}
+use Rattle.ods_directory.specs.Names.{AreDistinct, HasTwins, IsDirectory, names_of, HasTwoOf}
 use Rattle.ods_directory.proofs.InOrder.{line_file, line_pairs, strictly_sorted, no_twins}
-use Rattle.ods_directory.proofs.Keyed.{find, HasNoTwins, HasTwoOf, find_permuted, two_moved}
+use Rattle.ods_directory.proofs.Keyed.{find, HasNoTwins, find_permuted, two_moved}
 use Rattle.ods_directory.proofs.Lookups.{entry_pairs, get_names}
 use Rattle.ods_directory.proofs.Used.{used_among, used_entries-is}
 

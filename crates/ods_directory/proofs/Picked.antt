@@ -1,40 +1,19 @@
 -- From the entries that have a name to the versions that the map has of it.
-use Rattle.std.proofs.Common.{◌≡◌, ℕ, ◌+◌, ◌/◌, ◌<◌, ◌≤◌, true, List, [], ◌∷◌, ◌++◌, length, nat_eq, Option, Some, None, is_some, slice_index, refl, sym, ap, ◌∙◌, subst, arith, length-append}
-use Rattle.std.proofs.lemmas.Bool.{eqb-true, eq-eqb, and_parts, and_from}
+use Rattle.std.proofs.Common.{◌≡◌, ℕ, ◌+◌, ◌/◌, ◌<◌, ◌≤◌, true, List, [], ◌∷◌, length, nat_eq, Option, Some, None, is_some, refl, sym, ap, ◌∙◌, subst, arith, length-append}
+use Rattle.std.proofs.lemmas.Bool.{and_parts, and_from}
 use Rattle.std.specs.FinMap as names
-use lib.Pointwise.{pointwise}
+use lib.Pointwise.{pointwise, bytes_decides}
 use Rattle.ods_base.specs.declared.file_id.FileId.{FileId}
 use Rattle.ods_base.specs.Name.{RadName, key_of}
 use Rattle.ods_base.specs.Names.{NameMap, version_of, is_of, Has, IsPicked, HasNone, Finds}
 use Rattle.ods_base.specs.declared.name.Pick.{Pick}
 use Rattle.ods_base.specs.declared.name.Pick.TheVariants.{Exact, Highest, Lowest}
+use Rattle.ods_base.proofs.Picks.{version_in}
 use Rattle.ods_directory.specs.declared.search.Found.{Found}
 use Rattle.ods_directory.specs.Entry.{Entry, is_used, entry_at}
 use Rattle.ods_directory.specs.Names.{IsDirectory, names_of}
 use Rattle.ods_directory.specs.Search.{is_named, IsEntryOf, IsFound}
 use Rattle.ods_directory.proofs.Lookups.{entry_of_name, name_of_entry}
-
-pub same_list : (xs ys : List ℕ) → pointwise nat_eq xs ys ≡ true → xs ≡ ys
-same_list [] [] h = refl
-same_list [] (y ∷ ys) h = absurd (cc)
-same_list (x ∷ xs) [] h = absurd (cc)
-same_list (x ∷ xs) (y ∷ ys) h =
-    let both = and_parts (nat_eq x y) (pointwise nat_eq xs ys) h in
-    let head : x ≡ y = eqb-true x y both.0 in
-    let rest : xs ≡ ys = same_list xs ys both.1 in
-    λ i. head i ∷ rest i
-
-pub list_itself : (xs : List ℕ) → pointwise nat_eq xs xs ≡ true
-list_itself [] = refl
-list_itself (x ∷ xs) = and_from (nat_eq x x) (pointwise nat_eq xs xs) (eq-eqb x x refl) (list_itself xs)
-
--- the version stands behind three name words and the type
-version_in : (ws : List ℕ) (e v : ℕ) → length ws ≡ 3 → slice_index (ws ++ e ∷ v ∷ []) 4 ≡ v
-version_in [] e v h = absurd (cc)
-version_in (a ∷ []) e v h = absurd (omega (arith, h))
-version_in (a ∷ b ∷ []) e v h = absurd (omega (arith, h))
-version_in (a ∷ b ∷ c ∷ []) e v h = refl
-version_in (a ∷ b ∷ c ∷ d ∷ ws) e v h = absurd (omega (arith, h))
 
 -- a key of five words that is the name's key of a version has the name and that version
 of_name : (key : List ℕ) (n : RadName) (v : ℕ) → length key ≡ 5 → key ≡ key_of n v → (is_of n key ≡ true) × (version_of key ≡ v)
@@ -43,7 +22,7 @@ of_name key n v five e =
     let three : length n.words ≡ 3 = omega (arith, long) in
     let same : version_of key ≡ v = ap version_of e ∙ version_in n.words n.ext v three in
     let whole : key ≡ key_of n (version_of key) = e ∙ ap (key_of n) (sym same) in
-    (subst (λ k. pointwise nat_eq key k ≡ true) whole (list_itself key), same)
+    (subst (λ k. pointwise nat_eq key k ≡ true) whole ((bytes_decides key key).1 refl), same)
 
 has_file : (o : Option FileId) → is_some o ≡ true → (f : FileId) × (o ≡ Some f)
 has_file None h = absurd (cc)
@@ -72,16 +51,16 @@ module _ (blocks : List (List ℕ)) (mark : ℕ) (n : RadName) where
 
   -- the key of an entry that has the name
   pub key_at : (k : ℕ) → is_named n (entry_at blocks k) ≡ true → (entry_at blocks k).key ≡ key_of n (version_of (entry_at blocks k).key)
-  key_at k named = same_list _ _ (and_parts (is_used (entry_at blocks k)) (is_of n (entry_at blocks k).key) named).1
+  key_at k named = (bytes_decides _ _).0 (and_parts (is_used (entry_at blocks k)) (is_of n (entry_at blocks k).key) named).1
 
   -- the map has the file of an entry that has the name
   pub file_at : (f : Found) → IsDirectory blocks mark → IsEntryOf entry (mark / 16) n f → names.get map (key_of n f.version) ≡ Some f.file
   file_at f directory h =
       name_of_entry blocks mark (key_of n f.version) f.file directory (record {
-        at = f.place;
+        at = f.position;
         below = h.below;
-        used = (and_parts (is_used (entry_at blocks f.place)) (is_of n (entry_at blocks f.place).key) h.named).0;
-        key = key_at f.place h.named ∙ ap (key_of n) (sym h.version);
+        used = (and_parts (is_used (entry_at blocks f.position)) (is_of n (entry_at blocks f.position).key) h.named).0;
+        key = key_at f.position h.named ∙ ap (key_of n) (sym h.version);
         file = sym h.file;
       })
 

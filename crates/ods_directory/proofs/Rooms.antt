@@ -27,47 +27,46 @@ not_true true h = absurd (cc)
 not_true false h = refl
 
 module _ (blocks : List (List ℕ)) (mark : ℕ) (cut : mark ≤ 512 * length blocks) where
-  -- at the mark, where a block is there or comes behind the others
-  at_mark : (b : Bool) → nat_le (512 * length blocks) (16 * (mark / 16)) ≡ b → (b ≡ false → IsBlock (block_at blocks (16 * (mark / 16) / 512)))
-      → IsRoom blocks mark (record { at = 16 * (mark / 16); mark = 16 * (mark / 16) + 16; grows = b }) (mark / 16)
+  -- the slot at the mark
+  abbrev end_slot : Bool → Slot
+  end_slot b = record { at = 16 * (mark / 16); mark = 16 * (mark / 16) + 16; grows = b }
+
+  at_end : (b : Bool) → mark / 16 / 32 < length (grown blocks (end_slot b)) → length (block_at (grown blocks (end_slot b)) (mark / 16 / 32)) ≡ 512
+      → ((i : ℕ) → i < mark / 16 → entry_at (grown blocks (end_slot b)) i ≡ entry_at blocks i) → IsRoom blocks mark (end_slot b) (mark / 16)
+  at_end b within size same = record {
+    at = refl;
+    below = omega arith;
+    before = λ i below apart. omega arith;
+    back = λ i below. omega arith;
+    free = λ below. absurd (omega arith);
+    within = within;
+    size = size;
+    same = same;
+  }
+
+  -- its block is there, or comes behind the others
+  at_mark : (b : Bool) → nat_le (512 * length blocks) (16 * (mark / 16)) ≡ b → (b ≡ false → IsBlock (block_at blocks (16 * (mark / 16) / 512))) → IsRoom blocks mark (end_slot b) (mark / 16)
   at_mark false e whole =
       let inside : 16 * (mark / 16) < 512 * length blocks = leb-false (512 * length blocks) (16 * (mark / 16)) e in
-      let place : 16 * (mark / 16) / 512 ≡ mark / 16 / 32 = omega arith in
-      record {
-        at = refl;
-        below = omega arith;
-        before = λ i below apart. omega arith;
-        back = λ i below. omega arith;
-        free = λ below. absurd (omega arith);
-        within = omega arith;
-        size = ap (λ i. length (block_at blocks i)) (sym place) ∙ (whole refl).size;
-        same = λ i below. refl;
-      }
+      let position : 16 * (mark / 16) / 512 ≡ mark / 16 / 32 = omega arith in
+      at_end false (omega arith) (ap (λ i. length (block_at blocks i)) (sym position) ∙ (whole refl).size) (λ i below. refl)
   at_mark true e whole =
       let outside : 512 * length blocks ≤ 16 * (mark / 16) = leb-true (512 * length blocks) (16 * (mark / 16)) e in
-      let place : length blocks ≡ mark / 16 / 32 = omega arith in
-      record {
-        at = refl;
-        below = omega arith;
-        before = λ i below apart. omega arith;
-        back = λ i below. omega arith;
-        free = λ below. absurd (omega arith);
-        within = omega (arith, length_push blocks zeros);
-        size = ap length (get_or_push blocks zeros [] (mark / 16 / 32) place) ∙ IsBlock-zeros.size;
-        same = λ i below. ap (λ b. entry_in b (i % 32)) (get_or_append_left blocks (zeros ∷ []) [] (i / 32) (omega arith));
-      }
+      let position : length blocks ≡ mark / 16 / 32 = omega arith in
+      at_end true (omega (arith, length_push blocks zeros)) (ap length (get_or_push blocks zeros [] (mark / 16 / 32) position) ∙ IsBlock-zeros.size)
+      (λ i below. ap (λ b. entry_in b (i % 32)) (get_or_append_left blocks (zeros ∷ []) [] (i / 32) (omega arith)))
 
-  pub place_of : Option ℕ → ℕ
-  place_of (Some k) = k
-  place_of None = mark / 16
+  pub position_of : Option ℕ → ℕ
+  position_of (Some k) = k
+  position_of None = mark / 16
 
   pub room_of : (empty : Option ℕ) → IsFirst Empty (entry_at blocks) (mark / 16) empty
       → ((slot_of empty mark (length blocks)).grows ≡ false → IsBlock (block_at blocks ((slot_of empty mark (length blocks)).at / 512)))
-      → IsRoom blocks mark (slot_of empty mark (length blocks)) (place_of empty)
-  unfolding place_of
+      → IsRoom blocks mark (slot_of empty mark (length blocks)) (position_of empty)
+  unfolding position_of
   room_of None h whole = at_mark (nat_le (512 * length blocks) (16 * (mark / 16))) refl whole
   room_of (Some k) h whole =
-      let place : 16 * k / 512 ≡ k / 32 = omega arith in
+      let position : 16 * k / 512 ≡ k / 32 = omega arith in
       let inside : k < mark / 16 = h.0 in
       record {
         at = refl;
@@ -76,6 +75,6 @@ module _ (blocks : List (List ℕ)) (mark : ℕ) (cut : mark ≤ 512 * length bl
         back = λ i below. below;
         free = λ below. not_true _ h.1;
         within = omega (arith, inside);
-        size = ap (λ i. length (block_at blocks i)) (sym place) ∙ (whole refl).size;
+        size = ap (λ i. length (block_at blocks i)) (sym position) ∙ (whole refl).size;
         same = λ i below. refl;
       }

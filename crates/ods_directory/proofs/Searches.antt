@@ -57,7 +57,7 @@ module _ (entry : ℕ → Entry) (n : RadName) where
         better_so = ap (λ x. is_better x s.found (version_of (entry m).key)) h.picked
 
         by : (b : Bool) → (is_named s.name (entry m) && is_better s.pick s.found (version_of (entry m).key)) ≡ b
-            → HasFound (m + 1) (cond b (record s { found = Some (record { place = m; file = (entry m).file; version = version_of (entry m).key }) }) s)
+            → HasFound (m + 1) (cond b (record s { found = Some (record { position = m; file = (entry m).file; version = version_of (entry m).key }) }) s)
         by true e =
             let both = and_parts _ _ e in
             record {

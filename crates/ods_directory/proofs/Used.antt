@@ -1,4 +1,4 @@
--- The used entries of a directory, as a list and by their places.
+-- The used entries of a directory, as a list and by their positions.
 use Rattle.std.proofs.Common.{◌≡◌, ◌≢◌, ℕ, zero, suc, ◌+◌, ◌/◌, ◌<◌, ◌≤◌, Bool, true, false, cond, List, ◌∷◌, map, filter, get_or, Some, refl, sym, ap, ◌∙◌, subst, arith, inl, inr}
 use Rattle.std.specs.List.{range_with_len, slice_get, All}
 use Rattle.std.proofs.lemmas.Bool.{cases_eq}
@@ -11,7 +11,7 @@ pub record IsAmong (es : List Entry) (e : Entry) : Type 0 where
   pub at : ℕ
   pub there : slice_get es at ≡ Some e
 
--- a used entry at one of n places from a on
+-- a used entry at one of n positions from a on
 pub record IsUsedAt (entry : ℕ → Entry) (a n : ℕ) (e : Entry) : Type 0 where
   pub at : ℕ
   pub from : a ≤ at
@@ -19,7 +19,7 @@ pub record IsUsedAt (entry : ℕ → Entry) (a n : ℕ) (e : Entry) : Type 0 whe
   pub used : is_used (entry at) ≡ true
   pub same : entry at ≡ e
 
--- the used entries at n places from a on
+-- the used entries at n positions from a on
 abbrev pub used_from : (ℕ → Entry) → ℕ → ℕ → List Entry
 used_from entry a n = filter is_used (map entry (range_with_len a n))
 
@@ -53,14 +53,14 @@ used_among entry a (suc n) e i there = by (is_used (entry a)) refl i there (used
     by true u (suc j) h rest = one_before entry a n e (rest j h)
     by false u j h rest = one_before entry a n e (rest j h)
 
--- no two used entries among n places from a on have one key
+-- no two used entries among n positions from a on have one key
 abbrev pub AreApart : (ℕ → Entry) → ℕ → ℕ → Type 0
 AreApart entry a n = (i j : ℕ) → a ≤ i → i < j → j < a + n → is_used (entry i) ≡ true → is_used (entry j) ≡ true → (entry i).key ≢ (entry j).key
 
 distinct_rest : (x : Entry) (es : List Entry) → AreDistinct (x ∷ es) → AreDistinct es
 distinct_rest x es h i j below e f there here = h (suc i) (suc j) (omega arith) e f there here
 
--- distinct in the list, distinct by places
+-- distinct in the list, distinct by positions
 pub apart_from_distinct : (entry : ℕ → Entry) (a n : ℕ) → AreDistinct (used_from entry a n) → AreApart entry a n
 apart_from_distinct entry a zero h i j from below within used_i used_j = absurd (omega arith)
 apart_from_distinct entry a (suc n) h i j from below within used_i used_j = elim (cases_eq a i) [
@@ -76,7 +76,7 @@ apart_from_distinct entry a (suc n) h i j from below within used_i used_j = elim
     later true start d ih = ih (distinct_rest _ _ d) i j start below (omega arith) used_i used_j
     later false start d ih = ih d i j start below (omega arith) used_i used_j
 
--- distinct by places, distinct in the list
+-- distinct by positions, distinct in the list
 pub distinct_from_apart : (entry : ℕ → Entry) (a n : ℕ) → AreApart entry a n → AreDistinct (used_from entry a n)
 distinct_from_apart entry a zero h i j = λ below e f there here. absurd (cc)
 distinct_from_apart entry a (suc n) h i j =
@@ -92,7 +92,7 @@ distinct_from_apart entry a (suc n) h i j =
         let apart = h a g.at (omega arith) (omega (arith, g.from)) (omega (arith, g.below)) u g.used in
         λ same. apart (ap (λ x. x.key) (same_Some _ _ there) ∙ same ∙ ap (λ x. x.key) (sym g.same))
 
--- a directory, by the places of its entries
+-- a directory, by the positions of its entries
 pub record IsDirectoryBy (entry : ℕ → Entry) (m : ℕ) : Type 0 where
   pub good : (k : ℕ) → k < m → is_used (entry k) ≡ true → IsGoodEntry (entry k)
   pub apart : AreApart entry 0 m
@@ -104,29 +104,29 @@ used_entries-is blocks mark = refl
 good_among : (es : List Entry) (e : Entry) → All IsGoodEntry es → IsAmong es e → IsGoodEntry e
 good_among es e h there = subst IsGoodEntry (get_or_from_slice_get es there.at e e there.there) (h there.at e (slice_get_within es there.at e there.there))
 
--- the goodness of the list, place by place
-pub good_by_places : (blocks : List (List ℕ)) (mark : ℕ) → All IsGoodEntry (used_entries blocks mark) → (k : ℕ) → k < mark / 16 → is_used (entry_at blocks k) ≡ true → IsGoodEntry (entry_at blocks k)
-good_by_places blocks mark good k below used =
+-- the goodness of the list, position by position
+pub good_by_positions : (blocks : List (List ℕ)) (mark : ℕ) → All IsGoodEntry (used_entries blocks mark) → (k : ℕ) → k < mark / 16 → is_used (entry_at blocks k) ≡ true → IsGoodEntry (entry_at blocks k)
+good_by_positions blocks mark good k below used =
     good_among (used_from (entry_at blocks) 0 (mark / 16)) (entry_at blocks k) (subst (All IsGoodEntry) (used_entries-is blocks mark) good)
     (among_used (entry_at blocks) 0 (mark / 16) k (omega arith) (omega arith) used)
 
-pub by_places : (blocks : List (List ℕ)) (mark : ℕ) → IsDirectory blocks mark → IsDirectoryBy (entry_at blocks) (mark / 16)
-by_places blocks mark h = record {
-  good = good_by_places blocks mark h.good;
+pub by_positions : (blocks : List (List ℕ)) (mark : ℕ) → IsDirectory blocks mark → IsDirectoryBy (entry_at blocks) (mark / 16)
+by_positions blocks mark h = record {
+  good = good_by_positions blocks mark h.good;
   apart = apart_from_distinct (entry_at blocks) 0 (mark / 16) (subst AreDistinct (used_entries-is blocks mark) h.distinct);
 }
 
--- good place by place, good in the list
-pub good_from_places : (blocks : List (List ℕ)) (mark : ℕ) → ((k : ℕ) → k < mark / 16 → is_used (entry_at blocks k) ≡ true → IsGoodEntry (entry_at blocks k)) → All IsGoodEntry (used_entries blocks mark)
-good_from_places blocks mark good =
+-- good position by position, good in the list
+pub good_from_positions : (blocks : List (List ℕ)) (mark : ℕ) → ((k : ℕ) → k < mark / 16 → is_used (entry_at blocks k) ≡ true → IsGoodEntry (entry_at blocks k)) → All IsGoodEntry (used_entries blocks mark)
+good_from_positions blocks mark good =
     let list = used_from (entry_at blocks) 0 (mark / 16) in
     let all : All IsGoodEntry list = λ k d below.
     let g = used_among (entry_at blocks) 0 (mark / 16) (get_or list k d) k (slice_get-get_or list k d below) in
     subst IsGoodEntry g.same (good g.at (omega (arith, g.below)) g.used) in
     subst (All IsGoodEntry) (sym (used_entries-is blocks mark)) all
 
-pub from_places : (blocks : List (List ℕ)) (mark : ℕ) → IsDirectoryBy (entry_at blocks) (mark / 16) → IsDirectory blocks mark
-from_places blocks mark h = record {
-  good = good_from_places blocks mark h.good;
+pub from_positions : (blocks : List (List ℕ)) (mark : ℕ) → IsDirectoryBy (entry_at blocks) (mark / 16) → IsDirectory blocks mark
+from_positions blocks mark h = record {
+  good = good_from_positions blocks mark h.good;
   distinct = subst AreDistinct (sym (used_entries-is blocks mark)) (distinct_from_apart (entry_at blocks) 0 (mark / 16) h.apart);
 }

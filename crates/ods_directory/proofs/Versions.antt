@@ -12,7 +12,7 @@ use Rattle.ods_directory.specs.Entry.{is_used, entry_at}
 use Rattle.ods_directory.specs.Faults.{IsEnterFault}
 use Rattle.ods_directory.specs.Names.{IsDirectory, names_of}
 use Rattle.ods_directory.specs.Search.{IsFound}
-use Rattle.ods_directory.proofs.Used.{by_places}
+use Rattle.ods_directory.proofs.Used.{by_positions}
 use Rattle.ods_directory.proofs.Picked.{finds, finds_none}
 
 module _ (blocks : List (List ℕ)) (mark : ℕ) (n : RadName) (directory : IsDirectory blocks mark) where
@@ -42,8 +42,8 @@ module _ (blocks : List (List ℕ)) (mark : ℕ) (n : RadName) (directory : IsDi
     where
       most : f.version ≤ 32767
       most =
-          let used = (and_parts (is_used (entry_at blocks f.place)) (is_of n (entry_at blocks f.place).key) h.0.named).0 in
-          subst (λ v. v ≤ 32767) (sym h.0.version) ((by_places blocks mark directory).good f.place h.0.below used).most
+          let used = (and_parts (is_used (entry_at blocks f.position)) (is_of n (entry_at blocks f.position).key) h.0.named).0 in
+          subst (λ v. v ≤ 32767) (sym h.0.version) ((by_positions blocks mark directory).good f.position h.0.below used).most
 
       by : (b : Bool) → nat_lt f.version 32767 ≡ b → cond b (Ok (f.version + 1)) (Err VersionsFull) ≡ Err fault → IsEnterFault (names_of blocks mark) n None fault
       by true e g = absurd (cc)

@@ -41,8 +41,8 @@ module _ (b bytes : List ℕ) (size : length b ≡ 512) (long : length bytes ≡
   -- the entry that is written in a block
   entry_here : entry_in (with_bytes b (16 * j) bytes) j ≡ entry_in bytes 0
   entry_here = same_entry (with_bytes b (16 * j) bytes) bytes j 0 (λ q below.
-      let place : q ≡ 16 * 0 + q = omega arith in
-      byte-with_bytes b bytes (16 * j) (16 * j + q) q (omega arith) refl (omega arith) ∙ ap (byte bytes) place)
+      let position : q ≡ 16 * 0 + q = omega arith in
+      byte-with_bytes b bytes (16 * j) (16 * j + q) q (omega arith) refl (omega arith) ∙ ap (byte bytes) position)
 
   -- the others of the block
   entry_beside : (i : ℕ) → i ≢ j → entry_in (with_bytes b (16 * j) bytes) i ≡ entry_in b i
@@ -54,9 +54,9 @@ module _ (b bytes : List ℕ) (size : length b ≡ 512) (long : length bytes ≡
 written-is : (blocks : List (List ℕ)) (k : ℕ) (bytes : List ℕ) → written blocks (16 * k) bytes ≡ set blocks (k / 32) (with_bytes (block_at blocks (k / 32)) (16 * (k % 32)) bytes)
 unfolding written
 written-is blocks k bytes =
-    let place : 16 * k / 512 ≡ k / 32 = omega arith in
+    let position : 16 * k / 512 ≡ k / 32 = omega arith in
     let rest : 16 * k % 512 ≡ 16 * (k % 32) = omega arith in
-    λ s. set blocks (place s) (with_bytes (block_at blocks (place s)) (rest s) bytes)
+    λ s. set blocks (position s) (with_bytes (block_at blocks (position s)) (rest s) bytes)
 
 module _ (blocks : List (List ℕ)) (bytes : List ℕ) (k : ℕ) (within : k / 32 < length blocks) (size : length (block_at blocks (k / 32)) ≡ 512) (long : length bytes ≡ 16) where
   -- the entry that is written

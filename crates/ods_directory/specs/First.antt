@@ -11,14 +11,14 @@ abbrev pub is_kind : Kind → Entry → Bool
 is_kind kind.Empty e = not (is_used e)
 is_kind kind.Bad e = is_used e && not (is_good e)
 
--- the first place so far, after entry k
+-- the first position so far, after entry k
 abbrev pub first_after : First → ℕ → Entry → First
-first_after s k e = if is_none s.place && is_kind s.kind e then record s { place = Some k } else s
+first_after s k e = if is_none s.position && is_kind s.kind e then record s { position = Some k } else s
 
--- this is the first place below m of an entry of the kind, or there is none
+-- this is the first position below m of an entry of the kind, or there is none
 abbrev pub IsFirst : Kind → (ℕ → Entry) → ℕ → Option ℕ → Type 0
-IsFirst kind entry m place =
-    MatchOption place ((j : ℕ) → j < m → is_kind kind (entry j) ≡ false)
+IsFirst kind entry m position =
+    MatchOption position ((j : ℕ) → j < m → is_kind kind (entry j) ≡ false)
     (λ k. (k < m) × (is_kind kind (entry k) ≡ true) × ((j : ℕ) → j < k → is_kind kind (entry j) ≡ false))
 
 -- where a name is entered, by the first empty entry before the mark and the count of blocks

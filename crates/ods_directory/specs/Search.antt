@@ -25,15 +25,15 @@ is_named n e = is_used e && is_of n e.key
 abbrev pub search_after : Search → ℕ → Entry → Search
 search_after s k e =
     if is_named s.name e && is_better s.pick s.found (version_of e.key)
-    then record s { found = Some (record { place = k; file = e.file; version = version_of e.key }) }
+    then record s { found = Some (record { position = k; file = e.file; version = version_of e.key }) }
     else s
 
 -- the name has this entry, among the first m
 pub record IsEntryOf (entry : ℕ → Entry) (m : ℕ) (n : RadName) (found : Found) : Type 0 where
-  pub below : found.place < m
-  pub named : is_named n (entry found.place) ≡ true
-  pub file : found.file ≡ (entry found.place).file
-  pub version : found.version ≡ version_of (entry found.place).key
+  pub below : found.position < m
+  pub named : is_named n (entry found.position) ≡ true
+  pub file : found.file ≡ (entry found.position).file
+  pub version : found.version ≡ version_of (entry found.position).key
 
 -- a fact of the version of each entry that has the name, among the first m
 abbrev pub AllVersions : (ℕ → Entry) → ℕ → RadName → (ℕ → Type 0) → Type 0

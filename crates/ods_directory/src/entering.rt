@@ -15,13 +15,13 @@ ghost use Rattle.ods_directory.specs.Search.{IsFound};
 
 use crate::entry::LAST_VERSION;
 use crate::first::{First, Kind};
-use crate::place::slot_in;
 use crate::scan::{Pass, scan};
 use crate::search::{Found, Search};
+use crate::slots::slot_in;
 use crate::{DirBlocks, DirFault, Slot};
 use ods_base::{Block, FileId, Name, Pick};
 
-/// The version that is entered, its place, and the bytes to be written there: the version given, or else the
+/// The version that is entered, its position, and the bytes to be written there: the version given, or else the
 /// highest and one more. Where the slot grows, a block of zeros comes behind the others first.
 pub fn enter<B: DirBlocks>(
     blocks: &B,
@@ -76,7 +76,7 @@ impl Pass for Room {
     }
 }
 
-/// The entry with the version given, or else with the highest one, and the place of the first empty entry.
+/// The entry with the version given, or else with the highest one, and the position of the first empty entry.
 fn find_room<B: DirBlocks>(
     blocks: &B,
     mark: u64,
@@ -92,7 +92,7 @@ fn find_room<B: DirBlocks>(
         empty: First::of(Kind::Empty),
     };
     scan(blocks, mark, &mut room);
-    (room.search.found, room.empty.place)
+    (room.search.found, room.empty.position)
 }
 
 /// The entry that is looked for before a name is entered.

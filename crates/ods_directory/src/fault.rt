@@ -1,7 +1,7 @@
 //! What can be wrong with a directory, and why a request on one is refused.
-ghost use Rattle.std.specs.Prelude.{◌≡◌};
-ghost use Rattle.ods_directory.specs.Refusals.{code_of, name_of, verdict_code, verdict_name};
+ghost use Rattle.ods_directory.specs.Refusals.{dir_row, verdict_row};
 
+use ods_base::{Coded, Row};
 use thiserror::Error;
 
 /// What the check of a directory finds.
@@ -16,28 +16,17 @@ pub enum Verdict {
     Twice,
 }
 
-impl Verdict {
-    /// The number as a refusal. `Good` is none, and `Twice` has no number of its own: both have 0.
-    pub fn code(&self) -> u16
-        ensures { result ≡ verdict_code self.now }
-    {
+/// `Good` is no refusal, and `Twice` has no number of its own: both have 0.
+impl Coded for Verdict {
+    fn row(&self) -> Row {
         match self {
-            Verdict::Good => 0,
-            Verdict::BadEntry => 33,
-            Verdict::Twice => 0,
+            Verdict::Good => Row(0, "Good"),
+            Verdict::BadEntry => Row(33, "BadEntry"),
+            Verdict::Twice => Row(0, "Twice"),
         }
     }
 
-    /// The name.
-    pub fn name(&self) -> &'static str
-        ensures { result.now ≡ verdict_name self.now }
-    {
-        match self {
-            Verdict::Good => "Good",
-            Verdict::BadEntry => "BadEntry",
-            Verdict::Twice => "Twice",
-        }
-    }
+    ghost row_of = { verdict_row };
 }
 
 /// Why a name is not found or not entered.
@@ -54,26 +43,14 @@ pub enum DirFault {
     VersionsFull,
 }
 
-impl DirFault {
-    /// The refusal's number.
-    pub fn code(&self) -> u16
-        ensures { result ≡ code_of self.now }
-    {
+impl Coded for DirFault {
+    fn row(&self) -> Row {
         match self {
-            DirFault::NoSuchName => 30,
-            DirFault::NameTaken => 31,
-            DirFault::VersionsFull => 32,
+            DirFault::NoSuchName => Row(30, "NoSuchName"),
+            DirFault::NameTaken => Row(31, "NameTaken"),
+            DirFault::VersionsFull => Row(32, "VersionsFull"),
         }
     }
 
-    /// The refusal's name.
-    pub fn name(&self) -> &'static str
-        ensures { result.now ≡ name_of self.now }
-    {
-        match self {
-            DirFault::NoSuchName => "NoSuchName",
-            DirFault::NameTaken => "NameTaken",
-            DirFault::VersionsFull => "VersionsFull",
-        }
-    }
+    ghost row_of = { dir_row };
 }

@@ -16,19 +16,22 @@ pub enum Kind {
     Bad,
 }
 
-/// The place of the first entry of a kind, so far.
+/// The position of the first entry of a kind, so far.
 #[derive(Clone, Copy, Debug, PartialEq, Eq)]
 pub struct First {
     pub kind: Kind,
-    pub place: Option<u64>,
+    pub position: Option<u64>,
 }
 
 impl First {
-    /// No place so far.
+    /// No position so far.
     pub fn of(kind: Kind) -> First
-        ensures { result ≡ record { kind = kind; place = None } }
+        ensures { result ≡ record { kind = kind; position = None } }
     {
-        First { kind, place: None }
+        First {
+            kind,
+            position: None,
+        }
     }
 
     ghost use Rattle.ods_directory.specs.First.{is_kind};
@@ -51,22 +54,22 @@ impl Pass for First {
     ghost after = { first_after };
 
     fn take(&mut self, block: &Block, at: usize, k: u64) {
-        if self.place.is_none() && self.is_kind(block, at) {
-            self.place = Some(k);
+        if self.position.is_none() && self.is_kind(block, at) {
+            self.position = Some(k);
         }
     }
 
     fn is_done(&self) -> bool {
-        self.place.is_some()
+        self.position.is_some()
     }
 }
 
-/// The place of the first entry before the mark that is of the kind.
+/// The position of the first entry before the mark that is of the kind.
 pub fn first_entry<B: DirBlocks>(blocks: &B, mark: u64, kind: Kind) -> Option<u64>
     requires { mark ≤ 512 * length (B.blocks blocks.now) }
     ensures { IsFirst kind (entry_at (B.blocks blocks.now)) (mark / 16) result }
 {
     let mut first = First::of(kind);
     scan(blocks, mark, &mut first);
-    first.place
+    first.position
 }

@@ -11,11 +11,11 @@ mod lines;
 mod listing;
 mod lookup;
 mod mark;
-mod place;
 mod removal;
 mod scan;
 mod search;
 mod slot;
+mod slots;
 
 pub use blocks::DirBlocks;
 pub use count::name_count;
@@ -24,9 +24,6 @@ pub use fault::{DirFault, Verdict};
 pub use listing::{check, entries};
 pub use lookup::look_up;
 pub use mark::{mark_of, with_mark};
-pub use place::slot_for;
 pub use removal::remove;
 pub use slot::Slot;
-
-#[cfg(test)]
-mod tests;
+pub use slots::slot_for;

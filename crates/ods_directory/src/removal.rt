@@ -12,8 +12,8 @@ use crate::search::find_entry;
 use crate::{DirBlocks, DirFault};
 use ods_base::{FileId, Name, Pick};
 
-/// The file and the version that a name with a pick means, and the place of their entry in bytes.
-/// With 16 zero bytes at that place the directory has that name no longer; its mark stays.
+/// The file and the version that a name with a pick means, and the position of their entry in bytes.
+/// With 16 zero bytes at that position the directory has that name no longer; its mark stays.
 pub fn remove<B: DirBlocks>(
     blocks: &B,
     mark: u64,
@@ -24,8 +24,8 @@ pub fn remove<B: DirBlocks>(
     requires mark { mark ≤ 512 * length (B.blocks blocks.now) }
     ensures found { IfOk result (λ r. Finds (names_of (B.blocks blocks.now) mark) name.now pick r.0 r.1) }
 
-    // The place is that of the name's entry. With 16 zero bytes there the directory has that name less.
-    ensures place { IfOk result (λ r. (k : ℕ) × (k < mark / 16) × (r.2 ≡ 16 * k)
+    // The position is that of the name's entry. With 16 zero bytes there the directory has that name less.
+    ensures position { IfOk result (λ r. (k : ℕ) × (k < mark / 16) × (r.2 ≡ 16 * k)
         × (entry_at (B.blocks blocks.now) k ≡ record { file = r.0; volume = 0; key = key_of name.now r.1 })) }
     ensures names { IfOk result (λ r. names_of (written (B.blocks blocks.now) r.2 (replicate 16 0)) mark
         ≡ remove (names_of (B.blocks blocks.now) mark) (key_of name.now r.1)) }
@@ -35,8 +35,8 @@ pub fn remove<B: DirBlocks>(
     match find_entry(blocks, mark, name, pick) {
         Some(found) => {
             // What is read is a whole block, so the entry can be written there.
-            let _ = blocks.block((found.place / 32) as u32);
-            Ok((found.file, found.version, 16 * found.place))
+            let _ = blocks.block((found.position / 32) as u32);
+            Ok((found.file, found.version, 16 * found.position))
         }
         None => Err(DirFault::NoSuchName),
     }

@@ -6,10 +6,10 @@ use crate::scan::{Pass, scan};
 use crate::{DirBlocks, entry};
 use ods_base::{Block, FileId, Name, Pick};
 
-/// An entry that has the name: its place in the directory, its file and its version.
+/// An entry that has the name: its position in the directory, its file and its version.
 #[derive(Clone, Copy, Debug, PartialEq, Eq)]
 pub struct Found {
-    pub place: u64,
+    pub position: u64,
     pub file: FileId,
     pub version: u16,
 }
@@ -61,7 +61,7 @@ impl Pass for Search {
         let version = entry::version(block, at);
         if is_named && self.is_better(version) {
             self.found = Some(Found {
-                place: k,
+                position: k,
                 file: entry::file(block, at),
                 version,
             });

@@ -1,41 +1,26 @@
 -- A header keeps what it says but for its attributes, where bytes 14 to 45 and the sum are others.
-use Rattle.std.proofs.Common.{◌≡◌, ℕ, zero, suc, ◌+◌, ◌-◌, ◌*◌, ◌/◌, ◌<◌, ◌≤◌, ◌⊎◌, List, map, length, take, drop, inl, inr, refl, sym, ap, ◌∙◌, arith}
-use Rattle.std.proofs.lemmas.List.{ext_get_or, length-take, length-drop, get_or-take, get_or-drop}
+use Rattle.std.proofs.Common.{◌≡◌, ℕ, ◌+◌, ◌-◌, ◌*◌, ◌<◌, ◌≤◌, ◌⊎◌, List, length, inl, inr, refl, sym, ap, ◌∙◌, arith}
 use Rattle.std.specs.Prelude.{slice_range}
-use Rattle.std.specs.List.{range_with_len}
-use Rattle.ods_base.specs.Block.{IsBlock, byte, word, with_bytes, with_word, sum_of}
-use Rattle.ods_base.proofs.Blocks.{byte-with_bytes, byte-with_bytes_before, byte-with_bytes_behind, byte-with_word_before, word-with_word, sum_of_same}
-use Rattle.ods_header.specs.Header.{IsValidHeader, IsLaidOut, runs_of, run_at, used_words_of, most_words_of, map_word, ident_word, ident_of, ident_ext_of, segment_of, sequence_of, next_volume_of, next_number_of, next_sequence_of}
+use Rattle.ods_base.specs.Block.{IsBlock, byte, word, with_bytes}
+use Rattle.ods_base.proofs.Blocks.{byte-with_bytes, byte-with_bytes_before, byte-with_bytes_behind}
+use Rattle.ods_header.specs.Header.{IsValidHeader, IsLaidOut, runs_of, used_words_of, most_words_of, map_word, ident_word, ident_of, ident_ext_of, segment_of, sequence_of, next_volume_of, next_number_of, next_sequence_of}
+use Rattle.ods_header.specs.Writing.{with_sum}
 use Rattle.ods_header.specs.Attributes.{IsWithAttributes, KeepsOtherFields}
-
--- a range of a block by its bytes
-range_is : (b xs : List ℕ) (a e : ℕ) → a + length xs ≡ e → e ≤ length b → ((j : ℕ) → j < length xs → byte b (a + j) ≡ byte xs j) → slice_range b a e ≡ xs
-range_is b xs a e size within each =
-    let long : length (take (e - a) (drop a b)) ≡ length xs = simp (length-take, length-drop) (omega arith) in
-    ext_get_or 0 (take (e - a) (drop a b)) xs long (λ i below. get_or-take (e - a) (drop a b) i 0 (omega arith) ∙ get_or-drop a b i 0 ∙ each i (omega arith))
-
--- two blocks of one size have a range alike where they have its bytes alike
-same_range : (b c : List ℕ) (a n : ℕ) → length c ≡ length b → ((j : ℕ) → j < n → byte c (a + j) ≡ byte b (a + j)) → take n (drop a c) ≡ take n (drop a b)
-same_range b c a n size each =
-    let long : length (take n (drop a c)) ≡ length (take n (drop a b)) = simp (length-take, length-drop) (omega arith) in
-    ext_get_or 0 (take n (drop a c)) (take n (drop a b)) long (λ i below.
-    let few : i < n = below_take i (drop a c) below in
-    get_or-take n (drop a c) i 0 few ∙ get_or-drop a c i 0 ∙ each i few ∙ sym (get_or-drop a b i 0) ∙ sym (get_or-take n (drop a b) i 0 few))
-  where
-    below_take : (i : ℕ) (xs : List ℕ) → i < length (take n xs) → i < n
-    below_take i xs h = omega (arith, length-take n xs)
+use Rattle.ods_header.proofs.HeaderPlaces.{same_runs}
+use Rattle.ods_header.proofs.Ranges.{range_is, same_range}
+use Rattle.ods_header.proofs.Summed.{before_sum, sum_is_right}
 
 -- what setting the bytes and the sum makes
-pub is_with_attributes : (b new m c : List ℕ) → IsBlock b → IsBlock c → length new ≡ 32 → m ≡ with_bytes b 14 new → length m ≡ 512 → c ≡ with_word m 255 (sum_of m 255) → IsWithAttributes b new c
+pub is_with_attributes : (b new m c : List ℕ) → IsBlock b → IsBlock c → length new ≡ 32 → m ≡ with_bytes b 14 new → length m ≡ 512 → c ≡ with_sum m → IsWithAttributes b new c
 is_with_attributes b new m c block after size middle long last = record {
   size = after.size ∙ sym block.size;
   attributes = range_is c new 14 46 (omega arith) (let s = after.size in omega arith) (λ j below. at (14 + j) (omega arith) ∙ ap (λ l. byte l (14 + j)) middle ∙ byte-with_bytes b new 14 (14 + j) j (let s = block.size in omega arith) refl below);
-  checksum = ap (λ l. word l 255) last ∙ word-with_word m 255 (sum_of m 255) (omega arith) ∙ sym (sum_of_same c m 255 (λ i below. at i (omega arith)));
+  checksum = sum_is_right m c long last;
   others = by;
 }
   where
     at : (i : ℕ) → i < 510 → byte c i ≡ byte m i
-    at i below = ap (λ l. byte l i) last ∙ byte-with_word_before m 255 (sum_of m 255) i (omega arith)
+    at i below = before_sum m c i last below
 
     by : (i : ℕ) → (i < 14) ⊎ ((46 ≤ i) × (i < 510)) → byte c i ≡ byte b i
     by i (inl low) = let s = block.size in at i (omega arith) ∙ ap (λ l. byte l i) middle ∙ byte-with_bytes_before b new 14 i (omega arith) low
@@ -104,29 +89,8 @@ module _ (b new c : List ℕ) (w : IsWithAttributes b new c) where
     used_is : used_words_of c ≡ used_words_of b
     used_is = map_byte 8 (omega arith)
 
-    run_is : (k : ℕ) → 2 * k + 2 ≤ used_words_of b → run_at c k ≡ run_at b k
-    run_is k below =
-        let p = laid.ident in let q = laid.map in let r = laid.low in let f = laid.fits in
-        let high : byte c (2 * map_word c + 10 + 4 * k) ≡ byte b (2 * map_word b + 10 + 4 * k) =
-        ap (λ m. byte c (2 * m + 10 + 4 * k)) map_word_is ∙ tail (2 * map_word b + 10 + 4 * k) (omega arith) (omega arith) in
-        let count : byte c (2 * map_word c + 11 + 4 * k) ≡ byte b (2 * map_word b + 11 + 4 * k) =
-        ap (λ m. byte c (2 * m + 11 + 4 * k)) map_word_is ∙ tail (2 * map_word b + 11 + 4 * k) (omega arith) (omega arith) in
-        let low : word c (map_word c + 6 + 2 * k) ≡ word b (map_word b + 6 + 2 * k) =
-        ap (λ m. word c (m + 6 + 2 * k)) map_word_is ∙ word_tail (map_word b + 6 + 2 * k) (omega arith) (omega arith) in
-        λ i. record { lbn = 65536 * high i + low i; count = count i + 1 }
-
     pub runs_are : runs_of c ≡ runs_of b
-    unfolding runs_of
-    runs_are =
-        ap (λ n. map (run_at c) (range_with_len 0 (n / 2))) used_is
-        ∙ map_alike (used_words_of b / 2) 0 (λ k below. run_is k (omega arith))
-      where
-        map_alike : (n a : ℕ) → ((k : ℕ) → k < a + n → run_at c k ≡ run_at b k) → map (run_at c) (range_with_len a n) ≡ map (run_at b) (range_with_len a n)
-        map_alike zero a same = refl
-        map_alike (suc n) a same =
-            let first : run_at c a ≡ run_at b a = same a (omega arith) in
-            let rest : map (run_at c) (range_with_len (a + 1) n) ≡ map (run_at b) (range_with_len (a + 1) n) = map_alike n (a + 1) (λ k below. same k (omega arith)) in
-            rw (first, rest) refl
+    runs_are = same_runs b c map_word_is used_is (λ i below above. let p = laid.ident in let q = laid.map in let f = laid.fits in tail i (omega arith) (omega arith))
 
     laid_out : IsLaidOut c
     laid_out =

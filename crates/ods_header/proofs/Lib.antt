@@ -1,7 +1,13 @@
 pub mod AttributesSet
+pub mod Grown
+pub mod HeaderPlaces
+pub mod HeaderSteps
+pub mod Made
 pub mod Missing
 pub mod Octal
 pub mod Places
-pub mod Pointers
+pub mod PointersAt
+pub mod Ranges
 pub mod RunsAt
+pub mod Summed
 pub mod Written

@@ -40,9 +40,9 @@ owner_part h =
     ++ 32 ∷ octal_digits 3 h.user_char ++ 44 ∷ octal_digits 3 h.system_char
 
 -- segment e next n,s runs
-abbrev pub place_part : Header → List ℕ
-place_part h = codes " segment " ++ decimal h.segment ++ codes " next " ++ file_id_text h.next ++ codes " runs"
+abbrev pub segment_part : Header → List ℕ
+segment_part h = codes " segment " ++ decimal h.segment ++ codes " next " ++ file_id_text h.next ++ codes " runs"
 
 -- HEADER n,s NAME;V [g,m] pppppp uuu,ccc segment e next n,s runs, and the pointers in order
 abbrev pub header_text : Header → List ℕ
-header_text h = name_part h ++ owner_part h ++ place_part h ++ flat_map run_text h.pointers.items
+header_text h = name_part h ++ owner_part h ++ segment_part h ++ flat_map run_text h.pointers.items

@@ -1,9 +1,10 @@
 //! Why there is no header line.
 ghost use Rattle.std.specs.Prelude.{◌≡◌};
 ghost use Rattle.ods_header.specs.declared.fault.LineFault.TheVariants.{NoMemory};
-ghost use Rattle.ods_header.specs.Refusals.{line_code, line_name};
+ghost use Rattle.ods_header.specs.Refusals.{line_row};
 
 use crate::HeaderFault;
+use ods_base::{Coded, Row};
 use std::alloc::AllocError;
 use thiserror::Error;
 
@@ -18,32 +19,21 @@ pub enum LineFault {
     NoMemory,
 }
 
+impl Coded for LineFault {
+    fn row(&self) -> Row {
+        match self {
+            LineFault::Header(fault) => fault.row(),
+            LineFault::NoMemory => Row(49, "NoMemory"),
+        }
+    }
+
+    ghost row_of = { line_row };
+}
+
 impl From<AllocError> for LineFault {
     ghost from_gives = { λ _ e. e ≡ NoMemory };
 
     fn from(_error: AllocError) -> LineFault {
         LineFault::NoMemory
-    }
-}
-
-impl LineFault {
-    /// The refusal's number.
-    pub fn code(&self) -> u16
-        ensures { result ≡ line_code self.now }
-    {
-        match self {
-            LineFault::Header(fault) => fault.code(),
-            LineFault::NoMemory => 49,
-        }
-    }
-
-    /// The refusal's name.
-    pub fn name(&self) -> &'static str
-        ensures { result.now ≡ line_name self.now }
-    {
-        match self {
-            LineFault::Header(fault) => fault.name(),
-            LineFault::NoMemory => "NoMemory",
-        }
     }
 }

@@ -5,7 +5,7 @@ ghost use Rattle.std.specs.String.{string_bytes};
 ghost use Rattle.std.specs.List.{flat_map};
 ghost use Rattle.ods_header.specs.Header.{IsValidHeader, header_of};
 ghost use Rattle.ods_header.specs.Line.{line_block, IsLineFault};
-ghost use Rattle.ods_header.specs.Text.{header_text, name_part, owner_part, place_part, ident_text, run_text, octal as octal_text, octal_digits as octal_digits_text};
+ghost use Rattle.ods_header.specs.Text.{header_text, name_part, owner_part, segment_part, ident_text, run_text, octal as octal_text, octal_digits as octal_digits_text};
 
 use crate::{Header, HeaderFault, Home, LineFault, Run, read_header};
 use arrayvec::ArrayString;
@@ -26,7 +26,7 @@ pub fn header_line(
         × (string_bytes line ≡ header_text (header_of (line_block image.now home.now number)))) }
     ensures err { IfErr result (IsLineFault image.now home.now number) }
 {
-    let lbn = home.index_lbn as u64 + home.index_size as u64 + number as u64 - 1;
+    let lbn = home.index_bitmap_lbn as u64 + home.index_bitmap_size as u64 + number as u64 - 1;
     if lbn >= image.len() as u64 {
         return Err(LineFault::Header(HeaderFault::WrongNumber));
     }
@@ -43,7 +43,7 @@ fn text_of(alloc: Global, header: &Header) -> Result<String, AllocError>
     let mut line = String::new(alloc);
     push_name(&mut line, header)?;
     push_owner(&mut line, header)?;
-    push_place(&mut line, header)?;
+    push_segment(&mut line, header)?;
     push_runs(&mut line, header.pointers.as_slice())?;
     Ok(line)
 }
@@ -69,9 +69,9 @@ fn push_owner(line: &mut String, header: &Header) -> Result<(), AllocError>
     write!(line, " [{group},{member}] {protection} {user},{system}")
 }
 
-/// Appends the place in the chain and the next header.
-fn push_place(line: &mut String, header: &Header) -> Result<(), AllocError>
-    ensures { OnOk result (string_bytes line.new ≡ string_bytes line.old ++ place_part header.now) }
+/// Appends the segment and the next header.
+fn push_segment(line: &mut String, header: &Header) -> Result<(), AllocError>
+    ensures { OnOk result (string_bytes line.new ≡ string_bytes line.old ++ segment_part header.now) }
 {
     let segment = header.segment;
     let next = header.next;

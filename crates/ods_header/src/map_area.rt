@@ -1,10 +1,10 @@
-//! Headers that are looked at in place, with no copy of their fields.
-ghost use Rattle.std.specs.Prelude.{◌≡◌, ◌<◌, ◌≤◌, ◌↔◌, IsTrue, Some, length, slice_get};
-ghost use Rattle.ods_header.specs.Header.{IsLaidOut, IsValidHeader, IsRun, runs_of};
+//! The map area of a header, looked at in place: its segment, the next header of the chain, and the pointers.
+ghost use Rattle.std.specs.Prelude.{◌≡◌, ◌/◌, ◌<◌, ◌≤◌, ◌↔◌, IsTrue, Some, length, slice_get};
+ghost use Rattle.ods_header.specs.Header.{IsLaidOut, IsValidHeader, IsRun, map_word, segment_of, next_volume_of, next_number_of, next_sequence_of, used_words_of, most_words_of, room_of, runs_of};
 
 use crate::Run;
 use crate::read::{check, pointer};
-use ods_base::Block;
+use ods_base::{Block, word};
 
 /// Whether the block is a valid header of this number.
 pub fn is_valid_header(block: &Block, number: u16) -> bool
@@ -16,14 +16,59 @@ pub fn is_valid_header(block: &Block, number: u16) -> bool
     }
 }
 
+/// M.ESQN: the segment, which counts the headers of a chain from 0.
+pub fn segment(block: &Block) -> u8
+    ensures { result ≡ segment_of block.now }
+{
+    block.byte(2 * block.byte(1) as usize)
+}
+
+/// M.ERVN: the volume of the next header of the chain, 0 on a single volume.
+pub fn next_volume(block: &Block) -> u8
+    ensures { result ≡ next_volume_of block.now }
+{
+    block.byte(2 * block.byte(1) as usize + 1)
+}
+
+/// M.EFNU: the number of the next header of the chain, 0 for none.
+pub fn next_number(block: &Block) -> u16
+    requires { map_word block.now ≤ 250 }
+    ensures { result ≡ next_number_of block.now }
+{
+    word(block, block.byte(1) as usize + 1)
+}
+
+/// M.EFSQ: the sequence number of the next header of the chain.
+pub fn next_sequence(block: &Block) -> u16
+    requires { map_word block.now ≤ 250 }
+    ensures { result ≡ next_sequence_of block.now }
+{
+    word(block, block.byte(1) as usize + 2)
+}
+
+/// M.USE: the words of pointers in use.
+pub(crate) fn used_words(block: &Block) -> u8
+    requires { map_word block.now ≤ 250 }
+    ensures { result ≡ used_words_of block.now }
+{
+    block.byte(2 * block.byte(1) as usize + 8)
+}
+
+/// M.MAX: the words available for pointers.
+pub(crate) fn most_words(block: &Block) -> u8
+    requires { map_word block.now ≤ 250 }
+    ensures { result ≡ most_words_of block.now }
+{
+    block.byte(2 * block.byte(1) as usize + 9)
+}
+
 /// How many retrieval pointers a header has.
 pub fn pointer_count(block: &Block) -> usize
     requires { IsLaidOut block.now }
     ensures count { result ≡ length (runs_of block.now) }
     ensures few { result ≤ 102 }
 {
-    let map = block.byte(1) as usize;
-    block.byte(2 * map + 8) as usize / 2
+    used_words(block) as usize / 2
 }
 
 /// Retrieval pointer `k` of a header, counted from 0.
@@ -35,4 +80,15 @@ pub fn pointer_at(block: &Block, k: usize) -> Run
 {
     let _ = block.bytes();
     pointer(block, block.byte(1) as usize, k)
+}
+
+/// How many pointers have room behind those of a header.
+pub fn room(block: &Block) -> usize
+    requires { IsLaidOut block.now }
+    ensures { result ≡ room_of block.now / 2 }
+{
+    let map = 2 * block.byte(1) as usize;
+    let used = used_words(block) as usize;
+    let most = most_words(block) as usize;
+    (most.min((510 - (map + 10)) / 2) - used) / 2
 }

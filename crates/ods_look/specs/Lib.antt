@@ -1,3 +1,2 @@
-pub mod Checks
+pub mod Opening
 pub mod Blocks
-pub mod Entries

@@ -1,11 +1,11 @@
-//! The blocks of a directory on the volume, each found by its place in the file, with no list of them.
+//! The blocks of a directory on the volume, each found by its number in the file, with no list of them.
 ghost use Rattle.std.specs.Prelude.{◌≡◌, ◌≢◌, ◌≤◌, ℕ, List, length};
 ghost use Rattle.ods_space.specs.Layout.{header_at};
 ghost use Rattle.ods_space.specs.Files.{IsFile, HasBlocks};
 ghost use Rattle.ods_mount.specs.Faults.{contents_of};
 ghost use Rattle.ods_mount.specs.Sound.{IsSoundBy};
+ghost use Rattle.ods_space.specs.Chain.{chain_blocks};
 
-use crate::pointers::lbn_in_header;
 use ods_base::{Block, Image};
 use ods_directory::DirBlocks;
 use ods_space::{Layout, count_whole, locate_whole};
@@ -13,12 +13,12 @@ use std::marker::Model;
 
 /// The blocks of a file of a sound image, any but INDEXF.SYS. A contract sees the list of them.
 #[derive(Drop)]
-pub(crate) struct DirectoryBlocks<'a> {
+pub struct DirectoryBlocks<'a> {
     image: &'a Image,
     layout: &'a Layout,
     number: u16,
     count: u32,
-    /// The first header: most directories have their blocks in its pointers.
+    /// The first header.
     header: &'a Block,
 }
 
@@ -28,6 +28,7 @@ impl<'a> Model for DirectoryBlocks<'a> {
     ghost use Rattle.ods_space.specs.Files.{HasBlocks};
     ghost use Rattle.ods_mount.specs.Faults.{contents_of};
     ghost use Rattle.ods_mount.specs.Sound.{IsSoundBy};
+    ghost use Rattle.ods_space.specs.Chain.{chain_blocks};
     ghost use Rattle.ods_look.specs.Blocks.{blocks_in_order};
 
     ghost Value = { List (List ℕ) };
@@ -37,14 +38,14 @@ impl<'a> Model for DirectoryBlocks<'a> {
     ghost invariant = { λ d. IsSoundBy d.image.now d.layout.now
         × HasBlocks d.image.now d.layout.now d.number (blocks_in_order d.image.now d.layout.now d.number)
         × (d.count ≡ length (blocks_in_order d.image.now d.layout.now d.number))
-        × (length (blocks_in_order d.image.now d.layout.now d.number) ≤ 6684672)
+        × (length (blocks_in_order d.image.now d.layout.now d.number) ≤ chain_blocks)
         × (d.header.now ≡ header_at d.image.now d.layout.now d.number)
         × (d.number ≢ 1) };
 }
 
 impl<'a> DirectoryBlocks<'a> {
     /// The blocks of the file with this first header.
-    pub fn of(
+    pub(crate) fn of(
         image: &'a Image,
         layout: &'a Layout,
         number: u16,
@@ -55,7 +56,7 @@ impl<'a> DirectoryBlocks<'a> {
         requires other { number ≢ 1 }
         requires header { header.now ≡ header_at image.now layout.now number }
         ensures contents { (held : List ℕ) → HasBlocks image.now layout.now number held → result ≡ contents_of image.now held }
-        ensures few { length result ≤ 6684672 }
+        ensures few { length result ≤ chain_blocks }
     {
         // An image has few blocks, and so has a chain.
         let _ = image.len();
@@ -78,9 +79,6 @@ impl DirBlocks for DirectoryBlocks<'_> {
     }
 
     fn block(&self, i: u32) -> &Block {
-        if let Some(lbn) = lbn_in_header(self.header, i) {
-            return self.image.block(lbn);
-        }
         let lbn = locate_whole(self.image, self.layout, self.number, self.header, i + 1).unwrap();
         self.image.block(lbn)
     }

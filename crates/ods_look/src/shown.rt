@@ -11,11 +11,10 @@ ghost use Rattle.ods_request.specs.Steps.{kind_of};
 ghost use Rattle.ods_state.specs.Contents.{body_of};
 ghost use Rattle.ods_state.specs.Change.{IsAnsweredBy, IsFaultBy};
 
-use crate::checks::named_header;
-use crate::directory::names_of;
-use crate::facts::{attributes, ident, is_directory, owner};
-use ods_base::{Block, FileId, Image, word};
+use crate::opening::{directory_at, named_header};
+use ods_base::{Block, FileId, Image};
 use ods_directory::name_count;
+use ods_header::{attributes, ident, is_directory, owner, protection, system_char, user_char};
 use ods_request::{Kind, Refusal, Stat};
 use ods_space::{Layout, count_whole};
 
@@ -32,9 +31,9 @@ pub fn stat(image: &Image, layout: &Layout, file: FileId) -> Result<Stat, Refusa
         file,
         ident: ident(block),
         owner: owner(block),
-        protection: word(block, 5),
-        user_char: block.byte(12),
-        system_char: block.byte(13),
+        protection: protection(block),
+        user_char: user_char(block),
+        system_char: system_char(block),
         kind: kind(image, layout, file.number, block),
     })
 }
@@ -50,9 +49,9 @@ fn kind(image: &Image, layout: &Layout, number: u16, block: &Block) -> Kind
         return Kind::System;
     }
     if is_directory(number, block) {
-        let (blocks, mark) = names_of(image, layout, number, block);
+        let directory = directory_at(image, layout, number, block);
         return Kind::Directory {
-            names: name_count(&blocks, mark) as u32,
+            names: name_count(&directory.blocks, directory.mark) as u32,
         };
     }
     Kind::Plain {

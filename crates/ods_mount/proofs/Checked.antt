@@ -66,7 +66,7 @@ module _ (I : List (List ℕ)) (L : VolumeLayout) (c : IsChecked I L) where
   pub sound_by : IsSoundBy I L
   sound_by = record {
     layout = c.layout;
-    index_size = c.index.size;
+    index_bitmap_size = c.index.size;
     index_place = c.index.place;
     home_block = home_block;
     home_stays = home_stays;

@@ -25,5 +25,5 @@ second_of true b both = both
 second_of false b both = absurd (let clash : false ≡ true = both in cc)
 
 -- a number in use lies within the index bitmap
-pub number_in_bitmap : (I : List (List ℕ)) (h : Home) (n : ℕ) → IsTrue (is_in_use I h n) → n ≤ 4096 * h.index_size
-number_in_bitmap I h n used = leb-true n (4096 * h.index_size) (first_of _ _ (second_of (nat_lt 0 n) _ used))
+pub number_in_bitmap : (I : List (List ℕ)) (h : Home) (n : ℕ) → IsTrue (is_in_use I h n) → n ≤ 4096 * h.index_bitmap_size
+number_in_bitmap I h n used = leb-true n (4096 * h.index_bitmap_size) (first_of _ _ (second_of (nat_lt 0 n) _ used))

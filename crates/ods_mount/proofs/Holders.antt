@@ -33,22 +33,22 @@ holder_some I L n v b held = held.file.file.first
 -- a block that the table has already is held twice
 pub held_twice : (I : List (List ℕ)) (L : VolumeLayout) (n : ℕ) (blocks set : List ℕ) (lbn : ℕ) → HasBlocks I L n blocks → IsTable (Holds I L) n set → IsThere set blocks lbn → IsHeldTwice I L n lbn
 held_twice I L n blocks set lbn has t found =
-    let i = found.place in
+    let i = found.index in
     let own = holds_at I L n blocks i lbn has found.named in
     elim found.there [
       | inl before ↦
           let o = t.only lbn before in
-          record { place = i + 1; own = own; owner = o.0; other = o.1; held = o.3; before = inl o.2 }
+          record { vbn = i + 1; own = own; owner = o.0; other = o.1; held = o.3; before = inl o.2 }
       | inr (j, low, at) ↦
           let apart : i + 1 ≢ j + 1 = λ e. omega arith in
-          record { place = i + 1; own = own; owner = n; other = j + 1; held = holds_at I L n blocks j lbn has at; before = inr (refl, apart) }
+          record { vbn = i + 1; own = own; owner = n; other = j + 1; held = holds_at I L n blocks j lbn has at; before = inr (refl, apart) }
     ]
 
 -- the fault with a file before it
 pub double_with : (I : List (List ℕ)) (L : VolumeLayout) (n lbn m v : ℕ) → IsHeldTwice I L n lbn → m < n → Holds I L m v lbn → IsTrueOf I L (DoublyUsed m n lbn)
 double_with I L n lbn m v twice low held =
     let apart : m ≢ n = λ e. omega arith in
-    (v, twice.place, held, twice.own, inl apart)
+    (v, twice.vbn, held, twice.own, inl apart)
 
 -- no file before it has the block, so it has it twice itself
 pub double_own : (I : List (List ℕ)) (L : VolumeLayout) (n lbn : ℕ) → IsHeldTwice I L n lbn → ((m v : ℕ) → m < n → ¬ Holds I L m v lbn) → IsTrueOf I L (DoublyUsed n n lbn)
@@ -56,7 +56,7 @@ double_own I L n lbn twice none = elim twice.before [
   | inl low ↦ absurd (none twice.owner twice.other low twice.held)
   | inr (same, apart) ↦
       let P : ℕ → Type 0 = λ x. Holds I L x twice.other lbn in
-      (twice.place, twice.other, twice.own, subst P same twice.held, inr apart)
+      (twice.vbn, twice.other, twice.own, subst P same twice.held, inr apart)
 ]
 
 -- with the blocks of file n the table is that of one file more

@@ -4,7 +4,6 @@ pub mod Each
 pub mod Headers
 pub mod Holders
 pub mod Layouts
-pub mod Linked
 pub mod Naming
 pub mod Passing
 pub mod Sets

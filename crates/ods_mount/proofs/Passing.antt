@@ -1,24 +1,22 @@
 -- The blocks of a file, one by one, as its headers and their pointers name them.
-use Rattle.std.proofs.Common.{◌≡◌, ℕ, ◌+◌, ◌-◌, ◌<◌, true, false, List, [], ◌∷◌, ◌++◌, length, take, slice_get, Some, sym, ap, ◌∙◌, subst, arith}
-use Rattle.std.specs.List.{flat_map}
-use Rattle.std.proofs.lemmas.List.{take_more, flat_map_more}
-use Rattle.std.proofs.lemmas.Option.{slice_get_within, get_or_from_slice_get}
+use Rattle.std.proofs.Common.{◌≡◌, ℕ, ◌+◌, ◌-◌, ◌<◌, ◌≤◌, true, false, List, [], ◌∷◌, ◌++◌, length, slice_get, Some, refl, sym, ap, ◌∙◌, subst, arith}
+use Rattle.std.proofs.lemmas.List.{append-nil, append_assoc, length-append}
+use Rattle.ods_base.specs.Image.{IsImage}
 use Rattle.ods_header.specs.declared.header.Run.{Run}
 use Rattle.ods_header.specs.Header.{run_blocks, runs_of, blocks_of}
 use Rattle.ods_header.specs.Home.{IsHomePlace}
-use Rattle.ods_space.specs.Layout.{VolumeLayout, header_at}
+use Rattle.ods_space.specs.Layout.{VolumeLayout}
+use Rattle.ods_space.specs.Chain.{chain_blocks, headers_of, named_by}
 use Rattle.ods_space.specs.Files.{HasBlocks, Holds, IsLayoutOf}
 use Rattle.ods_space.specs.Free.{is_free_block}
+use Rattle.ods_space.proofs.Onward.{named_all, named_few}
 use Rattle.ods_space.proofs.Parts.{block_of_run, contains_at, part_at, split_at}
 use Rattle.ods_space.proofs.Surveys.{first_blocks}
 use Rattle.ods_mount.specs.Tables.{has, IsWith, IsNoted, IsTable}
-use Rattle.ods_mount.specs.Links.{Links, named_by}
 use Rattle.ods_mount.specs.Checks.{HoldsFrom, IsPassed, IsFixed, IsHeldTwice, NoneIsFree, NoneIsPlace}
 use Rattle.ods_mount.proofs.Each.{each_next, each_of, holds_at, held_at}
 use Rattle.ods_mount.proofs.Layouts.{same_blocks}
 use Rattle.ods_mount.proofs.Sets.{noted_first, noted_more, noted_there}
-use Rattle.ods_mount.proofs.Linked.{chain_of}
-use Rattle.ods_mount.proofs.Sharing.{same_links}
 use Rattle.ods_mount.proofs.Soundness.{all_at}
 use Rattle.ods_mount.proofs.Holders.{held_twice, table_held}
 
@@ -42,30 +40,42 @@ holds_all I L n blocks has j b at =
     let P : ℕ → Type 0 = λ v. Holds I L n v b in
     subst P e (holds_at I L n blocks j b has at)
 
--- the headers of a file's chain name all its blocks
-pub named_all : (I : List (List ℕ)) (L : VolumeLayout) (n : ℕ) (ns blocks : List ℕ) → IsLayoutOf I L → Links I L 0 n ns → HasBlocks I L n blocks → blocks ≡ named_by I L ns
-named_all I L n ns blocks layout links has =
-    let chain = chain_of I L n has.others blocks layout has.whole.chain in
-    chain.1 ∙ ap (named_by I L) (sym (same_links I L 0 n ns (n ∷ has.others) links chain.0))
-
 -- block j of a run
 pub holds_run : (I : List (List ℕ)) (L : VolumeLayout) (n first : ℕ) (r : Run) (j : ℕ) → HoldsFrom I L n first (run_blocks r) → j < r.count → Holds I L n (first + j + 1) (r.lbn + j)
 holds_run I L n first r j all within = all j (r.lbn + j) (block_of_run r j within)
 
--- what one header more names
-pub named_more : (I : List (List ℕ)) (L : VolumeLayout) (ns : List ℕ) (i x : ℕ) → slice_get ns i ≡ Some x → named_by I L (take (i + 1) ns) ≡ named_by I L (take i ns) ++ blocks_of (header_at I L x)
-named_more I L ns i x at =
-    let within = slice_get_within ns i x at in
-    let f : ℕ → List ℕ = λ m. blocks_of (header_at I L m) in
-    ap (flat_map f) (take_more ns i x within ∙ ap (λ y. take i ns ++ y ∷ []) (get_or_from_slice_get ns i x x at)) ∙ sym (flat_map_more f [] (take i ns) x)
+-- All headers of file n but these, which are still to come, name the first so many blocks.
+pub record IsAlong (I : List (List ℕ)) (L : VolumeLayout) (n first : ℕ) (rest : List (ℕ × List ℕ)) : Type 0 where
+  pub front : List ℕ
+  pub parts : named_by (headers_of I L n) ≡ front ++ named_by rest
+  pub size : first ≡ length front
 
--- what the headers of a chain name, from its header i on
-pub names_at : (I : List (List ℕ)) (L : VolumeLayout) (n i x first : ℕ) (ns blocks : List ℕ) → IsLayoutOf I L → Links I L 0 n ns → HasBlocks I L n blocks → slice_get ns i ≡ Some x
-    → first ≡ length (named_by I L (take i ns)) → HoldsFrom I L n first (blocks_of (header_at I L x))
-names_at I L n i x first ns blocks layout links has at place =
-    let all = named_all I L n ns blocks layout links has in
-    let parts = split_at (λ m. blocks_of (header_at I L m)) ns i x at in
-    holds_part I L n 0 first blocks (named_by I L (take i ns)) (blocks_of (header_at I L x)) parts.0 (all ∙ parts.1) (omega arith) (holds_all I L n blocks has)
+pub along_first : (I : List (List ℕ)) (L : VolumeLayout) (n : ℕ) (rest : List (ℕ × List ℕ)) → rest ≡ headers_of I L n → IsAlong I L n 0 rest
+along_first I L n rest same = record { front = []; parts = ap named_by (sym same); size = refl }
+
+module _ (I : List (List ℕ)) (L : VolumeLayout) (n first : ℕ) (old : List (ℕ × List ℕ)) (w : IsAlong I L n first old) where
+  -- one header more
+  pub along_next : (h : ℕ × List ℕ) (rest : List (ℕ × List ℕ)) (next : ℕ) → old ≡ h ∷ rest → next ≡ first + length (blocks_of h.1) → IsAlong I L n next rest
+  along_next h rest next is more = record {
+    front = w.front ++ blocks_of h.1;
+    parts = w.parts ∙ ap (λ hs. w.front ++ named_by hs) is ∙ sym (append_assoc w.front (blocks_of h.1) (named_by rest));
+    size = let s = length-append w.front (blocks_of h.1) in let before = w.size in omega arith;
+  }
+
+  module _ (blocks : List ℕ) (image : IsImage I) (layout : IsLayoutOf I L) (has : HasBlocks I L n blocks) where
+    -- what the next header names
+    pub along_names : (h : ℕ × List ℕ) (rest : List (ℕ × List ℕ)) → old ≡ h ∷ rest → HoldsFrom I L n first (blocks_of h.1)
+    along_names h rest is =
+        let size = w.size in
+        holds_part I L n 0 first blocks w.front (blocks_of h.1) (named_by rest) (named_all I L n blocks image layout has ∙ w.parts ∙ ap (λ hs. w.front ++ named_by hs) is) (omega arith)
+        (holds_all I L n blocks has)
+
+    pub along_few : first ≤ chain_blocks
+    along_few = omega (arith, w.size, ap length w.parts, length-append w.front (named_by old), named_few I L n blocks image layout has)
+
+    -- all blocks are named
+    pub along_all : old ≡ [] → length blocks ≡ first
+    along_all none = ap length (named_all I L n blocks image layout has ∙ w.parts ∙ ap (λ hs. w.front ++ named_by hs) none ∙ append-nil w.front) ∙ sym w.size
 
 -- what header k of a chain names, from its pointer i on
 pub names_run : (I : List (List ℕ)) (L : VolumeLayout) (n first next : ℕ) (b : List ℕ) (i : ℕ) (r : Run) → slice_get (runs_of b) i ≡ Some r → next ≡ first + length (first_blocks b i) → HoldsFrom I L n first (blocks_of b) → HoldsFrom I L n next (run_blocks r)

@@ -103,4 +103,4 @@ module _ (start xs : List ℕ) (i b : ℕ) (old new : List ℕ) (t : IsNoted sta
 
 -- a number that is there already
 pub noted_there : (start old xs : List ℕ) (i b : ℕ) → IsNoted start old xs i → slice_get xs i ≡ Some b → has old b ≡ true → IsThere start xs b
-noted_there start old xs i b t at member = record { place = i; named = at; there = t.only b member }
+noted_there start old xs i b t at member = record { index = i; named = at; there = t.only b member }

@@ -24,7 +24,7 @@ good_at : (es : List Entry) (i : ℕ) (e : Entry) → All IsGoodEntry es → sli
 good_at es i e each found = subst IsGoodEntry (get_or_from_slice_get es i e e found) (each i e (slice_get_within es i e found))
 
 no_bad_index : (I : List (List ℕ)) (L : VolumeLayout) → IsSoundBy I L → HasBadIndex I L → ⊥
-no_bad_index I L s (inl few) = let size = s.index_size in absurd (omega arith)
+no_bad_index I L s (inl few) = let size = s.index_bitmap_size in absurd (omega arith)
 no_bad_index I L s (inr (inl (i, below, other))) = other (s.index_place i below)
 no_bad_index I L s (inr (inr (inl (lbn, at, first, second)))) = elim (s.home_block lbn at) [ inl e ↦ first e | inr e ↦ second e ]
 no_bad_index I L s (inr (inr (inr (lbn, k, at, place, below, written)))) = s.home_stays lbn k at place below written

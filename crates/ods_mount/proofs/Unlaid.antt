@@ -53,11 +53,11 @@ module _ (I : List (List ℕ)) (h : Home) (home : IsHomeOf I h) where
       elim (cases_lt 0 (last_number L)) [
         | inl some ↦ absurd (none (record { first = omega arith; last = some; in_use = header.0; valid = header.1; segment = header.2 }))
         | inr zero ↦
-            let size = home.1.home.index_size in
+            let size = home.1.home.index_bitmap_size in
             let files = home.1.home.max_files in
-            let same_size = ap (λ g. g.index_size) home.2 in
+            let same_size = ap (λ g. g.index_bitmap_size) home.2 in
             let same_files = ap (λ g. g.max_files) home.2 in
-            let few : length index < h.index_size + 18 = omega arith in
+            let few : length index < h.index_bitmap_size + 18 = omega arith in
             inr (L, seen_without index found (λ blocks has. (let last = has.file.last in omega arith)), inl few)
       ]
 

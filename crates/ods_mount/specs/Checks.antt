@@ -30,15 +30,15 @@ IsFault I L fault = fault ≢ NoMemory → IsTrueOf I L fault
 
 -- INDEXF.SYS maps the index bitmap and headers 1 to 16 from VBN 3 on, and the home block, which is at this LBN, as VBN 1 or 2.
 pub record IsWellIndexed (L : VolumeLayout) (home : ℕ) : Type 0 where
-  pub size : L.home.index_size + 18 ≤ length L.index
-  pub place : (i : ℕ) → i < L.home.index_size + 16 → slice_get L.index (2 + i) ≡ Some (L.home.index_lbn + i)
+  pub size : L.home.index_bitmap_size + 18 ≤ length L.index
+  pub place : (i : ℕ) → i < L.home.index_bitmap_size + 16 → slice_get L.index (2 + i) ≡ Some (L.home.index_bitmap_lbn + i)
   pub home_block : (slice_get L.index 0 ≡ Some home) ⊎ (slice_get L.index 1 ≡ Some home)
 
 -- INDEXF.SYS maps too little, or not the index bitmap and headers 1 to 16 from VBN 3 on, or not the home block, which is at this LBN, as VBN 1 or 2
 abbrev pub IsBadlyIndexed : VolumeLayout → ℕ → Type 0
 IsBadlyIndexed L home =
-    (length L.index < L.home.index_size + 18)
-    ⊎ ((i : ℕ) × (i < L.home.index_size + 16) × (slice_get L.index (2 + i) ≢ Some (L.home.index_lbn + i)))
+    (length L.index < L.home.index_bitmap_size + 18)
+    ⊎ ((i : ℕ) × (i < L.home.index_bitmap_size + 16) × (slice_get L.index (2 + i) ≢ Some (L.home.index_bitmap_lbn + i)))
     ⊎ ((slice_get L.index 0 ≢ Some home) × (slice_get L.index 1 ≢ Some home))
 
 -- no place of a home block below this LBN is free
@@ -83,22 +83,22 @@ pub record IsCheckedFile (I : List (List ℕ)) (L : VolumeLayout) (home n : ℕ)
   pub no_place : NoneIsPlace home n blocks
   pub directory : IsDirectoryFile I L n → IsDirectory (contents_of I blocks) (mark_at I L n blocks)
 
--- File n has header x at this place of its chain, counted from 0.
-pub record HasHeader (I : List (List ℕ)) (L : VolumeLayout) (n place x : ℕ) : Type 0 where
+-- File n has header x as this segment of its chain, counted from 0.
+pub record HasHeader (I : List (List ℕ)) (L : VolumeLayout) (n segment x : ℕ) : Type 0 where
   pub file : IsFile I L n
   pub others : List ℕ
   pub blocks : List ℕ
   pub chain : IsChain I L n others blocks
-  pub named : slice_get (n ∷ others) place ≡ Some x
+  pub named : slice_get (n ∷ others) segment ≡ Some x
 
 -- File n holds this block, and a file before n holds it, or n itself as another of its blocks.
 pub record IsHeldTwice (I : List (List ℕ)) (L : VolumeLayout) (n lbn : ℕ) : Type 0 where
-  pub place : ℕ
-  pub own : Holds I L n place lbn
+  pub vbn : ℕ
+  pub own : Holds I L n vbn lbn
   pub owner : ℕ
   pub other : ℕ
   pub held : Holds I L owner other lbn
-  pub before : (owner < n) ⊎ ((owner ≡ n) × (place ≢ other))
+  pub before : (owner < n) ⊎ ((owner ≡ n) × (vbn ≢ other))
 
 -- what all checks together find
 pub record IsChecked (I : List (List ℕ)) (L : VolumeLayout) : Type 0 where

@@ -2,5 +2,4 @@ pub mod Faults
 pub mod Sound
 pub mod Checks
 pub mod Tables
-pub mod Links
 pub mod Refusals

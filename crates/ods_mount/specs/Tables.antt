@@ -20,11 +20,11 @@ pub record IsNoted (old new : List ℕ) (xs : List ℕ) (i : ℕ) : Type 0 where
 
 -- the number is one of these, and it is in the set, or among those before it
 pub record IsThere (old : List ℕ) (xs : List ℕ) (number : ℕ) : Type 0 where
-  pub place : ℕ
-  pub named : slice_get xs place ≡ Some number
-  pub there : (has old number ≡ true) ⊎ ((j : ℕ) × (j < place) × (slice_get xs j ≡ Some number))
+  pub index : ℕ
+  pub named : slice_get xs index ≡ Some number
+  pub there : (has old number ≡ true) ⊎ ((j : ℕ) × (j < index) × (slice_get xs j ≡ Some number))
 
--- The set is what the files below n have, each thing once. `Has m v b` says that file m has b at place v.
+-- The set is what the files below n have, each thing once. `Has m v b` says that file m has b as its number v.
 pub record IsTable (Has : ℕ → ℕ → ℕ → Type 0) (n : ℕ) (set : List ℕ) : Type 0 where
   pub all : (m v b : ℕ) → m < n → Has m v b → has set b ≡ true
   pub only : (b : ℕ) → has set b ≡ true → (m : ℕ) × (v : ℕ) × (m < n) × Has m v b

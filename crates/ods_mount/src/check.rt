@@ -34,24 +34,29 @@ fn check_image(alloc: Global, image: &Image) -> Result<Layout, MountFault>
     ensures ok { IfOk result (IsChecked image.now) }
     ensures err { IfErr result (λ e. e ≢ MountFault.NoMemory → FaultIsTrue image.now e) }
 {
-    let (home, layout) = match read_layout(alloc, image) {
+    let (home_lbn, layout) = match read_layout(alloc, image) {
         Ok(found) => found,
         Err(fault) => return Err(fault),
     };
-    match check_volume(alloc, image, &layout, home) {
+    match check_volume(alloc, image, &layout, home_lbn) {
         Ok(()) => Ok(layout),
         Err(fault) => Err(fault),
     }
 }
 
 /// Each check of an image that has this layout, and its home block at the LBN `home`.
-fn check_volume(alloc: Global, image: &Image, layout: &Layout, home: u32) -> Result<(), MountFault>
+fn check_volume(
+    alloc: Global,
+    image: &Image,
+    layout: &Layout,
+    home_lbn: u32,
+) -> Result<(), MountFault>
     requires layout { IsLayoutOf image.now layout.now }
-    requires home { IsHomeAt image.now home }
+    requires home { IsHomeAt image.now home_lbn }
     ensures ok { OnOk result (IsChecked image.now layout.now) }
     ensures err { IfErr result (IsFault image.now layout.now) }
 {
-    if let Err(fault) = check_index(image, layout, home) {
+    if let Err(fault) = check_index(image, layout, home_lbn) {
         return Err(fault);
     }
     if let Err(fault) = check_system_files(image, layout) {
@@ -60,5 +65,5 @@ fn check_volume(alloc: Global, image: &Image, layout: &Layout, home: u32) -> Res
     if let Err(fault) = check_formats(image, layout) {
         return Err(fault);
     }
-    check_files(alloc, image, layout, home)
+    check_files(alloc, image, layout, home_lbn)
 }

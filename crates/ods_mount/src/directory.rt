@@ -9,15 +9,12 @@ ghost use Rattle.ods_mount.specs.Checks.{IsFault};
 
 use crate::MountFault;
 use crate::blocks::FileBlocks;
-use crate::header::header_block;
 use crate::layout::chain_fault;
-use ods_base::{Image, word};
+use ods_base::Image;
 use ods_directory::{DirBlocks, Verdict, check, mark_of};
-use ods_space::{Layout, chain};
+use ods_header::is_directory;
+use ods_space::{Layout, chain, header_block};
 use std::alloc::Global;
-
-/// The type DIR.
-const DIRECTORY: u16 = 6778;
 
 /// Where this file is a directory, its used entries are good and distinct. `attributes` are those of its header.
 pub(crate) fn check_directory(
@@ -34,7 +31,7 @@ pub(crate) fn check_directory(
         → IsDirectory (contents_of image.now blocks) (mark_at image.now layout.now number blocks)) }
     ensures err { IfErr result (IsFault image.now layout.now) }
 {
-    if !is_directory(image, layout, number) {
+    if !is_directory_file(image, layout, number) {
         return Ok(());
     }
     // An image has few blocks, and so has a chain.
@@ -72,14 +69,12 @@ fn file_blocks(
 }
 
 /// Whether this file is a directory: file 4, or one above 5 whose ident has the type DIR.
-fn is_directory(image: &Image, layout: &Layout, number: u16) -> bool
+fn is_directory_file(image: &Image, layout: &Layout, number: u16) -> bool
     requires { IsFile image.now layout.now number }
     ensures { MatchBool result (IsDirectoryFile image.now layout.now number) (¬ IsDirectoryFile image.now layout.now number) }
 {
     match header_block(image, layout, number) {
-        Some(block) => {
-            number == 4 || (5 < number && word(block, block.byte(0) as usize + 3) == DIRECTORY)
-        }
+        Some(block) => is_directory(number, block),
         None => false,
     }
 }

@@ -6,9 +6,9 @@ ghost use Rattle.ods_mount.specs.Checks.{IsFault, IsCheckedFile, HasHeader};
 ghost use Rattle.ods_mount.specs.Tables.{IsTable};
 
 use crate::MountFault;
-use crate::apart::{check_apart, header_numbers};
+use crate::apart::check_apart;
 use crate::directory::check_directory;
-use crate::held::check_blocks;
+use crate::file_blocks::check_blocks;
 use crate::layout::chain_fault;
 use crate::set::NumberSet;
 use ods_base::Image;
@@ -35,18 +35,18 @@ fn check_file(
     alloc: Global,
     image: &Image,
     layout: &Layout,
-    home: u32,
+    home_lbn: u32,
     number: u16,
     named: &mut NumberSet,
     held: &mut NumberSet,
 ) -> Result<(), MountFault>
     requires layout { IsLayoutOf image.now layout.now }
-    requires home { IsHomeAt image.now home }
+    requires home { IsHomeAt image.now home_lbn }
     requires numbers { 65536 ≤ 64 * length named.old }
     requires named { IsTable (HasHeader image.now layout.now) number named.old }
     requires room { length image.now ≤ 64 * length held.old }
     requires table { IsTable (Holds image.now layout.now) number held.old }
-    ensures file { OnOk result (IsFile image.now layout.now number → IsCheckedFile image.now layout.now home number) }
+    ensures file { OnOk result (IsFile image.now layout.now number → IsCheckedFile image.now layout.now home_lbn number) }
     ensures named { OnOk result (IsTable (HasHeader image.now layout.now) (number + 1) named.new) }
     ensures table { OnOk result (IsTable (Holds image.now layout.now) (number + 1) held.new) }
     ensures err { IfErr result (IsFault image.now layout.now) }
@@ -59,13 +59,10 @@ fn check_file(
     if let Err(fault) = check_whole(image, layout, number) {
         return Err(fault);
     }
-    let Ok(numbers) = header_numbers(alloc, image, layout, number) else {
-        return Err(MountFault::NoMemory);
-    };
-    if let Err(fault) = check_apart(image, layout, number, &numbers, named) {
+    if let Err(fault) = check_apart(image, layout, number, named) {
         return Err(fault);
     }
-    if let Err(fault) = check_blocks(image, layout, home, number, &numbers, held) {
+    if let Err(fault) = check_blocks(image, layout, home_lbn, number, held) {
         return Err(fault);
     }
     if let Err(fault) = check_directory(alloc, image, layout, number, &header.attributes) {
@@ -79,11 +76,11 @@ pub(crate) fn check_files(
     alloc: Global,
     image: &Image,
     layout: &Layout,
-    home: u32,
+    home_lbn: u32,
 ) -> Result<(), MountFault>
     requires layout { IsLayoutOf image.now layout.now }
-    requires home { IsHomeAt image.now home }
-    ensures files { OnOk result ((n : ℕ) → IsFile image.now layout.now n → IsCheckedFile image.now layout.now home n) }
+    requires home { IsHomeAt image.now home_lbn }
+    ensures files { OnOk result ((n : ℕ) → IsFile image.now layout.now n → IsCheckedFile image.now layout.now home_lbn n) }
     ensures apart { OnOk result ((m n v w x : ℕ) → HasHeader image.now layout.now m v x → HasHeader image.now layout.now n w x → m ≡ n) }
     ensures once { OnOk result ((m n v w b : ℕ) → Holds image.now layout.now m v b → Holds image.now layout.now n w b → (m ≡ n) × (v ≡ w)) }
     ensures err { IfErr result (IsFault image.now layout.now) }
@@ -100,7 +97,7 @@ pub(crate) fn check_files(
             alloc,
             image,
             layout,
-            home,
+            home_lbn,
             number as u16,
             &mut named,
             &mut held,

@@ -8,7 +8,7 @@ ghost use Rattle.ods_mount.specs.Checks.{AreFormat1};
 use crate::MountFault;
 use ods_base::Image;
 use ods_header::{HeaderFault, read_header};
-use ods_space::{Layout, in_use};
+use ods_space::{Layout, header_block, in_use};
 
 /// No header in use is left aside for the format of its pointers alone, also where its number is above H.FMAX.
 pub(crate) fn check_formats(image: &Image, layout: &Layout) -> Result<(), MountFault>
@@ -17,7 +17,7 @@ pub(crate) fn check_formats(image: &Image, layout: &Layout) -> Result<(), MountF
 {
     // The blocks of an image have bytes, so no header has a greater number than a word.
     let _ = image.len();
-    let last = (4096 * layout.home().index_size as u32).min(65535);
+    let last = (4096 * layout.home().index_bitmap_size as u32).min(65535);
     for k in 0..last {
         let number = (k + 1) as u16;
         if in_use(image, layout, number) && has_other_format(image, layout, number) {
@@ -33,13 +33,10 @@ fn has_other_format(image: &Image, layout: &Layout, number: u16) -> bool
         (IsHeader (header_at image.now layout.now number) number × ¬ IsFormat1 (header_at image.now layout.now number))
         (IsHeader (header_at image.now layout.now number) number → IsFormat1 (header_at image.now layout.now number)) }
 {
-    let Some(lbn) = layout.place(number) else {
+    let Some(block) = header_block(image, layout, number) else {
         return false;
     };
-    if image.len() <= lbn {
-        return false;
-    }
-    match read_header(image.block(lbn), number) {
+    match read_header(block, number) {
         Ok(_) => false,
         Err(fault) => fault == HeaderFault::UnsupportedMap,
     }

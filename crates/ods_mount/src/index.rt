@@ -10,28 +10,28 @@ use ods_base::Image;
 use ods_space::Layout;
 
 /// INDEXF.SYS maps what headers are found by and the home block, and no lower place of a home block is free.
-pub(crate) fn check_index(image: &Image, layout: &Layout, home: u32) -> Result<(), MountFault>
-    requires { IsHomeAt image.now home }
-    ensures ok { OnOk result (IsWellIndexed layout.now home × NoPlaceIsFree image.now layout.now home) }
+pub(crate) fn check_index(image: &Image, layout: &Layout, home_lbn: u32) -> Result<(), MountFault>
+    requires { IsHomeAt image.now home_lbn }
+    ensures ok { OnOk result (IsWellIndexed layout.now home_lbn × NoPlaceIsFree image.now layout.now home_lbn) }
     ensures err { IfErr result (IsTrueOf image.now layout.now) }
 {
-    if !is_well_indexed(layout, home) {
+    if !is_well_indexed(layout, home_lbn) {
         return Err(MountFault::BadIndex);
     }
-    check_free_places(image, layout, home)
+    check_free_places(image, layout, home_lbn)
 }
 
 /// Whether INDEXF.SYS maps the index bitmap and headers 1 to 16 from VBN 3 on, and the home block as VBN 1 or 2.
-fn is_well_indexed(layout: &Layout, home: u32) -> bool
-    ensures { MatchBool result (IsWellIndexed layout.now home) (IsBadlyIndexed layout.now home) }
+fn is_well_indexed(layout: &Layout, home_lbn: u32) -> bool
+    ensures { MatchBool result (IsWellIndexed layout.now home_lbn) (IsBadlyIndexed layout.now home_lbn) }
 {
     let index = layout.index();
-    let first = layout.home().index_lbn as u64;
-    let size = layout.home().index_size as usize;
+    let first = layout.home().index_bitmap_lbn as u64;
+    let size = layout.home().index_bitmap_size as usize;
     if index.len() < size + 18 {
         return false;
     }
-    if !is_at(index, 0, home as u64) && !is_at(index, 1, home as u64) {
+    if !is_at(index, 0, home_lbn as u64) && !is_at(index, 1, home_lbn as u64) {
         return false;
     }
     for i in 0..size + 16 {
@@ -43,10 +43,10 @@ fn is_well_indexed(layout: &Layout, home: u32) -> bool
 }
 
 /// Whether INDEXF.SYS maps this LBN as this block, counted from 0.
-fn is_at(index: &[u32], place: usize, lbn: u64) -> bool
-    ensures { MatchBool result (slice_get index.now place ≡ Some lbn) (slice_get index.now place ≢ Some lbn) }
+fn is_at(index: &[u32], at: usize, lbn: u64) -> bool
+    ensures { MatchBool result (slice_get index.now at ≡ Some lbn) (slice_get index.now at ≢ Some lbn) }
 {
-    match index.get(place) {
+    match index.get(at) {
         Some(mapped) => *mapped as u64 == lbn,
         None => false,
     }

@@ -7,13 +7,12 @@ mod check;
 mod directory;
 mod fault;
 mod file;
+mod file_blocks;
 mod formats;
-mod header;
-mod held;
+mod held_twice;
 mod index;
 mod layout;
 mod mounted;
-mod once;
 mod places;
 mod set;
 mod system;
@@ -21,6 +20,3 @@ mod system;
 pub use check::mount;
 pub use fault::MountFault;
 pub use mounted::Mounted;
-
-#[cfg(test)]
-mod tests;

@@ -17,12 +17,16 @@ fn is_home_place(lbn: u32) -> bool
 }
 
 /// No place of a home block below this one is free.
-pub(crate) fn check_free_places(image: &Image, layout: &Layout, home: u32) -> Result<(), MountFault>
-    requires { IsHomeAt image.now home }
-    ensures ok { OnOk result (NoPlaceIsFree image.now layout.now home) }
+pub(crate) fn check_free_places(
+    image: &Image,
+    layout: &Layout,
+    home_lbn: u32,
+) -> Result<(), MountFault>
+    requires { IsHomeAt image.now home_lbn }
+    ensures ok { OnOk result (NoPlaceIsFree image.now layout.now home_lbn) }
     ensures err { IfErr result (IsTrueOf image.now layout.now) }
 {
-    for lbn in 0..home {
+    for lbn in 0..home_lbn {
         if is_home_place(lbn) && is_free(image, layout, lbn) {
             return Err(MountFault::BadIndex);
         }
@@ -30,12 +34,16 @@ pub(crate) fn check_free_places(image: &Image, layout: &Layout, home: u32) -> Re
     Ok(())
 }
 
-/// Whether this block of a file, at this place counted from 0, is a place of a home block below this one, and a request can change
+/// Whether this block of a file, by its index counted from 0, is a place of a home block below this one, and a request can change
 /// it. None changes files 3 and 5, nor the first two blocks of INDEXF.SYS, the boot block and the home block.
-pub(crate) fn is_loose_place(home: u32, number: u16, place: u32, lbn: u32) -> bool
+pub(crate) fn is_loose_place(home_lbn: u32, number: u16, index: u32, lbn: u32) -> bool
     ensures { MatchBool result
-        (IsHomePlace lbn × (lbn < home) × ¬ IsFixed number place)
-        (IsHomePlace lbn → lbn < home → IsFixed number place) }
+        (IsHomePlace lbn × (lbn < home_lbn) × ¬ IsFixed number index)
+        (IsHomePlace lbn → lbn < home_lbn → IsFixed number index) }
 {
-    lbn < home && is_home_place(lbn) && number != 3 && number != 5 && (number != 1 || 2 <= place)
+    lbn < home_lbn
+        && is_home_place(lbn)
+        && number != 3
+        && number != 5
+        && (number != 1 || 2 <= index)
 }

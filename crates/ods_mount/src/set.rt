@@ -1,7 +1,6 @@
 //! Sets of numbers, one bit each.
-ghost use Rattle.std.specs.Prelude.{◌≡◌, ◌≢◌, ℕ, ◌*◌, ◌<◌, ◌≤◌, false, List, length, slice_get, Some, ◌⊎◌, IfOk, IfErr, OnOk};
-ghost use Rattle.std.specs.List.{All};
-ghost use Rattle.ods_mount.specs.Tables.{has, IsWith, IsNoted, IsThere};
+ghost use Rattle.std.specs.Prelude.{◌≡◌, ℕ, ◌*◌, ◌<◌, ◌≤◌, false, length, IfOk};
+ghost use Rattle.ods_mount.specs.Tables.{has, IsWith};
 
 use std::alloc::{AllocError, Global};
 use std::marker::Model;
@@ -48,21 +47,5 @@ impl NumberSet {
     {
         let at = number as usize / 64;
         self.words[at] = self.words[at] | 1 << (number % 64);
-    }
-
-    /// Puts these numbers into the set. The first that is there already is an error.
-    pub fn insert_all(&mut self, numbers: &[u32]) -> Result<(), u32>
-        requires { All (λ b. b < 64 * length self.old) numbers.now }
-        ensures ok { OnOk result (IsNoted self.old self.new numbers.now (length numbers.now)) }
-        ensures err { IfErr result (IsThere self.old numbers.now) }
-        ensures room { length self.new ≡ length self.old }
-    {
-        for i in 0..numbers.len() {
-            if self.contains(numbers[i]) {
-                return Err(numbers[i]);
-            }
-            self.insert(numbers[i]);
-        }
-        Ok(())
     }
 }

@@ -1,17 +1,17 @@
 -- A file of a catalogue that is changed where it stands.
-use Rattle.std.proofs.Common.{◌≡◌, ℕ, ◌+◌, ◌<◌, ◌≤◌, max, fold, nat_eq, ◌||◌, Bool, true, false, not, List, [], ◌∷◌, Ok, Err, IfOk, arith, length, get_or, set, Option, Some, None, refl, sym, ap, subst, ◌∙◌, unwrap_or}
+use Rattle.std.proofs.Common.{◌≡◌, ◌≢◌, ℕ, ◌+◌, ◌<◌, ◌≤◌, max, Bool, true, false, not, List, Ok, Err, IfOk, arith, length, get_or, set, Option, Some, None, refl, sym, ap, subst, ◌∙◌, unwrap_or}
 use Rattle.std.specs.Prelude.{Result}
-use Rattle.std.specs.List.{list_any}
-use Rattle.std.proofs.lemmas.Bool.{leb-false, eqb-true}
+use Rattle.std.proofs.lemmas.Bool.{leb-false}
 use Rattle.std.specs.FinMap as map
 use Rattle.ods_base.specs.declared.file_id.FileId.{FileId}
 use Rattle.ods_base.specs.Name.{RadName, key_of}
-use Rattle.ods_base.specs.Names.{NameMap, last_version, versions_of, entered_version}
-use Rattle.ods_base.proofs.Picks.{among}
-use Rattle.ods_request.specs.Faults.{cannot_enter}
+use Rattle.ods_base.specs.declared.name.Pick.{Pick}
+use Rattle.ods_base.specs.Names.{NameMap, last_version, versions_of, picked_version, entered_version}
+use Rattle.ods_base.proofs.Picks.{among, greater, bounds}
+use Rattle.ods_request.specs.Faults.{cannot_enter, on_file}
 use Rattle.ods_request.specs.declared.refusals.Refusal.{Refusal}
-use Rattle.ods_request.specs.Catalogue.{Catalogue, File}
-use Rattle.ods_request.specs.Steps.{put, file_at, no_file}
+use Rattle.ods_request.specs.Catalogue.{Catalogue, File, Body, names_of}
+use Rattle.ods_request.specs.Steps.{put, file_at, no_file, no_id, found_version, found_file}
 use Rattle.ods_request.proofs.FaultTable.{NoneHolds, IsThere}
 use Rattle.ods_plain.specs.Rows.{catalogue_in, place_of}
 use Rattle.ods_plain.proofs.RowLists.{IsAt, stands, set_place}
@@ -43,6 +43,24 @@ found_at rows past protection C id at checks is place t =
           ∙ ap (λ (D : Catalogue). put D id f) is;
     }
 
+-- so it is, by the table of the request's refusals
+abbrev pub FoundBy : (rows : List (FileId × File)) (past : List FileId) (protection : ℕ) (C : Catalogue) (id : FileId) (at : ℕ) (x : Option Refusal) (checks : File → List (Bool × Refusal))
+    → x ≡ on_file (map.get C.files id) checks → Type 0
+FoundBy rows past protection C id at x checks table = IsFound rows past protection C id at checks
+
+-- a file that a request names first is there, where the request is not refused
+pub is_there : (o : Option File) (checks : File → List (Bool × Refusal)) → on_file o checks ≡ None → o ≢ None
+is_there None checks h = absurd (cc)
+is_there (Some f) checks h = λ e. absurd (cc)
+
+-- what a directory's body finds is found in the file that has it
+pub found_in : (C : Catalogue) (dir : FileId) (name : RadName) (pick : Pick) (body : Body) (file : FileId) (version : ℕ) → body ≡ (file_at C dir).body
+    → version ≡ unwrap_or (picked_version (names_of body) name pick) 0 → file ≡ unwrap_or (map.get (names_of body) (key_of name version)) no_id
+    → (file ≡ found_file C dir name pick) × (version ≡ found_version C dir name pick)
+found_in C dir name pick body file version is v f =
+    let same : version ≡ found_version C dir name pick = v ∙ ap (λ b. unwrap_or (picked_version (names_of b) name pick) 0) is in
+    (f ∙ (λ i. unwrap_or (map.get (names_of (is i)) (key_of name (same i))) no_id), same)
+
 pub not_false : (b : Bool) → not b ≡ false → b ≡ true
 not_false true h = refl
 not_false false h = absurd (cc)
@@ -57,18 +75,6 @@ pub has_room : (m : NameMap) (n : RadName) (given : Option ℕ) → NoneHolds (c
 has_room m n (Some v) h e = absurd (cc)
 has_room m n None h e = omega (arith, leb-false 32767 (last_version m n) h.0)
 
-start_below : (a : ℕ) (vs : List ℕ) → a ≤ fold max a vs
-start_below a [] = omega arith
-start_below a (v ∷ vs) = omega (arith, start_below (max a v) vs)
-
-bounds_above : (w a : ℕ) (vs : List ℕ) → list_any (nat_eq w) vs ≡ true → w ≤ fold max a vs
-bounds_above w a [] h = absurd (cc)
-bounds_above w a (v ∷ vs) h = by (nat_eq w v) refl (bounds_above w (max a v) vs) h
-  where
-    by : (b : Bool) → nat_eq w v ≡ b → (list_any (nat_eq w) vs ≡ true → w ≤ fold max (max a v) vs) → (b || list_any (nat_eq w) vs) ≡ true → w ≤ fold max (max a v) vs
-    by true e rest g = omega (arith, start_below (max a v) vs, eqb-true w v e)
-    by false e rest g = rest g
-
 -- the version under which a name is entered is not there
 pub is_absent : (m : NameMap) (n : RadName) (given : Option ℕ) → length n.words ≡ 3 → NoneHolds (cannot_enter m n given) → map.contains_key m (key_of n (entered_version m n given)) ≡ false
 is_absent m n (Some v) three h = h.0
@@ -77,8 +83,5 @@ is_absent m n None three h = by (map.contains_key m (key_of n (last_version m n 
     by : (b : Bool) → map.contains_key m (key_of n (last_version m n + 1)) ≡ b → b ≡ false
     by false e = refl
     by true e =
-        let above : last_version m n + 1 ≤ last_version m n = bounds_above (last_version m n + 1) 0 (versions_of m n) (among n three (last_version m n + 1) m ∙ e) in
+        let above : last_version m n + 1 ≤ last_version m n = bounds max (λ a b. a ≤ b) greater (last_version m n + 1) 0 (versions_of m n) (among n three (last_version m n + 1) m ∙ e) in
         absurd (omega (arith, above))
-
-pub same_file : {x y : File} → Some x ≡ Some y → x ≡ y
-same_file e = cc

@@ -14,7 +14,7 @@ use Rattle.ods_base.specs.declared.file_id.FileId.{FileId}
 use Rattle.ods_request.specs.Catalogue.{Catalogue, File, file_cmp}
 use Rattle.ods_request.specs.Equal.{same_id}
 use Rattle.ods_request.proofs.Orders.{file_cmp-total, file_cmp-antisymmetric}
-use Rattle.ods_request.proofs.AnswerTests.{same_id-equal, same_id-itself}
+use Rattle.ods_request.proofs.AnswerTests.{equal_by, tells_id, knows_id}
 use Rattle.ods_request.proofs.FrameLaws.{is_id, is_id-equal, is_id-itself}
 use Rattle.ods_request.specs.Steps.{is_new, is_used}
 use Rattle.ods_plain.specs.Rows.{catalogue_in, place_of}
@@ -31,8 +31,8 @@ both_ways false false f g = refl
 -- the two tests of IDs agree
 pub same_test : (a b : FileId) → same_id a b ≡ is_id b a
 same_test a b = both_ways _ _
-    (λ h. subst (λ x. is_id b x ≡ true) (sym (same_id-equal a b h)) (is_id-itself b))
-    (λ h. subst (λ x. same_id a x ≡ true) (sym (is_id-equal b a h)) (same_id-itself a))
+    (λ h. subst (λ x. is_id b x ≡ true) (sym (equal_by same_id tells_id a b h)) (is_id-itself b))
+    (λ h. subst (λ x. same_id a x ≡ true) (sym (is_id-equal b a h)) (knows_id a))
 
 pub get-rows : (rows : Rows) (id : FileId) → map.get (map.from_entries {R = file_cmp} rows) id ≡ find file_cmp id rows
 get-rows rows id = map.get-from_entries file_cmp-total rows id
@@ -56,7 +56,7 @@ id-place id (r ∷ rows) d h = by (same_id r.0 id) refl (id-place id rows d) h
   where
     by : (b : Bool) → same_id r.0 id ≡ b → (place_of id rows < length rows → (get_or rows (place_of id rows) d).0 ≡ id)
         → cond b 0 (suc (place_of id rows)) < length (r ∷ rows) → (get_or (r ∷ rows) (cond b 0 (suc (place_of id rows))) d).0 ≡ id
-    by true e rest g = same_id-equal r.0 id e
+    by true e rest g = equal_by same_id tells_id r.0 id e
     by false e rest g = rest (omega (arith, g))
 
 -- there is none where its place is the end
@@ -90,13 +90,13 @@ find-set_place id f (r ∷ rows) q h = by (same_id r.0 id) refl (find-set_place 
         → cond b 0 (suc (place_of id rows)) < length (r ∷ rows)
         → find file_cmp q (set (r ∷ rows) (cond b 0 (suc (place_of id rows))) (id, f)) ≡ cond (is_id q id) (Some f) (cond (is_id q r.0) (Some r.1) (find file_cmp q rows))
     by true e rest g =
-        let same : r.0 ≡ id = same_id-equal r.0 id e in
+        let same : r.0 ≡ id = equal_by same_id tells_id r.0 id e in
         shadow (is_id q id) (Some f) (Some r.1) (find file_cmp q rows) ∙ ap (λ (x : FileId). cond (is_id q id) (Some f) (cond (is_id q x) (Some r.1) (find file_cmp q rows))) (sym same)
     by false e rest g =
         ap (λ o. cond (is_id q r.0) (Some r.1) o) (rest (omega (arith, g)))
         ∙ swap (is_id q r.0) (is_id q id) (Some r.1) (Some f) (find file_cmp q rows) (λ a b.
         let one : r.0 ≡ id = sym (is_id-equal q r.0 a) ∙ is_id-equal q id b in
-        let yes : same_id r.0 id ≡ true = subst (λ x. same_id x id ≡ true) (sym one) (same_id-itself id) in
+        let yes : same_id r.0 id ≡ true = subst (λ x. same_id x id ≡ true) (sym one) (knows_id id) in
         let clash : true ≡ false = sym yes ∙ e in cc)
 
 -- so it is an insert

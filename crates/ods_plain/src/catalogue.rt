@@ -1,9 +1,9 @@
 //! A catalogue: files under their IDs, the IDs that were ever given, and the protection of new files.
-ghost use Rattle.std.specs.Prelude.{◌≡◌, true, None, Some, MatchOption, IsTrue, IfOk, OnOk, OnErr};
+ghost use Rattle.std.specs.Prelude.{◌≡◌, ◌≢◌, true, None, Some, MatchOption, IsTrue, IfOk, OnOk, OnErr};
 ghost use Rattle.std.specs.FinMap as finite;
 ghost use Rattle.std.specs.FinSet as set;
 ghost use Rattle.ods_request.specs.Faults.{IsAllowed};
-ghost use Rattle.ods_request.specs.Steps.{after, answer_of, created, is_new, new_file as file_made};
+ghost use Rattle.ods_request.specs.Steps.{after, answer_of, created, file_at, is_new, new_file as file_made};
 ghost use Rattle.ods_plain.specs.Files.{body_of, file_of, may_have};
 
 use crate::files::File;
@@ -58,6 +58,17 @@ impl Catalogue {
             Some(rows[at].file())
         } else {
             None
+        }
+    }
+
+    /// The file under an ID that some file has.
+    fn there(&self, id: FileId) -> &File
+        requires { finite.get self.now.files id ≢ None }
+        ensures { file_of result.now ≡ file_at self.now id }
+    {
+        match self.file(id) {
+            Some(found) => found,
+            None => unreachable!(),
         }
     }
 
@@ -184,10 +195,7 @@ impl Catalogue {
         requires { IsAllowed self.now (Request.LookUp dir name.now pick) }
         ensures { Answer.Found result.0 result.1 ≡ answer_of self.now (Request.LookUp dir name.now pick) }
     {
-        match self.file(dir) {
-            Some(found) => found.find(name, pick),
-            None => unreachable!(),
-        }
+        self.there(dir).find(name, pick)
     }
 
     /// Answers a Read: the block.
@@ -195,10 +203,7 @@ impl Catalogue {
         requires { IsAllowed self.now (Request.Read file vbn) }
         ensures { Answer.Bytes result ≡ answer_of self.now (Request.Read file vbn) }
     {
-        match self.file(file) {
-            Some(found) => *found.block(vbn),
-            None => unreachable!(),
-        }
+        *self.there(file).block(vbn)
     }
 
     /// Answers a List: the directory's lines.
@@ -206,10 +211,7 @@ impl Catalogue {
         requires { IsAllowed self.now (Request.List dir) }
         ensures { IfOk result (λ lines. Answer.Names lines ≡ answer_of self.now (Request.List dir)) }
     {
-        match self.file(dir) {
-            Some(found) => Ok(Listing::new(found.lines(self.alloc)?)),
-            None => unreachable!(),
-        }
+        Ok(Listing::new(self.there(dir).lines(self.alloc)?))
     }
 
     /// Answers a Stat: what is shown of the file. A count that its answer has no room for is want of memory.
@@ -217,9 +219,6 @@ impl Catalogue {
         requires { IsAllowed self.now (Request.Stat file) }
         ensures { IfOk result (λ stat. Answer.Info stat ≡ answer_of self.now (Request.Stat file)) }
     {
-        match self.file(file) {
-            Some(found) => found.stat(file),
-            None => unreachable!(),
-        }
+        self.there(file).stat(file)
     }
 }

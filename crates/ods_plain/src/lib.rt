@@ -8,8 +8,6 @@ mod makes;
 mod names;
 mod rows;
 mod steps;
-#[cfg(test)]
-mod tests;
 
 pub use catalogue::Catalogue;
 pub use files::{Body, File};

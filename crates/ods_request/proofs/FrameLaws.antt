@@ -1,5 +1,5 @@
 -- Why a step changes no file but one, and why a new file has a new ID.
-use Rattle.std.proofs.Common.{◌≡◌, refl, sym, ap, ◌∙◌, Bool, true, false, cond, List, [], ◌∷◌, Option, Some, None, is_some}
+use Rattle.std.proofs.Common.{◌≡◌, refl, sym, ap, ◌∙◌, Bool, true, false, cond, List, [], ◌∷◌, Option, Some, None, is_some, arith}
 use Rattle.std.specs.Prelude.{◌&&◌, ◌||◌, not, ◌==◌}
 use Rattle.std.specs.List.{list_any}
 use Rattle.std.specs.declared.cmp.Ordering.{Ordering}
@@ -16,9 +16,9 @@ use Rattle.ods_request.specs.declared.requests.Request.TheVariants.{Create, Exte
 use Rattle.ods_request.specs.declared.answers.Answer.{Answer}
 use Rattle.ods_request.specs.Catalogue.{Catalogue, File, file_cmp}
 use Rattle.ods_request.specs.Steps.{step, change, after, answer_of, create, created, created_id, new_file, is_new, is_used}
-use Rattle.ods_request.specs.Laws.{creates, changed_file, OtherFilesStay, CreatedIsNew, DefaultStays}
+use Rattle.ods_request.specs.Laws.{creates, changed_file, OtherFilesStay, CreatedIsNew, DefaultStays, PastIsKept}
 use Rattle.ods_request.proofs.Orders.{file_cmp-total, file_cmp-antisymmetric}
-use Rattle.ods_request.proofs.StepLaws.{given, taken, changed, determined}
+use Rattle.ods_request.proofs.StepLaws.{given, taken, changed, determined, past_after}
 
 tied : (r : Ordering) → is_eq r ≡ true → r ≡ Equal
 tied Less h = absurd (cc)
@@ -55,31 +55,11 @@ get-remove_other C id other apart =
 
 after-other : (C : Catalogue) (r : Request) (a : Answer) (id : FileId) → creates r ≡ false → ¬ (changed_file r a ≡ Some id) → map.get (after C r).files id ≡ map.get C.files id
 unfolding after
-after-other C (Create name version blocks stamp) a id h apart = absurd (cc)
-after-other C (Extend file blocks) a id h apart = get-put_other C file _ id apart
-after-other C (Delete file) a id h apart = get-remove_other C file id apart
-after-other C (Enter dir name version file) a id h apart = get-put_other C dir _ id apart
-after-other C (LookUp dir name pick) a id h apart = refl
-after-other C (Remove dir name pick) a id h apart = get-put_other C dir _ id apart
-after-other C (Read file vbn) a id h apart = refl
-after-other C (Write file vbn block) a id h apart = get-put_other C file _ id apart
-after-other C (Lines dir) a id h apart = refl
-after-other C (Stat file) a id h apart = refl
-after-other C (SetUser file attributes) a id h apart = get-put_other C file _ id apart
+after-other C r a id h apart = grind (arith, get-put_other, get-remove_other)
 
 after-default : (C : Catalogue) (r : Request) → (after C r).default ≡ C.default
 unfolding after
-after-default C (Create name version blocks stamp) = refl
-after-default C (Extend file blocks) = refl
-after-default C (Delete file) = refl
-after-default C (Enter dir name version file) = refl
-after-default C (LookUp dir name pick) = refl
-after-default C (Remove dir name pick) = refl
-after-default C (Read file vbn) = refl
-after-default C (Write file vbn block) = refl
-after-default C (Lines dir) = refl
-after-default C (Stat file) = refl
-after-default C (SetUser file attributes) = refl
+after-default C r = grind arith
 
 -- a step that makes a file
 record IsMade (C D : Catalogue) (a : Answer) : Type 0 where
@@ -128,20 +108,19 @@ default_kept C D who r a e = by_kind C D who r a (D.default ≡ C.default) e
     (λ m _. ap (λ (E : Catalogue). E.default) m.is)
     (λ _ _ is. ap (λ (E : Catalogue). E.default) is ∙ after-default C r)
 
+or_kept : (a b : Bool) → b ≡ true → (a || b) ≡ true
+or_kept true b h = refl
+or_kept false b h = h
+
+pub past_kept : PastIsKept
+past_kept C D who r a id e h = by_kind C D who r a (set.contains D.past id ≡ true) e
+    (λ m _. ap (λ (E : Catalogue). set.contains E.past id) m.is ∙ set.contains-insert file_cmp-total C.past m.id id ∙ or_kept _ _ h)
+    (λ _ _ is. ap (λ (E : Catalogue). set.contains E.past id) is ∙ ap (λ p. set.contains p id) (past_after C r) ∙ h)
+
 -- a request that is no Create is not answered by a new file
 answer-makes_none : (C : Catalogue) (r : Request) → creates r ≡ false → created_id (answer_of C r) ≡ None
 unfolding answer_of
-answer-makes_none C (Create name version blocks stamp) h = absurd (cc)
-answer-makes_none C (Extend file blocks) h = refl
-answer-makes_none C (Delete file) h = refl
-answer-makes_none C (Enter dir name version file) h = refl
-answer-makes_none C (LookUp dir name pick) h = refl
-answer-makes_none C (Remove dir name pick) h = refl
-answer-makes_none C (Read file vbn) h = refl
-answer-makes_none C (Write file vbn block) h = refl
-answer-makes_none C (Lines dir) h = refl
-answer-makes_none C (Stat file) h = refl
-answer-makes_none C (SetUser file attributes) h = refl
+answer-makes_none C r h = grind arith
 
 not_true : (b : Bool) → not b ≡ true → b ≡ false
 not_true true h = absurd (cc)

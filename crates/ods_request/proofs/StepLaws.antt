@@ -1,22 +1,19 @@
 -- Why the laws of the catalogue hold.
-use Rattle.std.proofs.Common.{◌≡◌, ℕ, refl, sym, ap, ◌∙◌, Bool, true, false, cond, List, [], ◌∷◌, Option, Some, None, IsTrue, is_some}
-use Rattle.std.specs.Prelude.{◌||◌}
+use Rattle.std.proofs.Common.{◌≡◌, ℕ, refl, sym, ap, ◌∙◌, Bool, true, false, cond, List, [], ◌∷◌, Option, Some, None, IsTrue, is_some, arith}
 use Rattle.std.specs.Option.{option_and_then}
-use Rattle.std.specs.FinSet as set
 use Rattle.ods_base.specs.declared.file_id.Uic.{Uic}
 use Rattle.ods_base.specs.declared.file_id.FileId.{FileId}
 use Rattle.ods_base.specs.Name.{RadName}
 use Rattle.ods_request.specs.declared.requests.Request.{Request}
-use Rattle.ods_request.specs.declared.requests.Request.TheVariants.{Create, Extend, Delete, Enter, LookUp, Remove, Read, Write, List as Lines, Stat, SetUser}
+use Rattle.ods_request.specs.declared.requests.Request.TheVariants.{Create}
 use Rattle.ods_request.specs.declared.answers.Answer.{Answer}
 use Rattle.ods_request.specs.declared.answers.Answer.TheVariants.{Created}
-use Rattle.ods_request.specs.Catalogue.{Catalogue, File}
+use Rattle.ods_request.specs.Catalogue.{Catalogue}
 use Rattle.ods_request.specs.Faults.{fault_of}
 use Rattle.ods_request.specs.Equal.{same_answer}
 use Rattle.ods_request.specs.Steps.{step, change, replay, after, answer_of, create, created, created_id, new_file, is_new}
-use Rattle.ods_request.specs.Laws.{creates, AnswerIsDetermined, AnswerIsStep, AnswersAgree, PastIsKept, ReplayGoesOn, LookingChangesNothing, RefusedHasNoStep}
-use Rattle.ods_request.proofs.Orders.{file_cmp-total}
-use Rattle.ods_request.proofs.AnswerTests.{same_answer-itself, same_answer-equal}
+use Rattle.ods_request.specs.Laws.{creates, only_looks, AnswerIsDetermined, AnswerIsStep, AnswersAgree, ReplayGoesOn, LookingChangesNothing, RefusedHasNoStep}
+use Rattle.ods_request.proofs.AnswerTests.{equal_by, tells_answer, knows_answer}
 
 pub chosen : {A : Type 0} (b : Bool) (x y : A) → IsTrue b → cond b x y ≡ x
 chosen true x y h = refl
@@ -40,66 +37,23 @@ pub changed : (C D : Catalogue) (who : Uic) (r : Request) (a : Answer) → step 
 unfolding step
 changed C D who r a e = not_refused (is_some (fault_of C who r)) (change C who r a) D e
 
-pub looked : LookingChangesNothing
-unfolding change after
-looked C D who (LookUp dir name pick) a h e = given (same_answer a (answer_of C (LookUp dir name pick))) C D (changed C D who (LookUp dir name pick) a e)
-looked C D who (Read file vbn) a h e = given (same_answer a (answer_of C (Read file vbn))) C D (changed C D who (Read file vbn) a e)
-looked C D who (Stat file) a h e = given (same_answer a (answer_of C (Stat file))) C D (changed C D who (Stat file) a e)
-looked C D who (Lines dir) a h e = given (same_answer a (answer_of C (Lines dir))) C D (changed C D who (Lines dir) a e)
-looked C D who (Create name version blocks stamp) a h e = absurd (cc)
-looked C D who (Extend file blocks) a h e = absurd (cc)
-looked C D who (Delete file) a h e = absurd (cc)
-looked C D who (Enter dir name version file) a h e = absurd (cc)
-looked C D who (Remove dir name pick) a h e = absurd (cc)
-looked C D who (Write file vbn block) a h e = absurd (cc)
-looked C D who (SetUser file attributes) a h e = absurd (cc)
+-- where no file is created, the change is one choice: the request's own answer, and what it leaves
+chosen_change : (C : Catalogue) (who : Uic) (r : Request) (a : Answer) → creates r ≡ false → change C who r a ≡ cond (same_answer a (answer_of C r)) (Some (after C r)) None
+unfolding change
+chosen_change C who r a h = grind arith
 
 -- of all requests but Create the past is the one before
-past_after : (C : Catalogue) (r : Request) → (after C r).past ≡ C.past
+pub past_after : (C : Catalogue) (r : Request) → (after C r).past ≡ C.past
 unfolding after
-past_after C (Create name version blocks stamp) = refl
-past_after C (Extend file blocks) = refl
-past_after C (Delete file) = refl
-past_after C (Enter dir name version file) = refl
-past_after C (LookUp dir name pick) = refl
-past_after C (Remove dir name pick) = refl
-past_after C (Read file vbn) = refl
-past_after C (Write file vbn block) = refl
-past_after C (Lines dir) = refl
-past_after C (Stat file) = refl
-past_after C (SetUser file attributes) = refl
+past_after C r = grind arith
 
-or_kept : (a b : Bool) → b ≡ true → (a || b) ≡ true
-or_kept true b h = refl
-or_kept false b h = h
+-- a request that only looks leaves all as it is, and creates no file
+after_look : (C : Catalogue) (r : Request) → only_looks r ≡ true → after C r ≡ C
+unfolding after
+after_look C r h = grind arith
 
-create_keeps : (C D : Catalogue) (f : File) (given_id : Option FileId) (id : FileId) → create C f given_id ≡ Some D → set.contains C.past id ≡ true → set.contains D.past id ≡ true
-create_keeps C D f None id e h = absurd (cc)
-create_keeps C D f (Some new) id e h =
-    let is : D ≡ created C new f = given (is_new C new) (created C new f) D e in
-    ap (λ (E : Catalogue). set.contains E.past id) is ∙ set.contains-insert file_cmp-total C.past new id ∙ or_kept _ _ h
-
-after_keeps : (C D : Catalogue) (r : Request) (a : Answer) (id : FileId) → cond (same_answer a (answer_of C r)) (Some (after C r)) None ≡ Some D → set.contains C.past id ≡ true → set.contains D.past id ≡ true
-after_keeps C D r a id e h =
-    let is : D ≡ after C r = given (same_answer a (answer_of C r)) (after C r) D e in
-    ap (λ (E : Catalogue). set.contains E.past id) is ∙ ap (λ p. set.contains p id) (past_after C r) ∙ h
-
-change_keeps : (C D : Catalogue) (who : Uic) (r : Request) (a : Answer) (id : FileId) → change C who r a ≡ Some D → set.contains C.past id ≡ true → set.contains D.past id ≡ true
-unfolding change
-change_keeps C D who (Create name version blocks stamp) a id = create_keeps C D (new_file C who name version blocks stamp) (created_id a) id
-change_keeps C D who (Extend file blocks) a id = after_keeps C D (Extend file blocks) a id
-change_keeps C D who (Delete file) a id = after_keeps C D (Delete file) a id
-change_keeps C D who (Enter dir name version file) a id = after_keeps C D (Enter dir name version file) a id
-change_keeps C D who (LookUp dir name pick) a id = after_keeps C D (LookUp dir name pick) a id
-change_keeps C D who (Remove dir name pick) a id = after_keeps C D (Remove dir name pick) a id
-change_keeps C D who (Read file vbn) a id = after_keeps C D (Read file vbn) a id
-change_keeps C D who (Write file vbn block) a id = after_keeps C D (Write file vbn block) a id
-change_keeps C D who (Lines dir) a id = after_keeps C D (Lines dir) a id
-change_keeps C D who (Stat file) a id = after_keeps C D (Stat file) a id
-change_keeps C D who (SetUser file attributes) a id = after_keeps C D (SetUser file attributes) a id
-
-pub past_kept : PastIsKept
-past_kept C D who r a id e = change_keeps C D who r a id (changed C D who r a e)
+no_create : (r : Request) → only_looks r ≡ true → creates r ≡ false
+no_create r h = grind arith
 
 -- an option's value handed on twice
 handed_on : {A B C : Type 0} (o : Option A) (f : A → Option B) (g : B → Option C) → option_and_then (λ x. option_and_then g (f x)) o ≡ option_and_then g (option_and_then f o)
@@ -121,66 +75,33 @@ pub taken : {A : Type 0} (b : Bool) (x y : A) → cond b (Some x) None ≡ Some 
 taken true x y e = refl
 taken false x y e = absurd (cc)
 
-plain_change : (C D : Catalogue) (r : Request) (a : Answer) → cond (same_answer a (answer_of C r)) (Some (after C r)) None ≡ Some D → (a ≡ answer_of C r) × (D ≡ after C r)
-plain_change C D r a e =
-    (same_answer-equal a (answer_of C r) (taken (same_answer a (answer_of C r)) (after C r) D e), given (same_answer a (answer_of C r)) (after C r) D e)
-
-by_change : (C D : Catalogue) (who : Uic) (r : Request) (a : Answer) → creates r ≡ false → change C who r a ≡ Some D → (a ≡ answer_of C r) × (D ≡ after C r)
-unfolding change
-by_change C D who (Create name version blocks stamp) a h e = absurd (cc)
-by_change C D who (Extend file blocks) a h e = plain_change C D (Extend file blocks) a e
-by_change C D who (Delete file) a h e = plain_change C D (Delete file) a e
-by_change C D who (Enter dir name version file) a h e = plain_change C D (Enter dir name version file) a e
-by_change C D who (LookUp dir name pick) a h e = plain_change C D (LookUp dir name pick) a e
-by_change C D who (Remove dir name pick) a h e = plain_change C D (Remove dir name pick) a e
-by_change C D who (Read file vbn) a h e = plain_change C D (Read file vbn) a e
-by_change C D who (Write file vbn block) a h e = plain_change C D (Write file vbn block) a e
-by_change C D who (Lines dir) a h e = plain_change C D (Lines dir) a e
-by_change C D who (Stat file) a h e = plain_change C D (Stat file) a e
-by_change C D who (SetUser file attributes) a h e = plain_change C D (SetUser file attributes) a e
-
 pub determined : AnswerIsDetermined
-determined C D who r a h e = by_change C D who r a h (changed C D who r a e)
+determined C D who r a h e =
+    let choice : cond (same_answer a (answer_of C r)) (Some (after C r)) None ≡ Some D = sym (chosen_change C who r a h) ∙ changed C D who r a e in
+    (equal_by same_answer tells_answer a (answer_of C r) (taken (same_answer a (answer_of C r)) (after C r) D choice), given (same_answer a (answer_of C r)) (after C r) D choice)
+
+pub looked : LookingChangesNothing
+looked C D who r a h e = (determined C D who r a (no_create r h) e).1 ∙ after_look C r h
 
 own_answer : (C : Catalogue) (r : Request) → cond (same_answer (answer_of C r) (answer_of C r)) (Some (after C r)) None ≡ Some (after C r)
-own_answer C r = chosen (same_answer (answer_of C r) (answer_of C r)) (Some (after C r)) None (same_answer-itself (answer_of C r))
-
-does_change : (C : Catalogue) (who : Uic) (r : Request) → creates r ≡ false → change C who r (answer_of C r) ≡ Some (after C r)
-unfolding change
-does_change C who (Create name version blocks stamp) h = absurd (cc)
-does_change C who (Extend file blocks) h = own_answer C (Extend file blocks)
-does_change C who (Delete file) h = own_answer C (Delete file)
-does_change C who (Enter dir name version file) h = own_answer C (Enter dir name version file)
-does_change C who (LookUp dir name pick) h = own_answer C (LookUp dir name pick)
-does_change C who (Remove dir name pick) h = own_answer C (Remove dir name pick)
-does_change C who (Read file vbn) h = own_answer C (Read file vbn)
-does_change C who (Write file vbn block) h = own_answer C (Write file vbn block)
-does_change C who (Lines dir) h = own_answer C (Lines dir)
-does_change C who (Stat file) h = own_answer C (Stat file)
-does_change C who (SetUser file attributes) h = own_answer C (SetUser file attributes)
+own_answer C r = chosen (same_answer (answer_of C r) (answer_of C r)) (Some (after C r)) None (knows_answer (answer_of C r))
 
 pub stepped : AnswerIsStep
 unfolding step
-stepped C who r h e = ap (λ o. cond (is_some o) None (change C who r (answer_of C r))) e ∙ does_change C who r h
+stepped C who r h e = ap (λ o. cond (is_some o) None (change C who r (answer_of C r))) e ∙ chosen_change C who r (answer_of C r) h ∙ own_answer C r
 
 -- no file is made by an answer that names none
-made : (C D : Catalogue) (who : Uic) (name : RadName) (version blocks : ℕ) (stamp : List ℕ) (a : Answer) → created_id a ≡ None → change C who (Create name version blocks stamp) a ≡ None
+made : (C : Catalogue) (who : Uic) (r : Request) (a : Answer) → creates r ≡ true → created_id a ≡ None → change C who r a ≡ None
 unfolding change
-made C D who name version blocks stamp a h = ap (create C (new_file C who name version blocks stamp)) h
+made C who r a h none = grind arith
 
 -- a step that makes no file is no Create
 not_create : (C D : Catalogue) (who : Uic) (r : Request) (a : Answer) → step C who r a ≡ Some D → created_id a ≡ None → creates r ≡ false
-not_create C D who (Create name version blocks stamp) a e h = absurd (let g : None ≡ Some D = sym (made C D who name version blocks stamp a h) ∙ changed C D who (Create name version blocks stamp) a e in cc)
-not_create C D who (Extend file blocks) a e h = refl
-not_create C D who (Delete file) a e h = refl
-not_create C D who (Enter dir name version file) a e h = refl
-not_create C D who (LookUp dir name pick) a e h = refl
-not_create C D who (Remove dir name pick) a e h = refl
-not_create C D who (Read file vbn) a e h = refl
-not_create C D who (Write file vbn block) a e h = refl
-not_create C D who (Lines dir) a e h = refl
-not_create C D who (Stat file) a e h = refl
-not_create C D who (SetUser file attributes) a e h = refl
+not_create C D who r a e none = by (creates r) refl
+  where
+    by : (b : Bool) → creates r ≡ b → b ≡ false
+    by false h = refl
+    by true h = absurd (let g : None ≡ Some D = sym (made C who r a h none) ∙ changed C D who r a e in cc)
 
 pub agree : AnswersAgree
 agree C D E who r a b e f h =

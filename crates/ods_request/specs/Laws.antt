@@ -10,7 +10,7 @@ use Rattle.ods_base.specs.declared.name.Pick.TheVariants.{Exact}
 use Rattle.ods_base.specs.Name.{RadName}
 use Rattle.ods_request.specs.declared.refusals.Refusal.TheVariants as refusal
 use Rattle.ods_request.specs.declared.requests.Request.{Request}
-use Rattle.ods_request.specs.declared.requests.Request.TheVariants.{Create, Extend, Delete, Enter, LookUp, Remove, Read, Write, List as Lines, Stat, SetUser}
+use Rattle.ods_request.specs.declared.requests.Request.TheVariants.{Enter, LookUp, Remove}
 use Rattle.ods_request.specs.declared.answers.Answer.{Answer}
 use Rattle.ods_request.specs.declared.answers.Answer.TheVariants.{Entered, Found, Removed}
 use Rattle.ods_request.specs.declared.answers.Entry.{Entry}
@@ -19,6 +19,7 @@ use Rattle.ods_request.specs.Rights.{permits}
 use Rattle.ods_request.specs.Catalogue.{Catalogue}
 use Rattle.ods_request.specs.Faults.{fault_of}
 use Rattle.ods_request.specs.Steps.{step, replay, answer_of, after, created_id, file_at}
+pub use Rattle.ods_request.specs.Table.{creates, only_looks, changed_file}
 
 -- a step never makes the past smaller
 abbrev pub PastIsKept : Type 0
@@ -30,20 +31,6 @@ abbrev pub ReplayGoesOn : Type 0
 ReplayGoesOn = (C : Catalogue) (entries : List Entry) (e : Entry) →
     replay C (entries ++ e ∷ []) ≡ option_and_then (λ D. step D e.who e.request e.answer) (replay C entries)
 
--- the requests that change nothing
-abbrev pub only_looks : Request → Bool
-only_looks (LookUp dir name pick) = true
-only_looks (Read file vbn) = true
-only_looks (Stat file) = true
-only_looks (Lines dir) = true
-only_looks (Create name version blocks stamp) = false
-only_looks (Extend file blocks) = false
-only_looks (Delete file) = false
-only_looks (Enter dir name version file) = false
-only_looks (Remove dir name pick) = false
-only_looks (Write file vbn block) = false
-only_looks (SetUser file attributes) = false
-
 -- after a look the catalogue is the one before
 abbrev pub LookingChangesNothing : Type 0
 LookingChangesNothing = (C D : Catalogue) (who : Uic) (r : Request) (a : Answer) →
@@ -53,20 +40,6 @@ LookingChangesNothing = (C D : Catalogue) (who : Uic) (r : Request) (a : Answer)
 abbrev pub RefusedHasNoStep : Type 0
 RefusedHasNoStep = (C : Catalogue) (who : Uic) (r : Request) (a : Answer) →
     IsTrue (is_some (fault_of C who r)) → step C who r a ≡ None
-
--- the request makes a file
-abbrev pub creates : Request → Bool
-creates (Create name version blocks stamp) = true
-creates (Extend file blocks) = false
-creates (Delete file) = false
-creates (Enter dir name version file) = false
-creates (LookUp dir name pick) = false
-creates (Remove dir name pick) = false
-creates (Read file vbn) = false
-creates (Write file vbn block) = false
-creates (Lines dir) = false
-creates (Stat file) = false
-creates (SetUser file attributes) = false
 
 -- every request but Create is answered in one way
 abbrev pub AnswerIsDetermined : Type 0
@@ -82,20 +55,6 @@ AnswerIsStep = (C : Catalogue) (who : Uic) (r : Request) →
 abbrev pub AnswersAgree : Type 0
 AnswersAgree = (C D E : Catalogue) (who : Uic) (r : Request) (a b : Answer) →
     step C who r a ≡ Some D → step C who r b ≡ Some E → created_id a ≡ None → (a ≡ b) × (D ≡ E)
-
--- the file that a step may change: the one that the request names first, or the one that is made
-abbrev pub changed_file : Request → Answer → Option FileId
-changed_file (Create name version blocks stamp) a = created_id a
-changed_file (Extend file blocks) a = Some file
-changed_file (Delete file) a = Some file
-changed_file (Enter dir name version file) a = Some dir
-changed_file (LookUp dir name pick) a = None
-changed_file (Remove dir name pick) a = Some dir
-changed_file (Read file vbn) a = None
-changed_file (Write file vbn block) a = Some file
-changed_file (Lines dir) a = None
-changed_file (Stat file) a = None
-changed_file (SetUser file attributes) a = Some file
 
 -- a step changes no other file
 abbrev pub OtherFilesStay : Type 0

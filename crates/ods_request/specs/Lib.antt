@@ -4,6 +4,8 @@ pub mod Catalogue
 pub mod Faults
 pub mod Equal
 pub mod Steps
+pub mod Queries
+pub mod Table
 pub mod Laws
 pub mod Lists
 pub mod Refusals

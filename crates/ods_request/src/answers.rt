@@ -179,33 +179,3 @@ impl Entry {
             && self.answer.is_same(&other.answer)
     }
 }
-
-#[cfg(test)]
-mod tests {
-    use super::*;
-    use ods_base::Name;
-    use std::test::Fail;
-
-    #[test]
-    fn listings_hold_their_lines(rt: HostRuntime) -> Result<(), Fail> {
-        let line = Listed {
-            name: Name::new([1_600, 0, 0], 32_980),
-            version: 1,
-            file: FileId {
-                number: 6,
-                sequence: 1,
-            },
-        };
-        let mut lines = Vec::new(rt.alloc());
-        lines.push(line)?;
-        let listing = Listing::new(lines);
-        assert_eq!(rt; listing.names(), [line].as_slice());
-        let empty = Listing::new(Vec::new(rt.alloc()));
-        let answer = Answer::Names(listing);
-        assert!(rt; Answer::Names(empty) != answer);
-        assert!(rt; answer.copy()? == answer);
-        let names = Listing::new([line].to_vec(rt.alloc())?).into_names();
-        assert_eq!(rt; names.as_slice(), [line].as_slice());
-        Ok(())
-    }
-}

@@ -1,7 +1,7 @@
 //! Refusals of requests, with the numbers and names under which they are printed.
-ghost use Rattle.std.specs.Prelude.{◌≡◌};
-ghost use Rattle.ods_request.specs.Refusals.{code_of, name_of};
+ghost use Rattle.ods_request.specs.Refusals.{refusal_row};
 
+use ods_base::{Coded, Row};
 use thiserror::Error;
 
 /// Why a request is refused. A refused request changes nothing.
@@ -57,72 +57,27 @@ pub enum Refusal {
     NoMemory,
 }
 
-impl Refusal {
-    /// The refusal's number.
-    pub fn code(&self) -> u16
-        ensures { result ≡ code_of self.now }
-    {
+impl Coded for Refusal {
+    fn row(&self) -> Row {
         match self {
-            Refusal::NoSuchName => 30,
-            Refusal::NameTaken => 31,
-            Refusal::VersionsFull => 32,
-            Refusal::NoSuchFile => 40,
-            Refusal::Reserved => 41,
-            Refusal::NotADirectory => 42,
-            Refusal::IsDirectory => 43,
-            Refusal::BadCount => 44,
-            Refusal::Denied => 45,
-            Refusal::NoSuchBlock => 46,
-            Refusal::NotEmpty => 47,
-            Refusal::ListFull => 48,
-            Refusal::VolumeFull => 22,
-            Refusal::HeadersFull => 23,
-            Refusal::ChainFull => 24,
-            Refusal::NoMemory => 49,
+            Refusal::NoSuchName => Row(30, "NoSuchName"),
+            Refusal::NameTaken => Row(31, "NameTaken"),
+            Refusal::VersionsFull => Row(32, "VersionsFull"),
+            Refusal::NoSuchFile => Row(40, "NoSuchFile"),
+            Refusal::Reserved => Row(41, "Reserved"),
+            Refusal::NotADirectory => Row(42, "NotADirectory"),
+            Refusal::IsDirectory => Row(43, "IsDirectory"),
+            Refusal::BadCount => Row(44, "BadCount"),
+            Refusal::Denied => Row(45, "Denied"),
+            Refusal::NoSuchBlock => Row(46, "NoSuchBlock"),
+            Refusal::NotEmpty => Row(47, "NotEmpty"),
+            Refusal::ListFull => Row(48, "ListFull"),
+            Refusal::VolumeFull => Row(22, "VolumeFull"),
+            Refusal::HeadersFull => Row(23, "HeadersFull"),
+            Refusal::ChainFull => Row(24, "ChainFull"),
+            Refusal::NoMemory => Row(49, "NoMemory"),
         }
     }
 
-    /// The refusal's name.
-    pub fn name(&self) -> &'static str
-        ensures { result.now ≡ name_of self.now }
-    {
-        match self {
-            Refusal::NoSuchName => "NoSuchName",
-            Refusal::NameTaken => "NameTaken",
-            Refusal::VersionsFull => "VersionsFull",
-            Refusal::NoSuchFile => "NoSuchFile",
-            Refusal::Reserved => "Reserved",
-            Refusal::NotADirectory => "NotADirectory",
-            Refusal::IsDirectory => "IsDirectory",
-            Refusal::BadCount => "BadCount",
-            Refusal::Denied => "Denied",
-            Refusal::NoSuchBlock => "NoSuchBlock",
-            Refusal::NotEmpty => "NotEmpty",
-            Refusal::ListFull => "ListFull",
-            Refusal::VolumeFull => "VolumeFull",
-            Refusal::HeadersFull => "HeadersFull",
-            Refusal::ChainFull => "ChainFull",
-            Refusal::NoMemory => "NoMemory",
-        }
-    }
-}
-
-#[cfg(test)]
-mod tests {
-    use super::*;
-
-    #[test]
-    fn numbers_and_names(rt: HostRuntime) {
-        let rows = [
-            (Refusal::VolumeFull, 22, "VolumeFull"),
-            (Refusal::NoSuchName, 30, "NoSuchName"),
-            (Refusal::NoSuchFile, 40, "NoSuchFile"),
-            (Refusal::NotEmpty, 47, "NotEmpty"),
-            (Refusal::NoMemory, 49, "NoMemory"),
-        ];
-        for (refusal, code, name) in rows {
-            assert_eq!(rt; refusal.code(), code);
-            assert!(rt; refusal.name() == name, "{refusal}");
-        }
-    }
+    ghost row_of = { refusal_row };
 }

@@ -1,5 +1,6 @@
 //! What a user asks of a volume.
-ghost use Rattle.std.specs.Prelude.{◌≡◌, ◌↔◌, IsTrue};
+ghost use Rattle.std.specs.Prelude.{◌≡◌, ◌↔◌, IsTrue, Some};
+ghost use Rattle.ods_request.specs.Queries.{request_of};
 
 use crate::stamps::Stamp;
 use ods_base::{Block, FileId, Name, Pick};
@@ -74,6 +75,18 @@ impl Request {
         ensures { IsTrue result ↔ (self.now ≡ other.now) }
     {
         self == other
+    }
+
+    /// The query that the request is, if it is one.
+    pub fn as_query(&self) -> Option<Query>
+        ensures { (q : Query) → (result ≡ Some q) ↔ (request_of q ≡ self.now) }
+    {
+        match *self {
+            Request::LookUp { dir, name, pick } => Some(Query::LookUp { dir, name, pick }),
+            Request::Read { file, vbn } => Some(Query::Read { file, vbn }),
+            Request::Stat { file } => Some(Query::Stat { file }),
+            _ => None,
+        }
     }
 }
 

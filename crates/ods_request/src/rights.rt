@@ -42,33 +42,3 @@ pub fn permits(who: &Uic, owner: &Uic, protection: u16, right: Right) -> bool
         || (same_group && grants(protection, 8, right))
         || grants(protection, 12, right)
 }
-
-#[cfg(test)]
-mod tests {
-    use super::*;
-
-    fn user(group: u8, member: u8) -> Uic {
-        Uic { group, member }
-    }
-
-    #[test]
-    fn any_class_may_grant(rt: HostRuntime) {
-        let owner = user(0o20, 0o10);
-        let rows = [
-            (user(0o1, 0o1), 0o177760, Right::Read, true),
-            (user(0o10, 0o1), 0o177760, Right::Read, true),
-            (user(0o11, 0o1), 0o177760, Right::Read, false),
-            (user(0o20, 0o10), 0o177417, Right::Read, true),
-            (user(0o20, 0o11), 0o170377, Right::Read, true),
-            (user(0o21, 0o1), 0o007777, Right::Read, true),
-            (user(0o20, 0o10), 0o007777, Right::Read, true),
-            (user(0o1, 0o1), 0o177777, Right::Read, false),
-            (user(0o21, 0o1), 0o167777, Right::Read, true),
-            (user(0o21, 0o1), 0o167777, Right::Write, false),
-        ];
-        for (who, protection, right, wanted) in rows {
-            let granted = permits(&who, &owner, protection, right);
-            assert_eq!(rt; granted, wanted, "{who:?} {protection:o} {right:?}");
-        }
-    }
-}

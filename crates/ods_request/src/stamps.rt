@@ -65,25 +65,3 @@ impl Stamp {
         &self.text
     }
 }
-
-#[cfg(test)]
-mod tests {
-    use super::*;
-
-    #[test]
-    fn thirteen_characters(rt: HostRuntime) {
-        let good = Stamp::parse(b"01JAN80000000");
-        assert!(rt; good.is_some_and(|stamp| stamp.text() == b"01JAN80000000"));
-        let bad: [&[u8]; 6] = [
-            b"01JAN8000000",
-            b"01JAN800000000",
-            b"01jan80000000",
-            b"01J1N80000000",
-            b"0AJAN80000000",
-            b"01JAN8000000 ",
-        ];
-        for text in bad {
-            assert!(rt; Stamp::parse(text).is_none(), "{text:?}");
-        }
-    }
-}

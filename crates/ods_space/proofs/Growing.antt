@@ -16,11 +16,11 @@ still_there xs ys i x found = slice_get-append_left xs ys i (slice_get_within xs
 pub place_stays : (h : Home) (xs ys : List ℕ) (n lbn : ℕ) → place_by h xs n ≡ Some lbn → place_by h (xs ++ ys) n ≡ Some lbn
 place_stays h xs ys n lbn found = by (nat_eq n 0) (nat_le n 16) found
   where
-    by : (a b : Bool) → cond a None (cond b (Some (h.index_lbn + h.index_size + n - 1)) (slice_get xs (1 + h.index_size + n))) ≡ Some lbn
-        → cond a None (cond b (Some (h.index_lbn + h.index_size + n - 1)) (slice_get (xs ++ ys) (1 + h.index_size + n))) ≡ Some lbn
+    by : (a b : Bool) → cond a None (cond b (Some (h.index_bitmap_lbn + h.index_bitmap_size + n - 1)) (slice_get xs (1 + h.index_bitmap_size + n))) ≡ Some lbn
+        → cond a None (cond b (Some (h.index_bitmap_lbn + h.index_bitmap_size + n - 1)) (slice_get (xs ++ ys) (1 + h.index_bitmap_size + n))) ≡ Some lbn
     by true b e = e
     by false true e = e
-    by false false e = still_there xs ys (1 + h.index_size + n) lbn e
+    by false false e = still_there xs ys (1 + h.index_bitmap_size + n) lbn e
 
 reaches : (I : List (List ℕ)) (h : Home) (k : ℕ) (front : List ℕ) (j n : ℕ) (ns all : List ℕ) → begun I h k ≡ record { blocks = front; next = n } → Follows I h None front j n ns all → (m : ℕ) × (all ≡ index_after I h m)
 reaches I h k front j n [] all is f = (suc k, f.2 ∙ sym (ap (λ w. (one_more I h w).blocks) is))

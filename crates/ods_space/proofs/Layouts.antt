@@ -25,11 +25,11 @@ index_is_file I h index limit leads is some =
     record { first = first.first; last = subst P is one; in_use = first.in_use; valid = first.valid; segment = first.segment }
 
 -- header 1 stands in the image
-pub header_1_inside : (I : List (List ℕ)) (h : Home) (index : List ℕ) → IsValidHeader (header_by I h index 1) 1 → h.index_lbn + h.index_size < length I
-header_1_inside I h index valid = elim (cases_lt (h.index_lbn + h.index_size + 1 - 1) (length I)) [
+pub header_1_inside : (I : List (List ℕ)) (h : Home) (index : List ℕ) → IsValidHeader (header_by I h index 1) 1 → h.index_bitmap_lbn + h.index_bitmap_size < length I
+header_1_inside I h index valid = elim (cases_lt (h.index_bitmap_lbn + h.index_bitmap_size + 1 - 1) (length I)) [
   | inl inside ↦ omega arith
   | inr past ↦
-      let none : block_at I (h.index_lbn + h.index_size + 1 - 1) ≡ [] = get_or_past I (h.index_lbn + h.index_size + 1 - 1) [] past in
+      let none : block_at I (h.index_bitmap_lbn + h.index_bitmap_size + 1 - 1) ≡ [] = get_or_past I (h.index_bitmap_lbn + h.index_bitmap_size + 1 - 1) [] past in
       let zero : word (header_by I h index 1) 3 ≡ 0 = ap (λ b. word b 3) none in
       absurd (let clash : ◌≡◌ {A = ℕ} 0 257 = sym zero ∙ valid.header.level in cc)
 ]

@@ -1,9 +1,6 @@
 pub mod Chains
 mod Samples
 pub mod Drafts
-pub mod WordBits
-pub mod Scans
-pub mod FreeTests
 pub mod Surveys
 pub mod Walks
 pub mod Sizes

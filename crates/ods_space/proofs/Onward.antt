@@ -1,144 +1,68 @@
--- A walk along a chain that is known to be whole: what is left of it leads to all blocks of the file.
-use Rattle.std.proofs.Common.{◌≡◌, ◌≢◌, ℕ, suc, ◌+◌, ◌-◌, ◌*◌, ◌<◌, ◌≤◌, List, [], ◌∷◌, ◌++◌, length, Option, Some, None, refl, sym, ap, ◌∙◌, subst, arith}
-use Rattle.std.specs.Prelude.{slice_get, IfNone}
-use Rattle.std.proofs.lemmas.List.{append-nil}
+-- A survey of a chain that is known to be whole: what it has met and what is still to come are all blocks of the file.
+use Rattle.std.proofs.Common.{◌≡◌, ℕ, ◌≤◌, List, [], ◌∷◌, ◌++◌, length, Some, sym, ap, ◌∙◌, subst, arith}
+use Rattle.std.specs.Prelude.{slice_get}
+use Rattle.std.proofs.lemmas.List.{append-nil, append_assoc, length-append}
 use Rattle.std.proofs.lemmas.Option.{slice_get_within}
 use Rattle.ods_base.specs.Image.{IsImage}
-use Rattle.ods_header.specs.declared.home.Home.{Home}
-use Rattle.ods_header.specs.Header.{IsLaidOut, number_of, next_number_of, blocks_of}
-use Rattle.ods_space.specs.Layout.{VolumeLayout, header_at, header_by}
-use Rattle.ods_space.specs.Chain.{IsSegment, Follows, most}
-use Rattle.ods_space.specs.Files.{AreInside, HasBlocks, Holds}
+use Rattle.ods_header.specs.Header.{blocks_of}
+use Rattle.ods_space.specs.Layout.{VolumeLayout}
+use Rattle.ods_space.specs.Chain.{chain_blocks, index_for, headers_of, named_by}
+use Rattle.ods_space.specs.Files.{HasBlocks, IsLayoutOf}
 use Rattle.ods_space.specs.Walk.{IsSurveyOf}
-use Rattle.ods_space.specs.declared.survey.Survey.{Survey}
-use Rattle.ods_space.proofs.Chains.{head_of, front_begins, length_of}
-use Rattle.ods_space.proofs.Surveyed.{leads_from, left_part, right_end, not_held}
+use Rattle.ods_space.specs.declared.survey.Surveyor.{Surveyor}
+use Rattle.ods_space.proofs.Sizes.{chain_size}
+use Rattle.ods_space.proofs.Surveyed.{as_asked}
 use Rattle.ods_space.proofs.Surveys.{slice_get-append_left}
+use Rattle.ods_space.proofs.Wholes.{chain_seen}
 
--- The survey of file n, whose chain is whole, has come to a header with block b at place k.
-pub record IsOnward (I : List (List ℕ)) (L : VolumeLayout) (n : ℕ) (s : Survey) (place k : ℕ) (b : List ℕ) : Type 0 where
-  pub blocks : List ℕ
-  pub file : HasBlocks I L n blocks
-  pub here : ℕ
+-- A survey that looks for this, in an image of this length, has met the headers before these, of all of them.
+pub record IsOnward (len wanted : ℕ) (s : Surveyor) (all rest : List (ℕ × List ℕ)) : Type 0 where
+  pub length_is : s.len ≡ len
+  pub wanted_is : s.wanted ≡ wanted
   pub front : List ℕ
-  pub others : List ℕ
-  pub rest : Follows I L.home (Some L.index) front k here others blocks
-  pub block : b ≡ header_at I L here
-  pub noted : IsSurveyOf s front
-  pub count : s.count ≤ 26112 * k
-  pub same : s.place ≡ place
+  pub noted : IsSurveyOf s.len s.wanted s.survey front
+  pub parts : named_by all ≡ front ++ named_by rest
 
-pub onward_first : (I : List (List ℕ)) (L : VolumeLayout) (n : ℕ) (b : List ℕ) (place : ℕ) → n ≢ 1 → (blocks : List ℕ) → HasBlocks I L n blocks → b ≡ header_at I L n
-    → IsOnward I L n (record { place = place; count = 0; found = None }) place 0 b
-onward_first I L n b place other blocks has block = record {
-  blocks = blocks;
-  file = has;
-  here = n;
+pub onward_first : (len wanted : ℕ) (s : Surveyor) (all rest : List (ℕ × List ℕ)) → s.len ≡ len → s.wanted ≡ wanted → IsSurveyOf len wanted s.survey [] → rest ≡ all → IsOnward len wanted s all rest
+onward_first len wanted s all rest length_is wanted_is noted same = record {
+  length_is = length_is;
+  wanted_is = wanted_is;
   front = [];
-  others = (leads_from I L n has.others blocks other has.whole.chain).0;
-  rest = (leads_from I L n has.others blocks other has.whole.chain).1;
-  block = block;
-  noted = record { count = refl; found = refl };
-  count = omega arith;
-  same = refl;
+  noted = as_asked s.survey [] len s.len wanted s.wanted noted (sym length_is) (sym wanted_is);
+  parts = ap named_by (sym same);
 }
 
--- what a chain from header n on says
-module _ (I : List (List ℕ)) (h : Home) (index front : List ℕ) (k n : ℕ) (all : List ℕ) where
-  abbrev reached : List ℕ
-  reached = front ++ blocks_of (header_by I h index n)
+module _ (len wanted : ℕ) (s : Surveyor) (all old : List (ℕ × List ℕ)) (w : IsOnward len wanted s all old) where
+  -- one header more
+  pub onward_next : (t : Surveyor) (h : ℕ × List ℕ) (rest : List (ℕ × List ℕ)) → old ≡ h ∷ rest → (t.len ≡ s.len) × (t.wanted ≡ s.wanted) × IsSurveyOf t.len t.wanted t.survey (w.front ++ blocks_of h.1) → IsOnward len wanted t all rest
+  onward_next t h rest is noted = record {
+    length_is = noted.0 ∙ w.length_is;
+    wanted_is = noted.1 ∙ w.wanted_is;
+    front = w.front ++ blocks_of h.1;
+    noted = noted.2;
+    parts = w.parts ∙ ap (λ hs. w.front ++ named_by hs) is ∙ sym (append_assoc w.front (blocks_of h.1) (named_by rest));
+  }
 
-  reaches : (others : List ℕ) → Follows I h (Some index) front k n others all → (more : List ℕ) × (all ≡ reached ++ more)
-  reaches [] f = ([], f.2 ∙ sym (append-nil reached))
-  reaches (m ∷ ms) f = front_begins I h (Some index) reached (suc k) m ms all f.4
+  -- what was met is few
+  pub onward_few : length (named_by all) ≤ chain_blocks → length w.front ≤ chain_blocks
+  onward_few few = omega (arith, ap length w.parts, length-append w.front (named_by old), few)
 
-  -- the last header brings all
-  ends : (others : List ℕ) → Follows I h (Some index) front k n others all → next_number_of (header_by I h index n) ≡ 0 → all ≡ reached
-  ends [] f last = f.2
-  ends (m ∷ ms) f last =
-      let head : IsSegment I h index (most h (Some index) reached) m (suc k) = head_of I h (Some index) reached (suc k) m ms all f.4 in
-      let low = head.first in
-      let none : m ≡ 0 = sym f.1 ∙ last in
-      absurd (omega arith)
+  -- what was found is found in all blocks
+  pub onward_found : (lbn : ℕ) → s.survey.found ≡ Some lbn → slice_get (named_by all) wanted ≡ Some lbn
+  onward_found lbn found =
+      let here : slice_get w.front wanted ≡ Some lbn = ap (slice_get w.front) (sym w.wanted_is) ∙ sym w.noted.found ∙ found in
+      ap (λ l. slice_get l wanted) w.parts ∙ slice_get-append_left w.front (named_by old) wanted (slice_get_within w.front wanted lbn here) ∙ here
 
-  -- another one has a next one
-  goes_on : (others : List ℕ) → Follows I h (Some index) front k n others all → next_number_of (header_by I h index n) ≢ 0
-      → (ms : List ℕ) × Follows I h (Some index) reached (suc k) (next_number_of (header_by I h index n)) ms all
-  goes_on [] f some = absurd (some f.1)
-  goes_on (m ∷ ms) f some = (ms, let P : ℕ → Type 0 = λ x. Follows I h (Some index) reached (suc k) x ms all in subst P (sym f.1) f.4)
+  -- all are met
+  pub onward_all : old ≡ [] → IsSurveyOf len wanted s.survey (named_by all)
+  onward_all none =
+      let all_is : named_by all ≡ w.front = w.parts ∙ ap (λ hs. w.front ++ named_by hs) none ∙ append-nil w.front in
+      as_asked s.survey (named_by all) s.len len s.wanted wanted (subst (IsSurveyOf s.len s.wanted s.survey) (sym all_is) w.noted) w.length_is w.wanted_is
 
-module _ (I : List (List ℕ)) (L : VolumeLayout) (n : ℕ) (s t : Survey) (place k : ℕ) (b : List ℕ) (w : IsOnward I L n s place k b) where
-  segment : IsSegment I L.home L.index (most L.home (Some L.index) w.front) w.here k
-  segment = head_of I L.home (Some L.index) w.front k w.here w.others w.blocks w.rest
+module _ (I : List (List ℕ)) (L : VolumeLayout) (n : ℕ) (blocks : List ℕ) (image : IsImage I) (layout : IsLayoutOf I L) (has : HasBlocks I L n blocks) where
+  -- the headers of a file's chain name its blocks
+  pub named_all : blocks ≡ named_by (headers_of I L n)
+  named_all = let seen = chain_seen I L n has.others blocks image layout has.whole.chain in seen.named ∙ ap named_by (sym seen.headers)
 
-  pub onward_layout : IsLaidOut b
-  onward_layout = subst IsLaidOut (sym w.block) segment.valid.header.layout
-
-  -- places in a chain are bytes
-  pub onward_few : IsImage I → k ≤ 255
-  onward_few image = let few = length_of I L.home (Some L.index) w.front k w.here w.others w.blocks image w.rest in omega arith
-
-  same_reached : w.front ++ blocks_of b ≡ w.front ++ blocks_of (header_at I L w.here)
-  same_reached = ap (λ c. w.front ++ blocks_of c) w.block
-
-  more_of : (more : List ℕ) × (w.blocks ≡ (w.front ++ blocks_of b) ++ more)
-  more_of = let r = reaches I L.home L.index w.front k w.here w.blocks w.others w.rest in (r.0, r.1 ∙ ap (λ l. l ++ r.0) (sym same_reached))
-
-  pub onward_inside : AreInside I (blocks_of b)
-  onward_inside =
-      let P : List ℕ → Type 0 = λ l. AreInside I l in
-      let whole = subst P more_of.1 w.file.whole.inside in
-      right_end (λ lbn. lbn < length I) w.front (blocks_of b) (left_part (λ lbn. lbn < length I) (w.front ++ blocks_of b) more_of.0 whole)
-
-  module _ (noted : (blocks : List ℕ) → IsSurveyOf s blocks → IsSurveyOf t (blocks ++ blocks_of b)) (count : t.count ≤ s.count + 26112) (same : t.place ≡ s.place) where
-    -- a block that was found is the file's
-    pub onward_found : (vbn lbn : ℕ) → 1 ≤ vbn → place ≡ vbn - 1 → t.found ≡ Some lbn → Holds I L n vbn lbn
-    onward_found vbn lbn low at found =
-        let all = noted w.front w.noted in
-        let here : slice_get (w.front ++ blocks_of b) (vbn - 1) ≡ Some lbn = ap (slice_get (w.front ++ blocks_of b)) (sym at ∙ sym w.same ∙ sym same) ∙ sym all.found ∙ found in
-        let kept : slice_get ((w.front ++ blocks_of b) ++ more_of.0) (vbn - 1) ≡ Some lbn =
-        slice_get-append_left (w.front ++ blocks_of b) more_of.0 (vbn - 1) (slice_get_within (w.front ++ blocks_of b) (vbn - 1) lbn here) ∙ here in
-        record { blocks = w.blocks; file = w.file; first = low; named = ap (λ l. slice_get l (vbn - 1)) more_of.1 ∙ kept }
-
-    -- where the last header does not name it, the file has no such block
-    pub onward_last : (vbn : ℕ) → place ≡ vbn - 1 → t.found ≡ None → next_number_of b ≡ 0 → (lbn : ℕ) → ¬ Holds I L n vbn lbn
-    onward_last vbn at none last =
-        let is : w.blocks ≡ w.front ++ blocks_of b = ends I L.home L.index w.front k w.here w.blocks w.others w.rest (ap next_number_of (sym w.block) ∙ last) ∙ sym same_reached in
-        let all : IsSurveyOf t w.blocks = subst (IsSurveyOf t) (sym is) (noted w.front w.noted) in
-        let P : Option ℕ → Type 0 = λ o. IfNone o ((lbn : ℕ) → ¬ Holds I L n vbn lbn) in
-        subst P none (not_held I L n vbn t w.blocks w.file all (same ∙ w.same ∙ at))
-
-    -- the next header
-    pub onward_next : (c : List ℕ) (next : ℕ) → next ≡ suc k → next_number_of b ≢ 0 → c ≡ header_by I L.home L.index (next_number_of b) → IsOnward I L n t place next c
-    onward_next c next is some block =
-        let on = goes_on I L.home L.index w.front k w.here w.blocks w.others w.rest (λ e. some (ap next_number_of w.block ∙ e)) in
-        let few = w.count in
-        let P : ℕ → Type 0 = λ x. Follows I L.home (Some L.index) (w.front ++ blocks_of (header_at I L w.here)) x (next_number_of (header_at I L w.here)) on.0 w.blocks in
-        record {
-          blocks = w.blocks;
-          file = w.file;
-          here = next_number_of (header_at I L w.here);
-          front = w.front ++ blocks_of (header_at I L w.here);
-          others = on.0;
-          rest = subst P (sym is) on.1;
-          block = block ∙ ap (λ x. header_by I L.home L.index (next_number_of x)) w.block;
-          noted = subst (IsSurveyOf t) same_reached (noted w.front w.noted);
-          count = omega arith;
-          same = same ∙ w.same;
-        }
-
-    -- there is one
-    pub onward_there : next_number_of b ≢ 0 → header_by I L.home L.index (next_number_of b) ≢ []
-    onward_there some empty =
-        let on = goes_on I L.home L.index w.front k w.here w.blocks w.others w.rest (λ e. some (ap next_number_of w.block ∙ e)) in
-        let head = head_of I L.home (Some L.index) (w.front ++ blocks_of (header_at I L w.here)) (suc k) (next_number_of (header_at I L w.here)) on.0 w.blocks on.1 in
-        let low = head.first in
-        let nothing : header_by I L.home L.index (next_number_of (header_at I L w.here)) ≡ [] = ap (λ x. header_by I L.home L.index (next_number_of x)) (sym w.block) ∙ empty in
-        let number : 0 ≡ next_number_of (header_at I L w.here) = subst (λ l. number_of l ≡ next_number_of (header_at I L w.here)) nothing head.valid.header.numbered in
-        absurd (omega arith)
-
-    -- at the last header all blocks are counted
-    pub onward_count : next_number_of b ≡ 0 → (blocks : List ℕ) × HasBlocks I L n blocks × (t.count ≡ length blocks)
-    onward_count last =
-        let is : w.blocks ≡ w.front ++ blocks_of b = ends I L.home L.index w.front k w.here w.blocks w.others w.rest (ap next_number_of (sym w.block) ∙ last) ∙ sym same_reached in
-        (w.blocks, w.file, (noted w.front w.noted).count ∙ ap length (sym is))
+  pub named_few : length (named_by (headers_of I L n)) ≤ chain_blocks
+  named_few = omega (arith, ap length named_all, chain_size I L.home (index_for L n) n has.others blocks image has.whole.chain)

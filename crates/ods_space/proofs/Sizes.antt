@@ -10,7 +10,7 @@ use Rattle.ods_base.specs.Image.{IsImage}
 use Rattle.ods_header.specs.declared.home.Home.{Home}
 use Rattle.ods_header.specs.Header.{IsLaidOut, map_word, used_words_of, run_at, run_blocks, runs_of, blocks_of}
 use Rattle.ods_space.specs.Layout.{header_by, place_by}
-use Rattle.ods_space.specs.Chain.{known, Follows}
+use Rattle.ods_space.specs.Chain.{known, header_blocks, chain_blocks, Follows}
 use Rattle.ods_space.proofs.Chains.{small_of, length_of}
 
 runs_short : (b : List ℕ) → ((i : ℕ) → byte b i < 256) → All (λ r. length (run_blocks r) ≤ 256) (runs_of b)
@@ -29,14 +29,14 @@ runs_few b layout =
     omega (arith, length-map-range_with_len (run_at b) 0 (used_words_of b / 2))
 
 -- a header names at most 102 times 256 blocks
-pub blocks_few : (b : List ℕ) → IsLaidOut b → ((i : ℕ) → byte b i < 256) → length (blocks_of b) ≤ 26112
+pub blocks_few : (b : List ℕ) → IsLaidOut b → ((i : ℕ) → byte b i < 256) → length (blocks_of b) ≤ header_blocks
 blocks_few b layout small =
     let most = sum_by-le (λ r. length (run_blocks r)) 256 (runs_of b) (runs_short b small) in
     let size = length-flat_map run_blocks (runs_of b) in
     let few = runs_few b layout in
     omega (arith, most, size, few)
 
-chain_few : (I : List (List ℕ)) (h : Home) (index : Option (List ℕ)) (front : List ℕ) (k n : ℕ) (ns all : List ℕ) → IsImage I → Follows I h index front k n ns all → length all ≤ length front + 26112 * (1 + length ns)
+chain_few : (I : List (List ℕ)) (h : Home) (index : Option (List ℕ)) (front : List ℕ) (k n : ℕ) (ns all : List ℕ) → IsImage I → Follows I h index front k n ns all → length all ≤ length front + header_blocks * (1 + length ns)
 chain_few I h index front k n [] all image f =
     let few = blocks_few (header_by I h (known index front) n) f.0.valid.header.layout (λ i. small_of I (place_by h (known index front) n) i image) in
     omega (arith, few, ap length f.2, length-append front (blocks_of (header_by I h (known index front) n)))
@@ -46,5 +46,5 @@ chain_few I h index front k n (m ∷ ms) all image f =
     omega (arith, few, length-append front b, chain_few I h index (front ++ b) (suc k) m ms all image f.4)
 
 -- a chain names at most 256 times as many
-pub chain_size : (I : List (List ℕ)) (h : Home) (index : Option (List ℕ)) (n : ℕ) (ns all : List ℕ) → IsImage I → Follows I h index [] 0 n ns all → length all ≤ 6684672
+pub chain_size : (I : List (List ℕ)) (h : Home) (index : Option (List ℕ)) (n : ℕ) (ns all : List ℕ) → IsImage I → Follows I h index [] 0 n ns all → length all ≤ chain_blocks
 chain_size I h index n ns all image f = omega (arith, chain_few I h index [] 0 n ns all image f, length_of I h index [] 0 n ns all image f)

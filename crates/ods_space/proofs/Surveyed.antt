@@ -1,22 +1,18 @@
 -- A survey of a chain, header by header, and what it says of the file.
-use Rattle.std.proofs.Common.{◌≡◌, ◌≢◌, ℕ, ◌+◌, ◌-◌, ◌*◌, ◌<◌, ◌≤◌, Bool, true, false, cond, nat_eq, List, [], ◌++◌, length, take, get_or, Option, Some, None, refl, sym, ap, ◌∙◌, subst, arith}
+use Rattle.std.proofs.Common.{◌≡◌, ◌≢◌, ℕ, ◌+◌, ◌-◌, ◌<◌, ◌≤◌, Bool, true, false, cond, nat_eq, List, [], length, take, get_or, Option, Some, None, refl, sym, ap, ◌∙◌, subst, arith}
 use Rattle.std.specs.Prelude.{slice_get, IfNone}
-use Rattle.std.specs.List.{All}
 use Rattle.std.proofs.lemmas.Bool.{eqb-true, eqb-false}
-use Rattle.std.proofs.lemmas.List.Elements.{All-append, All-push, All-take, All-drop}
-use Rattle.std.proofs.lemmas.List.{take_at, drop_at, take_more}
-use Rattle.ods_header.specs.declared.home.Home.{Home}
-use Rattle.ods_header.specs.Header.{IsLaidOut, next_number_of, blocks_of}
-use Rattle.ods_space.specs.Layout.{VolumeLayout, header_by, last_number}
-use Rattle.ods_space.specs.Chain.{IsSegment, Follows, IsChain, index_for}
+use Rattle.std.proofs.lemmas.List.Elements.{All-push}
+use Rattle.std.proofs.lemmas.List.{take_more}
+use Rattle.ods_space.specs.Layout.{VolumeLayout}
+use Rattle.ods_space.specs.Chain.{Follows, IsChain, index_for}
 use Rattle.ods_space.specs.Files.{IsFile, AreInside, HasBlocks, Holds, IsLayoutOf}
 use Rattle.ods_space.specs.Faults.{IsChainFault}
 use Rattle.ods_space.specs.declared.fault.ChainFault.{ChainFault}
 use Rattle.ods_space.specs.declared.fault.ChainFault.TheVariants.{BadChain, OutsideVolume, NoMemory}
-use Rattle.ods_space.specs.Walk.{IsLink, Leads, IsDeadEnd, IsSurveyOf}
+use Rattle.ods_space.specs.Walk.{Leads, IsDeadEnd, IsPast, IsSurveyOf}
 use Rattle.ods_space.specs.declared.survey.Survey.{Survey}
 use Rattle.ods_space.proofs.Chains.{head_of, same_chain}
-use Rattle.ods_space.proofs.Walks.{IsReached, walk_first, walk_none, walk_last, walk_next, walk_end, reached_layout, reached_blocks}
 
 pub index_for_other : (L : VolumeLayout) (n : ℕ) → n ≢ 1 → index_for L n ≡ Some L.index
 index_for_other L n other = by (nat_eq n 1) refl
@@ -29,101 +25,8 @@ index_for_other L n other = by (nat_eq n 1) refl
 pub leads_from : (I : List (List ℕ)) (L : VolumeLayout) (n : ℕ) (others blocks : List ℕ) → n ≢ 1 → Follows I L.home (index_for L n) [] 0 n others blocks → Leads I L.home (Some L.index) n blocks
 leads_from I L n others blocks other f = let P : Option (List ℕ) → Type 0 = λ x. Follows I L.home x [] 0 n others blocks in (others, subst P (index_for_other L n other) f)
 
-pub chain_from : (I : List (List ℕ)) (L : VolumeLayout) (n : ℕ) (blocks : List ℕ) → n ≢ 1 → (leads : Leads I L.home (Some L.index) n blocks) → Follows I L.home (index_for L n) [] 0 n leads.0 blocks
-chain_from I L n blocks other leads = let P : Option (List ℕ) → Type 0 = λ x. Follows I L.home x [] 0 n leads.0 blocks in subst P (sym (index_for_other L n other)) leads.1
-
 pub file_from : (I : List (List ℕ)) (L : VolumeLayout) (n : ℕ) (blocks : List ℕ) → Leads I L.home (Some L.index) n blocks → IsFile I L n
 file_from I L n blocks leads = head_of I L.home (Some L.index) [] 0 n leads.0 blocks leads.1
-
-pub has_blocks_from : (I : List (List ℕ)) (L : VolumeLayout) (n : ℕ) (blocks : List ℕ) → n ≢ 1 → Leads I L.home (Some L.index) n blocks → AreInside I blocks → HasBlocks I L n blocks
-has_blocks_from I L n blocks other leads inside =
-    record { file = file_from I L n blocks leads; others = leads.0; whole = record { chain = chain_from I L n blocks other leads; inside = inside } }
-
--- A survey of the chain of n has come to a header with block b at place k.
-pub record IsSurveyed (I : List (List ℕ)) (L : VolumeLayout) (n : ℕ) (s : Survey) (place k : ℕ) (b : List ℕ) : Type 0 where
-  pub here : ℕ
-  pub front : List ℕ
-  pub at : IsReached I L.home (Some L.index) n front k here b
-  pub noted : IsSurveyOf s front
-  pub inside : AreInside I front
-  pub count : s.count ≤ 26112 * k
-  pub same : s.place ≡ place
-
-pub left_part : (P : ℕ → Type 0) (xs ys : List ℕ) → All P (xs ++ ys) → All P xs
-left_part P xs ys all = let Q : List ℕ → Type 0 = λ l. All P l in subst Q (take_at xs ys (length xs) refl) (All-take P (length xs) (xs ++ ys) all)
-
-pub right_end : (P : ℕ → Type 0) (xs ys : List ℕ) → All P (xs ++ ys) → All P ys
-right_end P xs ys all = let Q : List ℕ → Type 0 = λ l. All P l in subst Q (drop_at xs ys (length xs) refl) (All-drop P (length xs) (xs ++ ys) all)
-
-module _ (I : List (List ℕ)) (L : VolumeLayout) (n : ℕ) (other : n ≢ 1) (h : Home) (h_is : h ≡ L.home) (by : List ℕ) (by_is : by ≡ L.index) (limit : ℕ) (limit_is : limit ≡ last_number L) where
-  abbrev Has : Type 0
-  Has = (blocks : List ℕ) → ¬ HasBlocks I L n blocks
-
-  -- the first header
-  pub survey_first : (b : List ℕ) (place : ℕ) → IsSegment I h by limit n 0 → b ≡ header_by I h by n → IsSurveyed I L n (record { place = place; count = 0; found = None }) place 0 b
-  survey_first b place segment block =
-      let P : Home → Type 0 = λ x. IsSegment I x by limit n 0 × (b ≡ header_by I x by n) in
-      let both = subst P h_is (segment, block) in
-      record {
-        here = n;
-        front = [];
-        at = walk_first I L.home (Some L.index) n limit by b by_is limit_is both.0 both.1;
-        noted = record { count = refl; found = refl };
-        inside = λ k d within. absurd (omega arith);
-        count = omega arith;
-        same = refl;
-      }
-
-  pub survey_none : ¬ IsSegment I h by limit n 0 → Has
-  survey_none none blocks has =
-      let P : Home → Type 0 = λ x. ¬ IsSegment I x by limit n 0 in
-      walk_none I L.home (Some L.index) n limit by by_is limit_is (subst P h_is none) blocks (leads_from I L n has.others blocks other has.whole.chain)
-
-  module _ (s t : Survey) (place k : ℕ) (b : List ℕ) (done : IsSurveyed I L n s place k b) where
-    pub survey_layout : IsLaidOut b
-    survey_layout = reached_layout I L.home (Some L.index) n done.front k done.here b done.at
-
-    -- a block past the image
-    pub survey_outside : ¬ AreInside I (blocks_of b) → Has
-    survey_outside past blocks has =
-        let more = reached_blocks I L.home (Some L.index) n done.front k done.here b done.at blocks (leads_from I L n has.others blocks other has.whole.chain) in
-        let P : List ℕ → Type 0 = λ l. AreInside I l in
-        let whole = subst P more.1 has.whole.inside in
-        past (right_end (λ lbn. lbn < length I) done.front (blocks_of b) (left_part (λ lbn. lbn < length I) (done.front ++ blocks_of b) more.0 whole))
-
-    module _ (noted : (blocks : List ℕ) → IsSurveyOf s blocks → IsSurveyOf t (blocks ++ blocks_of b)) (within : AreInside I (blocks_of b)) (count : t.count ≤ s.count + 26112) (same : t.place ≡ s.place) where
-      -- the last header
-      pub survey_last : next_number_of b ≡ 0 → (t.place ≡ place) × (blocks : List ℕ) × HasBlocks I L n blocks × IsSurveyOf t blocks
-      survey_last last =
-          let leads = walk_last I L.home (Some L.index) n limit by done.front k done.here b done.at (done.front ++ blocks_of b) refl last in (
-            same ∙ done.same,
-            done.front ++ blocks_of b,
-            has_blocks_from I L n (done.front ++ blocks_of b) other leads (All-append (λ lbn. lbn < length I) done.front (blocks_of b) done.inside within),
-            noted done.front done.noted,
-          )
-
-      -- the header behind it
-      pub survey_next : (c : List ℕ) → next_number_of b ≢ 0 → IsLink I h by limit b (k + 1) → c ≡ header_by I h by (next_number_of b) → IsSurveyed I L n t place (k + 1) c
-      survey_next c some link block =
-          let P : Home → Type 0 = λ x. IsLink I x by limit b (k + 1) × (c ≡ header_by I x by (next_number_of b)) in
-          let both = subst P h_is (link, block) in
-          let few = done.count in
-          record {
-            here = next_number_of b;
-            front = done.front ++ blocks_of b;
-            at = walk_next I L.home (Some L.index) n limit by done.front k done.here b done.at (done.front ++ blocks_of b) refl c (k + 1) (omega arith) by_is limit_is some both.0 both.1;
-            noted = noted done.front done.noted;
-            inside = All-append (λ lbn. lbn < length I) done.front (blocks_of b) done.inside within;
-            count = omega arith;
-            same = same ∙ done.same;
-          }
-
-    -- nothing leads on
-    pub survey_end : next_number_of b ≢ 0 → ¬ IsLink I h by limit b (k + 1) → Has
-    survey_end some none blocks has =
-        let P : Home → Type 0 = λ x. ¬ IsLink I x by limit b (k + 1) in
-        walk_end I L.home (Some L.index) n limit by done.front k done.here b done.at (done.front ++ blocks_of b) refl (k + 1) (omega arith) by_is limit_is some (subst P h_is none) blocks
-        (leads_from I L n has.others blocks other has.whole.chain)
 
 -- the chain of a file of this layout starts with a file
 pub file_of_chain : (I : List (List ℕ)) (L : VolumeLayout) (n : ℕ) (others blocks : List ℕ) → IsLayoutOf I L → IsChain I L n others blocks → IsFile I L n
@@ -137,28 +40,53 @@ file_of_chain I L n others blocks layout chain = by (nat_eq n 1) refl
 pub same_blocks : (I : List (List ℕ)) (L : VolumeLayout) (n : ℕ) (xs ys : List ℕ) → HasBlocks I L n xs → HasBlocks I L n ys → xs ≡ ys
 same_blocks I L n xs ys f g = (same_chain I L.home (index_for L n) [] 0 n f.others xs g.others ys f.whole.chain g.whole.chain).1
 
--- a place where nothing was found is none of the file
-pub not_held : (I : List (List ℕ)) (L : VolumeLayout) (n vbn : ℕ) (s : Survey) (blocks : List ℕ) → HasBlocks I L n blocks → IsSurveyOf s blocks → s.place ≡ vbn - 1 → IfNone s.found ((lbn : ℕ) → ¬ Holds I L n vbn lbn)
-not_held I L n vbn s blocks has survey place = by s.found refl
+-- where nothing was found the file has no block
+pub not_held : (I : List (List ℕ)) (L : VolumeLayout) (n vbn : ℕ) (found : Option ℕ) (blocks : List ℕ) → HasBlocks I L n blocks → found ≡ slice_get blocks (vbn - 1) → IfNone found ((lbn : ℕ) → ¬ Holds I L n vbn lbn)
+not_held I L n vbn found blocks has is = by found refl
   where
-    by : (o : Option ℕ) → s.found ≡ o → IfNone o ((lbn : ℕ) → ¬ Holds I L n vbn lbn)
+    by : (o : Option ℕ) → found ≡ o → IfNone o ((lbn : ℕ) → ¬ Holds I L n vbn lbn)
     by (Some x) e = tt
     by None e = λ lbn holds.
         let same = same_blocks I L n holds.blocks blocks holds.file has in
-        let none : slice_get blocks (vbn - 1) ≡ None = ap (slice_get blocks) (sym place) ∙ sym survey.found ∙ e in
+        let none : slice_get blocks (vbn - 1) ≡ None = sym is ∙ e in
         let some : slice_get blocks (vbn - 1) ≡ Some lbn = ap (λ l. slice_get l (vbn - 1)) (sym same) ∙ holds.named in
         absurd (let clash : None ≡ Some lbn = sym none ∙ some in cc)
+
+-- the blocks of INDEXF.SYS are those of the layout
+pub of_index : (I : List (List ℕ)) (L : VolumeLayout) (n wanted : ℕ) (index : List ℕ) (s : Survey) → IsLayoutOf I L → n ≡ 1 → index ≡ L.index → s.count ≡ length index → s.found ≡ slice_get index wanted → s.past ≡ None
+    → (others : List ℕ) × (blocks : List ℕ) × IsChain I L n others blocks × IsSurveyOf (length I) wanted s blocks
+of_index I L n wanted index s layout one is count found past =
+    let own = layout.index in
+    let P : ℕ → Type 0 = λ x. IsChain I L x own.others L.index in
+    let Q : Option ℕ → Type 0 = λ o. IsPast (length I) L.index o in
+    (own.others, L.index, subst P (sym one) own.whole.chain, record { count = count ∙ ap length is; found = found ∙ ap (λ xs. slice_get xs wanted) is; past = subst Q (sym past) own.whole.inside })
+
+-- a survey that looked for this in an image of this length
+pub as_asked : (s : Survey) (blocks : List ℕ) (len n wanted m : ℕ) → IsSurveyOf len wanted s blocks → len ≡ n → wanted ≡ m → IsSurveyOf n m s blocks
+as_asked s blocks len n wanted m is same alike =
+    let P : ℕ → Type 0 = λ x. IsSurveyOf x wanted s blocks in
+    let Q : ℕ → Type 0 = λ x. IsSurveyOf n x s blocks in
+    subst Q alike (subst P same is)
+
+-- a whole chain, and one that names a block that the image lacks
+pub has_of_chain : (I : List (List ℕ)) (L : VolumeLayout) (n : ℕ) (others blocks : List ℕ) → IsLayoutOf I L → IsChain I L n others blocks → AreInside I blocks → HasBlocks I L n blocks
+has_of_chain I L n others blocks layout chain inside = record { file = file_of_chain I L n others blocks layout chain; others = others; whole = record { chain = chain; inside = inside } }
+
+pub not_whole : (I : List (List ℕ)) (L : VolumeLayout) (n : ℕ) (others blocks : List ℕ) (lbn : ℕ) (held : List ℕ) → IsChain I L n others blocks → IsPast (length I) blocks (Some lbn) → ¬ HasBlocks I L n held
+not_whole I L n others blocks lbn held chain past has =
+    let same : held ≡ blocks = (same_chain I L.home (index_for L n) [] 0 n has.others held others blocks has.whole.chain chain).1 in
+    let at = past.0 in
+    let P : List ℕ → Type 0 = λ l. AreInside I l in
+    let inside : get_or blocks at.0 lbn < length I = (subst P same has.whole.inside) at.0 lbn at.1 in
+    let is : get_or blocks at.0 lbn ≡ lbn = at.2 in
+    let far : length I ≤ lbn = past.1 in
+    omega arith
 
 -- A walk that found no chain, or was refused memory, has this fault.
 pub dead_end_fault : (I : List (List ℕ)) (L : VolumeLayout) (n : ℕ) (fault : ChainFault) → IsDeadEnd I L.home (index_for L n) n fault → IsChainFault I L n fault
 dead_end_fault I L n BadChain none = λ others blocks chain. none blocks (others, chain)
 dead_end_fault I L n (OutsideVolume lbn) none = absurd none
 dead_end_fault I L n NoMemory none = tt
-
--- a whole chain
-pub has_of_leads : (I : List (List ℕ)) (L : VolumeLayout) (n : ℕ) (blocks : List ℕ) → IsLayoutOf I L → Leads I L.home (index_for L n) n blocks → AreInside I blocks → HasBlocks I L n blocks
-has_of_leads I L n blocks layout leads inside =
-    record { file = file_of_chain I L n leads.0 blocks layout leads.1; others = leads.0; whole = record { chain = leads.1; inside = inside } }
 
 pub inside_more : (I : List (List ℕ)) (blocks : List ℕ) (i : ℕ) → i < length blocks → get_or blocks i 0 < length I → AreInside I (take i blocks) → AreInside I (take (i + 1) blocks)
 inside_more I blocks i within inside before =

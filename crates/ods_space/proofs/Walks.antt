@@ -1,19 +1,30 @@
 -- Walks along a chain: whatever completes the rest completes the whole, and where nothing leads on there is no chain.
-use Rattle.std.proofs.Common.{◌≡◌, ◌≢◌, ℕ, suc, List, [], ◌∷◌, ◌++◌, Option, refl, sym, ◌∙◌, subst}
-use Rattle.std.proofs.lemmas.List.{append-nil}
+use Rattle.std.proofs.Common.{◌≡◌, ◌≢◌, ℕ, suc, ◌+◌, ◌*◌, ◌<◌, ◌≤◌, List, [], ◌∷◌, ◌++◌, length, Option, refl, sym, subst, arith}
+use Rattle.std.proofs.lemmas.List.{length-append}
+use Rattle.ods_base.specs.Block.{byte}
+use Rattle.ods_base.specs.Image.{IsImage}
 use Rattle.ods_header.specs.declared.home.Home.{Home}
 use Rattle.ods_header.specs.Header.{IsLaidOut, next_number_of, next_sequence_of, sequence_of, blocks_of}
-use Rattle.ods_space.specs.Layout.{header_by}
-use Rattle.ods_space.specs.Chain.{known, most, IsSegment, Follows}
+use Rattle.ods_space.specs.Layout.{header_by, place_by}
+use Rattle.ods_space.specs.Chain.{known, most, header_blocks, IsSegment, Follows}
 use Rattle.ods_space.specs.Walk.{IsLink, Leads}
-use Rattle.ods_space.proofs.Chains.{head_of, front_begins}
+use Rattle.ods_space.proofs.Chains.{head_of, small_of}
+use Rattle.ods_space.proofs.Sizes.{blocks_few}
 
--- A walk from `start` reached header n, whose block is b, at place k; the headers before it name these blocks.
+-- A walk from `start` reached header n, segment k, whose block is b; the headers before it name these blocks.
 pub record IsReached (I : List (List ℕ)) (h : Home) (index : Option (List ℕ)) (start : ℕ) (front : List ℕ) (k n : ℕ) (b : List ℕ) : Type 0 where
   pub segment : IsSegment I h (known index front) (most h index front) n k
   pub block : b ≡ header_by I h (known index front) n
   pub completes : (others all : List ℕ) → Follows I h index front k n others all → Leads I h index start all
   pub only : (others all : List ℕ) → Follows I h index [] 0 start others all → (rest : List ℕ) × Follows I h index front k n rest all
+
+-- Such a walk, of which the blocks of the headers before it are noted: `Has` says so.
+pub record IsUnderWay (I : List (List ℕ)) (h : Home) (index : Option (List ℕ)) (start : ℕ) (Has : List ℕ → Type 0) (k : ℕ) (b : List ℕ) : Type 0 where
+  pub front : List ℕ
+  pub here : ℕ
+  pub at : IsReached I h index start front k here b
+  pub noted : Has front
+  pub few : length front ≤ header_blocks * k
 
 pub reached_first : (I : List (List ℕ)) (h : Home) (index : Option (List ℕ)) (n : ℕ) (b : List ℕ) → IsSegment I h (known index []) (most h index []) n 0 → b ≡ header_by I h (known index []) n → IsReached I h index n [] 0 n b
 reached_first I h index n b segment block = record { segment = segment; block = block; completes = λ others all f. (others, f); only = λ others all f. (others, f) }
@@ -41,10 +52,6 @@ module _ (I : List (List ℕ)) (h : Home) (index : Option (List ℕ)) (front : L
       let Q : ℕ → Type 0 = λ x. IsSegment I h (known index reached) (most h index reached) x (suc k) in
       record { volume = f.2; sequence = subst P (sym f.1) f.3; segment = subst Q (sym f.1) (head_of I h index reached (suc k) m ms all f.4) }
 
-  more_of : (rest all : List ℕ) → Follows I h index front k n rest all → (more : List ℕ) × (all ≡ reached ++ more)
-  more_of [] all f = ([], f.2 ∙ sym (append-nil reached))
-  more_of (m ∷ ms) all f = front_begins I h index reached (suc k) m ms all f.4
-
 module _ (I : List (List ℕ)) (h : Home) (index : Option (List ℕ)) (start : ℕ) (front : List ℕ) (k n : ℕ) (b : List ℕ) (at : IsReached I h index start front k n b) where
   -- the last header of the chain
   pub reached_last : next_number_of b ≡ 0 → Leads I h index start (front ++ blocks_of b)
@@ -71,15 +78,20 @@ module _ (I : List (List ℕ)) (h : Home) (index : Option (List ℕ)) (start : �
       let P : List ℕ → Type 0 = λ x. next_number_of x ≢ 0 → ¬ IsLink I h (known index (front ++ blocks_of x)) (most h index (front ++ blocks_of x)) x (suc k) → (blocks : List ℕ) → ¬ Leads I h index start blocks in
       subst P (sym at.block) (λ some none blocks chain. let g = at.only chain.0 blocks chain.1 in none (link_of I h index front k n g.0 blocks some g.1))
 
-  -- what the headers so far name is the front of what all name
-  pub reached_blocks : (blocks : List ℕ) → Leads I h index start blocks → (more : List ℕ) × (blocks ≡ (front ++ blocks_of b) ++ more)
-  reached_blocks =
-      let P : List ℕ → Type 0 = λ x. (blocks : List ℕ) → Leads I h index start blocks → (more : List ℕ) × (blocks ≡ (front ++ blocks_of x) ++ more) in
-      subst P (sym at.block) (λ blocks chain. let g = at.only chain.0 blocks chain.1 in more_of I h index front k n g.0 blocks g.1)
-
   -- its areas lie within the block
   pub reached_layout : IsLaidOut b
   reached_layout = subst IsLaidOut (sym at.block) at.segment.valid.header.layout
+
+-- one header more names few blocks more
+pub few_more : (I : List (List ℕ)) (h : Home) (index : Option (List ℕ)) (start : ℕ) (Has : List ℕ → Type 0) (k : ℕ) (b : List ℕ) → IsImage I → (w : IsUnderWay I h index start Has k b)
+    → length (w.front ++ blocks_of b) ≤ header_blocks * (k + 1)
+few_more I h index start Has k b image w =
+    let P : List ℕ → Type 0 = λ x. (i : ℕ) → byte x i < 256 in
+    let small = subst P (sym w.at.block) (λ i. small_of I (place_by h (known index w.front) w.here) i image) in
+    let few = blocks_few b (reached_layout I h index start w.front k w.here b w.at) small in
+    let before = w.few in
+    let size = length-append w.front (blocks_of b) in
+    omega arith
 
 -- The same for a walk that computed the index and the greatest number at hand.
 module _ (I : List (List ℕ)) (h : Home) (index : Option (List ℕ)) (start at_hand : ℕ) (by : List ℕ) where

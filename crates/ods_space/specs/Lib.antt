@@ -2,11 +2,9 @@ pub mod Layout
 pub mod Chain
 pub mod Files
 pub mod Free
-pub mod Scan
 pub mod Walk
 pub mod Draft
 pub mod Faults
 pub mod Changes
 pub mod Refusals
 pub mod Growth
-pub mod Past

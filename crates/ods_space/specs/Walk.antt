@@ -1,5 +1,6 @@
 -- Walks along a chain, header by header.
-use Rattle.std.specs.Prelude.{◌≡◌, ℕ, List, [], length, slice_get, Option}
+use Rattle.std.specs.Prelude.{◌≡◌, ℕ, ◌<◌, ◌≤◌, List, [], length, slice_get, Option, Some, None}
+use Rattle.std.specs.List.{All, Contains}
 use Rattle.ods_header.specs.declared.home.Home.{Home}
 use Rattle.ods_header.specs.Header.{next_volume_of, next_number_of, next_sequence_of, sequence_of}
 use Rattle.ods_space.specs.Layout.{header_by}
@@ -10,7 +11,7 @@ use Rattle.ods_space.specs.declared.fault.ChainFault.TheVariants.{BadChain, Outs
 use Rattle.ods_space.specs.declared.fault.LayoutFault.{LayoutFault}
 use Rattle.ods_space.specs.declared.fault.LayoutFault.TheVariants.{Chain, NoMemory as NoLayout}
 
--- b names a next header on this volume, by number and sequence number, and that header has place k in the chain
+-- b names a next header on this volume, by number and sequence number, and that header is segment k of the chain
 pub record IsLink (I : List (List ℕ)) (h : Home) (index : List ℕ) (most : ℕ) (b : List ℕ) (k : ℕ) : Type 0 where
   pub volume : next_volume_of b ≡ 0
   pub sequence : sequence_of (header_by I h index (next_number_of b)) ≡ next_sequence_of b
@@ -26,10 +27,16 @@ IsDeadEnd I h index n BadChain = (blocks : List ℕ) → ¬ Leads I h index n bl
 IsDeadEnd I h index n (OutsideVolume lbn) = ⊥
 IsDeadEnd I h index n NoMemory = Unit {0}
 
--- what was noted of these blocks: how many there are, and the one at the place that is looked for
-pub record IsSurveyOf (s : Survey) (blocks : List ℕ) : Type 0 where
+-- One of these blocks lies past an image of len blocks, namely this one; or none does.
+abbrev pub IsPast : ℕ → List ℕ → Option ℕ → Type 0
+IsPast len blocks (Some lbn) = Contains blocks lbn × (len ≤ lbn)
+IsPast len blocks None = All (λ lbn. lbn < len) blocks
+
+-- What was met of these blocks: how many there are, the one with the index that is wanted, counted from 0, and one that an image of len blocks lacks.
+pub record IsSurveyOf (len wanted : ℕ) (s : Survey) (blocks : List ℕ) : Type 0 where
   pub count : s.count ≡ length blocks
-  pub found : s.found ≡ slice_get blocks s.place
+  pub found : s.found ≡ slice_get blocks wanted
+  pub past : IsPast len blocks s.past
 
 -- the fault of a layout whose file has this one
 abbrev pub layout_fault_of : ℕ → ChainFault → LayoutFault

@@ -1,29 +1,20 @@
 //! The bits of blocks and numbers.
-ghost use Rattle.std.specs.Prelude.{◌≡◌, ◌<◌};
-ghost use Rattle.ods_base.specs.Block.{has_bit};
+ghost use Rattle.std.specs.Prelude.{◌≡◌};
 ghost use Rattle.ods_space.specs.Layout.{is_in_use};
 ghost use Rattle.ods_space.specs.Free.{is_free_block};
 
 use crate::Layout;
-use ods_base::{Block, Image};
+use ods_base::{Image, bit};
 use ods_header::Home;
-
-/// Bit `i` of a block, counted from the low end of each byte.
-fn bit(block: &Block, i: u32) -> bool
-    requires { i < 4096 }
-    ensures { result ≡ has_bit block.now i }
-{
-    block.byte((i / 8) as usize) >> (i % 8) & 1 == 1
-}
 
 /// Whether the index bit of a number is set.
 pub(crate) fn is_used(image: &Image, home: &Home, number: u16) -> bool
     ensures { result ≡ is_in_use image.now home.now number }
 {
-    if number == 0 || 4096 * (home.index_size as u32) < number as u32 {
+    if number == 0 || 4096 * (home.index_bitmap_size as u32) < number as u32 {
         return false;
     }
-    let at = home.index_lbn as u64 + (number as u64 - 1) / 4096;
+    let at = home.index_bitmap_lbn as u64 + (number as u64 - 1) / 4096;
     at < image.len() as u64 && bit(image.block(at as u32), (number as u32 - 1) % 4096)
 }
 

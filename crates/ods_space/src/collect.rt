@@ -6,7 +6,7 @@ ghost use Rattle.ods_space.specs.Chain.{known as known_of, most as most_of};
 ghost use Rattle.ods_space.specs.Walk.{Leads, IsDeadEnd};
 
 use crate::ChainFault;
-use crate::walk::{next_block, next_number, segment_block};
+use crate::walk::{Notes, walk};
 use ods_base::{Block, Image};
 use ods_header::{Home, Run, pointer_at, pointer_count};
 use std::alloc::{AllocError, Global};
@@ -47,7 +47,7 @@ fn known<'a>(index: Option<&'a [u32]>, front: &'a [u32]) -> &'a [u32]
 pub(crate) fn most(home: &Home, index: Option<&[u32]>, front: &[u32]) -> u16
     ensures { result ≡ most_of home.now (option_map (λ x. x.now) index.entry) front.now }
 {
-    let size = home.index_size as usize;
+    let size = home.index_bitmap_size as usize;
     let headers = match index {
         Some(index) => index.len().saturating_sub(size + 2),
         None => front.len().saturating_sub(size + 2).max(16),
@@ -55,8 +55,38 @@ pub(crate) fn most(home: &Home, index: Option<&[u32]>, front: &[u32]) -> u16
     (home.max_files as usize).min(4096 * size).min(headers) as u16
 }
 
-/// All blocks of the chain from header `number` on, in order. Without an index they are those of INDEXF.SYS, whose headers are
-/// placed by the blocks that the headers before them name.
+/// The blocks of a chain, noted one after another. Without an index they are those of INDEXF.SYS, whose headers are placed by the
+/// blocks that the headers before them name.
+#[derive(Drop)]
+struct Named<'a> {
+    index: Option<&'a [u32]>,
+    blocks: Vec<u32>,
+}
+
+impl Notes for Named<'_> {
+    ghost use Rattle.std.specs.Prelude.{◌≡◌, ◌+◌, ◌≤◌, ◌++◌, ℕ, List, length, OnOk};
+    ghost use Rattle.std.specs.Option.{option_map};
+
+    type Full = AllocError;
+
+    ghost placed_by = { λ s. option_map (λ x. x.now) s.index };
+
+    ghost has = { λ s t blocks. (t.index ≡ s.index) × (t.blocks.items ≡ blocks) };
+
+    fn known(&self) -> &[u32] {
+        known(self.index, &self.blocks)
+    }
+
+    fn most(&self, home: &Home) -> u16 {
+        most(home, self.index, &self.blocks)
+    }
+
+    fn note(&mut self, block: &Block) -> Result<(), AllocError> {
+        push_header(&mut self.blocks, block)
+    }
+}
+
+/// All blocks of the chain from header `number` on, in order.
 pub(crate) fn collect(
     alloc: Global,
     image: &Image,
@@ -67,23 +97,13 @@ pub(crate) fn collect(
     ensures ok { IfOk result (λ blocks. Leads image.now home.now (option_map (λ x. x.now) index.entry) number blocks.items) }
     ensures err { IfErr result (IsDeadEnd image.now home.now (option_map (λ x. x.now) index.entry) number) }
 {
-    let mut named = Vec::new(alloc);
-    let front = known(index, &[]);
-    let Some(first) = segment_block(image, home, front, most(home, index, &[]), number, 0) else {
-        return Err(ChainFault::BadChain);
+    let mut named = Named {
+        index,
+        blocks: Vec::new(alloc),
     };
-    let mut block = first;
-    for segment in 0..256 {
-        push_header(&mut named, block)?;
-        if next_number(block) == 0 {
-            return Ok(named);
-        }
-        let front = known(index, &named);
-        let most = most(home, index, &named);
-        let Some(next) = next_block(image, home, front, most, block, segment + 1) else {
-            return Err(ChainFault::BadChain);
-        };
-        block = next;
+    match walk(image, home, number, &mut named) {
+        Ok(true) => Ok(named.blocks),
+        Ok(false) => Err(ChainFault::BadChain),
+        Err(_) => Err(ChainFault::NoMemory),
     }
-    Err(ChainFault::BadChain)
 }

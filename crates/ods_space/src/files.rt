@@ -1,10 +1,10 @@
-//! The blocks of files.
-ghost use Rattle.std.specs.Prelude.{◌≡◌, ◌≢◌, ◌^◌, ◌≤◌, ℕ, List, length, IfOk, IfErr, IfSome, IfNone, SomeIff};
+//! Files: their first headers, their chains and their blocks.
+ghost use Rattle.std.specs.Prelude.{◌≡◌, ◌≢◌, ◌^◌, ◌≤◌, ℕ, List, length, OnOk, IfOk, IfErr, IfSome, IfNone, SomeIff, None, slice_get};
 ghost use Rattle.std.specs.Option.{option_map};
 ghost use Rattle.std.specs.List.{Contains};
 ghost use Rattle.ods_header.specs.Header.{header_of};
 ghost use Rattle.ods_space.specs.Layout.{header_at};
-ghost use Rattle.ods_space.specs.Chain.{index_for as index_of};
+ghost use Rattle.ods_space.specs.Chain.{IsChain, chain_blocks, index_for as index_of};
 ghost use Rattle.ods_space.specs.Files.{IsFile, HasBlocks, Holds, IsLayoutOf, AreInside};
 ghost use Rattle.ods_space.specs.Faults.{IsChainFault};
 ghost use Rattle.ods_space.specs.Walk.{IsSurveyOf};
@@ -12,8 +12,8 @@ ghost use Rattle.ods_space.specs.Walk.{IsSurveyOf};
 use crate::bits::in_use;
 use crate::collect::collect;
 use crate::headers::{header_block, last_number};
-use crate::survey::Survey;
-use crate::walk::{next_block, next_number, segment_block};
+use crate::survey::{Survey, Surveyor};
+use crate::walk::{segment_block, walk};
 use crate::{ChainFault, Layout};
 use ods_base::{Block, Image};
 use ods_header::{Header, read_header};
@@ -27,7 +27,7 @@ pub fn file_header(image: &Image, layout: &Layout, number: u16) -> Option<Header
     if number == 0 || last_number(layout) < number || !in_use(image, layout, number) {
         return None;
     }
-    let block = header_block(image, &layout.home(), layout.index(), number)?;
+    let block = header_block(image, layout, number)?;
     match read_header(block, number) {
         Ok(header) => {
             if header.segment == 0 {
@@ -103,6 +103,22 @@ pub(crate) fn outside(image: &Image, blocks: &[u32]) -> Option<u32>
     None
 }
 
+/// The chain of a file is whole, and all its blocks are of the image. A number that is no file has no chain.
+pub fn check_chain(image: &Image, layout: &Layout, number: u16) -> Result<(), ChainFault>
+    requires { IsLayoutOf image.now layout.now }
+    ensures ok { OnOk result ((blocks : List ℕ) × HasBlocks image.now layout.now number blocks) }
+    ensures err { IfErr result (IsChainFault image.now layout.now number) }
+    ensures memory { IfErr result (λ e. e ≢ ChainFault.NoMemory) }
+{
+    let Some(survey) = survey(image, layout, number, 0) else {
+        return Err(ChainFault::BadChain);
+    };
+    match survey.past {
+        Some(lbn) => Err(ChainFault::OutsideVolume(lbn)),
+        None => Ok(()),
+    }
+}
+
 /// One block of a file, counted from 1. There is none where the file has no whole chain.
 pub fn locate(image: &Image, layout: &Layout, number: u16, vbn: u32) -> Option<u32>
     requires { IsLayoutOf image.now layout.now }
@@ -112,7 +128,7 @@ pub fn locate(image: &Image, layout: &Layout, number: u16, vbn: u32) -> Option<u
     if vbn == 0 {
         return None;
     }
-    survey(image, layout, number, vbn - 1)?.found
+    survey_whole(image, layout, number, vbn - 1)?.found
 }
 
 /// How many blocks a file has.
@@ -121,61 +137,50 @@ pub fn block_count(image: &Image, layout: &Layout, number: u16) -> Option<u32>
     ensures count { IfSome result (λ count. (blocks : List ℕ) × HasBlocks image.now layout.now number blocks × (count ≡ length blocks)) }
     ensures none { IfNone result ((blocks : List ℕ) → ¬ HasBlocks image.now layout.now number blocks) }
 {
-    Some(survey(image, layout, number, 0)?.count)
+    Some(survey_whole(image, layout, number, 0)?.count)
 }
 
-/// What a file has: how many blocks, and the one at this place, counted from 0.
-fn survey(image: &Image, layout: &Layout, number: u16, place: u32) -> Option<Survey>
+/// What a file with a whole chain has: how many blocks, and the one with the index `wanted`, counted from 0.
+fn survey_whole(image: &Image, layout: &Layout, number: u16, wanted: u32) -> Option<Survey>
     requires { IsLayoutOf image.now layout.now }
-    ensures some { IfSome result (λ s. (s.place ≡ place) × (blocks : List ℕ) × HasBlocks image.now layout.now number blocks × IsSurveyOf s blocks) }
+    ensures some { IfSome result (λ s. (blocks : List ℕ) × HasBlocks image.now layout.now number blocks × IsSurveyOf (length image.now) wanted s blocks) }
     ensures none { IfNone result ((blocks : List ℕ) → ¬ HasBlocks image.now layout.now number blocks) }
+{
+    let survey = survey(image, layout, number, wanted)?;
+    match survey.past {
+        Some(_) => None,
+        None => Some(survey),
+    }
+}
+
+/// What the chain of a file has: how many blocks, the one with the index `wanted`, counted from 0, and one that the image lacks.
+fn survey(image: &Image, layout: &Layout, number: u16, wanted: u32) -> Option<Survey>
+    requires { IsLayoutOf image.now layout.now }
+    ensures some { IfSome result (λ s. (others : List ℕ) × (blocks : List ℕ) × IsChain image.now layout.now number others blocks × IsSurveyOf (length image.now) wanted s blocks) }
+    ensures none { IfNone result ((others blocks : List ℕ) → ¬ IsChain image.now layout.now number others blocks) }
 {
     // An image has few blocks, and so has a chain.
-    let _ = image.len();
+    let len = image.len();
+    let index = layout.index();
+    // The layout has the blocks of INDEXF.SYS.
     if number == 1 {
-        return Some(survey_index(layout, place));
+        return Some(survey_index(index, wanted));
     }
-    survey_file(image, layout, number, place)
+    let mut surveyor = Surveyor::new(index, len, wanted);
+    let Ok(whole) = walk(image, &layout.home(), number, &mut surveyor);
+    if whole { Some(surveyor.survey) } else { None }
 }
 
-/// What INDEXF.SYS has: its blocks are at hand.
-fn survey_index(layout: &Layout, place: u32) -> Survey
-    requires { length layout.now.index ≤ 6684672 }
-    ensures place { result.place ≡ place }
-    ensures survey { IsSurveyOf result layout.now.index }
+/// What INDEXF.SYS has: its blocks are at hand, and none is past the image.
+fn survey_index(index: &[u32], wanted: u32) -> Survey
+    requires { length index.now ≤ chain_blocks }
+    ensures count { result.count ≡ length index.now }
+    ensures found { result.found ≡ slice_get index.now wanted }
+    ensures past { result.past ≡ None }
 {
-    let index = layout.index();
     Survey {
-        place,
         count: index.len() as u32,
-        found: index.get(place as usize).copied(),
+        found: index.get(wanted as usize).copied(),
+        past: None,
     }
-}
-
-/// What another file than INDEXF.SYS has.
-fn survey_file(image: &Image, layout: &Layout, number: u16, place: u32) -> Option<Survey>
-    requires layout { IsLayoutOf image.now layout.now }
-    requires other { number ≢ 1 }
-    ensures some { IfSome result (λ s. (s.place ≡ place) × (blocks : List ℕ) × HasBlocks image.now layout.now number blocks × IsSurveyOf s blocks) }
-    ensures none { IfNone result ((blocks : List ℕ) → ¬ HasBlocks image.now layout.now number blocks) }
-{
-    let home = layout.home();
-    let index = layout.index();
-    let most = last_number(layout);
-    let mut survey = Survey {
-        place,
-        count: 0,
-        found: None,
-    };
-    let mut block = segment_block(image, &home, index, most, number, 0)?;
-    for segment in 0..256 {
-        if !survey.pass_header(block, image.len()) {
-            return None;
-        }
-        if next_number(block) == 0 {
-            return Some(survey);
-        }
-        block = next_block(image, &home, index, most, block, segment + 1)?;
-    }
-    None
 }

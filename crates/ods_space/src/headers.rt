@@ -1,20 +1,21 @@
 //! Where headers stand.
-ghost use Rattle.std.specs.Prelude.{◌≡◌, [], IfSome, IfNone};
+ghost use Rattle.std.specs.Prelude.{◌≡◌, ◌+◌, ◌^◌, ◌<◌, ◌≤◌, [], IfSome, IfNone};
 ghost use Rattle.ods_header.specs.Header.{sequence_of};
 ghost use Rattle.ods_space.specs.Layout.{place_by, header_by, header_at, last_number as last_of};
 
 use crate::Layout;
-use ods_base::{Block, Image, word};
-use ods_header::Home;
+use ods_base::{Block, Image};
+use ods_header::{Home, file_sequence};
 
 /// Where header `number` stands, where `index` has the blocks of INDEXF.SYS.
-fn place(home: &Home, index: &[u32], number: u16) -> Option<u64>
-    ensures { result ≡ place_by home.now index.now number }
+pub(crate) fn place(home: &Home, index: &[u32], number: u16) -> Option<u64>
+    ensures value { result ≡ place_by home.now index.now number }
+    ensures small { home.now.index_bitmap_lbn + home.now.index_bitmap_size ≤ 2 ^ 20 → IfSome result (λ at. at < 2 ^ 32) }
 {
-    let size = home.index_size as u64;
+    let size = home.index_bitmap_size as u64;
     match number {
         0 => None,
-        1..=16 => Some(home.index_lbn as u64 + size + number as u64 - 1),
+        1..=16 => Some(home.index_bitmap_lbn as u64 + size + number as u64 - 1),
         _ => match index.get(1 + size as usize + number as usize) {
             Some(lbn) => Some(*lbn as u64),
             None => None,
@@ -23,7 +24,7 @@ fn place(home: &Home, index: &[u32], number: u16) -> Option<u64>
 }
 
 /// The block of header `number`, where `index` has the blocks of INDEXF.SYS.
-pub(crate) fn header_block<'a>(
+pub(crate) fn block_by<'a>(
     image: &'a Image,
     home: &Home,
     index: &[u32],
@@ -40,22 +41,30 @@ pub(crate) fn header_block<'a>(
     }
 }
 
+/// The block of header `number`.
+pub fn header_block<'a>(image: &'a Image, layout: &Layout, number: u16) -> Option<&'a Block>
+    ensures some { IfSome result (λ block. block.now ≡ header_at image.now layout.now number) }
+    ensures none { IfNone result (header_at image.now layout.now number ≡ []) }
+{
+    block_by(image, &layout.home(), layout.index(), number)
+}
+
 /// The sequence word of header `number`.
-pub(crate) fn sequence(image: &Image, layout: &Layout, number: u16) -> u16
+pub fn sequence(image: &Image, layout: &Layout, number: u16) -> u16
     ensures { result ≡ sequence_of (header_at image.now layout.now number) }
 {
-    match header_block(image, &layout.home(), layout.index(), number) {
-        Some(block) => word(block, 2),
+    match header_block(image, layout, number) {
+        Some(block) => file_sequence(block),
         None => 0,
     }
 }
 
 /// The greatest file number.
-pub(crate) fn last_number(layout: &Layout) -> u16
+pub fn last_number(layout: &Layout) -> u16
     ensures { result ≡ last_of layout.now }
 {
     let home = layout.home();
-    let size = home.index_size as usize;
+    let size = home.index_bitmap_size as usize;
     let headers = layout.index().len().saturating_sub(size + 2);
     (home.max_files as usize).min(4096 * size).min(headers) as u16
 }

@@ -3,6 +3,7 @@ ghost use Rattle.std.specs.Prelude.{◌≡◌};
 ghost use Rattle.ods_space.specs.Layout.{place_of};
 
 use crate::LayoutFault;
+use crate::headers::place;
 use crate::system::{read_bitmap, read_index};
 use ods_base::Image;
 use ods_header::Home;
@@ -26,7 +27,7 @@ impl Model for Layout {
     ghost view = { λ l. record { home = l.home; index = l.index.items; bitmap = l.bitmap.items } };
 
     // Header 1 stands in an image.
-    ghost invariant = { λ l. l.home.index_lbn + l.home.index_size ≤ 2 ^ 20 };
+    ghost invariant = { λ l. l.home.index_bitmap_lbn + l.home.index_bitmap_size ≤ 2 ^ 20 };
 }
 
 impl Layout {
@@ -93,11 +94,9 @@ impl Layout {
     pub fn place(&self, number: u16) -> Option<u32>
         ensures { result ≡ place_of self.now number }
     {
-        let size = self.home.index_size as u32;
-        match number {
-            0 => None,
-            1..=16 => Some(self.home.index_lbn + size + number as u32 - 1),
-            _ => self.index.get(1 + size as usize + number as usize).copied(),
+        match place(&self.home, &self.index, number) {
+            Some(at) => Some(at as u32),
+            None => None,
         }
     }
 }

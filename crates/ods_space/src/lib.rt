@@ -1,4 +1,4 @@
-//! Chains of headers, bitmaps and drafts of Files-11 volumes of structure level 1.
+//! Chains of headers, the bits of blocks and numbers, and drafts of Files-11 volumes of structure level 1.
 #![tactic(auto)]
 
 mod bits;
@@ -7,28 +7,19 @@ mod collect;
 mod draft;
 mod fault;
 mod files;
-mod free;
 mod headers;
-mod known;
 mod laws;
 mod layout;
-mod numbers;
 mod survey;
 mod system;
 mod walk;
-mod whole;
-mod words;
+mod whole_chain;
 
 pub use bits::{in_use, is_free};
 pub use draft::Draft;
-pub use fault::{ChainFault, LayoutFault, SpaceFault};
-pub use files::{block_count, chain, file_header, first_header, locate};
-pub use free::{free_count, pick_blocks};
-pub use known::{count_whole, locate_whole};
+pub use fault::{ChainFault, LayoutFault};
+pub use files::{block_count, chain, check_chain, file_header, first_header, locate};
+pub use headers::{header_block, last_number, sequence};
 pub use laws::places_stay;
 pub use layout::Layout;
-pub use numbers::{is_number_free, number_count, pick_numbers};
-pub use whole::check_chain;
-
-#[cfg(test)]
-mod tests;
+pub use whole_chain::{ChainHeaders, count_whole, locate_whole};

@@ -18,7 +18,7 @@ use std::alloc::Global;
 pub(crate) fn read_index(alloc: Global, image: &Image, home: &Home) -> Result<Vec<u32>, LayoutFault>
     requires { IsHomeOf image.now home.now }
     ensures ok { IfOk result (λ index. IsIndex image.now home.now index.items × AreInside image.now index.items
-        × IsFile image.now (layout_with home.now index.items) 1 × (home.now.index_lbn + home.now.index_size ≤ 2 ^ 20)) }
+        × IsFile image.now (layout_with home.now index.items) 1 × (home.now.index_bitmap_lbn + home.now.index_bitmap_size ≤ 2 ^ 20)) }
     ensures err { IfErr result (IsLayoutFault image.now home.now) }
 {
     let Some(_) = segment_block(image, home, &[], most(home, None, &[]), 1, 0) else {

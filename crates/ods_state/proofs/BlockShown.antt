@@ -1,6 +1,6 @@
 -- One block of a file is replaced, any but files 1, 2, 3 and 5: nothing moves, and the blocks show the same files, but for that one.
 -- This serves each change of a directory's names.
-use Rattle.std.proofs.Common.{◌≡◌, ◌≢◌, ℕ, ◌-◌, ◌≤◌, refl, ap, sym, ◌∙◌, subst, List, [], arith, inl, inr}
+use Rattle.std.proofs.Common.{◌≡◌, ◌≢◌, ℕ, ◌-◌, ◌≤◌, refl, ap, sym, ◌∙◌, subst, List, [], inl, inr}
 use Rattle.std.specs.Prelude.{◌⊎◌, slice_set}
 use Rattle.ods_base.specs.declared.file_id.FileId.{FileId}
 use Rattle.ods_header.specs.Header.{sequence_of}
@@ -10,15 +10,16 @@ use Rattle.ods_space.specs.Files.{HasBlocks, Holds}
 use Rattle.ods_directory.specs.Names.{IsDirectory}
 use Rattle.ods_mount.specs.Faults.{IsDirectoryFile, contents_of, mark_at}
 use Rattle.ods_mount.specs.Sound.{IsSoundBy}
-use Rattle.ods_request.specs.Catalogue.{Catalogue, File}
+use Rattle.ods_request.specs.Catalogue.{Catalogue}
 use Rattle.ods_request.specs.Steps.{put}
 use Rattle.ods_state.specs.Change.{disk}
 use Rattle.ods_state.specs.Contents.{file_of, IsFileIn, ShowsBy}
 use Rattle.ods_state.specs.Moves.{NothingMoves}
-use Rattle.ods_state.proofs.Data.{IsDataChange, header_stays, blocks_stay, blocks_were, sound_stays, holds_stays, chain_kept, held_before, free_stays, free_number_stays}
+use Rattle.ods_state.proofs.Data.{IsDataChange, header_stays, is_still, blocks_stay, blocks_were, sound_stays}
 use Rattle.ods_state.proofs.Frame.{chain_is_one}
 use Rattle.ods_state.proofs.OneBlock.{same_or_not, data_changes, others_contents, own_contents}
-use Rattle.ods_state.proofs.Shown.{shows_put}
+use Rattle.ods_state.proofs.Shown.{IsAlike, one_is_put}
+use Rattle.ods_state.proofs.Still as still
 
 module _ (I : List (List ℕ)) (L : VolumeLayout) (S : IsSoundBy I L) (id : FileId) (vbn x : ℕ) (b : List ℕ) (h : Holds I L id.number vbn x)
     (one : id.number ≢ 1) (two : id.number ≢ 2) (three : id.number ≢ 3) (five : id.number ≢ 5) where
@@ -41,15 +42,10 @@ module _ (I : List (List ℕ)) (L : VolumeLayout) (S : IsSoundBy I L) (id : File
 
   -- no sequence word changes
   pub sequences_stay : (n : ℕ) → sequence_of (header_at I L n) ≤ sequence_of (header_at J L n)
-  sequences_stay n = omega (arith, ap sequence_of (headers_stay n))
+  sequences_stay = still.sequences_stay I J L S (is_still I J L S changes)
 
   pub nothing_moves : NothingMoves (disk I L) (disk J L)
-  nothing_moves = record {
-    chains = chain_kept I J L S changes;
-    held = λ n v y. (holds_stays I J L S changes n v y, held_before I J L S changes n v y);
-    free = free_stays I J L S changes;
-    numbers = free_number_stays I J L S changes;
-  }
+  nothing_moves = still.nothing_moves I J L S (is_still I J L S changes)
 
   -- the changed image is sound, where the file is still a directory if it was one
   pub block_is_sound : (IsDirectoryFile I L id.number → IsDirectory contents_now (mark_at I L id.number h.blocks)) → IsSoundBy J L
@@ -78,37 +74,15 @@ module _ (I : List (List ℕ)) (L : VolumeLayout) (S : IsSoundBy I L) (id : File
       shown = λ i. file_of id.number (headers_stay id.number i) (own_contents I L S id.number vbn x b h i);
     }
 
-    -- another file has another number
-    other_number : (q : FileId) → q ≢ id → sequence_of (header_at I L q.number) ≡ q.sequence → q.number ≢ id.number
-    other_number q ne known e = ne (λ i. record { number = e i; sequence = same i })
-      where
-        same : q.sequence ≡ id.sequence
-        same = sym known ∙ ap (λ m. sequence_of (header_at I L m)) e ∙ sequence
-
-    stays : (q : FileId) (g : File) → q ≢ id → IsFileIn I L q g → IsFileIn J L q g
-    stays q g ne p =
-        let header = headers_stay q.number in
-        let contents = others_contents I L S id.number vbn x b h q.number p.blocks p.held (other_number q ne p.sequence) in
-        record {
-          blocks = p.blocks;
-          held = blocks_stay I J L S changes q.number p.blocks p.held;
-          sequence = ap sequence_of header ∙ p.sequence;
-          shown = (λ i. file_of q.number (header i) (contents i)) ∙ p.shown;
-        }
-
-    was : (q : FileId) (g : File) → q ≢ id → IsFileIn J L q g → IsFileIn I L q g
-    was q g ne p =
-        let header = headers_stay q.number in
-        let held : HasBlocks I L q.number p.blocks = blocks_were I J L S changes q.number p.blocks p.held in
-        let known : sequence_of (header_at I L q.number) ≡ q.sequence = ap sequence_of (sym header) ∙ p.sequence in
-        let contents = others_contents I L S id.number vbn x b h q.number p.blocks held (other_number q ne known) in
-        record {
-          blocks = p.blocks;
-          held = held;
-          sequence = known;
-          shown = (λ i. file_of q.number (sym header i) (sym contents i)) ∙ p.shown;
-        }
+    other_is_alike : (m : ℕ) → m ≢ id.number → IsAlike I J L m
+    other_is_alike m ne = record {
+      sequence = ap sequence_of (headers_stay m);
+      has = blocks_stay I J L S changes m;
+      had = blocks_were I J L S changes m;
+      shown = λ blocks held. let contents = others_contents I L S id.number vbn x b h m blocks held ne in λ i. file_of m (headers_stay m i) (contents i);
+    }
 
     -- the catalogue is the one with that file put
     pub block_is_shown : (C : Catalogue) → ShowsBy I L C → ShowsBy J L (put C id (file_of id.number (header_at I L id.number) contents_now))
-    block_is_shown C shown = shows_put I J L C id (file_of id.number (header_at I L id.number) contents_now) shown file_now stays was
+    block_is_shown C shown =
+        one_is_put I J L id sequence file_now.sequence other_is_alike C (file_of id.number (header_at I L id.number) contents_now) shown file_now

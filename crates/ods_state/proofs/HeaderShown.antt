@@ -14,7 +14,7 @@ use Rattle.ods_state.specs.Links.{SameLinks}
 use Rattle.ods_state.proofs.HeaderChange.{contents_stay, has_blocks, had_blocks}
 use Rattle.ods_state.proofs.OneBlock.{same_or_not}
 use Rattle.ods_state.proofs.OneHeader.{header_here, header_there}
-use Rattle.ods_state.proofs.Shown.{shows_put}
+use Rattle.ods_state.proofs.Shown.{IsAlike, one_is_put}
 
 -- of INDEXF.SYS the contents are not shown
 index_shown : (b : List ℕ) (cs ds : List (List ℕ)) → file_of 1 b cs ≡ file_of 1 b ds
@@ -41,43 +41,18 @@ module _ (I : List (List ℕ)) (L : VolumeLayout) (S : IsSoundBy I L) (id : File
           (index_shown (header_at I L m) (contents_of J blocks) (contents_of I blocks))
       by_number (inr other) = let contents = contents_stay I L S id.number x b place m blocks file other in λ i. file_of m (header i) (contents i)
 
-  stays : (q : FileId) (g : File) → q.number ≢ id.number → IsFileIn I L q g → IsFileIn J L q g
-  stays q g ne p = record {
-    blocks = p.blocks;
-    held = has_blocks I L S id.number x b place to back q.number p.blocks p.held;
-    sequence = ap sequence_of (header_there I L S id.number x b place q.number ne) ∙ p.sequence;
-    shown = others_shown q.number ne p.blocks p.held ∙ p.shown;
+  other_is_alike : (m : ℕ) → m ≢ id.number → IsAlike I J L m
+  other_is_alike m ne = record {
+    sequence = ap sequence_of (header_there I L S id.number x b place m ne);
+    has = has_blocks I L S id.number x b place to back m;
+    had = had_blocks I L S id.number x b place to back m;
+    shown = others_shown m ne;
   }
 
-  was : (q : FileId) (g : File) → q.number ≢ id.number → IsFileIn J L q g → IsFileIn I L q g
-  was q g ne p =
-      let old : HasBlocks I L q.number p.blocks = had_blocks I L S id.number x b place to back q.number p.blocks p.held in
-      record {
-        blocks = p.blocks;
-        held = old;
-        sequence = ap sequence_of (sym (header_there I L S id.number x b place q.number ne)) ∙ p.sequence;
-        shown = sym (others_shown q.number ne p.blocks old) ∙ p.shown;
-      }
-
   module _ (sequence : sequence_of (header_at I L id.number) ≡ id.sequence) where
-    -- another file has another number, in the old image and in the new one
-    other_number : (q : FileId) → q ≢ id → sequence_of (header_at I L q.number) ≡ q.sequence → q.number ≢ id.number
-    other_number q ne known e = ne (λ i. record { number = e i; sequence = same i })
-      where
-        same : q.sequence ≡ id.sequence
-        same = sym known ∙ ap (λ m. sequence_of (header_at I L m)) e ∙ sequence
-
-    other_number_now : (q : FileId) → q ≢ id → sequence_of (header_at J L q.number) ≡ q.sequence → q.number ≢ id.number
-    other_number_now q ne known e = ne (λ i. record { number = e i; sequence = same i })
-      where
-        now : sequence_of (header_at J L id.number) ≡ id.sequence
-        now = ap sequence_of (header_here I L S id.number x b place) ∙ to.sequence ∙ sequence
-
-        same : q.sequence ≡ id.sequence
-        same = sym known ∙ ap (λ m. sequence_of (header_at J L m)) e ∙ now
+    now : sequence_of (header_at J L id.number) ≡ id.sequence
+    now = ap sequence_of (header_here I L S id.number x b place) ∙ to.sequence ∙ sequence
 
     -- the catalogue is the one with that file put
     pub header_is_shown : (C : Catalogue) (f : File) → ShowsBy I L C → IsFileIn J L id f → ShowsBy J L (put C id f)
-    header_is_shown C f shown here = shows_put I J L C id f shown here
-        (λ q g ne p. stays q g (other_number q ne p.sequence) p)
-        (λ q g ne p. was q g (other_number_now q ne p.sequence) p)
+    header_is_shown = one_is_put I J L id sequence now other_is_alike

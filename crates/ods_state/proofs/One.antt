@@ -14,7 +14,7 @@ use Rattle.ods_request.proofs.Orders.{file_cmp-total, file_cmp-antisymmetric}
 use Rattle.ods_state.specs.Contents.{ShowsBy, Shows, IsCatalogueOf}
 use Rattle.ods_state.specs.Version.{State, IsReplay, IsPresent, IsLawful}
 use Rattle.ods_state.proofs.Frame.{chain_is_one}
-use Rattle.ods_state.proofs.Data.{home_is_one}
+use Rattle.ods_state.proofs.Homes.{home_is_one}
 
 pub layout_is_one : (I : List (List ℕ)) (L M : VolumeLayout) → IsLayoutOf I L → IsLayoutOf I M → L ≡ M
 layout_is_one I L M p q =

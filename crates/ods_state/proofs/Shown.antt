@@ -6,8 +6,10 @@ use Rattle.std.specs.Ordering.{eq_by_cmp, is_eq}
 use Rattle.std.specs.Cmp.{Equal-is}
 use Rattle.std.proofs.lemmas.Cmp.{tied_itself}
 use Rattle.ods_base.specs.declared.file_id.FileId.{FileId}
+use Rattle.ods_header.specs.Header.{sequence_of}
 use Rattle.ods_space.specs.Layout.{VolumeLayout, header_at}
 use Rattle.ods_space.specs.Chain.{index_for}
+use Rattle.ods_space.specs.Files.{HasBlocks}
 use Rattle.ods_mount.specs.Faults.{contents_of}
 use Rattle.ods_request.specs.Catalogue.{Catalogue, File, file_cmp}
 use Rattle.ods_request.specs.Steps.{put}
@@ -62,3 +64,31 @@ shows_put I J L C id f shown here stays was = record {
         let one : f ≡ g = file_is_one J L id f g here (subst (λ p. IsFileIn J L p g) is h) in
         ap (λ p. map.get (put C id f).files p) is ∙ get_put C id f ∙ ap Some one
     all_by q g h (inr apart) = get_other C id f q apart.1 ∙ shown.all q g (was q g apart.0 h)
+
+-- file m of the blocks J is file m of the blocks I
+pub record IsAlike (I J : List (List ℕ)) (L : VolumeLayout) (m : ℕ) : Type 0 where
+  pub sequence : sequence_of (header_at J L m) ≡ sequence_of (header_at I L m)
+  pub has : (blocks : List ℕ) → HasBlocks I L m blocks → HasBlocks J L m blocks
+  pub had : (blocks : List ℕ) → HasBlocks J L m blocks → HasBlocks I L m blocks
+  pub shown : (blocks : List ℕ) → HasBlocks I L m blocks → file_of m (header_at J L m) (contents_of J blocks) ≡ file_of m (header_at I L m) (contents_of I blocks)
+
+-- Where one file changes, and keeps its ID, and each other file is as it was, the blocks show the catalogue with that file put.
+module _ (I J : List (List ℕ)) (L : VolumeLayout) (id : FileId) (before : sequence_of (header_at I L id.number) ≡ id.sequence)
+    (now : sequence_of (header_at J L id.number) ≡ id.sequence) (others : (m : ℕ) → m ≢ id.number → IsAlike I J L m) where
+  -- another file has another number
+  other_number : (X : List (List ℕ)) → sequence_of (header_at X L id.number) ≡ id.sequence → (q : FileId) → q ≢ id → sequence_of (header_at X L q.number) ≡ q.sequence → q.number ≢ id.number
+  other_number X own q ne known e = ne (λ i. record { number = e i; sequence = (sym known ∙ ap (λ m. sequence_of (header_at X L m)) e ∙ own) i })
+
+  stays : (q : FileId) (g : File) → q ≢ id → IsFileIn I L q g → IsFileIn J L q g
+  stays q g ne p =
+      let alike = others q.number (other_number I before q ne p.sequence) in
+      record { blocks = p.blocks; held = alike.has p.blocks p.held; sequence = alike.sequence ∙ p.sequence; shown = alike.shown p.blocks p.held ∙ p.shown }
+
+  was : (q : FileId) (g : File) → q ≢ id → IsFileIn J L q g → IsFileIn I L q g
+  was q g ne p =
+      let alike = others q.number (other_number J now q ne p.sequence) in
+      let old = alike.had p.blocks p.held in
+      record { blocks = p.blocks; held = old; sequence = sym alike.sequence ∙ p.sequence; shown = sym (alike.shown p.blocks old) ∙ p.shown }
+
+  pub one_is_put : (C : Catalogue) (f : File) → ShowsBy I L C → IsFileIn J L id f → ShowsBy J L (put C id f)
+  one_is_put C f shown here = shows_put I J L C id f shown here stays was

@@ -1,16 +1,24 @@
 -- Laws of what blocks show, over the definitions alone.
-use Rattle.std.specs.Prelude.{◌≡◌, ◌<◌, ℕ, List, [], ◌∷◌, ◌++◌, length, slice_set, Some}
+use Rattle.std.specs.Prelude.{◌≡◌, ◌<◌, ℕ, true, false, List, [], ◌∷◌, ◌++◌, length, slice_set, Some}
 use Rattle.std.specs.List.{Contains}
 use Rattle.ods_space.specs.Layout.{VolumeLayout, header_at, is_in_use, place_of}
 use Rattle.ods_space.specs.Chain.{IsChain}
 use Rattle.ods_space.specs.Files.{IsFile, HasBlocks, IsLayoutOf}
 use Rattle.ods_mount.specs.Sound.{IsSoundBy}
+use Rattle.ods_base.specs.declared.file_id.Uic.{Uic}
+use Rattle.ods_request.specs.declared.requests.Request.{Request}
+use Rattle.ods_request.specs.declared.answers.Answer.{Answer}
+use Rattle.ods_request.specs.declared.refusals.Refusal.{Refusal}
 use Rattle.ods_request.specs.declared.answers.Entry.{Entry}
 use Rattle.ods_request.specs.Catalogue.{Catalogue}
 use Rattle.ods_request.specs.Steps.{step}
+use Rattle.ods_request.specs.Table.{creates, takes_memory}
+use Rattle.ods_state.specs.Change.{IsCarriedOut, IsFaultBy, IsRefusedBy}
 use Rattle.ods_state.specs.Contents.{ShowsBy, IsCatalogueOf}
 use Rattle.ods_state.specs.Links.{SameLinks}
+use Rattle.ods_state.specs.Served.{IsStepOf, IsRefusalOf}
 use Rattle.ods_state.specs.Version.{State, IsReplay, IsPresent, IsLawful, PastIsSpent}
+use Rattle.ods_state.specs.Wants.{Lacks}
 
 -- a sound image has a catalogue
 abbrev pub HasCatalogue : Type 0
@@ -47,3 +55,16 @@ abbrev pub LinkedHeaderKeepsBlocks : Type 0
 LinkedHeaderKeepsBlocks = (I : List (List ℕ)) (L : VolumeLayout) (n lbn : ℕ) (b : List ℕ) → IsSoundBy I L → place_of L n ≡ Some lbn
     → SameLinks (header_at I L n) b n → SameLinks b (header_at I L n) n
     → (m : ℕ) (blocks : List ℕ) → HasBlocks I L m blocks → HasBlocks (slice_set I lbn b) L m blocks
+
+-- A request that makes no file, and that is carried out with all that it takes there, is a step; the layout stays.
+abbrev pub CarriedOutIsStep : Type 0
+CarriedOutIsStep = (I J : List (List ℕ)) (L : VolumeLayout) (who : Uic) (r : Request) (a : Answer) → creates r ≡ false → ((f : Refusal) → ¬ Lacks I L r f)
+    → IsCarriedOut I L who r a J → IsStepOf I L who r a J L
+
+-- A first fault is a refusal, and so is a want of memory of a request that takes memory. Where the volume lacks nothing, a refusal is no
+-- other; and where the request takes no memory either, it is the first fault.
+pub record RefusalIsOne (I : List (List ℕ)) (L : VolumeLayout) (who : Uic) (r : Request) (f : Refusal) : Type 0 where
+  pub by_fault : IsFaultBy I L who r f → IsRefusalOf I L who r f
+  pub by_memory : takes_memory r ≡ true → IsRefusedBy I L who r f → IsRefusalOf I L who r f
+  pub of_memory : ¬ Lacks I L r f → IsRefusalOf I L who r f → IsRefusedBy I L who r f
+  pub of_fault : ¬ Lacks I L r f → takes_memory r ≡ false → IsRefusalOf I L who r f → IsFaultBy I L who r f

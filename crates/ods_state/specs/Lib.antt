@@ -6,3 +6,4 @@ pub mod Outcome
 pub mod Laws
 pub mod Links
 pub mod Change
+pub mod Served

@@ -13,7 +13,8 @@ use Rattle.ods_request.specs.declared.requests.Request.TheVariants.{Create, Exte
 use Rattle.ods_request.specs.declared.answers.Answer.{Answer}
 use Rattle.ods_request.specs.declared.answers.Answer.TheVariants.{Created}
 use Rattle.ods_space.specs.Chain.{IsChain}
-use Rattle.ods_growth.specs.Extend.{GivesBits, IsHeaderPlace, IsIndexBitmap, IsStorageBitmap, TakesBits, chain_runs, cut, deleted, is_one_of}
+use Rattle.ods_header.specs.Writing.{deleted}
+use Rattle.ods_alloc.specs.Extend.{GivesBits, IsHeaderPlace, IsIndexBitmap, IsStorageBitmap, TakesBits, chain_runs, cut, is_one_of}
 use Rattle.ods_state.specs.Wants.{HasHeaders, Wants, taken_blocks, taken_numbers}
 
 -- header n of a disk, and what a file of it holds

@@ -1,14 +1,9 @@
 -- What a request makes of a volume, and why it is refused.
-use Rattle.std.specs.Prelude.{◌≡◌, ℕ, ◌<◌, ◌≤◌, MatchResult, Bool, true, false, List, [], ◌∷◌, ◌++◌, length, IsSome, Some}
+use Rattle.std.specs.Prelude.{◌≡◌, ℕ, ◌<◌, ◌≤◌, true, [], ◌∷◌, ◌++◌, length, IsSome, MatchOption, Some}
 use Rattle.ods_base.specs.declared.file_id.Uic.{Uic}
 use Rattle.ods_space.specs.Draft.{Changes, applied}
 use Rattle.ods_request.specs.declared.requests.Request.{Request}
-use Rattle.ods_request.specs.declared.requests.Request.TheVariants.{Create, Enter, LookUp, Read, Stat}
-use Rattle.ods_request.specs.declared.requests.Query.{Query}
-use Rattle.ods_request.specs.declared.requests.Query.TheVariants as query
-use Rattle.std.specs.declared.result.Result.{Result}
-use Rattle.ods_space.specs.Layout.{Disk, VolumeLayout}
-use Rattle.ods_state.specs.Contents.{ShowsBy}
+use Rattle.ods_space.specs.Layout.{Disk}
 use Rattle.ods_request.specs.declared.answers.Answer.{Answer}
 use Rattle.ods_request.specs.declared.answers.Entry.{Entry}
 use Rattle.ods_request.specs.declared.refusals.Refusal.{Refusal}
@@ -16,6 +11,8 @@ use Rattle.ods_request.specs.declared.refusals.Refusal.TheVariants as refusal
 use Rattle.ods_request.specs.Catalogue.{Catalogue}
 use Rattle.ods_request.specs.Faults.{fault_of}
 use Rattle.ods_request.specs.Steps.{step}
+use Rattle.ods_request.specs.Table.{takes_memory, given_version}
+pub use Rattle.ods_request.specs.Queries.{request_of}
 use Rattle.ods_state.specs.Version.{State, IsPresent, IsLawful}
 use Rattle.ods_state.specs.Wants.{Lacks}
 use Rattle.ods_state.specs.Moves.{Moves, ChangesOnlyTouched}
@@ -32,13 +29,6 @@ pub record Accepts (old : State) (e : Entry) (new : State) : Type 0 where
   pub elsewhere : ChangesOnlyTouched (disk_of old) e.request (disk_of new)
   pub mounted : new.mounted ≡ old.mounted
   pub limit : new.limit ≡ old.limit
-
--- the requests that may be refused for want of memory
-abbrev pub takes_memory : Request → Bool
-takes_memory (LookUp dir name pick) = false
-takes_memory (Read file vbn) = false
-takes_memory (Stat file) = false
-takes_memory _ = true
 
 -- why a request is refused
 pub data IsReason (v : State) (who : Uic) (r : Request) : Refusal → Type 0 where
@@ -74,20 +64,7 @@ IsVersionNumber v = (1 ≤ v) × (v ≤ 32767)
 
 -- the versions that a request gives are versions
 abbrev pub CanBeAsked : Request → Type 0
-CanBeAsked (Create name version blocks stamp) = IsVersionNumber version
-CanBeAsked (Enter dir name (Some version) file) = IsVersionNumber version
-CanBeAsked _ = Unit {0}
-
--- a query as a request
-abbrev pub request_of : Query → Request
-request_of (query.LookUp dir name pick) = LookUp dir name pick
-request_of (query.Read file vbn) = Read file vbn
-request_of (query.Stat file) = Stat file
-
--- by the catalogue that the blocks show: the fault, or else an answer that is a step
-abbrev pub AnswersQuery : List (List ℕ) → VolumeLayout → Uic → Query → Result Answer Refusal → Type 0
-AnswersQuery I L who q answer = (C : Catalogue) → ShowsBy I L C →
-    MatchResult answer (λ a. IsSome (step C who (request_of q) a)) (λ f. fault_of C who (request_of q) ≡ Some f)
+CanBeAsked r = MatchOption (given_version r) (Unit {0}) IsVersionNumber
 
 -- the entry of an accepted request
 abbrev pub entry_of : ℕ → ℕ → Uic → Request → Answer → Entry

@@ -4,12 +4,12 @@ use Rattle.ods_header.specs.Header.{room_of}
 use Rattle.ods_space.specs.Layout.{VolumeLayout, header_at}
 use Rattle.ods_space.specs.Files.{IsWhole}
 use Rattle.ods_space.specs.Free.{free_blocks, free_numbers}
-use Rattle.ods_growth.specs.Extend.{cut, headers_needed, last_of}
+use Rattle.ods_alloc.specs.Extend.{cut, headers_needed, last_of}
 use Rattle.ods_directory.specs.declared.slot.Slot.{Slot}
 use Rattle.ods_directory.specs.Mark.{IsSlot}
 use Rattle.ods_mount.specs.Faults.{contents_of, mark_at}
 use Rattle.ods_request.specs.declared.requests.Request.{Request}
-use Rattle.ods_request.specs.declared.requests.Request.TheVariants.{Create, Extend, Enter}
+use Rattle.ods_request.specs.declared.requests.Request.TheVariants.{Create, Extend, Delete, Enter, LookUp, Remove, Read, Write, List as Lines, Stat, SetUser}
 use Rattle.ods_request.specs.declared.refusals.Refusal.{Refusal}
 use Rattle.ods_request.specs.declared.refusals.Refusal.TheVariants as refusal
 use Rattle.ods_request.specs.Faults.{first_of}
@@ -28,7 +28,14 @@ Wants I L (Create name version count stamp) headers blocks n = (headers ≡ []) 
 Wants I L (Extend file count) headers blocks n = HasHeaders I L file.number headers blocks × (n ≡ count)
 Wants I L (Enter dir name version file) headers blocks n =
     HasHeaders I L dir.number headers blocks × EnterGrows I L dir.number blocks × (n ≡ 1)
-Wants I L _ headers blocks n = ⊥
+Wants I L (Delete file) headers blocks n = ⊥
+Wants I L (LookUp dir name pick) headers blocks n = ⊥
+Wants I L (Remove dir name pick) headers blocks n = ⊥
+Wants I L (Read file vbn) headers blocks n = ⊥
+Wants I L (Write file vbn block) headers blocks n = ⊥
+Wants I L (Lines dir) headers blocks n = ⊥
+Wants I L (Stat file) headers blocks n = ⊥
+Wants I L (SetUser file attributes) headers blocks n = ⊥
 
 -- the room in words for pointers: that of the last header; a new header has 204
 abbrev pub room_in : List (List ℕ) → VolumeLayout → List ℕ → ℕ

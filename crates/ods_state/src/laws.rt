@@ -1,5 +1,10 @@
 //! Laws of what blocks show, over the definitions alone: each is the contract of a function with no body.
-ghost use Rattle.ods_state.specs.Laws.{HasCatalogue, CatalogueIsOne, MountedIsLawful, StepStaysLawful, UntouchedFilesStay, LinkedHeaderKeepsBlocks};
+ghost use Rattle.std.specs.Prelude.{ℕ, List};
+ghost use Rattle.ods_base.specs.declared.file_id.Uic.{Uic};
+ghost use Rattle.ods_request.specs.declared.refusals.Refusal.{Refusal};
+ghost use Rattle.ods_request.specs.declared.requests.Request.{Request};
+ghost use Rattle.ods_space.specs.Layout.{VolumeLayout};
+ghost use Rattle.ods_state.specs.Laws.{HasCatalogue, CatalogueIsOne, MountedIsLawful, StepStaysLawful, UntouchedFilesStay, LinkedHeaderKeepsBlocks, CarriedOutIsStep, RefusalIsOne};
 
 /// A sound image has a catalogue.
 pub fn has_catalogue()
@@ -29,4 +34,14 @@ pub fn untouched_files_stay()
 /// A header that is replaced by one that links alike leaves the blocks of every file alone.
 pub fn linked_header_keeps_blocks()
     ensures { LinkedHeaderKeepsBlocks }
+{}
+
+/// A request that makes no file, and that is carried out with all that it takes there, is a step.
+pub fn carried_out_is_step()
+    ensures { CarriedOutIsStep }
+{}
+
+/// The refusals by a first fault and by want of memory are cases of the one relation of refusal.
+pub fn refusal_is_one()
+    ensures { (I : List (List ℕ)) (L : VolumeLayout) (who : Uic) (r : Request) (f : Refusal) → RefusalIsOne I L who r f }
 {}

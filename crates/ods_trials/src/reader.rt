@@ -105,7 +105,8 @@ fn push_name(blocks: &[Block], k: usize, names: &mut Names) -> Result<(), AllocE
     names.insert(name, version, FileId { number, sequence })
 }
 
-/// The names of the directory with this header and these blocks.
+/// The names of the directory with this header and these blocks. They end at byte F.FFBY of block F.EFBK, and before the first one
+/// where F.EFBK is 0.
 fn names_of(
     alloc: Global,
     image: &Image,
@@ -114,9 +115,12 @@ fn names_of(
 ) -> Result<Names, AllocError> {
     let mut names = Names::new(alloc);
     let end = 65_536 * word(image, header, 22) as usize + word(image, header, 24) as usize;
-    let mark = 512usize
-        .wrapping_mul(end.saturating_sub(1))
-        .wrapping_add(word(image, header, 26) as usize);
+    let mark = match end {
+        0 => 0,
+        _ => 512usize
+            .wrapping_mul(end - 1)
+            .wrapping_add(word(image, header, 26) as usize),
+    };
     for k in 0..mark / 16 {
         push_name(blocks, k, &mut names)?;
     }

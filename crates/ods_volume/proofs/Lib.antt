@@ -2,3 +2,4 @@ pub mod Looks
 pub mod Lawful
 pub mod Reasons
 pub mod Carried
+pub mod Arms

@@ -1,5 +1,5 @@
--- A look is carried out by changing nothing.
-use Rattle.std.proofs.Common.{◌≡◌, ℕ, refl, sym, subst, true, List, [], arith}
+-- A look is a step that changes nothing.
+use Rattle.std.proofs.Common.{◌≡◌, ℕ, refl, sym, subst, true, false, List, [], arith}
 use Rattle.ods_base.specs.declared.file_id.Uic.{Uic}
 use Rattle.ods_space.specs.Layout.{Disk, VolumeLayout}
 use Rattle.ods_space.specs.Draft.{Changes, applied}
@@ -11,12 +11,14 @@ use Rattle.ods_request.specs.declared.requests.Query.{Query}
 use Rattle.ods_request.specs.declared.requests.Query.TheVariants as query
 use Rattle.ods_request.specs.declared.answers.Answer.{Answer}
 use Rattle.ods_request.specs.Catalogue.{Catalogue}
+use Rattle.ods_request.specs.Queries.{request_of}
 use Rattle.ods_request.specs.Steps.{after}
-use Rattle.ods_request.specs.Laws.{only_looks}
+use Rattle.ods_request.specs.Table.{creates, only_looks, moves_blocks}
 use Rattle.ods_state.specs.Contents.{ShowsBy}
 use Rattle.ods_state.specs.Moves.{Moves, NothingMoves}
-use Rattle.ods_state.specs.Outcome.{request_of}
 use Rattle.ods_state.specs.Change.{disk, IsAnsweredBy, IsCarriedOut}
+use Rattle.ods_state.specs.Served.{IsStepOf}
+use Rattle.ods_state.proofs.Served.{carried_is_step, lacks_nothing}
 
 nothing_moves : (D : Disk) → NothingMoves D D
 nothing_moves D = record {
@@ -25,20 +27,6 @@ nothing_moves D = record {
   free = λ lbn. refl;
   numbers = λ n. refl;
 }
-
-after_look : (C : Catalogue) (r : Request) → only_looks r ≡ true → after C r ≡ C
-unfolding after
-after_look C (LookUp dir name pick) h = refl
-after_look C (Read file vbn) h = refl
-after_look C (Stat file) h = refl
-after_look C (Lines dir) h = refl
-after_look C (Create name version blocks stamp) h = absurd (cc)
-after_look C (Extend file blocks) h = absurd (cc)
-after_look C (Delete file) h = absurd (cc)
-after_look C (Enter dir name version file) h = absurd (cc)
-after_look C (Remove dir name pick) h = absurd (cc)
-after_look C (Write file vbn block) h = absurd (cc)
-after_look C (SetUser file attributes) h = absurd (cc)
 
 -- a query only looks
 pub query_looks : (q : Query) → only_looks (request_of q) ≡ true
@@ -59,6 +47,17 @@ look_moves D (Remove dir name pick) a h = absurd (cc)
 look_moves D (Write file vbn block) a h = absurd (cc)
 look_moves D (SetUser file attributes) a h = absurd (cc)
 
+after_look : (C : Catalogue) (r : Request) → only_looks r ≡ true → after C r ≡ C
+unfolding after
+after_look C r h = grind arith
+
+-- it makes no file, and no blocks are taken for it
+look_makes_none : (r : Request) → only_looks r ≡ true → creates r ≡ false
+look_makes_none r h = grind arith
+
+look_moves_none : (r : Request) → only_looks r ≡ true → moves_blocks r ≡ false
+look_moves_none r h = grind arith
+
 module _ (I : List (List ℕ)) (L : VolumeLayout) (S : IsSoundBy I L) (who : Uic) (r : Request) (a : Answer) (looks : only_looks r ≡ true) (answered : IsAnsweredBy I L who r a) where
   look_is_carried_out : IsCarriedOut I L who r a I
   look_is_carried_out = record {
@@ -70,8 +69,11 @@ module _ (I : List (List ℕ)) (L : VolumeLayout) (S : IsSoundBy I L) (who : Uic
     elsewhere = (refl, λ x untouched. refl);
   }
 
+  look_is_step : IsStepOf I L who r a I L
+  look_is_step = carried_is_step I L who r a I (look_makes_none r looks) (lacks_nothing I L r (look_moves_none r looks)) look_is_carried_out
+
   -- by a draft without a change
-  pub look_by_none : (d : Changes) → d ≡ [] → IsCarriedOut I L who r a (applied I d)
+  pub look_by_none : (d : Changes) → d ≡ [] → IsStepOf I L who r a (applied I d) L
   look_by_none d none =
-      subst (λ (e : Changes). IsCarriedOut I L who r a (applied I e)) (sym none)
-      (subst (IsCarriedOut I L who r a) (applied_none I) look_is_carried_out)
+      subst (λ (e : Changes). IsStepOf I L who r a (applied I e) L) (sym none)
+      (subst (λ J. IsStepOf I L who r a J L) (applied_none I) look_is_step)

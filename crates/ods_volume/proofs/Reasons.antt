@@ -1,27 +1,32 @@
 -- Why a request is refused, by the volume's present catalogue.
-use Rattle.std.proofs.Common.{◌≡◌, ◌≢◌, ℕ, refl, ap, sym, ◌∙◌, subst, Bool, true, false, cond, List, [], ◌∷◌, Option, Some, None}
-use Rattle.std.specs.Prelude.{MatchOption, not, is_none}
+use Rattle.std.proofs.Common.{◌≡◌, ◌≢◌, ℕ, refl, ap, sym, ◌∙◌, subst, Bool, true, false, cond, List, [], ◌∷◌, Option, Some, None, is_some, inl, inr, arith}
+use Rattle.std.specs.Prelude.{◌+◌, IsSome, MatchOption, length, nat_lt, not, is_none}
 use Rattle.std.specs.FinMap as map
 use Rattle.ods_base.specs.declared.file_id.Uic.{Uic}
+use Rattle.ods_space.specs.Free.{free_blocks, free_numbers}
 use Rattle.ods_space.specs.Layout.{VolumeLayout}
 use Rattle.ods_request.specs.declared.requests.Request.{Request}
 use Rattle.ods_request.specs.declared.requests.Request.TheVariants.{Create, Extend, Delete, Enter, LookUp, Remove, Read, Write, List as Lines, Stat, SetUser}
 use Rattle.ods_request.specs.declared.answers.Answer.{Answer}
+use Rattle.ods_request.specs.declared.answers.Answer.TheVariants.{Names}
 use Rattle.ods_request.specs.declared.refusals.Refusal.{Refusal}
 use Rattle.ods_request.specs.declared.refusals.Refusal.TheVariants as refusal
 use Rattle.ods_request.specs.Catalogue.{Catalogue, File, names_of, is_directory}
 use Rattle.ods_request.specs.declared.rights.Right.TheVariants as right
 use Rattle.ods_base.specs.Names.{picked_version}
+use Rattle.ods_base.specs.declared.listed.Listed.{Listed}
 use Rattle.ods_request.specs.Faults.{fault_of, first_of, on_file, is_map, is_denied, lacks_block}
 use Rattle.ods_request.specs.Lines.{HasLines}
-use Rattle.ods_request.specs.Steps.{answer_of}
+use Rattle.ods_request.specs.Steps.{step, answer_of}
+use Rattle.ods_request.specs.Table.{creates, takes_memory}
 use Rattle.ods_request.proofs.FaultTable.{fault_look_up, fault_read, fault_stat}
+use Rattle.ods_request.proofs.StepLaws.{determined, refused}
 use Rattle.ods_state.specs.Version.{State, IsLawful, IsPresent}
-use Rattle.ods_state.specs.Wants.{Lacks}
-use Rattle.ods_state.specs.Change.{IsAnsweredBy, IsFaultBy, IsRefusedBy}
-use Rattle.ods_state.specs.Outcome.{IsReason, fault_is, no_memory, takes_memory}
+use Rattle.ods_state.specs.Wants.{Lacks, lack_of, taken_count}
+use Rattle.ods_state.specs.Served.{IsStepOf, IsRefusalOf, IsShortOf}
+use Rattle.ods_state.specs.Outcome.{IsReason, fault_is, lacks, no_memory}
 use Rattle.ods_state.proofs.One.{present_is_shown}
-use Rattle.ods_volume.specs.Serving.{is_served, IsRefused}
+use Rattle.ods_volume.proofs.Lawful.{left_by}
 
 -- none of these refusals is want of memory
 abbrev NoneIsMemory : List (Bool × Refusal) → Type 0
@@ -60,75 +65,66 @@ fault_is_other C who (Write file vbn block) h e = absurd (cc)
 fault_is_other C who (Lines dir) h e = absurd (cc)
 fault_is_other C who (SetUser file attributes) h e = absurd (cc)
 
--- the first fault is a refusal, with or without memory
-pub refused_by_fault : (I : List (List ℕ)) (L : VolumeLayout) (who : Uic) (r : Request) (f : Refusal) → IsFaultBy I L who r f → IsRefused I L who r f
-refused_by_fault I L who r f fault C shown =
-    subst (λ o. MatchOption o ((f ≡ refusal.NoMemory) × (takes_memory r ≡ true)) (λ g. f ≡ g)) (sym (fault C shown)) refl
+-- nor is what the volume lacks
+one_is_other : (a b c : Bool) → first_of ((a, refusal.VolumeFull) ∷ (b, refusal.HeadersFull) ∷ (c, refusal.ChainFull) ∷ []) ≢ Some refusal.NoMemory
+one_is_other a b c = first_is_other ((a, refusal.VolumeFull) ∷ (b, refusal.HeadersFull) ∷ (c, refusal.ChainFull) ∷ []) (λ g. absurd (cc), (λ g. absurd (cc), (λ g. absurd (cc), tt)))
 
--- a request that takes memory may want it
-pub refused_by_memory : (I : List (List ℕ)) (L : VolumeLayout) (who : Uic) (r : Request) (f : Refusal) → takes_memory r ≡ true → IsRefusedBy I L who r f → IsRefused I L who r f
-refused_by_memory I L who r f takes refused C shown = by (fault_of C who r) (refused C shown)
-  where
-    by : (o : Option Refusal) → MatchOption o (f ≡ refusal.NoMemory) (λ g. f ≡ g) → MatchOption o ((f ≡ refusal.NoMemory) × (takes_memory r ≡ true)) (λ g. f ≡ g)
-    by None is = (is, takes)
-    by (Some g) is = is
+lack_is_other : (I : List (List ℕ)) (L : VolumeLayout) (r : Request) → ¬ Lacks I L r refusal.NoMemory
+unfolding lack_of
+lack_is_other I L r short = one_is_other (nat_lt (length (free_blocks I L)) short.count)
+    (nat_lt (length (free_numbers I L)) (taken_count I L short.headers short.count)) (nat_lt 256 (length short.headers + taken_count I L short.headers short.count))
+    short.lacking
 
 -- only a request that takes memory is answered by a directory's lines
-pub lines_take_memory : (C : Catalogue) (r : Request) (a : Answer) → HasLines a → answer_of C r ≡ a → takes_memory r ≡ true
+lines_by : (C : Catalogue) (r : Request) (lines : List Listed) → answer_of C r ≡ Names lines → takes_memory r ≡ true
 unfolding answer_of
-lines_take_memory C (LookUp dir name pick) a lines is = let same = is ∙ lines.1 in absurd (cc)
-lines_take_memory C (Read file vbn) a lines is = let same = is ∙ lines.1 in absurd (cc)
-lines_take_memory C (Stat file) a lines is = let same = is ∙ lines.1 in absurd (cc)
-lines_take_memory C (Create name version blocks stamp) a lines is = refl
-lines_take_memory C (Extend file blocks) a lines is = refl
-lines_take_memory C (Delete file) a lines is = refl
-lines_take_memory C (Enter dir name version file) a lines is = refl
-lines_take_memory C (Remove dir name pick) a lines is = refl
-lines_take_memory C (Write file vbn block) a lines is = refl
-lines_take_memory C (Lines dir) a lines is = refl
-lines_take_memory C (SetUser file attributes) a lines is = refl
+lines_by C r lines e = grind arith
 
--- what is served so far takes no blocks and no numbers, so the volume never lacks them
-pub lacks_nothing : (I : List (List ℕ)) (L : VolumeLayout) (r : Request) (f : Refusal) → is_served r ≡ true → Lacks I L r f → ⊥
-lacks_nothing I L (LookUp dir name pick) f served lacks = lacks.wants
-lacks_nothing I L (Read file vbn) f served lacks = lacks.wants
-lacks_nothing I L (Write file vbn block) f served lacks = lacks.wants
-lacks_nothing I L (Lines dir) f served lacks = lacks.wants
-lacks_nothing I L (Stat file) f served lacks = lacks.wants
-lacks_nothing I L (SetUser file attributes) f served lacks = lacks.wants
-lacks_nothing I L (Create name version blocks stamp) f served lacks = absurd (cc)
-lacks_nothing I L (Extend file blocks) f served lacks = absurd (cc)
-lacks_nothing I L (Delete file) f served lacks = absurd (cc)
-lacks_nothing I L (Enter dir name version file) f served lacks = absurd (cc)
-lacks_nothing I L (Remove dir name pick) f served lacks = absurd (cc)
+created_by : (r : Request) → creates r ≡ true → takes_memory r ≡ true
+created_by r h = grind arith
+
+lines_take_memory : (C D : Catalogue) (who : Uic) (r : Request) (a : Answer) → HasLines a → step C who r a ≡ Some D → takes_memory r ≡ true
+lines_take_memory C D who r a lines e = by (creates r) refl
+  where
+    by : (b : Bool) → creates r ≡ b → takes_memory r ≡ true
+    by true h = created_by r h
+    by false h = lines_by C r lines.0 (sym (determined C D who r a h e).0 ∙ lines.1)
 
 module _ (v : State) (lawful : IsLawful v) (who : Uic) (r : Request) where
-  -- a request that is answered has no fault
-  pub answered_has_none : (a : Answer) → IsAnsweredBy v.image v.layout who r a → (C : Catalogue) (f : Refusal) → IsPresent v C → fault_of C who r ≡ Some f → ⊥
-  answered_has_none a answered C f present e =
-      let fine : fault_of C who r ≡ None = (answered C (present_is_shown v C lawful present)).0 in
-      let wrong : None ≡ Some f = sym fine ∙ e in
-      absurd (cc)
+  module _ (a : Answer) (J : List (List ℕ)) (M : VolumeLayout) (made : IsStepOf v.image v.layout who r a J M) where
+    stepped : (C : Catalogue) → IsPresent v C → IsSome (step C who r a)
+    stepped C present = made.answered C (present_is_shown v C lawful present) (lawful.past C present)
 
-  -- lines that find no memory to be copied
-  pub copy_takes_memory : (a : Answer) → IsAnsweredBy v.image v.layout who r a → HasLines a → takes_memory r ≡ true
-  copy_takes_memory a answered lines = lines_take_memory lawful.version.catalogue r a lines (answered lawful.version.catalogue lawful.version.shown).1
+    -- a request that makes a step has no fault
+    pub step_has_none : (C : Catalogue) (f : Refusal) → IsPresent v C → fault_of C who r ≡ Some f → ⊥
+    step_has_none C f present e =
+        let none : step C who r a ≡ None = refused C who r a (ap is_some e) in
+        let wrong : false ≡ true = sym (ap is_some none) ∙ stepped C present in
+        absurd (cc)
 
-  module _ (f : Refusal) (refused : IsRefused v.image v.layout who r f) where
+    -- lines that find no memory to be copied
+    pub copy_takes_memory : HasLines a → takes_memory r ≡ true
+    copy_takes_memory lines =
+        let C = lawful.version.catalogue in
+        let left = left_by (step C who r a) (stepped C lawful.version.replayed) in
+        lines_take_memory C left.0 who r a lines left.1
+
+  module _ (f : Refusal) (refused_so : IsRefusalOf v.image v.layout who r f) where
     pub refusal_is_first : (C : Catalogue) (g : Refusal) → IsPresent v C → fault_of C who r ≡ Some g → f ≡ g
-    refusal_is_first C g present e =
-        subst (λ o. MatchOption o ((f ≡ refusal.NoMemory) × (takes_memory r ≡ true)) (λ h. f ≡ h)) e (refused C (present_is_shown v C lawful present))
+    refusal_is_first C g present e = subst (λ o. MatchOption o (IsShortOf v.image v.layout r f) (λ h. f ≡ h)) e (refused_so C (present_is_shown v C lawful present))
 
     pub refusal_is_reason : IsReason v who r f
-    refusal_is_reason = by (fault_of lawful.version.catalogue who r) refl (refused lawful.version.catalogue lawful.version.shown)
+    refusal_is_reason = by (fault_of lawful.version.catalogue who r) refl (refused_so lawful.version.catalogue lawful.version.shown)
       where
-        by : (o : Option Refusal) → fault_of lawful.version.catalogue who r ≡ o → MatchOption o ((f ≡ refusal.NoMemory) × (takes_memory r ≡ true)) (λ g. f ≡ g) → IsReason v who r f
-        by None e is = subst (IsReason v who r) (sym is.0) (no_memory is.1)
+        by : (o : Option Refusal) → fault_of lawful.version.catalogue who r ≡ o → MatchOption o (IsShortOf v.image v.layout r f) (λ g. f ≡ g) → IsReason v who r f
+        by None e (inl lacking) = lacks f lacking
+        by None e (inr short) = subst (IsReason v who r) (sym short.0) (no_memory short.1)
         by (Some g) e is = fault_is lawful.version.catalogue f lawful.version.replayed (e ∙ ap Some (sym is))
 
     pub refusal_is_other : takes_memory r ≡ false → f ≢ refusal.NoMemory
-    refusal_is_other none same = by (fault_of lawful.version.catalogue who r) refl (refused lawful.version.catalogue lawful.version.shown)
+    refusal_is_other none same = by (fault_of lawful.version.catalogue who r) refl (refused_so lawful.version.catalogue lawful.version.shown)
       where
-        by : (o : Option Refusal) → fault_of lawful.version.catalogue who r ≡ o → MatchOption o ((f ≡ refusal.NoMemory) × (takes_memory r ≡ true)) (λ g. f ≡ g) → ⊥
-        by None e is = let wrong : false ≡ true = sym none ∙ is.1 in absurd (cc)
+        by : (o : Option Refusal) → fault_of lawful.version.catalogue who r ≡ o → MatchOption o (IsShortOf v.image v.layout r f) (λ g. f ≡ g) → ⊥
+        by None e (inl lacking) = lack_is_other v.image v.layout r (subst (Lacks v.image v.layout r) same lacking)
+        by None e (inr short) = let wrong : false ≡ true = sym none ∙ short.1 in absurd (cc)
         by (Some g) e is = fault_is_other lawful.version.catalogue who r none (e ∙ ap Some (sym is ∙ same))

@@ -3,9 +3,10 @@ ghost use Rattle.std.specs.Prelude.{◌≡◌, ◌≢◌, ◌<◌, false, length
 ghost use Rattle.ods_request.specs.declared.refusals.Refusal.{Refusal};
 ghost use Rattle.ods_request.specs.Catalogue.{Catalogue};
 ghost use Rattle.ods_request.specs.Faults.{fault_of};
+ghost use Rattle.ods_request.specs.Table.{takes_memory};
 ghost use Rattle.ods_state.specs.Version.{IsPresent};
 ghost use Rattle.ods_state.specs.Wants.{Lacks};
-ghost use Rattle.ods_state.specs.Outcome.{Accepts, IsReason, IsLawfulPlan, carried_out, entry_of, takes_memory};
+ghost use Rattle.ods_state.specs.Outcome.{Accepts, IsReason, IsLawfulPlan, carried_out, entry_of};
 ghost use Rattle.ods_volume.specs.Serving.{IsServed};
 
 use crate::planned::Prepared;

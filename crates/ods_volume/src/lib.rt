@@ -6,5 +6,6 @@ mod planned;
 mod prepare;
 mod volume;
 
+pub use ods_look::look;
 pub use planned::Prepared;
 pub use volume::Volume;

@@ -6,16 +6,18 @@ ghost use Rattle.ods_mount.specs.Sound.{IsSoundBy};
 ghost use Rattle.ods_request.specs.declared.refusals.Refusal.{Refusal};
 ghost use Rattle.ods_request.specs.Catalogue.{Catalogue};
 ghost use Rattle.ods_request.specs.Faults.{fault_of};
+ghost use Rattle.ods_request.specs.Queries.{request_of};
+ghost use Rattle.ods_request.specs.Table.{takes_memory};
 ghost use Rattle.ods_state.specs.Version.{IsPresent};
 ghost use Rattle.ods_state.specs.Wants.{Lacks};
-ghost use Rattle.ods_state.specs.Change.{IsCarriedOut};
-ghost use Rattle.ods_state.specs.Outcome.{IsReason, IsLawfulPlan, entry_of, request_of, takes_memory};
-ghost use Rattle.ods_volume.specs.Serving.{IsServed, IsRefused};
+ghost use Rattle.ods_state.specs.Served.{IsStepOf, IsRefusalOf};
+ghost use Rattle.ods_state.specs.Outcome.{IsReason, IsLawfulPlan, entry_of};
+ghost use Rattle.ods_volume.specs.Serving.{IsServed};
 
 use crate::planned::Prepared;
 use crate::volume::Volume;
 use ods_base::{Image, Uic};
-use ods_change::{set_user, write};
+use ods_change::{remove, set_user, write};
 use ods_look::{list, look};
 use ods_request::{Answer, Entry, Query, Refusal, Request};
 use ods_space::{Draft, Layout};
@@ -30,8 +32,8 @@ fn look_only(
     query: Query,
 ) -> Result<(Answer, Draft), Refusal>
     requires { IsSoundBy image.now layout.now }
-    ensures { MatchResult result (λ p. IsCarriedOut image.now layout.now who (request_of query) p.0 (applied image.now p.1))
-        (IsRefused image.now layout.now who (request_of query)) }
+    ensures { MatchResult result (λ p. IsStepOf image.now layout.now who (request_of query) p.0 (applied image.now p.1) layout.now)
+        (IsRefusalOf image.now layout.now who (request_of query)) }
 {
     match look(image, layout, who, query) {
         Ok(answer) => Ok((answer, Draft::new(alloc))),
@@ -49,19 +51,13 @@ fn carry_out(
 ) -> Result<(Answer, Draft), Refusal>
     requires served { IsServed request.now }
     requires sound { IsSoundBy image.now layout.now }
-    ensures { MatchResult result (λ p. IsCarriedOut image.now layout.now who request.now p.0 (applied image.now p.1))
-        (IsRefused image.now layout.now who request.now) }
+    ensures { MatchResult result (λ p. IsStepOf image.now layout.now who request.now p.0 (applied image.now p.1) layout.now)
+        (IsRefusalOf image.now layout.now who request.now) }
 {
+    if let Some(query) = request.as_query() {
+        return look_only(alloc, image, layout, who, query);
+    }
     match *request {
-        Request::LookUp { dir, name, pick } => {
-            let query = Query::LookUp { dir, name, pick };
-            look_only(alloc, image, layout, who, query)
-        }
-        Request::Read { file, vbn } => {
-            let query = Query::Read { file, vbn };
-            look_only(alloc, image, layout, who, query)
-        }
-        Request::Stat { file } => { look_only(alloc, image, layout, who, Query::Stat { file }) }
         Request::List { dir } => match list(alloc, image, layout, who, dir) {
             Ok(lines) => Ok((Answer::Names(lines), Draft::new(alloc))),
             Err(refusal) => Err(refusal),
@@ -75,6 +71,12 @@ fn carry_out(
         Request::SetUser { file, attributes } => {
             match set_user(alloc, image, layout, who, file, attributes) {
                 Ok(draft) => Ok((Answer::Done, draft)),
+                Err(refusal) => Err(refusal),
+            }
+        }
+        Request::Remove { dir, name, pick } => {
+            match remove(alloc, image, layout, who, dir, name, pick) {
+                Ok((draft, file, version)) => Ok((Answer::Removed(file, version), draft)),
                 Err(refusal) => Err(refusal),
             }
         }

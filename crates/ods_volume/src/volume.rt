@@ -108,13 +108,13 @@ impl Volume {
     pub fn free_count(&self) -> u32
         ensures { result ≡ length (free_blocks self.now.image self.now.layout) }
     {
-        ods_space::free_count(&self.image, &self.layout)
+        ods_alloc::free_count(&self.image, &self.layout)
     }
 
     /// How many file numbers are free.
     pub fn number_count(&self) -> u32
         ensures { result ≡ length (free_numbers self.now.image self.now.layout) }
     {
-        ods_space::number_count(&self.image, &self.layout)
+        ods_alloc::number_count(&self.image, &self.layout)
     }
 }

@@ -1,34 +1,47 @@
-use Rattle.std.proofs.Common.{◌≡◌, ◌∙◌, ap, sym, subst, replicate, List, [], ℕ}
+use Rattle.std.proofs.Common.{◌∙◌, ap, sym, subst, List, ℕ}
 use Rattle.std.specs.Prelude.{slice_set}
-use Rattle.ods_base.specs.Block.{with_bytes}
-use Rattle.ods_base.specs.Image.{block_at}
 use Rattle.ods_request.specs.declared.answers.Answer.TheVariants.{Removed}
 use Rattle.ods_request.specs.declared.requests.Request.TheVariants.{Remove}
+use Rattle.ods_request.proofs.FaultTable.{fault_remove}
 use Rattle.ods_space.specs.Draft.{applied}
 use Rattle.ods_space.proofs.Drafts.{applied_set}
 use Rattle.ods_state.specs.Change.{IsCarriedOut}
-use Rattle.ods_state.proofs.OneBlock.{held_inside}
-use Rattle.ods_change.proofs.Refusing.{refused_by_memory}
-use Rattle.ods_change.proofs.RemovingName.{remove_carried_out}
+use Rattle.ods_look.proofs.OpenDirectories.{name_check, not_found}
+use Rattle.ods_look.proofs.Rows.{refused_by_fault, refused_by_memory}
+use Rattle.ods_change.proofs.EntryReplaced.{entry_within, entry_inside}
+use Rattle.ods_change.proofs.RemovingName.{remove_answered, remove_carried_out}
 use Rattle.ods_change.proofs.remove_name.remove.Goals as goal
 
-pub block-requires : goal.block-requires
-block-requires c =
-    let entry = c.in-Ok.ensures in
-    held_inside c.args.image.now c.args.layout.now c.requires c.args.dir.number entry.vbn c.in-Ok.entry.lbn [] entry.held
+pub returns-in-Err : goal.returns-in-Err
+returns-in-Err c = λ C shown.
+    refused_by_fault _ c.in-Err.refusal (fault_remove C c.args.who c.args.dir c.args.name c.args.pick ∙ c.in-Err.ensures.err C (name_check c.args.name c.args.pick) shown)
+
+pub returns-in-Err-remove : goal.returns-in-Err-remove
+returns-in-Err-remove c = λ C shown.
+    refused_by_fault _ _
+    (fault_remove C c.args.who c.args.dir c.args.name c.args.pick
+    ∙ not_found c.in-Ok.ensures.ok shown c.args.name c.words.ensures.name.three c.args.pick c.in-Err-remove.field-0 c.in-Err-remove.ensures.err)
+
+pub with_entry-lbn-requires-clause-within : goal.with_entry-lbn-requires-clause-within
+with_entry-lbn-requires-clause-within c = let place = c.in-Ok-remove.ensures.position in entry_within place.0 _ _ _ place.1 place.2 c.in-Ok.ensures.ok.is.inside
+
+pub with_entry-lbn-requires-clause-whole : goal.with_entry-lbn-requires-clause-whole
+with_entry-lbn-requires-clause-whole c = let place = c.in-Ok-remove.ensures.position in entry_inside place.0 _ place.2
 
 pub returns-in-Ok-one_block : goal.returns-in-Ok-one_block
 returns-in-Ok-one_block c =
     let I = c.args.image.now in
     let L = c.args.layout.now in
-    let x = c.in-Ok.entry.lbn in
-    let b : List ℕ = c.set_bytes.new.self in
-    let is : b ≡ with_bytes (block_at I x) c.in-Ok.entry.at (replicate 16 0) = c.set_bytes.ensures.changed ∙ ap (λ l. with_bytes l c.in-Ok.entry.at (replicate 16 0)) c.block.ensures.value in
-    subst (λ J. IsCarriedOut I L c.args.who (Remove c.args.dir c.args.name c.args.pick) (Removed c.in-Ok.entry.file c.in-Ok.entry.version) J)
-    (ap (slice_set I x) (sym is) ∙ applied_set I x b ∙ ap (applied I) (sym c.in-Ok-one_block.ensures))
-    (remove_carried_out I L c.requires c.args.who c.args.dir c.args.name c.args.pick c.in-Ok.entry c.in-Ok.ensures)
+    let entry = c.in-Ok-remove.entry in
+    let removed = c.in-Ok-remove.ensures in
+    let x : ℕ = c.with_entry-lbn.result.0 in
+    let b : List ℕ = c.with_entry-lbn.result.1 in
+    subst (λ J. IsCarriedOut I L c.args.who (Remove c.args.dir c.args.name c.args.pick) (Removed entry.0 entry.1) J)
+    (ap (slice_set I x) (sym c.with_entry-lbn.ensures.block) ∙ applied_set I x b ∙ ap (applied I) (sym c.in-Ok-one_block.ensures))
+    (remove_carried_out c.requires c.in-Ok.ensures.ok c.args.name c.words.ensures.name.three c.args.pick entry.0 entry.1 removed.found entry.2 c.with_entry-lbn.ensures.held removed.names removed.stays)
 
 pub returns-in-Err-one_block : goal.returns-in-Err-one_block
 returns-in-Err-one_block c =
-    refused_by_memory c.args.image.now c.args.layout.now c.args.who (Remove c.args.dir c.args.name c.args.pick)
-    (λ C shown. (c.in-Ok.ensures.answered C shown).0)
+    let entry = c.in-Ok-remove.entry in
+    refused_by_memory c.args.image.now c.args.layout.now c.args.who (Remove c.args.dir c.args.name c.args.pick) (λ C shown.
+    (remove_answered c.requires c.in-Ok.ensures.ok c.args.name c.words.ensures.name.three c.args.pick entry.0 entry.1 c.in-Ok-remove.ensures.found C shown).0)

@@ -1,23 +1,22 @@
 use Rattle.std.proofs.Common.{◌≡◌, ◌≢◌, ◌+◌, ◌-◌, ◌∙◌, Some, true, false, refl, sym, ap, subst, arith, inl, inr, nat_eq}
 use Rattle.std.proofs.lemmas.Bool.{cases_lt}
 use Rattle.std.specs.List.{slice_get}
-use lib.Pointwise.{pointwise}
+use lib.Pointwise.{pointwise, bytes_decides}
 use Rattle.std.proofs.lemmas.Option.{slice_get_read, same_Some}
 use Rattle.ods_directory.specs.Lines.{line_key}
-use Rattle.ods_directory.proofs.Picked.{same_list, list_itself}
 use Rattle.ods_directory.proofs.lines.has_twins.Goals as goal
 
 pub returns-then-eq : goal.returns-then-eq
 returns-then-eq c =
     let lines = c.args.lines.now in
-    let place : c.loop-i.i ≡ c.loop-i.i - 1 + 1 = omega arith in
+    let position : c.loop-i.i ≡ c.loop-i.i - 1 + 1 = omega arith in
     record {
       at = c.loop-i.i - 1;
       one = c.index-lines-i.result;
       other = c.index-lines-i-in-loop-i.result;
       first = slice_get_read lines _ (c.loop-i.i - 1) c.index-lines-i.result refl (omega arith) c.index-lines-i.is;
-      second = subst (λ k. slice_get lines k ≡ Some c.index-lines-i-in-loop-i.result) place (slice_get_read lines _ c.loop-i.i c.index-lines-i-in-loop-i.result refl (omega arith) c.index-lines-i-in-loop-i.is);
-      same = sym c.key.ensures ∙ same_list _ _ (sym c.eq.ensures ∙ c.if-eq.true) ∙ c.key-in-loop-i.ensures;
+      second = subst (λ k. slice_get lines k ≡ Some c.index-lines-i-in-loop-i.result) position (slice_get_read lines _ c.loop-i.i c.index-lines-i-in-loop-i.result refl (omega arith) c.index-lines-i-in-loop-i.is);
+      same = sym c.key.ensures ∙ (bytes_decides _ _).0 (sym c.eq.ensures ∙ c.if-eq.true) ∙ c.key-in-loop-i.ensures;
     }
 
 pub loop-i-preserved : goal.loop-i-preserved
@@ -25,7 +24,7 @@ loop-i-preserved c =
     let lines = c.args.lines.now in
     let apart : line_key c.index-lines-i.result ≢ line_key c.index-lines-i-in-loop-i.result = λ same.
     let keys : c.key.result ≡ c.key-in-loop-i.result = c.key.ensures ∙ same ∙ sym c.key-in-loop-i.ensures in
-    let clash : true ≡ false = sym (subst (λ k. pointwise nat_eq c.key.result k ≡ true) keys (list_itself c.key.result)) ∙ sym c.eq.ensures ∙ c.if-eq.false in
+    let clash : true ≡ false = sym (subst (λ k. pointwise nat_eq c.key.result k ≡ true) keys ((bytes_decides c.key.result c.key.result).1 refl)) ∙ sym c.eq.ensures ∙ c.if-eq.false in
     absurd (cc) in
     λ k below one other first second. elim (cases_lt (k + 1) c.loop-i.i) [
       | inl before ↦ c.loop-i.invariant k before one other first second

@@ -2,7 +2,7 @@ use Rattle.std.proofs.Common.{◌≡◌, ◌*◌, ◌+◌, ◌/◌, ◌++◌, �
 use Rattle.std.proofs.lemmas.List.{map-append}
 use Rattle.ods_directory.specs.Entry.{IsGoodEntry, is_used, entry_at, entry_in}
 use Rattle.ods_directory.specs.Lines.{line_of}
-use Rattle.ods_directory.proofs.Used.{used_from, used_entries-is, good_by_places}
+use Rattle.ods_directory.proofs.Used.{used_from, used_entries-is, good_by_positions}
 use Rattle.ods_directory.proofs.Blockwise.{entry_of_block, used_before_next}
 use Rattle.ods_directory.proofs.lines.read_lines.Goals as goal
 
@@ -17,7 +17,7 @@ push_lines-requires-clause-good g c =
     let blocks = g.B.DirBlocks.blocks c.args.blocks.now in
     λ k below used.
     let same : entry_in c.block.result.now k ≡ entry_at blocks (32 * c.loop-i.i + k) = ap (λ b. entry_in b k) c.block.ensures.value ∙ entry_of_block blocks c.loop-i.i k (omega arith) in
-    subst IsGoodEntry (sym same) (good_by_places blocks c.args.mark c.requires.good (32 * c.loop-i.i + k) (omega arith) (ap is_used (sym same) ∙ used))
+    subst IsGoodEntry (sym same) (good_by_positions blocks c.args.mark c.requires.good (32 * c.loop-i.i + k) (omega arith) (ap is_used (sym same) ∙ used))
 
 pub loop-i-preserved : goal.loop-i-preserved
 loop-i-preserved g c =

@@ -17,11 +17,11 @@ returns-in-Some g c =
     let whole = subst IsBlock c.block.ensures.value c.block.ensures.block in
     record {
       found = finds blocks mark name c.args.pick found c.requires.directory here;
-      place = (found.place, here.0.below, refl, entry_there blocks mark name found c.requires.directory c.requires.mark here.0 whole);
+      position = (found.position, here.0.below, refl, entry_there blocks mark name found c.requires.directory c.requires.mark here.0 whole);
       names = removed_names blocks mark name found c.requires.directory c.requires.mark here.0 whole;
       stays = removed_stays blocks mark name found c.requires.directory c.requires.mark here.0 whole;
       err = tt;
     }
 
 pub returns-in-None : goal.returns-in-None
-returns-in-None g c = record { found = tt; place = tt; names = tt; stays = tt; err = finds_none (g.B.DirBlocks.blocks c.args.blocks.now) c.args.mark c.args.name.now c.args.pick c.in-None.ensures.found }
+returns-in-None g c = record { found = tt; position = tt; names = tt; stays = tt; err = finds_none (g.B.DirBlocks.blocks c.args.blocks.now) c.args.mark c.args.name.now c.args.pick c.in-None.ensures.found }

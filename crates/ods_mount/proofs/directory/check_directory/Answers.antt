@@ -35,7 +35,7 @@ returns-in-Ok-Good-clause-ok c blocks has _ =
 
 pub returns-in-Ok-BadEntry-clause-err : goal.returns-in-Ok-BadEntry-clause-err
 returns-in-Ok-BadEntry-clause-err c _ = (
-  c.if-not-is_directory.ensures,
+  c.if-not-is_directory_file.ensures,
   c.in-Ok.lbns.items,
   c.in-Ok.ensures.ok,
   moved (λ bs m. HasBadEntry (used_entries bs m)) c.args.image.now _ c.in-Ok.lbns.items _ _ c.args.attributes.now c.mark_of-mark.result c.count.result
@@ -44,12 +44,12 @@ returns-in-Ok-BadEntry-clause-err c _ = (
 
 pub returns-in-Ok-Twice-clause-err : goal.returns-in-Ok-Twice-clause-err
 returns-in-Ok-Twice-clause-err c _ = (
-  c.if-not-is_directory.ensures,
+  c.if-not-is_directory_file.ensures,
   c.in-Ok.lbns.items,
   c.in-Ok.ensures.ok,
   moved (λ bs m. HasTwins (used_entries bs m)) c.args.image.now _ c.in-Ok.lbns.items _ _ c.args.attributes.now c.mark_of-mark.result c.count.result
       c.new-blocks.ensures.0 (c.new-blocks.ensures.1 ∙ c.deref.ensures.value) c.requires.attributes c.count.ensures c.mark_of-mark.ensures (c.in-Ok-Twice.ensures.twice (ap Ok c.in-Ok-Twice.field-0-is)),
 )
 
-pub returns-then-not-is_directory-clause-ok : goal.returns-then-not-is_directory-clause-ok
-returns-then-not-is_directory-clause-ok c blocks has dir = absurd (c.if-not-is_directory.ensures dir)
+pub returns-then-not-is_directory_file-clause-ok : goal.returns-then-not-is_directory_file-clause-ok
+returns-then-not-is_directory_file-clause-ok c blocks has dir = absurd (c.if-not-is_directory_file.ensures dir)

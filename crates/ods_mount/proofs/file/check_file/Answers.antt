@@ -1,6 +1,4 @@
-use Rattle.std.proofs.Common.{◌∷◌}
 use Rattle.ods_space.specs.Files.{Holds}
-use Rattle.ods_mount.proofs.Linked.{links_of}
 use Rattle.ods_mount.proofs.Sharing.{table_unnamed}
 use Rattle.ods_mount.proofs.Tables.{table_past}
 use Rattle.ods_mount.proofs.file.check_file.Goals as goal
@@ -10,11 +8,6 @@ returns-in_default-clause-table c = table_past (Holds c.args.image.now c.args.la
 
 pub returns-in_default-clause-named : goal.returns-in_default-clause-named
 returns-in_default-clause-named c = table_unnamed c.args.image.now c.args.layout.now c.args.number c.args.named.now c.in_default.ensures c.requires.named
-
-pub header_numbers-requires : goal.header_numbers-requires
-header_numbers-requires c =
-    let has = c.in_default-check_whole.ensures.ok.1 in
-    (c.args.number ∷ has.others, links_of c.args.image.now c.args.layout.now c.args.number has.others c.in_default-check_whole.ensures.ok.0 c.requires.layout has.whole.chain)
 
 pub returns-clause-named : goal.returns-clause-named
 returns-clause-named c = c.in_default-check_apart.ensures.ok

@@ -21,7 +21,7 @@ loop-number-preserved c = record {
     | inl less ↦ c.loop-number.invariant.files n less
     | inr more ↦
         let e : c.loop-number.number ≡ n = omega arith in
-        let P : ℕ → Type 0 = λ x. IsFile c.args.image.now c.args.layout.now x → IsCheckedFile c.args.image.now c.args.layout.now c.args.home x in
+        let P : ℕ → Type 0 = λ x. IsFile c.args.image.now c.args.layout.now x → IsCheckedFile c.args.image.now c.args.layout.now c.args.home_lbn x in
         subst P e c.in_default-check_file.ensures.file
   ];
   numbers = let before = c.loop-number.invariant.numbers in let same = c.in_default-check_file.ensures.numbers in omega arith;

@@ -30,7 +30,7 @@ returns-clause-ok c n used header =
     let small = number_small I L n c.len.ensures.image header in
     let within = number_in_bitmap I L.home n used in
     let P : ℕ → Type 0 = λ x. n ≤ 4096 * x in
-    let low : n ≤ 4096 * c.home.result.index_size = subst P (ap (λ h. h.index_size) (sym c.home.ensures)) within in
+    let low : n ≤ 4096 * c.home.result.index_bitmap_size = subst P (ap (λ h. h.index_bitmap_size) (sym c.home.ensures)) within in
     let last = c.min-last.ensures in
     let end = c.loop-k-test.false in
     c.loop-k.invariant n (omega arith) used header

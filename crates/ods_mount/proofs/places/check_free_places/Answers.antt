@@ -7,7 +7,7 @@ use Rattle.ods_mount.proofs.places.check_free_places.Goals.{else-is_home_place-v
 
 pub returns-then-is_free-clause-err : goal.returns-then-is_free-clause-err
 returns-then-is_free-clause-err c =
-    inr (inr (inr (c.args.home, c.loop-lbn.lbn, c.requires, c.is_home_place.ensures.0 c.if-is_home_place.true, c.loop-lbn-test.true, inl (sym c.is_free.ensures ∙ c.if-is_free.true))))
+    inr (inr (inr (c.args.home_lbn, c.loop-lbn.lbn, c.requires, c.is_home_place.ensures.0 c.if-is_home_place.true, c.loop-lbn-test.true, inl (sym c.is_free.ensures ∙ c.if-is_free.true))))
 
 pub loop-lbn-preserved : goal.loop-lbn-preserved
 loop-lbn-preserved c k place low = elim (cases_lt k c.loop-lbn.lbn) [

@@ -1,30 +1,30 @@
-use Rattle.std.proofs.Common.{◌≡◌, ◌∷◌, ◌+◌, ◌<◌, length, suc, sym, ap, ◌∙◌, true, false, drop, arith}
+use Rattle.std.proofs.Common.{◌≡◌, ◌∷◌, ◌+◌, suc, sym, ap, ◌∙◌, drop, arith}
 use Rattle.std.specs.Ordering.{is_lt}
 use Rattle.ods_base.specs.Name.{key_of}
 use Rattle.ods_plain.specs.Lines.{gap_for}
 use Rattle.ods_plain.proofs.LineLists.{key_cmp, left_at, gap-here, gap-later}
 use Rattle.ods_plain.proofs.names.gap.Goals as goal
+use Rattle.ods_plain.proofs.names.gap.Goals.{After-is_lt}
+
+-- the gap of those that are left, by the first one of them
+gap_left : (c : After-is_lt) → let x = c.index-lines-i.result in let rest = drop (c.loop-i.i + 1) c.args.lines.now in
+    gap_for c.args.wanted.now (drop c.loop-i.i c.args.lines.now) ≡ gap_for c.args.wanted.now (x ∷ rest)
+gap_left c =
+    ap (gap_for c.args.wanted.now) (left_at c.args.lines.now c.loop-i.i c.index-lines-i.result c.loop-i-test.true ∙ ap (λ y. y ∷ drop (c.loop-i.i + 1) c.args.lines.now) (sym c.index-lines-i.is))
+
+-- whether its key is higher
+test : (c : After-is_lt) → is_lt (key_cmp c.args.wanted.now (key_of c.index-lines-i.result.name c.index-lines-i.result.version)) ≡ c.is_lt.result
+test c = ap (λ q. is_lt (key_cmp c.args.wanted.now q)) (sym c.key.ensures.value) ∙ ap is_lt (sym c.cmp.ensures) ∙ sym c.is_lt.ensures
 
 pub returns-then-is_lt-clause-value : goal.returns-then-is_lt-clause-value
 returns-then-is_lt-clause-value c =
-    let x = c.index-lines-i.result in
-    let k = c.args.wanted.now in
-    let ls = c.args.lines.now in
-    let i = c.loop-i.i in
-    let test : is_lt (key_cmp k (key_of x.name x.version)) ≡ true = ap (λ q. is_lt (key_cmp k q)) (sym c.key.ensures.value) ∙ ap is_lt (sym c.cmp.ensures) ∙ sym c.is_lt.ensures ∙ c.if-is_lt.true in
-    let within : i < length ls = c.loop-i-test.true in
-    let here : drop i ls ≡ x ∷ drop (i + 1) ls = left_at ls i x within ∙ ap (λ y. y ∷ drop (i + 1) ls) (sym c.index-lines-i.is) in
-    let gap : gap_for k (drop i ls) ≡ 0 = ap (gap_for k) here ∙ gap-here k x (drop (i + 1) ls) test in
+    let at = (goal.at.returns-then-is_lt-clause-value c).After-is_lt in
+    let gap : gap_for c.args.wanted.now (drop c.loop-i.i c.args.lines.now) ≡ 0 = gap_left at ∙ gap-here c.args.wanted.now c.index-lines-i.result (drop (c.loop-i.i + 1) c.args.lines.now) (test at ∙ c.if-is_lt.true) in
     omega (arith, c.loop-i.invariant, gap)
 
 pub loop-i-preserved : goal.loop-i-preserved
 loop-i-preserved c =
-    let x = c.index-lines-i.result in
-    let k = c.args.wanted.now in
-    let ls = c.args.lines.now in
-    let i = c.loop-i.i in
-    let test : is_lt (key_cmp k (key_of x.name x.version)) ≡ false = ap (λ q. is_lt (key_cmp k q)) (sym c.key.ensures.value) ∙ ap is_lt (sym c.cmp.ensures) ∙ sym c.is_lt.ensures ∙ c.if-is_lt.false in
-    let within : i < length ls = c.loop-i-test.true in
-    let here : drop i ls ≡ x ∷ drop (i + 1) ls = left_at ls i x within ∙ ap (λ y. y ∷ drop (i + 1) ls) (sym c.index-lines-i.is) in
-    let gap : gap_for k (drop i ls) ≡ suc (gap_for k (drop (i + 1) ls)) = ap (gap_for k) here ∙ gap-later k x (drop (i + 1) ls) test in
+    let at = (goal.at.loop-i-preserved c).After-is_lt in
+    let rest = drop (c.loop-i.i + 1) c.args.lines.now in
+    let gap : gap_for c.args.wanted.now (drop c.loop-i.i c.args.lines.now) ≡ suc (gap_for c.args.wanted.now rest) = gap_left at ∙ gap-later c.args.wanted.now c.index-lines-i.result rest (test at ∙ c.if-is_lt.false) in
     omega (arith, c.loop-i.invariant, gap)

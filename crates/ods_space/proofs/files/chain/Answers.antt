@@ -4,7 +4,7 @@ use Rattle.std.specs.List.{Contains}
 use Rattle.ods_header.specs.declared.home.Home.{Home}
 use Rattle.ods_space.specs.Files.{AreInside}
 use Rattle.ods_space.specs.Walk.{Leads, IsDeadEnd}
-use Rattle.ods_space.proofs.Surveyed.{dead_end_fault, has_of_leads}
+use Rattle.ods_space.proofs.Surveyed.{dead_end_fault, has_of_chain}
 use Rattle.ods_space.proofs.files.chain.Goals as goal
 
 abbrev now_of : Option (Bor (List ℕ)) → Option (List ℕ)
@@ -36,4 +36,4 @@ returns-in-None-clause-ok c =
     let Q : Option (List ℕ) → Type 0 = λ o. Leads c.args.image.now c.args.layout.now.home o n blocks in
     let leads = subst Q c.index_for-index.ensures (subst P c.home.ensures c.in-Ok.ensures.ok) in
     let R : List ℕ → Type 0 = λ l. AreInside c.args.image.now l in
-    has_of_leads c.args.image.now c.args.layout.now n blocks c.requires leads (subst R c.deref.ensures.value c.in-None.ensures.none)
+    has_of_chain c.args.image.now c.args.layout.now n leads.0 blocks c.requires leads.1 (subst R c.deref.ensures.value c.in-None.ensures.none)

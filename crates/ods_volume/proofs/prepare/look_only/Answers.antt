@@ -1,6 +1,6 @@
-use Rattle.ods_state.specs.Outcome.{request_of}
+use Rattle.ods_request.specs.Queries.{request_of}
+use Rattle.ods_state.proofs.Served.{refused_by_fault}
 use Rattle.ods_volume.proofs.Looks.{look_by_none, query_looks}
-use Rattle.ods_volume.proofs.Reasons.{refused_by_fault}
 use Rattle.ods_volume.proofs.prepare.look_only.Goals as goal
 
 pub returns-in-Ok : goal.returns-in-Ok

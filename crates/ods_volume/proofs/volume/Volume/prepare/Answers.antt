@@ -1,11 +1,14 @@
 use Rattle.std.proofs.Common.{◌≡◌, ◌<◌, length, false, true, ap, sym, ◌∙◌, subst, arith, Err}
 use Rattle.ods_request.specs.declared.answers.Entry.{Entry}
 use Rattle.ods_request.specs.declared.refusals.Refusal.TheVariants as refusal
-use Rattle.ods_state.specs.Version.{IsPresent}
-use Rattle.ods_state.specs.Outcome.{IsReason, IsLawfulPlan, entry_of, list_full, no_memory, takes_memory}
+use Rattle.ods_request.specs.Table.{takes_memory}
+use Rattle.ods_space.specs.Draft.{applied}
+use Rattle.ods_state.specs.Version.{State, IsPresent}
+use Rattle.ods_state.specs.Wants.{Lacks}
+use Rattle.ods_state.specs.Outcome.{IsReason, IsLawfulPlan, entry_of, list_full, no_memory}
 use Rattle.ods_volume.specs.Kept.{state_of}
-use Rattle.ods_volume.proofs.Lawful.{plan_is_lawful, served_makes_none}
-use Rattle.ods_volume.proofs.Reasons.{answered_has_none, copy_takes_memory, lacks_nothing, refusal_is_first, refusal_is_reason, refusal_is_other}
+use Rattle.ods_volume.proofs.Lawful.{plan_is_lawful}
+use Rattle.ods_volume.proofs.Reasons.{step_has_none, copy_takes_memory, refusal_is_first, refusal_is_reason, refusal_is_other}
 use Rattle.ods_volume.proofs.volume.Volume.prepare.Goals as goal
 
 pub returns-then-len-self-clause-reason : goal.returns-then-len-self-clause-reason
@@ -15,33 +18,33 @@ returns-then-len-self-clause-reason c =
 
 pub returns-in-Ok-new-clause-refused : goal.returns-in-Ok-new-clause-refused
 returns-in-Ok-new-clause-refused c = λ C f room present e.
-    absurd (answered_has_none (state_of c.self.inside) c.self.invariant.lawful c.args.who c.args.request c.in-Ok.answer c.in-Ok.ensures.answered C f (subst (λ w. IsPresent w C) (sym c.self.view_is) present) e)
+    absurd (step_has_none (state_of c.self.inside) c.self.invariant.lawful c.args.who c.args.request c.in-Ok.answer (applied c.self.inside.image c.in-Ok.draft) c.self.inside.layout c.in-Ok.ensures C f (subst (λ w. IsPresent w C) (sym c.self.view_is) present) e)
 
 pub returns-in-Ok-new-clause-plan : goal.returns-in-Ok-new-clause-plan
 returns-in-Ok-new-clause-plan c =
     let room : length c.self.inside.entries.items < c.self.inside.limit = omega arith in
     let made = c.in-Ok-new.ensures.ok in
-    let lawful = plan_is_lawful (state_of c.self.inside) c.self.invariant.lawful c.args.session c.args.nth c.args.who c.args.request c.in-Ok.answer c.in-Ok.draft room
-    (served_makes_none c.args.request c.requires) c.in-Ok.ensures in
+    let lawful = plan_is_lawful (state_of c.self.inside) c.self.invariant.lawful c.args.session c.args.nth c.args.who c.args.request c.in-Ok.answer c.in-Ok.draft room c.in-Ok.ensures in
     let here : IsLawfulPlan (state_of c.self.inside) c.in-Ok-new.prepared = subst (IsLawfulPlan (state_of c.self.inside)) (λ i. record { entry = sym made.0 i; changes = sym made.1 i }) lawful in (
       subst (λ w. IsLawfulPlan w c.in-Ok-new.prepared) c.self.view_is here,
       made.0 ∙ ap (entry_of c.args.session c.args.nth c.args.who c.args.request) (ap (λ (e : Entry). e.answer) (sym made.0)),
     )
 
 pub returns-in-Ok-new-clause-lacking : goal.returns-in-Ok-new-clause-lacking
-returns-in-Ok-new-clause-lacking c = λ f lacks. absurd (lacks_nothing c.args.self.now.image c.args.self.now.layout c.args.request f c.requires lacks)
+returns-in-Ok-new-clause-lacking c = λ f lacks.
+    absurd (c.in-Ok.ensures.enough f (subst (λ (w : State). Lacks w.image w.layout c.args.request f) (sym c.self.view_is) lacks))
 
 pub returns-in-Err-new-clause-refused : goal.returns-in-Err-new-clause-refused
 returns-in-Err-new-clause-refused c = λ C f room present e.
-    absurd (answered_has_none (state_of c.self.inside) c.self.invariant.lawful c.args.who c.args.request c.in-Ok.answer c.in-Ok.ensures.answered C f (subst (λ w. IsPresent w C) (sym c.self.view_is) present) e)
+    absurd (step_has_none (state_of c.self.inside) c.self.invariant.lawful c.args.who c.args.request c.in-Ok.answer (applied c.self.inside.image c.in-Ok.draft) c.self.inside.layout c.in-Ok.ensures C f (subst (λ w. IsPresent w C) (sym c.self.view_is) present) e)
 
 pub returns-in-Err-new-clause-reason : goal.returns-in-Err-new-clause-reason
 returns-in-Err-new-clause-reason c =
-    no_memory (copy_takes_memory (state_of c.self.inside) c.self.invariant.lawful c.args.who c.args.request c.in-Ok.answer c.in-Ok.ensures.answered c.in-Err-new.ensures.err)
+    no_memory (copy_takes_memory (state_of c.self.inside) c.self.invariant.lawful c.args.who c.args.request c.in-Ok.answer (applied c.self.inside.image c.in-Ok.draft) c.self.inside.layout c.in-Ok.ensures c.in-Err-new.ensures.err)
 
 pub returns-in-Err-new-clause-memory : goal.returns-in-Err-new-clause-memory
 returns-in-Err-new-clause-memory c = λ none same.
-    let takes : takes_memory c.args.request ≡ true = copy_takes_memory (state_of c.self.inside) c.self.invariant.lawful c.args.who c.args.request c.in-Ok.answer c.in-Ok.ensures.answered c.in-Err-new.ensures.err in
+    let takes : takes_memory c.args.request ≡ true = copy_takes_memory (state_of c.self.inside) c.self.invariant.lawful c.args.who c.args.request c.in-Ok.answer (applied c.self.inside.image c.in-Ok.draft) c.self.inside.layout c.in-Ok.ensures c.in-Err-new.ensures.err in
     let wrong : false ≡ true = sym none ∙ takes in
     absurd (cc)
 

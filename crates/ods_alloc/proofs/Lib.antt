@@ -1,0 +1,15 @@
+pub mod Cuts
+pub mod OneBit
+pub mod ManyBits
+pub mod Places
+pub mod Giving
+pub mod NewHeaders
+pub mod Longer
+pub mod Walking
+pub mod Written
+pub mod Chained
+pub mod Fields
+pub mod Extending
+pub mod WordBits
+pub mod Scans
+pub mod FreeTests

@@ -1,0 +1,37 @@
+-- One bit of the block at an LBN.
+use Rattle.std.proofs.Common.{◌≡◌, ◌≢◌, ℕ, ◌<◌, Bool, cond, nat_eq, List, [], ◌∷◌, length, set, sym, ap, ◌∙◌, arith}
+use Rattle.std.proofs.lemmas.List.{get_or-set_same, get_or-set_other}
+use Rattle.ods_base.specs.Block.{has_bit}
+use Rattle.ods_base.specs.Bits.{HasBit}
+use Rattle.ods_base.specs.Image.{block_at}
+use Rattle.ods_space.specs.Draft.{Changes, applied, seen_at}
+use Rattle.ods_space.proofs.Drafts.{applied_set, applied-applied, length-applied, block_at-applied}
+use Rattle.ods_alloc.specs.Marks.{PutsBit}
+
+-- one block more in a draft
+pub applied_put : (I : List (List ℕ)) (d : Changes) (lbn : ℕ) (b : List ℕ) → applied I ((lbn, b) ∷ d) ≡ set (applied I d) lbn b
+applied_put I d lbn b = sym (applied_set (applied I d) lbn b ∙ applied-applied I ((lbn, b) ∷ []) d)
+
+pub size_put : (I : List (List ℕ)) (d : Changes) (lbn : ℕ) (b : List ℕ) → length (applied I ((lbn, b) ∷ d)) ≡ length (applied I d)
+size_put I d lbn b = length-applied I ((lbn, b) ∷ d) ∙ sym (length-applied I d)
+
+pub put_same : (I : List (List ℕ)) (d : Changes) (lbn : ℕ) (b : List ℕ) → lbn < length I → block_at (applied I ((lbn, b) ∷ d)) lbn ≡ b
+put_same I d lbn b inside =
+    let within : lbn < length (applied I d) = omega (arith, length-applied I d) in
+    ap (λ J. block_at J lbn) (applied_put I d lbn b) ∙ get_or-set_same (applied I d) lbn b [] within
+
+pub put_other : (I : List (List ℕ)) (d : Changes) (lbn : ℕ) (b : List ℕ) (k : ℕ) → k ≢ lbn → block_at (applied I ((lbn, b) ∷ d)) k ≡ block_at (applied I d) k
+put_other I d lbn b k other = ap (λ J. block_at J k) (applied_put I d lbn b) ∙ get_or-set_other (applied I d) lbn k b [] other
+
+-- one bit more in a draft
+pub puts_bit : (I : List (List ℕ)) (d e : Changes) (lbn i : ℕ) (value : Bool) (b c : List ℕ) → lbn < length I → b ≡ seen_at I d lbn → HasBit b i value c → e ≡ (lbn, c) ∷ d → PutsBit (applied I d) lbn i value (applied I e)
+puts_bit I d e lbn i value b c inside old bits is =
+    let now : applied I e ≡ applied I ((lbn, c) ∷ d) = ap (applied I) is in
+    let before : block_at (applied I d) lbn ≡ b = block_at-applied I d lbn inside ∙ sym old in
+    record {
+      size = ap length now ∙ size_put I d lbn c;
+      bit = λ j.
+          ap (λ J. has_bit (block_at J lbn) j) now ∙ ap (λ l. has_bit l j) (put_same I d lbn c inside) ∙ bits j
+          ∙ ap (λ l. cond (nat_eq j i) value (has_bit l j)) (sym before);
+      others = λ k other. ap (λ J. block_at J k) now ∙ put_other I d lbn c k other;
+    }

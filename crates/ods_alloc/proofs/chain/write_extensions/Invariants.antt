@@ -1,0 +1,8 @@
+use Rattle.std.proofs.Common.{◌≡◌, ◌+◌, List, ℕ}
+use Rattle.ods_header.specs.Header.{header_of}
+use Rattle.ods_space.specs.Draft.{applied}
+use Rattle.ods_alloc.specs.Extension.{MakesHeaders}
+use Rattle.ods_alloc.proofs.chain.write_extensions.Given as goal
+
+abbrev pub invariant-loop-i : goal.invariant-loop-i
+invariant-loop-i l = (f : List ℕ) → header_of f ≡ l.first → MakesHeaders (applied l.image l.old) l.layout f (l.segment + 1) l.numbers l.runs l.i (applied l.image l.draft)

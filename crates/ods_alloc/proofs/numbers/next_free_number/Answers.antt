@@ -1,0 +1,39 @@
+use Rattle.std.proofs.Common.{◌≡◌, ◌+◌, ap, sym, ◌∙◌, subst, arith, inl, inr}
+use Rattle.std.proofs.lemmas.Bool.{cases_lt}
+use Rattle.ods_header.specs.declared.home.Home.{Home}
+use Rattle.ods_space.specs.Free.{is_free_number}
+use Rattle.ods_alloc.specs.Scan.{NonePasses, is_clear}
+use Rattle.ods_alloc.proofs.Scans.{further}
+use Rattle.ods_alloc.proofs.FreeTests.{not_free_low, not_free_high, none_free}
+use Rattle.ods_alloc.proofs.numbers.next_free_number.Goals as goal
+
+pub loop-at-init : goal.loop-at-init
+loop-at-init c =
+    let I = c.args.image.now in
+    let L = c.args.layout.now in
+    let at = c.skip_used-at.result in
+    let P : Home → Type 0 = λ h. NonePasses (is_clear I h) c.max.result at in (
+      omega (arith, c.skip_used-at.ensures.above, c.max.ensures),
+      omega (arith, c.skip_used-at.ensures.above, c.max.ensures),
+      further (is_free_number I L) c.args.from c.max.result at (λ k above below. not_free_low I L k (omega (arith, c.max.ensures))) (none_free I L c.max.result at (subst P c.home-home.ensures c.skip_used-at.ensures.used)),
+    )
+
+pub loop-at-preserved : goal.loop-at-preserved
+loop-at-preserved c =
+    let I = c.args.image.now in
+    let L = c.args.layout.now in
+    let at = c.loop-at.at in
+    let next = c.skip_used-at-in-loop-at.result in
+    let above_at = c.skip_used-at-in-loop-at.ensures.above in
+    let P : Home → Type 0 = λ h. NonePasses (is_clear I h) (at + 1) next in
+    let here : NonePasses (is_free_number I L) at (at + 1) = λ k above below. let one : k ≡ at = omega (arith, above, below) in ap (is_free_number I L) one ∙ sym c.if-is_number_free.ensures in (
+      omega arith,
+      omega (arith, c.loop-at.invariant.1),
+      further (is_free_number I L) c.args.from (at + 1) next (further (is_free_number I L) c.args.from at (at + 1) c.loop-at.invariant.2 here) (none_free I L (at + 1) next (subst P c.home-home.ensures c.skip_used-at-in-loop-at.ensures.used)),
+    )
+
+pub returns-clause-none : goal.returns-clause-none
+returns-clause-none c = λ k above. elim (cases_lt k c.loop-at.at) [
+  | inl earlier ↦ c.loop-at.invariant.2 k above earlier
+  | inr later ↦ not_free_high c.args.image.now c.args.layout.now k (omega (arith, c.loop-at-test.false, c.last_number-last.ensures))
+]

@@ -1,0 +1,24 @@
+use Rattle.std.proofs.Common.{◌++◌, ◌∷◌, [], refl, arith}
+use Rattle.ods_space.specs.Layout.{last_number}
+use Rattle.ods_space.specs.Free.{is_free_number, free_numbers}
+use Rattle.ods_alloc.proofs.Scans.{one_more_found, all_found}
+use Rattle.ods_alloc.proofs.FreeTests.{free_number}
+use Rattle.ods_alloc.proofs.numbers.number_count.Goals as goal
+
+pub overflow_add-count : goal.overflow_add-count
+overflow_add-count c = omega (arith, c.loop-number.invariant.1.few, c.in-Some.ensures.some.above)
+
+pub loop-number-preserved : goal.loop-number-preserved
+loop-number-preserved c =
+    let found = c.loop-number.invariant in
+    let next = c.in-Some.ensures.some in
+    let inside = (free_number c.args.image.now c.args.layout.now c.in-Some.number next.passes).high in (
+      found.0 ++ c.in-Some.number ∷ [],
+      one_more_found (is_free_number c.args.image.now c.args.layout.now) 1 (last_number c.args.layout.now) found.0 _ c.loop-number.from c.loop-number.count c.in-Some.number (omega (arith, inside)) found.1 next refl,
+    )
+
+pub returns : goal.returns
+unfolding free_numbers
+returns c =
+    let found = c.loop-number.invariant in
+    all_found (is_free_number c.args.image.now c.args.layout.now) 1 (last_number c.args.layout.now) found.0 c.loop-number.from c.loop-number.count found.1 c.in_default.ensures.none

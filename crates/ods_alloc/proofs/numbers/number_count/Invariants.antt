@@ -1,0 +1,11 @@
+use Rattle.std.proofs.Common.{ℕ, List, ◌-◌}
+use Rattle.ods_space.specs.Layout.{last_number}
+use Rattle.ods_space.specs.Free.{is_free_number}
+use Rattle.ods_alloc.proofs.Scans.{AreFound}
+use Rattle.ods_alloc.proofs.numbers.number_count.Given as goal
+
+abbrev pub invariant-loop-number : goal.invariant-loop-number
+invariant-loop-number l = (found : List ℕ) × AreFound (is_free_number l.image l.layout) 1 (last_number l.layout) found l.from l.count
+
+abbrev pub decreases-loop-number : goal.decreases-loop-number
+decreases-loop-number l = 65537 - l.from

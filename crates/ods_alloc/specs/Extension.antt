@@ -1,0 +1,43 @@
+-- Extension headers that are made for a file.
+use Rattle.std.specs.Prelude.{◌≡◌, ◌≢◌, ℕ, ◌+◌, ◌*◌, ◌/◌, ◌<◌, List, [], ◌∷◌, slice_index, length, take, drop, Some}
+use Rattle.ods_base.specs.Image.{block_at}
+use Rattle.ods_header.specs.declared.header.Run.{Run}
+use Rattle.ods_header.specs.Header.{IsValidHeader, segment_of, sequence_of, next_volume_of, next_number_of, next_sequence_of, runs_of, room_of}
+use Rattle.ods_space.specs.Layout.{VolumeLayout, header_at, place_of}
+use Rattle.ods_header.specs.Extension.{IsExtensionOf}
+use Rattle.ods_header.specs.Pointing.{IsGrown}
+use Rattle.ods_alloc.specs.Extend.{IsHeaderPlace}
+
+-- the number of the first of these headers, or 0 for none
+abbrev pub first_number : List ℕ → ℕ
+first_number [] = 0
+first_number (m ∷ ms) = m
+
+-- the sequence number that the first of these new headers gets: one more than its block had; 0 where there is none
+abbrev pub first_sequence : List (List ℕ) → VolumeLayout → List ℕ → ℕ
+first_sequence I L [] = 0
+first_sequence I L (m ∷ ms) = sequence_of (header_at I L m) + 1
+
+-- b is made as header m, of this segment, for a file whose first header is f: it has these pointers and names the first of the headers behind it
+pub record IsMade (I : List (List ℕ)) (L : VolumeLayout) (f : List ℕ) (segment m : ℕ) (runs : List Run) (behind : List ℕ) (b : List ℕ) : Type 0 where
+  pub valid : IsValidHeader b m
+  pub extension : IsExtensionOf f b
+  pub in_chain : segment_of b ≡ segment
+  pub sequence : sequence_of b ≡ sequence_of (header_at I L m) + 1
+  pub pointers : runs_of b ≡ runs
+  pub next_volume : next_volume_of b ≡ 0
+  pub next_number : next_number_of b ≡ first_number behind
+  pub next_sequence : next_sequence_of b ≡ first_sequence I L behind
+
+-- J is I with the first `count` of these extension headers made: each takes the next 102 of the runs, and the first has this segment
+pub record MakesHeaders (I : List (List ℕ)) (L : VolumeLayout) (f : List ℕ) (segment : ℕ) (numbers : List ℕ) (runs : List Run) (count : ℕ) (J : List (List ℕ)) : Type 0 where
+  pub size : length J ≡ length I
+  pub made : (i : ℕ) → i < count → IsMade I L f (segment + i) (slice_index numbers i) (take 102 (drop (102 * i) runs)) (drop (i + 1) numbers) (header_at J L (slice_index numbers i))
+  pub others : (lbn : ℕ) → ¬ IsHeaderPlace L numbers lbn → block_at J lbn ≡ block_at I lbn
+
+-- J is I with the chain of file n, whose last header is z, grown by these headers: z has as many of the runs as have room and names the first of them, and each of them takes the next 102
+pub record WritesHeaders (I : List (List ℕ)) (L : VolumeLayout) (n z : ℕ) (numbers : List ℕ) (runs : List Run) (J : List (List ℕ)) : Type 0 where
+  pub size : length J ≡ length I
+  pub last : IsGrown (header_at I L z) runs (first_number numbers) (first_sequence I L numbers) (header_at J L z)
+  pub made : (i : ℕ) → i < length numbers → IsMade I L (header_at I L n) (segment_of (header_at I L z) + 1 + i) (slice_index numbers i) (take 102 (drop (102 * i) (drop (room_of (header_at I L z) / 2) runs))) (drop (i + 1) numbers) (header_at J L (slice_index numbers i))
+  pub others : (lbn : ℕ) → ¬ IsHeaderPlace L numbers lbn → place_of L z ≢ Some lbn → block_at J lbn ≡ block_at I lbn

@@ -1,0 +1,7 @@
+pub mod Extend
+pub mod Marks
+pub mod Extension
+pub mod Chains
+pub mod Scan
+pub mod Faults
+pub mod Refusals

@@ -1,0 +1,85 @@
+//! The bits of both bitmaps, set and cleared in a draft. Each bitmap finds the bit of what it covers; they share the rest.
+ghost use Rattle.std.specs.Prelude.{◌≡◌, ◌^◌, ◌<◌, ◌≤◌, length, IfSome, IsTrue, OnOk};
+ghost use Rattle.ods_space.specs.Draft.{applied};
+ghost use Rattle.ods_space.specs.Free.{is_covered};
+ghost use Rattle.ods_alloc.specs.Marks.{HasPlaces, Puts, IsBitOf, IsIndexed, MarksBlocks, MarksNumbers, block_bit as block_bit_of, number_bit as number_bit_of};
+
+use ods_base::{Image, with_bit};
+use ods_space::{Draft, Layout};
+use std::alloc::AllocError;
+
+/// Sets or clears a bit that a bitmap has: a block of it, and a bit of that.
+fn put_bit(
+    image: &Image,
+    found: Option<(u32, u32)>,
+    value: bool,
+    draft: &mut Draft,
+) -> Result<(), AllocError>
+    requires { IfSome found (λ bit. (bit.0 < length image.now) × (bit.1 < 4096)) }
+    ensures { OnOk result (Puts (applied image.now draft.old) found value (applied image.now draft.new)) }
+{
+    if let Some((lbn, i)) = found {
+        let changed = with_bit(&draft.block(image, lbn), i, value);
+        draft.set(lbn, changed)?;
+    }
+    Ok(())
+}
+
+/// The bit of a block in the storage bitmap.
+fn block_bit(layout: &Layout, lbn: u32) -> Option<(u32, u32)>
+    ensures { IsBitOf (IsTrue (is_covered layout.now lbn)) (block_bit_of layout.now lbn) result }
+{
+    let at = 1 + lbn as usize / 4096;
+    if layout.bitmap().len() <= at {
+        return None;
+    }
+    Some((layout.bitmap()[at], lbn % 4096))
+}
+
+/// The bit of a number in the index bitmap.
+fn number_bit(layout: &Layout, number: u16) -> Option<(u32, u32)>
+    requires { layout.now.home.index_bitmap_lbn ≤ 2 ^ 20 }
+    ensures { IsBitOf (IsIndexed layout.now number) (number_bit_of layout.now number) result }
+{
+    let home = layout.home();
+    if number == 0 || 4096 * (home.index_bitmap_size as u32) < number as u32 {
+        return None;
+    }
+    let i = number as u32 - 1;
+    Some((home.index_bitmap_lbn + i / 4096, i % 4096))
+}
+
+/// Marks blocks as free or as taken, as far as the storage bitmap covers them.
+pub(crate) fn mark_blocks(
+    image: &Image,
+    layout: &Layout,
+    blocks: &[u32],
+    free: bool,
+    draft: &mut Draft,
+) -> Result<(), AllocError>
+    requires places { HasPlaces (length image.now) layout.now }
+    ensures { OnOk result (MarksBlocks (applied image.now draft.old) layout.now blocks.now free (applied image.now draft.new)) }
+{
+    for lbn in blocks {
+        put_bit(image, block_bit(layout, *lbn), free, draft)?;
+    }
+    Ok(())
+}
+
+/// Marks numbers as used or as free, as far as the index bitmap covers them.
+pub(crate) fn mark_numbers(
+    image: &Image,
+    layout: &Layout,
+    numbers: &[u16],
+    used: bool,
+    draft: &mut Draft,
+) -> Result<(), AllocError>
+    requires places { HasPlaces (length image.now) layout.now }
+    ensures { OnOk result (MarksNumbers (applied image.now draft.old) layout.now numbers.now used (applied image.now draft.new)) }
+{
+    let _ = image.len();
+    for number in numbers {
+        put_bit(image, number_bit(layout, *number), used, draft)?;
+    }
+    Ok(())
+}

@@ -1,0 +1,89 @@
+//! The extension headers by which a chain grows.
+ghost use Rattle.std.specs.Prelude.{◌≡◌, ◌+◌, ◌*◌, ◌<◌, ◌≤◌, ℕ, List, length, take, drop, IsTrue, OnOk};
+ghost use Rattle.std.specs.List.{All};
+ghost use Rattle.std.specs.List.Sorted.{IsStrictlyIncreasing};
+ghost use Rattle.ods_header.specs.Header.{IsRun, header_of, sequence_of};
+ghost use Rattle.ods_space.specs.Layout.{header_at};
+ghost use Rattle.ods_space.specs.Free.{is_free_number};
+ghost use Rattle.ods_space.specs.Draft.{applied};
+ghost use Rattle.ods_alloc.specs.Extension.{MakesHeaders, first_number, first_sequence};
+ghost use Rattle.ods_alloc.specs.Marks.{HasPlaces};
+
+use crate::drafted::drafted_header;
+use ods_base::{FileId, Image};
+use ods_header::{Header, Run, extension_block, file_sequence};
+use ods_space::{Draft, Layout};
+use std::alloc::AllocError;
+
+/// Writes new extension headers of the file with this first header: each takes the next 102 of the runs and names
+/// the one behind it, and their segments follow this one. What their blocks had is read through the old draft.
+pub(crate) fn write_extensions(
+    image: &Image,
+    layout: &Layout,
+    first: &Header,
+    segment: u8,
+    numbers: &[u16],
+    runs: &[Run],
+    old: &Draft,
+    draft: &mut Draft,
+) -> Result<(), AllocError>
+    requires places { HasPlaces (length image.now) layout.now }
+    requires free { All (λ m. IsTrue (is_free_number (applied image.now old.now) layout.now m)) numbers.now }
+    requires rising { IsStrictlyIncreasing numbers.now }
+    requires segments { segment + length numbers.now ≤ 255 }
+    requires runs { All IsRun runs.now }
+    requires same { draft.old ≡ old.now }
+    ensures { OnOk result ((f : List ℕ) → header_of f ≡ first.now → MakesHeaders (applied image.now old.now) layout.now f (segment + 1) numbers.now runs.now (length numbers.now) (applied image.now draft.new)) }
+{
+    for (i, number) in numbers.iter().enumerate() {
+        if let Some(lbn) = layout.place(*number) {
+            let file = first_id(image, layout, old, &numbers[i..]);
+            let next = first_id(image, layout, old, &numbers[i + 1..]);
+            let pointers = piece(runs, 102 * i, 102);
+            let block = extension_block(first, file, segment + (i + 1) as u8, next, pointers);
+            draft.set(lbn, block)?;
+        }
+    }
+    Ok(())
+}
+
+/// At most so many runs from index `at` on.
+pub(crate) fn piece(runs: &[Run], at: usize, most: usize) -> &[Run]
+    ensures { result.now ≡ take most (drop at runs.now) }
+{
+    let from = runs.len().min(at);
+    let to = from + most.min(runs.len() - from);
+    &runs[from..to]
+}
+
+/// The file ID of the first of these new headers: its sequence number is one more than its block had. Number 0
+/// where there is none.
+pub(crate) fn first_id(image: &Image, layout: &Layout, draft: &Draft, numbers: &[u16]) -> FileId
+    requires places { HasPlaces (length image.now) layout.now }
+    requires free { All (λ m. IsTrue (is_free_number (applied image.now draft.now) layout.now m)) numbers.now }
+    ensures number { result.number ≡ first_number numbers.now }
+    ensures sequence { result.sequence ≡ first_sequence (applied image.now draft.now) layout.now numbers.now }
+{
+    match numbers {
+        [] => FileId {
+            number: 0,
+            sequence: 0,
+        },
+        [number, ..] => FileId {
+            number: *number,
+            sequence: new_sequence(image, layout, draft, *number),
+        },
+    }
+}
+
+/// The sequence number that a new header gets: one more than its block had.
+fn new_sequence(image: &Image, layout: &Layout, draft: &Draft, number: u16) -> u16
+    requires places { HasPlaces (length image.now) layout.now }
+    requires below { sequence_of (header_at (applied image.now draft.now) layout.now number) < 65535 }
+    ensures { result ≡ sequence_of (header_at (applied image.now draft.now) layout.now number) + 1 }
+{
+    match drafted_header(image, layout, number, draft) {
+        Some(block) => file_sequence(&block) + 1,
+        None => 1,
+    }
+}

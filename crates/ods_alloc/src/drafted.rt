@@ -1,0 +1,27 @@
+//! Headers, read through a draft.
+ghost use Rattle.std.specs.Prelude.{◌≡◌, length, None, IfSome, IfNone};
+ghost use Rattle.ods_base.specs.Block.{IsBlock};
+ghost use Rattle.ods_space.specs.Layout.{header_at, place_of};
+ghost use Rattle.ods_space.specs.Draft.{applied};
+ghost use Rattle.ods_alloc.specs.Marks.{HasPlaces};
+
+use ods_base::{Block, Image};
+use ods_space::{Draft, Layout};
+
+/// The block of a header, where it has a place.
+pub(crate) fn drafted_header(
+    image: &Image,
+    layout: &Layout,
+    number: u16,
+    draft: &Draft,
+) -> Option<Block>
+    requires places { HasPlaces (length image.now) layout.now }
+    ensures some { IfSome result (λ block. block ≡ header_at (applied image.now draft.now) layout.now number) }
+    ensures block { IfSome result IsBlock }
+    ensures none { IfNone result (place_of layout.now number ≡ None) }
+{
+    match layout.place(number) {
+        Some(lbn) => Some(draft.block(image, lbn)),
+        None => None,
+    }
+}

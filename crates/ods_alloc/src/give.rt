@@ -1,0 +1,56 @@
+//! Blocks and headers that are given back.
+ghost use Rattle.std.specs.Prelude.{◌≡◌, length, OnOk, OnErr};
+ghost use Rattle.ods_space.specs.Files.{IsLayoutOf};
+ghost use Rattle.ods_space.specs.Draft.{applied};
+ghost use Rattle.ods_alloc.specs.Extend.{IsWellPlaced, GivesBack};
+ghost use Rattle.ods_alloc.specs.Marks.{HasPlaces, Deletes};
+
+use crate::bitmap::{mark_blocks, mark_numbers};
+use ods_base::Image;
+use ods_header::deleted_header;
+use ods_space::{Draft, Layout};
+use std::alloc::AllocError;
+
+/// Gives blocks back and deletes headers, in a draft: a deleted header keeps its bytes but for its number, which
+/// becomes 0, and its sum; the bits of the blocks and of the numbers say that they are free. After an `Err` the
+/// draft is as it was.
+pub fn give_back(
+    image: &Image,
+    layout: &Layout,
+    blocks: &[u32],
+    numbers: &[u16],
+    draft: &mut Draft,
+) -> Result<(), AllocError>
+    requires layout { IsLayoutOf (applied image.now draft.old) layout.now }
+    requires places { IsWellPlaced layout.now }
+    ensures ok { OnOk result (GivesBack (applied image.now draft.old) layout.now blocks.now numbers.now (applied image.now draft.new)) }
+    ensures err { OnErr result (draft.new ≡ draft.old) }
+{
+    let mut changed = draft.copy()?;
+    delete_headers(image, layout, numbers, draft, &mut changed)?;
+    mark_numbers(image, layout, numbers, false, &mut changed)?;
+    mark_blocks(image, layout, blocks, true, &mut changed)?;
+    *draft = changed;
+    Ok(())
+}
+
+/// Deletes headers: each is read through the old draft, so that one that is listed twice is deleted once.
+fn delete_headers(
+    image: &Image,
+    layout: &Layout,
+    numbers: &[u16],
+    old: &Draft,
+    draft: &mut Draft,
+) -> Result<(), AllocError>
+    requires places { HasPlaces (length image.now) layout.now }
+    requires same { draft.old ≡ old.now }
+    ensures { OnOk result (Deletes (applied image.now old.now) layout.now numbers.now (applied image.now draft.new)) }
+{
+    for number in numbers {
+        if let Some(lbn) = layout.place(*number) {
+            let block = deleted_header(&old.block(image, lbn));
+            draft.set(lbn, block)?;
+        }
+    }
+    Ok(())
+}

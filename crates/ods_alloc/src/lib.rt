@@ -1,0 +1,26 @@
+//! The bitmaps at work: what is free is counted and picked, chains grow and shrink by pointers and extension headers, and what is
+//! taken or given back is marked.
+#![tactic(auto)]
+
+mod bitmap;
+mod chain;
+mod drafted;
+mod extend;
+mod fault;
+mod free;
+mod give;
+mod headers;
+mod last;
+mod laws;
+mod numbers;
+mod runs;
+mod words;
+
+pub use extend::extend_chain;
+pub use fault::SpaceFault;
+pub use free::{free_count, pick_blocks};
+pub use give::give_back;
+pub use last::last_header;
+pub use laws::chain_grows;
+pub use numbers::{is_number_free, number_count, pick_numbers};
+pub use runs::runs_of_blocks;

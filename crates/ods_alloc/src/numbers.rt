@@ -1,0 +1,97 @@
+//! Free file numbers: tested, counted and picked for new headers. Numbers in use are passed over 64 at a time.
+ghost use Rattle.std.specs.Prelude.{◌≡◌, ◌≤◌, true, length, take, IfOk, IfErr, IfSome, IfNone};
+ghost use Rattle.ods_space.specs.Files.{IsLayoutOf};
+ghost use Rattle.ods_space.specs.Free.{is_free_number, free_numbers};
+ghost use Rattle.ods_alloc.specs.Scan.{IsNext, NoneIsNext, NonePasses, is_clear};
+ghost use Rattle.ods_alloc.specs.Faults.{IsShort};
+
+use crate::SpaceFault;
+use crate::words::{first_in, used_word};
+use ods_base::Image;
+use ods_header::Home;
+use ods_space::{Layout, in_use, last_number, sequence};
+use std::alloc::Global;
+
+/// Whether a number may be given to a new header.
+pub fn is_number_free(image: &Image, layout: &Layout, number: u16) -> bool
+    requires { IsLayoutOf image.now layout.now }
+    ensures { result ≡ is_free_number image.now layout.now number }
+{
+    6 <= number
+        && number <= last_number(layout)
+        && !in_use(image, layout, number)
+        && sequence(image, layout, number) < 65535
+}
+
+/// The number of free numbers.
+pub fn number_count(image: &Image, layout: &Layout) -> u32
+    requires { IsLayoutOf image.now layout.now }
+    ensures { result ≡ length (free_numbers image.now layout.now) }
+{
+    let mut count = 0;
+    let mut from = 1;
+    while let Some(number) = next_free_number(image, layout, from) {
+        count += 1;
+        from = number as u32 + 1;
+    }
+    count
+}
+
+/// The least free number from `from` on.
+fn next_free_number(image: &Image, layout: &Layout, from: u32) -> Option<u16>
+    requires { IsLayoutOf image.now layout.now }
+    ensures some { IfSome result (IsNext (is_free_number image.now layout.now) from) }
+    ensures none { IfNone result (NoneIsNext (is_free_number image.now layout.now) from) }
+{
+    let last = last_number(layout) as u32;
+    let home = layout.home();
+    let mut at = skip_used(image, &home, from.max(6), last);
+    while at <= last {
+        if is_number_free(image, layout, at as u16) {
+            return Some(at as u16);
+        }
+        at = skip_used(image, &home, at + 1, last);
+    }
+    None
+}
+
+/// The least number from `from` on whose index bit is clear, or one behind `last`.
+fn skip_used(image: &Image, home: &Home, from: u32, last: u32) -> u32
+    requires some { 1 ≤ from }
+    requires few { last ≤ 65535 }
+    ensures above { from ≤ result }
+    ensures used { NonePasses (is_clear image.now home.now) from result }
+    ensures stops { result ≤ last → is_clear image.now home.now result ≡ true }
+{
+    let mut at = from;
+    while at <= last {
+        if let Some(bit) = first_in(!used_word(image, home, (at - 1) / 64), at - 1) {
+            return bit + 1;
+        }
+        at = 64 * ((at - 1) / 64 + 1) + 1;
+    }
+    at
+}
+
+/// The lowest free numbers, ascending.
+pub fn pick_numbers(
+    alloc: Global,
+    image: &Image,
+    layout: &Layout,
+    count: u32,
+) -> Result<Vec<u16>, SpaceFault>
+    requires { IsLayoutOf image.now layout.now }
+    ensures ok { IfOk result (λ numbers. (numbers.items ≡ take count (free_numbers image.now layout.now)) × (count ≤ length (free_numbers image.now layout.now))) }
+    ensures err { IfErr result (IsShort SpaceFault.HeadersFull (length (free_numbers image.now layout.now)) count) }
+{
+    let mut numbers = Vec::new(alloc);
+    let mut from = 1;
+    for _k in 0..count {
+        let Some(number) = next_free_number(image, layout, from) else {
+            return Err(SpaceFault::HeadersFull);
+        };
+        numbers.push(number)?;
+        from = number as u32 + 1;
+    }
+    Ok(numbers)
+}

@@ -1,0 +1,65 @@
+//! Both bitmaps, read 64 bits at a time, and the first bit of such a word that is set.
+ghost use Rattle.std.specs.Prelude.{◌≡◌, ℕ, ◌+◌, ◌*◌, ◌/◌, ◌^◌, ◌<◌, ◌≤◌, ◌&&◌, ◌==◌, Bool, nat_lt, IfSome, IfNone};
+ghost use Rattle.std.specs.Int.{bit_at};
+ghost use Rattle.ods_base.specs.Bits.{IsWordOf};
+ghost use Rattle.ods_space.specs.Layout.{is_in_use};
+ghost use Rattle.ods_space.specs.Free.{is_free_block};
+ghost use Rattle.ods_alloc.specs.Scan.{IsNext, NonePasses};
+
+use ods_base::{Image, bit_word};
+use ods_header::Home;
+use ods_space::Layout;
+
+/// The lowest `count` bits of a word.
+fn low_bits(word: u64, count: u32) -> u64
+    ensures { (i : ℕ) → i < 64 → (bit_at result i == 1) ≡ (nat_lt i count && (bit_at word i == 1)) }
+{
+    if count < 64 {
+        word & ((1 << count) - 1)
+    } else {
+        word
+    }
+}
+
+/// Which of the blocks from LBN `64 * k` on are free.
+pub(crate) fn free_word(image: &Image, layout: &Layout, k: u32) -> u64
+    requires { k < 2 ^ 20 }
+    ensures { IsWordOf (λ i. is_free_block image.now layout.now (64 * k + i)) result }
+{
+    let at = 1 + k as usize / 64;
+    if image.len() <= 64 * k || layout.bitmap().len() <= at {
+        return 0;
+    }
+    let map = layout.bitmap()[at];
+    if image.len() <= map {
+        return 0;
+    }
+    low_bits(bit_word(image.block(map), k % 64), image.len() - 64 * k)
+}
+
+/// Which of the numbers from `64 * k + 1` on have a set index bit.
+pub(crate) fn used_word(image: &Image, home: &Home, k: u32) -> u64
+    requires { k < 2 ^ 20 }
+    ensures { IsWordOf (λ i. is_in_use image.now home.now (64 * k + i + 1)) result }
+{
+    let map = home.index_bitmap_lbn as u64 + k as u64 / 64;
+    if 64 * home.index_bitmap_size as u32 <= k || image.len() as u64 <= map {
+        return 0;
+    }
+    bit_word(image.block(map as u32), k % 64)
+}
+
+/// The least number from `at` on that passes a test, where `word` says which do of the 64 that `at` is one of.
+pub(crate) fn first_in(word: u64, at: u32) -> Option<u32>
+    requires { at < 2 ^ 31 }
+    ensures near { IfSome result (λ n. (at ≤ n) × (n < at + 64)) }
+    ensures some { IfSome result (λ n. (test : ℕ → Bool) → IsWordOf (λ i. test (64 * (at / 64) + i)) word → IsNext test at n) }
+    ensures none { IfNone result ((test : ℕ → Bool) → IsWordOf (λ i. test (64 * (at / 64) + i)) word → NonePasses test at (64 * (at / 64 + 1))) }
+{
+    let rest = word >> (at % 64);
+    if rest == 0 {
+        None
+    } else {
+        Some(at + rest.trailing_zeros())
+    }
+}

@@ -1,0 +1,41 @@
+//! Single bits of a block, counted from the low end of each byte, and 64 of them at once.
+ghost use Rattle.std.specs.Prelude.{◌≡◌, ◌+◌, ◌*◌, ◌<◌};
+ghost use Rattle.ods_base.specs.Block.{IsBlock, has_bit};
+ghost use Rattle.ods_base.specs.Bits.{HasBit, IsWordOf};
+
+use crate::Block;
+
+/// Bit `i` of a block.
+pub fn bit(block: &Block, i: u32) -> bool
+    requires { i < 4096 }
+    ensures { result ≡ has_bit block.now i }
+{
+    block.byte((i / 8) as usize) >> (i % 8) & 1 == 1
+}
+
+/// The block with bit `i` set or cleared.
+pub fn with_bit(block: &Block, i: u32, value: bool) -> Block
+    requires { i < 4096 }
+    ensures block { IsBlock result }
+    ensures bits { HasBit block.now i value result }
+{
+    let _ = block.bytes();
+    let at = (i / 8) as usize;
+    let old = block.byte(at);
+    let mask = 1u8 << (i % 8);
+    let byte = if value { old | mask } else { old & !mask };
+    let mut changed = *block;
+    changed.set_bytes(at, &[byte]);
+    changed
+}
+
+/// The 64 bits of a block from bit `64 * k` on.
+pub fn bit_word(block: &Block, k: u32) -> u64
+    requires { k < 64 }
+    ensures { IsWordOf (λ i. has_bit block.now (64 * k + i)) result }
+{
+    let at = 8 * k as usize;
+    let mut bytes = [0; 8];
+    bytes.copy_from_slice(&block.bytes()[at..at + 8]);
+    u64::from_le_bytes(bytes)
+}

@@ -1,0 +1,8 @@
+//! Tests of the crates from blocks and names up to requests, and what the tests of all crates share: the volumes that they are
+//! made on, and the users, files and names that they ask about.
+#![tactic(auto)]
+
+pub mod persons;
+#[cfg(test)]
+mod tests;
+pub mod volumes;

@@ -1,0 +1,15 @@
+//! Tests of public calls, one idea a file.
+mod beside_map;
+mod bitmaps;
+mod catalogue;
+mod chains;
+mod directories;
+mod drafts;
+mod headers;
+mod home;
+mod images;
+mod kept;
+mod layouts;
+mod names;
+mod requests;
+mod words;

@@ -1,0 +1,333 @@
+//! Sequences of requests on the plain program, from the catalogue of the sample volume of forty blocks on: each answer is compared
+//! as a value.
+use crate::persons::{
+    COLLEAGUE, DAT, DIR, FIRST, MASTER, NONE, OWNER, PROTECTION, SECOND, STRANGER, SYSTEM, USER,
+    a_txt, c_dat, ident, index_stat, letter_a, other_attributes, reserved_id, reserved_lines,
+    reserved_names, stat_of,
+};
+use ods_base::{Block, FileId, Name, Pick, Uic};
+use ods_plain::{Body, Catalogue, File, Names, StepError};
+use ods_request::{Answer, Kind, Refusal, Request, Stamp};
+use std::alloc::Global;
+use std::process::Abort;
+use std::test::Fail;
+
+/// The catalogue of the sample.
+fn sample_catalogue(rt: &impl Abort, alloc: Global) -> Result<Catalogue, Fail> {
+    let mut master = Names::new(alloc);
+    for (name, number) in reserved_names() {
+        assert!(rt; master.get(&name, 1).is_none());
+        master.insert(name, 1, reserved_id(number))?;
+    }
+    let mut catalogue = Catalogue::new(alloc, PROTECTION);
+    let mut master = Some(master);
+    for (name, number) in reserved_names() {
+        let body = match number {
+            1 | 2 => Body::System,
+            4 => Body::Directory(master.take().ok_or("one master directory")?),
+            _ => Body::Plain {
+                attributes: [0; 32],
+                blocks: Vec::new(alloc),
+            },
+        };
+        let file = File {
+            owner: USER,
+            protection: PROTECTION,
+            user_char: 0,
+            system_char: 0,
+            ident: ident(&name),
+            body,
+        };
+        let id = reserved_id(number);
+        assert!(rt; catalogue.file(id).is_none());
+        assert!(rt; file.may_have(id));
+        catalogue.add(id, file)?;
+    }
+    Ok(catalogue)
+}
+
+/// The ID that the next file gets: the lowest free number, with the first sequence number that it never had.
+fn next_id(catalogue: &Catalogue) -> FileId {
+    for number in 6..17 {
+        for sequence in 1..4 {
+            let id = FileId { number, sequence };
+            if catalogue.is_new(id) {
+                return id;
+            }
+        }
+    }
+    NONE
+}
+
+/// A Create of version 1.
+fn create(rt: &impl Abort, name: Name, blocks: u32) -> Request {
+    Request::Create {
+        name,
+        version: 1,
+        blocks,
+        stamp: Stamp::parse(b"01JAN80000000").expect(rt, "a stamp"),
+    }
+}
+
+/// An Enter of the first file in the master directory, as A.TXT.
+fn enter(version: Option<u16>) -> Request {
+    Request::Enter {
+        dir: MASTER,
+        name: a_txt(),
+        version,
+        file: FIRST,
+    }
+}
+
+/// Makes the requests in order, each by its user, and compares each answer.
+fn play(
+    rt: &impl Abort,
+    catalogue: &mut Catalogue,
+    steps: &[(Uic, &Request, Result<Answer, StepError>)],
+) {
+    for (who, request, wanted) in steps {
+        let id = next_id(catalogue);
+        let answer = catalogue.step(*who, request, id);
+        assert!(rt; answer == *wanted, "{request:?} was answered {answer:?}");
+    }
+}
+
+fn refused(refusal: Refusal) -> Result<Answer, StepError> {
+    Err(StepError::Refused(refusal))
+}
+
+#[test]
+fn versions_count_up(rt: HostRuntime) -> Result<(), Fail> {
+    let mut catalogue = sample_catalogue(&rt, rt.alloc())?;
+    let create = create(&rt, a_txt(), 0);
+    let enter = enter(None);
+    let look = |pick| Request::LookUp {
+        dir: MASTER,
+        name: a_txt(),
+        pick,
+    };
+    play(
+        &rt,
+        &mut catalogue,
+        &[
+            (USER, &create, Ok(Answer::Created(FIRST))),
+            (USER, &enter, Ok(Answer::Entered(1))),
+            (USER, &enter, Ok(Answer::Entered(2))),
+            (USER, &enter, Ok(Answer::Entered(3))),
+            (USER, &look(Pick::Highest), Ok(Answer::Found(FIRST, 3))),
+            (USER, &look(Pick::Lowest), Ok(Answer::Found(FIRST, 1))),
+            (USER, &look(Pick::Exact(4)), refused(Refusal::NoSuchName)),
+        ],
+    );
+    Ok(())
+}
+
+#[test]
+fn versions_end(rt: HostRuntime) -> Result<(), Fail> {
+    let mut catalogue = sample_catalogue(&rt, rt.alloc())?;
+    let create = create(&rt, a_txt(), 0);
+    play(
+        &rt,
+        &mut catalogue,
+        &[
+            (USER, &create, Ok(Answer::Created(FIRST))),
+            (USER, &enter(Some(32_767)), Ok(Answer::Entered(32_767))),
+            (USER, &enter(None), refused(Refusal::VersionsFull)),
+            (USER, &enter(Some(32_767)), refused(Refusal::NameTaken)),
+        ],
+    );
+    Ok(())
+}
+
+#[test]
+fn a_directory_goes_when_it_is_empty(rt: HostRuntime) -> Result<(), Fail> {
+    let mut catalogue = sample_catalogue(&rt, rt.alloc())?;
+    let sub_dir = Name::new([31_242, 0, 0], DIR);
+    let x_dat = Name::new([38_400, 0, 0], DAT);
+    let enter = Request::Enter {
+        dir: FIRST,
+        name: x_dat,
+        version: None,
+        file: SECOND,
+    };
+    let remove = Request::Remove {
+        dir: FIRST,
+        name: x_dat,
+        pick: Pick::Highest,
+    };
+    let delete = Request::Delete { file: FIRST };
+    let read = Request::Read {
+        file: FIRST,
+        vbn: 1,
+    };
+    play(
+        &rt,
+        &mut catalogue,
+        &[
+            (USER, &create(&rt, sub_dir, 0), Ok(Answer::Created(FIRST))),
+            (USER, &create(&rt, x_dat, 0), Ok(Answer::Created(SECOND))),
+            (USER, &enter, Ok(Answer::Entered(1))),
+            (USER, &delete, refused(Refusal::NotEmpty)),
+            (USER, &remove, Ok(Answer::Removed(SECOND, 1))),
+            (USER, &delete, Ok(Answer::Done)),
+            (USER, &read, refused(Refusal::NoSuchFile)),
+        ],
+    );
+    Ok(())
+}
+
+#[test]
+fn rights_are_asked_of_each_user(rt: HostRuntime) -> Result<(), Fail> {
+    let mut catalogue = sample_catalogue(&rt, rt.alloc())?;
+    let create = create(&rt, a_txt(), 1);
+    let enter = enter(None);
+    let read = Request::Read {
+        file: FIRST,
+        vbn: 1,
+    };
+    let write = Request::Write {
+        file: FIRST,
+        vbn: 1,
+        block: letter_a(),
+    };
+    let delete = Request::Delete { file: FIRST };
+    play(
+        &rt,
+        &mut catalogue,
+        &[
+            (OWNER, &create, Ok(Answer::Created(FIRST))),
+            (OWNER, &enter, refused(Refusal::Denied)),
+            (STRANGER, &read, Ok(Answer::Bytes(Block::zeros()))),
+            (STRANGER, &write, refused(Refusal::Denied)),
+            (COLLEAGUE, &write, Ok(Answer::Done)),
+            (COLLEAGUE, &read, Ok(Answer::Bytes(letter_a()))),
+            (SYSTEM, &delete, Ok(Answer::Done)),
+        ],
+    );
+    Ok(())
+}
+
+#[test]
+fn refusals_come_in_order(rt: HostRuntime) -> Result<(), Fail> {
+    let mut catalogue = sample_catalogue(&rt, rt.alloc())?;
+    let read = |file| Request::Read { file, vbn: 1 };
+    let write = Request::Write {
+        file: MASTER,
+        vbn: 1,
+        block: Block::zeros(),
+    };
+    let delete = Request::Delete { file: MASTER };
+    let look = Request::LookUp {
+        dir: reserved_id(3),
+        name: a_txt(),
+        pick: Pick::Highest,
+    };
+    let create = create(&rt, a_txt(), 65_536);
+    let unknown = FileId {
+        number: 4,
+        sequence: 5,
+    };
+    play(
+        &rt,
+        &mut catalogue,
+        &[
+            (USER, &read(reserved_id(1)), refused(Refusal::Reserved)),
+            (USER, &write, refused(Refusal::Reserved)),
+            (USER, &delete, refused(Refusal::Reserved)),
+            (USER, &read(MASTER), refused(Refusal::IsDirectory)),
+            (USER, &look, refused(Refusal::NotADirectory)),
+            (USER, &read(reserved_id(3)), refused(Refusal::NoSuchBlock)),
+            (USER, &read(unknown), refused(Refusal::NoSuchFile)),
+            (USER, &create, refused(Refusal::BadCount)),
+        ],
+    );
+    Ok(())
+}
+
+#[test]
+fn lists_and_shows(rt: HostRuntime) -> Result<(), Fail> {
+    let mut catalogue = sample_catalogue(&rt, rt.alloc())?;
+    let lines = reserved_lines(rt.alloc())?;
+    play(
+        &rt,
+        &mut catalogue,
+        &[
+            (
+                USER,
+                &Request::Stat {
+                    file: reserved_id(1),
+                },
+                Ok(Answer::Info(index_stat())),
+            ),
+            (
+                USER,
+                &Request::List { dir: MASTER },
+                Ok(Answer::Names(lines)),
+            ),
+        ],
+    );
+    Ok(())
+}
+
+#[test]
+fn a_contiguous_file_grows(rt: HostRuntime) -> Result<(), Fail> {
+    let mut catalogue = sample_catalogue(&rt, rt.alloc())?;
+    let c_dat = c_dat();
+    let mut blocks = Vec::new(rt.alloc());
+    blocks.push(Block::zeros())?;
+    let file = File {
+        owner: USER,
+        protection: PROTECTION,
+        user_char: 0o200,
+        system_char: 0,
+        ident: ident(&c_dat),
+        body: Body::Plain {
+            attributes: [0; 32],
+            blocks,
+        },
+    };
+    assert!(rt; catalogue.file(FIRST).is_none());
+    catalogue.add(FIRST, file)?;
+    let attributes = other_attributes();
+    let shown = |user_char, blocks, attributes| {
+        stat_of(FIRST, &c_dat, user_char, Kind::Plain { blocks, attributes })
+    };
+    let stat = Request::Stat { file: FIRST };
+    let extend = Request::Extend {
+        file: FIRST,
+        blocks: 1,
+    };
+    let set_user = Request::SetUser {
+        file: FIRST,
+        attributes,
+    };
+    play(
+        &rt,
+        &mut catalogue,
+        &[
+            (USER, &stat, Ok(Answer::Info(shown(0o200, 1, [0; 32])))),
+            (USER, &extend, Ok(Answer::Extended(2))),
+            (USER, &set_user, Ok(Answer::Done)),
+            (USER, &stat, Ok(Answer::Info(shown(0, 2, attributes)))),
+        ],
+    );
+    Ok(())
+}
+
+#[test]
+fn an_id_of_the_past_is_not_given_again(rt: HostRuntime) -> Result<(), Fail> {
+    let mut catalogue = sample_catalogue(&rt, rt.alloc())?;
+    let create = create(&rt, a_txt(), 0);
+    let delete = Request::Delete { file: FIRST };
+    play(
+        &rt,
+        &mut catalogue,
+        &[
+            (USER, &create, Ok(Answer::Created(FIRST))),
+            (USER, &delete, Ok(Answer::Done)),
+        ],
+    );
+    let again = catalogue.step(USER, &create, FIRST);
+    assert_eq!(rt; again, Err(StepError::NotNew));
+    Ok(())
+}

@@ -1,0 +1,61 @@
+//! Where the structures of a volume lie.
+ghost use Rattle.std.specs.Prelude.{IfOk};
+ghost use Rattle.ods_space.specs.Files.{IsLayoutOf};
+
+use crate::persons::a_txt;
+use crate::volumes::{FileHeader, Variant, added, run, sample_of};
+use ods_base::Image;
+use ods_header::find_home;
+use ods_space::Layout;
+use std::alloc::Global;
+use std::test::Fail;
+
+/// The layout of an image.
+pub fn layout_of(alloc: Global, image: &Image) -> Result<Layout, Fail>
+    ensures { IfOk result (λ layout. IsLayoutOf image.now layout) }
+{
+    let (_, home) = find_home(image)?;
+    match Layout::read(alloc, image, home) {
+        Ok(layout) => Ok(layout),
+        Err(fault) => Err(fault.into()),
+    }
+}
+
+/// The volume of 512 blocks with a file in pieces: header 6 has 102 pointers of one block each, every second one from LBN 22 on;
+/// header 8 has one more.
+pub fn scattered(alloc: Global) -> Result<Image, Fail> {
+    let mut runs = [run(22, 1); 102];
+    for k in 0..102 {
+        runs[k].lbn = 22 + 2 * k as u32;
+    }
+    let first = FileHeader {
+        next: 8,
+        ..added(6, a_txt())
+    };
+    let second = FileHeader {
+        segment: 1,
+        ..added(8, a_txt())
+    };
+    Variant {
+        headers: &[
+            (8, first.mapping(&runs)),
+            (10, second.mapping(&[run(226, 1)])),
+        ],
+        ..sample_of(512)
+    }
+    .image(alloc)
+}
+
+#[test]
+fn small_volume(rt: HostRuntime) -> Result<(), Fail> {
+    let image = sample_of(40).image(rt.alloc())?;
+    let layout = layout_of(rt.alloc(), &image)?;
+    assert_eq!(rt; layout.index().len(), 19);
+    assert_eq!(rt; layout.bitmap(), [19, 20].as_slice());
+    let copy = layout.copy()?;
+    assert_eq!(rt; copy.index(), layout.index());
+    for (number, place) in [(0, None), (1, Some(3)), (16, Some(18)), (17, None)] {
+        assert_eq!(rt; layout.place(number), place, "header {number}");
+    }
+    Ok(())
+}

@@ -1,7 +1,0 @@
-use Rattle.std.proofs.Common.{take}
-use Rattle.ods_space.specs.Draft.{applied}
-use Rattle.ods_growth.specs.Marks.{MarksBlocks}
-use Rattle.ods_growth.proofs.bitmap.mark_blocks.Given as goal
-
-abbrev pub invariant-loop-lbn : goal.invariant-loop-lbn
-invariant-loop-lbn l = MarksBlocks (applied l.image l.initial.draft) l.layout (take l.lbn-index l.blocks) l.free (applied l.image l.draft)

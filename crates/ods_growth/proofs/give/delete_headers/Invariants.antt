@@ -1,7 +1,0 @@
-use Rattle.std.proofs.Common.{take}
-use Rattle.ods_space.specs.Draft.{applied}
-use Rattle.ods_growth.specs.Marks.{Deletes}
-use Rattle.ods_growth.proofs.give.delete_headers.Given as goal
-
-abbrev pub invariant-loop-number : goal.invariant-loop-number
-invariant-loop-number l = Deletes (applied l.image l.old) l.layout (take l.number-index l.numbers) (applied l.image l.draft)

@@ -1,5 +1,0 @@
-use Rattle.ods_growth.proofs.Longer as longer
-use Rattle.ods_growth.proofs.laws.chain_grows.Goals as goal
-
-pub returns : goal.returns
-returns c = longer.chain_grows

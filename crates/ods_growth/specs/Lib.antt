@@ -1,5 +1,0 @@
-pub mod Extend
-pub mod Pointing
-pub mod Marks
-pub mod Extension
-pub mod Chains

@@ -1,0 +1,58 @@
+//! Extension headers of a file.
+ghost use Rattle.std.specs.Prelude.{◌≡◌, ◌+◌, ◌*◌, ◌≤◌, ℕ, List, length};
+ghost use Rattle.std.specs.List.{All};
+ghost use Rattle.ods_base.specs.Block.{IsBlock};
+ghost use Rattle.ods_header.specs.Header.{IsRun, IsValidHeader, header_of};
+ghost use Rattle.ods_header.specs.Writing.{AreZeros};
+ghost use Rattle.ods_header.specs.Extension.{IsExtensionOf, extension_of};
+
+use crate::{Header, Run, write_header};
+use arrayvec::ArrayVec;
+use ods_base::{Block, FileId};
+
+/// The block of a new extension header of the file with this first header: it has these pointers, at most 102, and
+/// names `next` as the header behind it. What is not named is zero.
+pub fn extension_block(
+    first: &Header,
+    file: FileId,
+    segment: u8,
+    next: FileId,
+    runs: &[Run],
+) -> Block
+    requires few { length runs.now ≤ 102 }
+    requires runs { All IsRun runs.now }
+    ensures block { IsBlock result }
+    ensures valid { IsValidHeader result file.number }
+    ensures fields { header_of result ≡ extension_of first.now file segment next runs.now }
+    ensures made { (f : List ℕ) → header_of f ≡ first.now → IsExtensionOf f result }
+    ensures rest { AreZeros result (102 + 4 * length runs.now) 510 }
+{
+    let pointers = copied(runs);
+    let header = Header {
+        file,
+        owner: first.owner,
+        protection: first.protection,
+        user_char: 0,
+        system_char: 0,
+        attributes: [0; 32],
+        ident: first.ident,
+        segment,
+        next,
+        next_volume: 0,
+        ident_offset: 23,
+        map_offset: 46,
+        most_words: 204,
+        pointers,
+    };
+    write_header(&header)
+}
+
+/// These runs, in a header's own memory.
+fn copied(runs: &[Run]) -> ArrayVec<Run, 102>
+    requires { length runs.now ≤ 102 }
+    ensures { result.items ≡ runs.now }
+{
+    let mut pointers = ArrayVec::new();
+    let _ = pointers.try_extend_from_slice(runs);
+    pointers
+}

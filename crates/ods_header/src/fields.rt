@@ -1,0 +1,82 @@
+//! The fields of a header before its map area, looked at in place.
+ghost use Rattle.std.specs.Prelude.{◌≡◌};
+ghost use Rattle.ods_header.specs.Header.{IsLaidOut, number_of, sequence_of, owner_of, protection_of, user_char_of, system_char_of, attributes_of, ident_of, is_directory_header};
+
+use ods_base::{Block, Uic, word};
+
+/// The type DIR.
+const DIRECTORY: u16 = 6778;
+
+/// H.FNUM: the number of a header.
+pub fn file_number(block: &Block) -> u16
+    ensures { result ≡ number_of block.now }
+{
+    word(block, 1)
+}
+
+/// H.FSEQ: how often the number was used.
+pub fn file_sequence(block: &Block) -> u16
+    ensures { result ≡ sequence_of block.now }
+{
+    word(block, 2)
+}
+
+/// H.FOWN: the owner.
+pub fn owner(block: &Block) -> Uic
+    ensures { result ≡ owner_of block.now }
+{
+    Uic {
+        group: block.byte(9),
+        member: block.byte(8),
+    }
+}
+
+/// H.FPRO: four bits for each class of users; a set bit denies.
+pub fn protection(block: &Block) -> u16
+    ensures { result ≡ protection_of block.now }
+{
+    word(block, 5)
+}
+
+/// H.UCHA: the user characteristics.
+pub fn user_char(block: &Block) -> u8
+    ensures { result ≡ user_char_of block.now }
+{
+    block.byte(12)
+}
+
+/// H.SCHA: the system characteristics.
+pub fn system_char(block: &Block) -> u8
+    ensures { result ≡ system_char_of block.now }
+{
+    block.byte(13)
+}
+
+/// H.UFAT: the 32 bytes of attributes, which belong to the file's user.
+pub fn attributes(block: &Block) -> [u8; 32]
+    ensures { result ≡ attributes_of block.now }
+{
+    let mut attributes = [0; 32];
+    attributes.copy_from_slice(&block.bytes()[14..46]);
+    attributes
+}
+
+/// The 46 bytes of the ident area.
+pub fn ident(block: &Block) -> [u8; 46]
+    requires { IsLaidOut block.now }
+    ensures { result ≡ ident_of block.now }
+{
+    let bytes = block.bytes();
+    let at = 2 * bytes[0] as usize;
+    let mut ident = [0; 46];
+    ident.copy_from_slice(&bytes[at..at + 46]);
+    ident
+}
+
+/// Whether a file with this first header is a directory: file 4, or one above 5 whose ident has the type DIR.
+pub fn is_directory(number: u16, block: &Block) -> bool
+    requires { IsLaidOut block.now }
+    ensures { result ≡ is_directory_header number block.now }
+{
+    number == 4 || (5 < number && word(block, block.byte(0) as usize + 3) == DIRECTORY)
+}

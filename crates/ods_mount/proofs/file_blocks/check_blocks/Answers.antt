@@ -1,0 +1,49 @@
+use Rattle.std.proofs.Common.{length, refl, ap, ◌∙◌, arith}
+use Rattle.ods_mount.proofs.Passing.{along_first, along_next, along_names, along_few, along_all, passed_none, passed_all}
+use Rattle.ods_mount.proofs.file_blocks.check_blocks.Goals as goal
+
+pub of-headers-requires-clause-chain : goal.of-headers-requires-clause-chain
+of-headers-requires-clause-chain c = let has = c.requires.whole in (has.1.others, has.0, has.1.whole.chain)
+
+pub loop-header-init : goal.loop-header-init
+loop-header-init c = record {
+  passed = passed_none c.args.image.now c.args.layout.now c.args.home_lbn c.args.number c.requires.whole.0 c.args.held.now c.requires.whole.1 c.requires.table;
+  along = along_first c.args.image.now c.args.layout.now c.args.number c.of-headers.result c.of-headers.ensures;
+  room = refl;
+}
+
+pub check_header_blocks-requires-clause-names : goal.check_header_blocks-requires-clause-names
+check_header_blocks-requires-clause-names c =
+    let has = c.requires.whole in
+    along_names c.args.image.now c.args.layout.now c.args.number c.loop-header.first c.loop-header.headers c.loop-header.invariant.along has.0 c.len.ensures.image c.requires.layout has.1
+    (c.in-Some.field-0-0, c.in-Some.header.now) c.next.new.self c.in-Some.ensures.some.0
+
+pub check_header_blocks-requires-clause-fits : goal.check_header_blocks-requires-clause-fits
+check_header_blocks-requires-clause-fits c =
+    let has = c.requires.whole in
+    along_few c.args.image.now c.args.layout.now c.args.number c.loop-header.first c.loop-header.headers c.loop-header.invariant.along has.0 c.len.ensures.image c.requires.layout has.1
+
+pub loop-header-preserved : goal.loop-header-preserved
+loop-header-preserved c = record {
+  passed = c.in-Ok.ensures.passed;
+  along = along_next c.args.image.now c.args.layout.now c.args.number c.loop-header.first c.loop-header.headers c.loop-header.invariant.along
+      (c.in-Some.field-0-0, c.in-Some.header.now) c.next.new.self c.in-Ok.next c.in-Some.ensures.some.0 c.in-Ok.ensures.next.0;
+  room = c.in-Ok.ensures.room ∙ c.loop-header.invariant.room;
+}
+
+pub returns-clause-file : goal.returns-clause-file
+returns-clause-file c =
+    let I = c.args.image.now in
+    let L = c.args.layout.now in
+    let has = c.requires.whole in
+    let size = along_all I L c.args.number c.loop-header.first c.loop-header.headers c.loop-header.invariant.along has.0 c.len.ensures.image c.requires.layout has.1 c.in_default.ensures.none in
+    let all = passed_all I L c.args.home_lbn c.args.number c.loop-header.first c.loop-header.held has.0 c.loop-header.invariant.passed has.1 size in
+    (has.0, has.1, all.1, all.2)
+
+pub returns-clause-table : goal.returns-clause-table
+returns-clause-table c =
+    let I = c.args.image.now in
+    let L = c.args.layout.now in
+    let has = c.requires.whole in
+    let size = along_all I L c.args.number c.loop-header.first c.loop-header.headers c.loop-header.invariant.along has.0 c.len.ensures.image c.requires.layout has.1 c.in_default.ensures.none in
+    (passed_all I L c.args.home_lbn c.args.number c.loop-header.first c.loop-header.held has.0 c.loop-header.invariant.passed has.1 size).0

@@ -1,9 +1,0 @@
-use Rattle.std.proofs.Common.{◌≡◌, ◌+◌, length}
-use Rattle.ods_mount.specs.Checks.{IsPassed}
-use Rattle.ods_mount.proofs.held.check_run.Given as goal
-
-abbrev pub invariant-loop-j : goal.invariant-loop-j
-invariant-loop-j l = record {
-  passed : IsPassed l.image l.layout l.home l.number (l.first + l.j) l.held;
-  room : length l.held ≡ length l.fn.held;
-}

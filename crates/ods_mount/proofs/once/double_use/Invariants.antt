@@ -1,6 +1,0 @@
-use Rattle.std.proofs.Common.{ℕ, ◌<◌}
-use Rattle.ods_space.specs.Files.{Holds}
-use Rattle.ods_mount.proofs.once.double_use.Given as goal
-
-abbrev pub invariant-loop-other : goal.invariant-loop-other
-invariant-loop-other l = (m v : ℕ) → m < l.other → ¬ Holds l.image l.layout m v l.lbn

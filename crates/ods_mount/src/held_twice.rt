@@ -1,0 +1,74 @@
+//! Blocks that are held twice.
+ghost use Rattle.std.specs.Prelude.{◌≡◌, ℕ, List, MatchBool};
+ghost use Rattle.std.specs.List.{Contains};
+ghost use Rattle.ods_header.specs.Header.{IsLaidOut, blocks_of};
+ghost use Rattle.ods_space.specs.Chain.{headers_of, named_by};
+ghost use Rattle.ods_space.specs.Files.{HasBlocks, Holds, IsLayoutOf};
+ghost use Rattle.ods_mount.specs.Faults.{IsTrueOf};
+ghost use Rattle.ods_mount.specs.Checks.{IsHeldTwice};
+
+use crate::MountFault;
+use ods_base::{Block, Image};
+use ods_header::{pointer_at, pointer_count};
+use ods_space::{ChainHeaders, Layout, check_chain};
+
+/// The fault of a file that has a block which is held twice: by a file before it too, or by itself.
+pub(crate) fn double_use(image: &Image, layout: &Layout, number: u16, lbn: u32) -> MountFault
+    requires layout { IsLayoutOf image.now layout.now }
+    requires twice { IsHeldTwice image.now layout.now number lbn }
+    ensures { IsTrueOf image.now layout.now result }
+{
+    for other in 1..number {
+        if holds(image, layout, other, lbn) {
+            return MountFault::DoublyUsed(other, number, lbn);
+        }
+    }
+    MountFault::DoublyUsed(number, number, lbn)
+}
+
+/// Whether this number is a file with a whole chain that has this block.
+fn holds(image: &Image, layout: &Layout, number: u16, lbn: u32) -> bool
+    requires { IsLayoutOf image.now layout.now }
+    ensures { MatchBool result
+        ((v : ℕ) × Holds image.now layout.now number v lbn)
+        ((v : ℕ) → ¬ Holds image.now layout.now number v lbn) }
+{
+    // The blocks of an image have bytes, so a chain has at most 256 headers.
+    let _ = image.len();
+    match check_chain(image, layout, number) {
+        Ok(()) => one_names(image, layout, number, lbn),
+        Err(_) => false,
+    }
+}
+
+/// Whether one of the headers of a file's chain names this block.
+fn one_names(image: &Image, layout: &Layout, number: u16, lbn: u32) -> bool
+    requires layout { IsLayoutOf image.now layout.now }
+    requires whole { (blocks : List ℕ) × HasBlocks image.now layout.now number blocks }
+    ensures { MatchBool result
+        (Contains (named_by (headers_of image.now layout.now number)) lbn)
+        (¬ Contains (named_by (headers_of image.now layout.now number)) lbn) }
+{
+    let mut headers = ChainHeaders::of(image, layout, number);
+    while let Some((_, header)) = headers.next() {
+        if names(header, lbn) {
+            return true;
+        }
+    }
+    false
+}
+
+/// Whether this header names this block.
+fn names(header: &Block, lbn: u32) -> bool
+    requires { IsLaidOut header.now }
+    ensures { MatchBool result (Contains (blocks_of header.now) lbn) (¬ Contains (blocks_of header.now) lbn) }
+{
+    for k in 0..pointer_count(header) {
+        let run = pointer_at(header, k);
+        let end = run.lbn + run.count as u32;
+        if run.lbn <= lbn && lbn < end {
+            return true;
+        }
+    }
+    false
+}

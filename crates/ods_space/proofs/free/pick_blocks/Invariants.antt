@@ -1,7 +1,0 @@
-use Rattle.std.proofs.Common.{◌≡◌, length}
-use Rattle.ods_space.specs.Free.{is_free_block}
-use Rattle.ods_space.proofs.Scans.{AreFound}
-use Rattle.ods_space.proofs.free.pick_blocks.Given as goal
-
-abbrev pub invariant-loop-k : goal.invariant-loop-k
-invariant-loop-k l = AreFound (is_free_block l.image l.layout) 0 (length l.image) l.blocks.items l.from × (length l.blocks.items ≡ l._k)

@@ -1,0 +1,144 @@
+//! Chains that are known to be whole, as each file's of a sound image is: no header is checked again.
+ghost use Rattle.std.specs.Prelude.{◌≡◌, ◌≢◌, ℕ, List, length, IfSome, IfNone};
+ghost use Rattle.ods_space.specs.Layout.{header_at};
+ghost use Rattle.ods_space.specs.Chain.{IsChain};
+ghost use Rattle.ods_space.specs.Files.{HasBlocks, Holds, IsLayoutOf};
+
+use crate::Layout;
+use crate::headers::header_block;
+use crate::survey::Surveyor;
+use crate::walk::Notes;
+use ods_base::{Block, Image};
+use ods_header::next_number;
+use std::marker::Model;
+
+/// The headers of a chain, one after another. A contract sees those that are still to come, each with its number.
+#[derive(Drop)]
+pub struct ChainHeaders<'a> {
+    image: &'a Image,
+    layout: &'a Layout,
+    /// The next header, 0 for none, and its block.
+    number: u16,
+    block: &'a Block,
+    /// How many may come.
+    left: u16,
+}
+
+impl<'a> Model for ChainHeaders<'a> {
+    ghost use Rattle.std.specs.Prelude.{◌≡◌, ◌≢◌, ℕ, List};
+    ghost use Rattle.ods_space.specs.Layout.{header_at};
+    ghost use Rattle.ods_space.specs.Chain.{headers_along, AreValid};
+
+    ghost Value = { List (ℕ × List ℕ) };
+
+    ghost view = { λ h. headers_along h.image.now h.layout.now h.left h.number };
+
+    ghost invariant = { λ h. (h.number ≢ 0 → h.block.now ≡ header_at h.image.now h.layout.now h.number)
+        × AreValid (headers_along h.image.now h.layout.now h.left h.number) };
+}
+
+impl<'a> ChainHeaders<'a> {
+    ghost use Rattle.std.specs.Prelude.{◌≡◌, [], ◌∷◌, ℕ, List, IfSome, IfNone};
+    ghost use Rattle.ods_header.specs.Header.{IsValidHeader};
+    ghost use Rattle.ods_space.specs.Layout.{header_at};
+    ghost use Rattle.ods_space.specs.Chain.{IsChain, headers_of};
+    ghost use Rattle.ods_space.specs.Files.{IsLayoutOf};
+
+    /// The headers of the chain of this file.
+    pub fn of(image: &'a Image, layout: &'a Layout, number: u16) -> ChainHeaders<'a>
+        requires layout { IsLayoutOf image.now layout.now }
+        requires chain { (others : List ℕ) × (blocks : List ℕ) × IsChain image.now layout.now number others blocks }
+        ensures { result ≡ headers_of image.now layout.now number }
+    {
+        // The blocks of an image have bytes, so a chain has at most 256 headers.
+        let _ = image.len();
+        let first = header_block(image, layout, number).unwrap();
+        ChainHeaders::from(image, layout, number, first)
+    }
+
+    /// The headers of the chain with this first header.
+    pub fn from(
+        image: &'a Image,
+        layout: &'a Layout,
+        number: u16,
+        first: &'a Block,
+    ) -> ChainHeaders<'a>
+        requires layout { IsLayoutOf image.now layout.now }
+        requires chain { (others : List ℕ) × (blocks : List ℕ) × IsChain image.now layout.now number others blocks }
+        requires first { first.now ≡ header_at image.now layout.now number }
+        ensures { result ≡ headers_of image.now layout.now number }
+    {
+        // The blocks of an image have bytes, so a chain has at most 256 headers.
+        let _ = image.len();
+        ChainHeaders {
+            image,
+            layout,
+            number,
+            block: first,
+            left: 256,
+        }
+    }
+
+    /// The next header and its number.
+    pub fn next(&mut self) -> Option<(u16, &'a Block)>
+        ensures some { IfSome result (λ h. (self.old ≡ (h.0, h.1.now) ∷ self.new) × IsValidHeader h.1.now h.0) }
+        ensures none { IfNone result (self.old ≡ []) }
+    {
+        if self.number == 0 || self.left == 0 {
+            return None;
+        }
+        let header = (self.number, self.block);
+        self.left -= 1;
+        self.number = next_number(self.block);
+        match header_block(self.image, self.layout, self.number) {
+            Some(block) => self.block = block,
+            None => self.number = 0,
+        }
+        Some(header)
+    }
+}
+
+/// One block of a file with a whole chain, counted from 1. `first` is its first header. INDEXF.SYS has its blocks in the layout.
+pub fn locate_whole(
+    image: &Image,
+    layout: &Layout,
+    number: u16,
+    first: &Block,
+    vbn: u32,
+) -> Option<u32>
+    requires layout { IsLayoutOf image.now layout.now }
+    requires other { number ≢ 1 }
+    requires whole { (blocks : List ℕ) × HasBlocks image.now layout.now number blocks }
+    requires first { first.now ≡ header_at image.now layout.now number }
+    ensures found { IfSome result (Holds image.now layout.now number vbn) }
+    ensures none { IfNone result ((lbn : ℕ) → ¬ Holds image.now layout.now number vbn lbn) }
+{
+    if vbn == 0 {
+        return None;
+    }
+    let mut surveyor = Surveyor::new(layout.index(), image.len(), vbn - 1);
+    let mut headers = ChainHeaders::from(image, layout, number, first);
+    while let Some((_, header)) = headers.next() {
+        let Ok(()) = surveyor.note(header);
+        if let Some(lbn) = surveyor.survey.found {
+            return Some(lbn);
+        }
+    }
+    None
+}
+
+/// How many blocks a file with a whole chain has. `first` is its first header.
+pub fn count_whole(image: &Image, layout: &Layout, number: u16, first: &Block) -> u32
+    requires layout { IsLayoutOf image.now layout.now }
+    requires other { number ≢ 1 }
+    requires whole { (blocks : List ℕ) × HasBlocks image.now layout.now number blocks }
+    requires first { first.now ≡ header_at image.now layout.now number }
+    ensures { (blocks : List ℕ) × HasBlocks image.now layout.now number blocks × (result ≡ length blocks) }
+{
+    let mut surveyor = Surveyor::new(layout.index(), image.len(), 0);
+    let mut headers = ChainHeaders::from(image, layout, number, first);
+    while let Some((_, header)) = headers.next() {
+        let Ok(()) = surveyor.note(header);
+    }
+    surveyor.survey.count
+}

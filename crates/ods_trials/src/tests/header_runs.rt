@@ -1,0 +1,93 @@
+//! The replies about single headers.
+use super::broken::Broken;
+use ods_cli::{ServeFault, header_run, sample};
+use std::test::Fail;
+
+#[test]
+fn headers_are_replied(rt: HostRuntime) -> Result<(), Fail> {
+    let bytes = sample(rt.alloc(), 40)?;
+    for (number, found, reply) in [
+        (
+            1,
+            true,
+            "HEADER 1,1 INDEXF.SYS;1 [1,1] 160000 000,000 segment 0 next 0,0 runs 0+19\n",
+        ),
+        (
+            2,
+            true,
+            "HEADER 2,2 BITMAP.SYS;1 [1,1] 160000 000,000 segment 0 next 0,0 runs 19+2\n",
+        ),
+        (
+            3,
+            true,
+            "HEADER 3,3 BADBLK.SYS;1 [1,1] 160000 000,000 segment 0 next 0,0 runs\n",
+        ),
+        (
+            4,
+            true,
+            "HEADER 4,4 000000.DIR;1 [1,1] 160000 000,000 segment 0 next 0,0 runs 21+1\n",
+        ),
+        (6, false, "NO 11 WrongNumber\n"),
+        (16, false, "NO 11 WrongNumber\n"),
+    ] {
+        let mut out = Vec::new(rt.alloc());
+        let answer = header_run(rt.alloc(), &mut bytes.as_slice(), number, &mut out);
+        assert_eq!(rt; answer, Ok(found));
+        assert!(rt; out.as_slice() == reply.as_bytes(), "header {number}");
+    }
+    Ok(())
+}
+
+#[test]
+fn refused_bytes_are_replied(rt: HostRuntime) -> Result<(), Fail> {
+    let bytes = sample(rt.alloc(), 40)?;
+    let part = bytes.as_slice().get(..511).ok_or("short")?;
+    let two_blocks = bytes.as_slice().get(..1024).ok_or("short")?;
+    let mut spoiled = sample(rt.alloc(), 40)?;
+    assert!(rt; 512 + 58 < spoiled.len());
+    spoiled[512 + 58] = 0;
+    let mut unsummed = sample(rt.alloc(), 40)?;
+    assert!(rt; 512 * 6 + 12 < unsummed.len());
+    unsummed[512 * 6 + 12] = 1;
+    for (image, reply) in [
+        (&bytes[..0], "NO 15 NoHome\n"),
+        (part, "NO 1 NotWholeBlocks\n"),
+        (two_blocks, "NO 11 WrongNumber\n"),
+        (spoiled.as_slice(), "NO 15 NoHome\n"),
+        (unsummed.as_slice(), "NO 10 BadSum\n"),
+    ] {
+        let mut reader = image;
+        let mut out = Vec::new(rt.alloc());
+        let answer = header_run(rt.alloc(), &mut reader, 4, &mut out);
+        assert_eq!(rt; answer, Ok(false));
+        assert!(rt; out.as_slice() == reply.as_bytes(), "{reply}");
+    }
+    Ok(())
+}
+
+#[test]
+fn devices_may_fail(rt: HostRuntime) -> Result<(), Fail> {
+    let bytes = sample(rt.alloc(), 40)?;
+    let mut out = Vec::new(rt.alloc());
+    assert_eq!(rt;
+        header_run(rt.alloc(), &mut Broken, 4, &mut out),
+        Err(ServeFault::Read)
+    );
+    assert!(rt; out.is_empty());
+    assert_eq!(rt;
+        header_run(rt.alloc(), &mut bytes.as_slice(), 4, &mut Broken),
+        Err(ServeFault::Write)
+    );
+    // A writer without room takes 0 bytes.
+    let mut none: [u8; 0] = [];
+    assert_eq!(rt;
+        header_run(
+            rt.alloc(),
+            &mut bytes.as_slice(),
+            4,
+            &mut none.as_mut_slice()
+        ),
+        Err(ServeFault::Write)
+    );
+    Ok(())
+}

@@ -1,0 +1,145 @@
+//! Sound volumes, with what is free on them, and volumes whose home block or index file lies otherwise.
+use MountFault::{BadChain, BadIndex, NoHome};
+use ods_alloc::{free_count, number_count};
+use ods_base::{Block, Image};
+use ods_format_tests::persons::{badblk, c_dat, indexf};
+use ods_format_tests::volumes::{FileHeader, Variant, added, reserved, run, sample_of};
+use ods_header::Run;
+use ods_mount::{MountFault, mount};
+use std::alloc::Global;
+use std::test::Fail;
+
+/// The blocks and the numbers that are free, where the image is sound.
+pub fn counts(alloc: Global, image: Image) -> Result<(u32, u32), MountFault> {
+    match mount(alloc, image) {
+        Ok(mounted) => Ok((
+            free_count(mounted.image(), mounted.layout()),
+            number_count(mounted.image(), mounted.layout()),
+        )),
+        Err((_, fault)) => Err(fault),
+    }
+}
+
+#[test]
+fn whole_samples(rt: HostRuntime) -> Result<(), Fail> {
+    for (blocks, free) in [(40, 18), (512, 490), (4_200, 4_073 + 104)] {
+        let image = sample_of(blocks).image(rt.alloc())?;
+        assert_eq!(rt;
+            counts(rt.alloc(), image),
+            Ok((free, 11)),
+            "{blocks} blocks"
+        );
+    }
+    Ok(())
+}
+
+#[test]
+fn one_number_in_use(rt: HostRuntime) -> Result<(), Fail> {
+    let bit = Variant {
+        index_bits: &[(6, true)],
+        ..sample_of(40)
+    };
+    let image = bit.image(rt.alloc())?;
+    assert_eq!(rt;
+        counts(rt.alloc(), image),
+        Ok((18, 10)),
+        "a set bit and no header"
+    );
+    let private = FileHeader {
+        user_char: 0x80,
+        ..added(6, c_dat())
+    };
+    let file = Variant {
+        headers: &[(8, private.mapping(&[run(22, 1)]))],
+        ..sample_of(40)
+    };
+    let image = file.image(rt.alloc())?;
+    assert_eq!(rt; counts(rt.alloc(), image), Ok((17, 10)), "file 6");
+    Ok(())
+}
+
+/// The volume of 512 blocks with its home block at LBN 256, these runs of INDEXF.SYS, this header 3, and LBN 1 free or not.
+fn with_late_home(
+    alloc: Global,
+    index: &[Run],
+    third: Block,
+    is_1_free: bool,
+) -> Result<Image, Fail> {
+    Variant {
+        home: 256,
+        headers: &[(3, added(1, indexf()).mapping(index)), (5, third)],
+        storage_bits: &[(1, is_1_free)],
+        ..sample_of(512)
+    }
+    .image(alloc)
+}
+
+#[test]
+fn late_home(rt: HostRuntime) -> Result<(), Fail> {
+    let holds_1 = reserved(3, badblk()).mapping(&[run(1, 1)]);
+    let holds_none = reserved(3, badblk()).mapping(&[]);
+    let good = [run(0, 1), run(256, 1), run(2, 17)];
+    let swapped = [run(0, 1), run(300, 1), run(2, 17), run(256, 1)];
+    let image = with_late_home(rt.alloc(), &good, holds_1, false)?;
+    assert_eq!(rt;
+        counts(rt.alloc(), image),
+        Ok((489, 11)),
+        "home block mapped as VBN 2"
+    );
+    let image = with_late_home(rt.alloc(), &good, holds_none, true)?;
+    assert_eq!(rt; counts(rt.alloc(), image), Err(BadIndex), "LBN 1 is free");
+    let image = with_late_home(rt.alloc(), &swapped, holds_1, false)?;
+    assert_eq!(rt;
+        counts(rt.alloc(), image),
+        Err(BadIndex),
+        "home block mapped past the headers"
+    );
+    Ok(())
+}
+
+/// The volume of 40 blocks with room for 20 files, and headers 1 and 17 of INDEXF.SYS with these runs. LBN 22 and 23 are held.
+fn with_longer_index(alloc: Global, first: &[Run], second: &[Run]) -> Result<Image, Fail> {
+    let one = FileHeader {
+        next: 17,
+        ..added(1, indexf())
+    };
+    let other = FileHeader {
+        segment: 1,
+        ..added(17, indexf())
+    };
+    Variant {
+        most_files: 20,
+        headers: &[(3, one.mapping(first)), (22, other.mapping(second))],
+        storage_bits: &[(22, false), (23, false)],
+        ..sample_of(40)
+    }
+    .image(alloc)
+}
+
+#[test]
+fn longer_index(rt: HostRuntime) -> Result<(), Fail> {
+    let image = with_longer_index(rt.alloc(), &[run(0, 19), run(22, 1)], &[run(23, 1)])?;
+    assert_eq!(rt; counts(rt.alloc(), image), Ok((16, 12)));
+    let image = with_longer_index(rt.alloc(), &[run(0, 19)], &[run(22, 1)])?;
+    assert_eq!(rt;
+        counts(rt.alloc(), image),
+        Err(BadChain(1)),
+        "a header that only its own pointer places"
+    );
+    Ok(())
+}
+
+#[test]
+fn no_home(rt: HostRuntime) -> Result<(), Fail> {
+    let empty = Image::from_bytes(rt.alloc(), &[])?;
+    assert_eq!(rt; counts(rt.alloc(), empty), Err(NoHome));
+    for (at, byte) in [(58, 0x14), (510, 0x91)] {
+        let spoiled = Variant {
+            bytes: &[(1, at, byte)],
+            ..sample_of(40)
+        };
+        let image = spoiled.image(rt.alloc())?;
+        assert_eq!(rt; counts(rt.alloc(), image), Err(NoHome), "byte {at}");
+    }
+    Ok(())
+}

@@ -1,0 +1,49 @@
+//! The plain reader: where the entries of a directory end.
+use crate::plain_catalogue;
+use ods_base::Image;
+use ods_format_tests::persons::{MASTER, NONE, USER, master, reserved_lines};
+use ods_format_tests::volumes::{FileHeader, Variant, reserved, run, sample_of};
+use ods_look::list;
+use ods_mount::mount;
+use ods_request::{Answer, Listing, Request};
+use std::alloc::Global;
+use std::test::Fail;
+
+/// The sample volume whose master directory ends at this byte (F.FFBY) of this block (F.EFBK).
+fn ending_at(alloc: Global, block: u8, byte: u8) -> Result<Image, Fail> {
+    let mut attributes = [0; 32];
+    attributes[0] = 1;
+    attributes[2] = 16;
+    attributes[6] = 1;
+    attributes[10] = block;
+    attributes[12] = byte;
+    let header = FileHeader {
+        attributes,
+        ..reserved(4, master())
+    };
+    Variant {
+        headers: &[(6, header.mapping(&[run(21, 1)]))],
+        ..sample_of(40)
+    }
+    .image(alloc)
+}
+
+/// Where F.EFBK is 0 the directory has no entry, whatever F.FFBY is.
+#[test]
+fn block_0_ends_at_once(rt: HostRuntime) -> Result<(), Fail> {
+    let alloc = rt.alloc();
+    let request = Request::List { dir: MASTER };
+    for (block, wanted) in [
+        (1, reserved_lines(alloc)?),
+        (0, Listing::new(Vec::new(alloc))),
+    ] {
+        let image = ending_at(alloc, block, 80)?;
+        let mut plain = plain_catalogue(alloc, &image)?;
+        let mounted = mount(alloc, image).ok().ok_or("not sound")?;
+        let lines = list(alloc, mounted.image(), mounted.layout(), USER, MASTER)?;
+        assert!(rt; lines == wanted, "F.EFBK {block}");
+        let answer = plain.step(USER, &request, NONE);
+        assert!(rt; answer == Ok(Answer::Names(wanted)), "F.EFBK {block}");
+    }
+    Ok(())
+}

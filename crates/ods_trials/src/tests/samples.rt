@@ -1,0 +1,124 @@
+//! The sample volume of 40 blocks byte for byte, its sums, and the sample of 512 blocks.
+use ods_base::{Image, sum};
+use ods_cli::sample;
+use std::test::Fail;
+
+/// The sample's bytes that are not zero, but for the free blocks: an LBN, a byte place and the bytes there.
+const SAMPLE: [(u32, usize, &[u8]); 38] = [
+    // The home block: H.IBSZ, H.IBLB, H.FMAX, H.SBCL, H.VLEV, H.DFPR, H.CHK1, H.INDF, H.CHK2.
+    (
+        1,
+        0,
+        b"\x01\x00\x00\x00\x02\x00\x10\x00\x01\x00\x00\x00\x01\x01",
+    ),
+    (1, 36, b"\x00\xe0"),
+    (1, 58, b"\x15\xe1"),
+    (1, 496, b"\x44\x45\x43\x46\x49\x4c\x45\x31\x31\x41\x20\x20"),
+    (1, 510, b"\x90\x2c"),
+    // The index bitmap.
+    (2, 0, b"\x1f"),
+    // INDEXF.SYS: the header area, the ident, the map area with its pointer, the sum.
+    (3, 0, b"\x17\x2e\x01\x00\x01\x00\x01\x01\x01\x01\x00\xe0"),
+    (3, 46, b"\x74\x3a\x06\x23\x00\x00\xbb\x7a\x01\x00"),
+    (3, 98, b"\x01\x03\x02\xcc\x00\x12\x00\x00"),
+    (3, 510, b"\x54\xc9"),
+    // BITMAP.SYS.
+    (4, 0, b"\x17\x2e\x02\x00\x02\x00\x01\x01\x01\x01\x00\xe0"),
+    (4, 46, b"\xfc\x0d\x78\x51\x00\x00\xbb\x7a\x01\x00"),
+    (4, 98, b"\x01\x03\x02\xcc\x00\x01\x13\x00"),
+    (4, 510, b"\x63\xba"),
+    // BADBLK.SYS, without a pointer.
+    (5, 0, b"\x17\x2e\x03\x00\x03\x00\x01\x01\x01\x01\x00\xe0"),
+    (5, 46, b"\xac\x0c\x6b\x0e\x00\x00\xbb\x7a\x01\x00"),
+    (5, 98, b"\x01\x03\x00\xcc"),
+    (5, 510, b"\xf3\x74"),
+    // 000000.DIR, with the attributes of a directory of one block and five names.
+    (6, 0, b"\x17\x2e\x04\x00\x04\x00\x01\x01\x01\x01\x00\xe0"),
+    (6, 14, b"\x01\x00\x10\x00"),
+    (6, 20, b"\x01\x00"),
+    (6, 24, b"\x01\x00"),
+    (6, 26, b"\x50\x00"),
+    (6, 46, b"\x4e\xc0\x4e\xc0\x00\x00\x7a\x1a\x01\x00"),
+    (6, 98, b"\x01\x03\x02\xcc\x00\x00\x15\x00"),
+    (6, 510, b"\xb3\x7a"),
+    // CORIMG.SYS, without a pointer.
+    (7, 0, b"\x17\x2e\x05\x00\x05\x00\x01\x01\x01\x01\x00\xe0"),
+    (7, 46, b"\x2a\x15\x4f\x3a\x00\x00\xbb\x7a\x01\x00"),
+    (7, 98, b"\x01\x03\x00\xcc"),
+    (7, 510, b"\x59\xa9"),
+    // The storage bitmap.
+    (20, 2, b"\xc0\xff\xff"),
+    // The master directory.
+    (
+        21,
+        0,
+        b"\x01\x00\x01\x00\x00\x00\x74\x3a\x06\x23\x00\x00\xbb\x7a\x01\x00",
+    ),
+    (
+        21,
+        16,
+        b"\x02\x00\x02\x00\x00\x00\xfc\x0d\x78\x51\x00\x00\xbb\x7a\x01\x00",
+    ),
+    (
+        21,
+        32,
+        b"\x03\x00\x03\x00\x00\x00\xac\x0c\x6b\x0e\x00\x00\xbb\x7a\x01\x00",
+    ),
+    (
+        21,
+        48,
+        b"\x04\x00\x04\x00\x00\x00\x4e\xc0\x4e\xc0\x00\x00\x7a\x1a\x01\x00",
+    ),
+    (
+        21,
+        64,
+        b"\x05\x00\x05\x00\x00\x00\x2a\x15\x4f\x3a\x00\x00\xbb\x7a\x01\x00",
+    ),
+    (22, 0, b"\x5a"),
+    (39, 511, b"\x5a"),
+];
+
+#[test]
+fn sample_has_its_bytes(rt: HostRuntime) -> Result<(), Fail> {
+    let mut wanted = vec![in rt.alloc(); 0u8; 512 * 22]?;
+    wanted.extend_from_slice(vec![in rt.alloc(); 0x5au8; 512 * 18]?.as_slice())?;
+    for (lbn, at, bytes) in &SAMPLE {
+        for (i, byte) in bytes.iter().enumerate() {
+            let place = (512 * *lbn as usize).wrapping_add(*at).wrapping_add(i);
+            assert!(rt; place < wanted.len());
+            wanted[place] = *byte;
+        }
+    }
+    let found = sample(rt.alloc(), 40)?;
+    assert_eq!(rt; found.len(), wanted.len());
+    for i in 0..wanted.len() {
+        assert!(rt; i < found.len());
+        assert_eq!(rt; found[i], wanted[i], "byte {i}");
+    }
+    Ok(())
+}
+
+#[test]
+fn sample_has_its_sums(rt: HostRuntime) -> Result<(), Fail> {
+    let bytes = sample(rt.alloc(), 40)?;
+    let image = Image::from_bytes(rt.alloc(), &bytes)
+        .ok()
+        .ok_or("no image")?;
+    assert_eq!(rt; image.len(), 40);
+    for (lbn, words, total) in [
+        (1, 29, 57_621),
+        (1, 255, 11_408),
+        (3, 255, 51_540),
+        (4, 255, 47_715),
+        (5, 255, 29_939),
+        (6, 255, 31_411),
+        (7, 255, 43_353),
+    ] {
+        assert_eq!(rt; sum(image.block(lbn), words), total, "at {lbn}");
+    }
+    let large = sample(rt.alloc(), 512)?;
+    assert_eq!(rt; large.len(), 512 * 512);
+    assert_eq!(rt; large[512 * 20 + 63], 0xff);
+    assert_eq!(rt; large[512 * 20 + 64], 0);
+    Ok(())
+}
