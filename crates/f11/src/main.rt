@@ -2,26 +2,23 @@
 //! the streams and the exit status.
 #![tactic(auto)]
 
-ghost use Rattle.std.specs.Prelude.{◌≤◌, IfSome};
+ghost use Rattle.std.specs.Prelude.{◌≤◌};
+ghost use Rattle.ods_cli.specs.Runs.{AsksForOne};
 
-use ods_cli::{ServeFault, Words, WordsFault, check_run, header_run, parse_words, sample};
+use ods_cli::{
+    Run, ServeFault, WRONG_WORDS, WordsFault, check_run, header_run, parse_words, run_for, sample,
+    status,
+};
 use std::process::ExitCode;
 use std::rt::{Env, Files};
 use std::{env, fs, io};
 
-/// The exit status of a refused image, of wrong words, and of a device or memory that failed.
-const REFUSED: u8 = 1;
-
-const WRONG_WORDS: u8 = 2;
-
-const FAILED: u8 = 3;
-
 fn main(rt: HostRuntime) -> ExitCode {
     match run(&rt) {
-        Ok(status) => status,
+        Ok(code) => code,
         Err(fault) => {
-            let _ = eprintln!(rt; "f11: {fault}");
-            ExitCode::from(FAILED)
+            let _ = eprintln!(rt; "{}", fault.line());
+            ExitCode::from(status(&Err(fault)))
         }
     }
 }
@@ -36,8 +33,7 @@ fn run<R: Env + Files + AllocGlobal + Print + Eprint>(rt: &R) -> Result<ExitCode
         Err(_) => return Err(ServeFault::NoMemory),
     };
     match parse_words(rt.alloc(), words.as_slice()) {
-        Ok(words) if serve(rt, words)? => Ok(ExitCode::SUCCESS),
-        Ok(_) => Ok(ExitCode::from(REFUSED)),
+        Ok(words) => Ok(ExitCode::from(status(&Ok(serve(rt, run_for(&words))?)))),
         Err(WordsFault::Help(text)) => match print!(rt; "{text}") {
             Ok(()) => Ok(ExitCode::SUCCESS),
             Err(_) => Err(ServeFault::Write),
@@ -48,14 +44,13 @@ fn run<R: Env + Files + AllocGlobal + Print + Eprint>(rt: &R) -> Result<ExitCode
 }
 
 /// Replies about the image that is meant, and answers whether it is what was asked for.
-fn serve<R: Files + AllocGlobal + Print>(rt: &R, words: Words<'_>) -> Result<bool, ServeFault>
-    requires { IfSome words.header (λ number. (1 ≤ number) × (number ≤ 16)) }
+fn serve<R: Files + AllocGlobal + Print>(rt: &R, run: Run<'_>) -> Result<bool, ServeFault>
+    requires { AsksForOne run }
 {
-    match (words.image, words.header) {
-        (None, None) => header_of_sample(rt, 4),
-        (None, Some(number)) => header_of_sample(rt, number),
-        (Some(path), None) => check_file(rt, path),
-        (Some(path), Some(number)) => header_of_file(rt, path, number),
+    match run {
+        Run::SampleHeader(number) => header_of_sample(rt, number),
+        Run::ImageHeader(path, number) => header_of_file(rt, path, number),
+        Run::Check(path) => check_file(rt, path),
     }
 }
 

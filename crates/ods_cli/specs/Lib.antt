@@ -4,3 +4,5 @@ pub mod HeaderReply
 pub mod HeaderRun
 pub mod CheckReply
 pub mod CheckRun
+pub mod Runs
+pub mod Endings

@@ -7,8 +7,8 @@ ghost use Rattle.ods_cli.specs.CheckReply.{IsMountReply, count_lines, fault_line
 ghost use Rattle.ods_cli.specs.CheckRun.{EndsCheckRun};
 
 use crate::ServeFault;
+use crate::question::{Question, run};
 use crate::reply::{Reply, refused};
-use crate::run::{Question, run};
 use ods_alloc::{free_count, number_count};
 use ods_base::{Coded, Image};
 use ods_mount::{MountFault, Mounted, mount};

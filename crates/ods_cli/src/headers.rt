@@ -6,8 +6,8 @@ ghost use Rattle.ods_cli.specs.HeaderReply.{IsImageReply};
 ghost use Rattle.ods_cli.specs.HeaderRun.{EndsHeaderRun};
 
 use crate::ServeFault;
+use crate::question::{Question, run};
 use crate::reply::{Reply, refused};
-use crate::run::{Question, run};
 use ods_base::{Coded, Image};
 use ods_header::{LineFault, find_home, header_line};
 use std::alloc::{AllocError, Global};

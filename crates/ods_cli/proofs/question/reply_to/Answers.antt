@@ -2,7 +2,7 @@ use Rattle.std.specs.String.{string_bytes}
 use Rattle.std.proofs.Common.{inl}
 use Rattle.std.proofs.lemmas.Result.{err_from_is_err_and}
 use Rattle.ods_cli.proofs.Replies.{reply_about_bytes}
-use Rattle.ods_cli.proofs.run.reply_to.Goals as goal
+use Rattle.ods_cli.proofs.question.reply_to.Goals as goal
 
 pub returns-in_err-image : goal.returns-in_err-image
 returns-in_err-image g c =

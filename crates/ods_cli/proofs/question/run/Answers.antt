@@ -1,7 +1,7 @@
 use Rattle.std.specs.String.{string_bytes}
 use Rattle.std.proofs.lemmas.Result.{err_from_is_err_and}
 use Rattle.ods_cli.proofs.Replies.{no_reply, sent}
-use Rattle.ods_cli.proofs.run.run.Goals as goal
+use Rattle.ods_cli.proofs.question.run.Goals as goal
 
 pub returns-in_err-reply : goal.returns-in_err-reply
 returns-in_err-reply g c =
