@@ -3,3 +3,4 @@ pub mod Sound
 pub mod Checks
 pub mod Tables
 pub mod Refusals
+pub mod Laws

@@ -11,6 +11,7 @@ mod file_blocks;
 mod formats;
 mod held_twice;
 mod index;
+mod laws;
 mod layout;
 mod mounted;
 mod places;
@@ -19,4 +20,5 @@ mod system;
 
 pub use check::mount;
 pub use fault::MountFault;
+pub use laws::sound_has_no_fault;
 pub use mounted::Mounted;

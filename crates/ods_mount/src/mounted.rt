@@ -26,6 +26,7 @@ impl Model for Mounted {
 
 impl Mounted {
     ghost use Rattle.ods_mount.specs.Checks.{IsChecked};
+    ghost use Rattle.ods_mount.specs.Faults.{IsSound};
 
     /// An image that passed each check, with its layout.
     pub(crate) fn new(image: Image, layout: Layout) -> Mounted
@@ -35,10 +36,11 @@ impl Mounted {
         Mounted { image, layout }
     }
 
-    /// The image.
+    /// The image. No fault is true of it.
     pub fn image(&self) -> &Image
         ensures value { result.now ≡ self.now.image }
         ensures sound { IsSoundBy self.now.image self.now.layout }
+        ensures no_fault { IsSound self.now.image }
     {
         &self.image
     }

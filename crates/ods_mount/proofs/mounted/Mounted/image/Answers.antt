@@ -1,0 +1,8 @@
+use Rattle.std.proofs.Common.{subst}
+use Rattle.ods_space.specs.Layout.{Disk}
+use Rattle.ods_mount.specs.Faults.{IsSound}
+use Rattle.ods_mount.proofs.Soundness.{IsSound-by}
+use Rattle.ods_mount.proofs.mounted.Mounted.image.Goals as goal
+
+pub returns-clause-no_fault : goal.returns-clause-no_fault
+returns-clause-no_fault c = subst (λ (d : Disk). IsSound d.image) c.self.view_is (IsSound-by c.self.inside.image c.self.inside.layout c.self.invariant)

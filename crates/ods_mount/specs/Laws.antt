@@ -1,0 +1,8 @@
+-- That a sound image, said by what it has, is one of which no fault is true.
+use Rattle.std.specs.Prelude.{ℕ, List}
+use Rattle.ods_space.specs.Layout.{VolumeLayout}
+use Rattle.ods_mount.specs.Faults.{IsSound}
+use Rattle.ods_mount.specs.Sound.{IsSoundBy}
+
+abbrev pub SoundHasNoFault : Type 0
+SoundHasNoFault = (I : List (List ℕ)) (L : VolumeLayout) → IsSoundBy I L → IsSound I
