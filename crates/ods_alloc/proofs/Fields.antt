@@ -1,24 +1,20 @@
 -- The fields of a chain that grew: its pointers, its headers, and what else stays.
-use Rattle.std.proofs.Common.{◌≡◌, ℕ, zero, suc, ◌+◌, ◌-◌, ◌*◌, ◌/◌, ◌<◌, ◌≤◌, List, [], ◌∷◌, ◌++◌, length, take, drop, get_or, Some, refl, sym, ap, ◌∙◌, arith, append_assoc, inl}
+use Rattle.std.proofs.Common.{◌≡◌, ℕ, suc, ◌+◌, ◌-◌, ◌*◌, ◌/◌, ◌<◌, ◌≤◌, List, [], ◌∷◌, ◌++◌, length, take, drop, get_or, Some, refl, sym, ap, ◌∙◌, arith, append_assoc, inl}
 use Rattle.std.specs.Prelude.{slice_range}
 use Rattle.std.specs.List.{All, Contains, flat_map}
-use Rattle.std.proofs.lemmas.List.{append-nil, drop-drop, length-drop, length-take, ext_get_or, get_or-take, get_or-drop}
+use Rattle.std.proofs.lemmas.List.{append-nil, drop-drop, length-drop, take-append-drop}
 use Rattle.std.proofs.lemmas.List.FromFn.{length-map-range_with_len}
 use Rattle.std.proofs.lemmas.List.Elements.{All-nil, All-cons}
-use Rattle.ods_base.specs.Block.{byte, word}
+use Rattle.ods_base.specs.Block.{word}
 use Rattle.ods_header.specs.declared.header.Run.{Run}
 use Rattle.ods_header.specs.Header.{IsValidHeader, ident_word, map_word, used_words_of, most_words_of, ident_of, runs_of, run_at, room_of, blocks_of}
 use Rattle.ods_space.specs.Layout.{VolumeLayout, header_at}
 use Rattle.ods_space.specs.Chain.{Follows}
 use Rattle.ods_header.specs.Pointing.{KeepsFields}
 use Rattle.ods_header.specs.Extension.{IsExtensionOf}
+use Rattle.ods_header.proofs.Ranges.{same_range}
 use Rattle.ods_alloc.specs.Extend.{last_of}
 use Rattle.ods_alloc.specs.Chains.{IsLink}
-
-take_drop : (n : ℕ) (rs : List Run) → take n rs ++ drop n rs ≡ rs
-take_drop zero rs = refl
-take_drop (suc n) [] = refl
-take_drop (suc n) (r ∷ rs) = ap (λ l. r ∷ l) (take_drop n rs)
 
 -- the pointers of new headers, one after another
 pub new_runs : (f : ℕ → List Run) (ns : List ℕ) (rs : List Run) → ((i : ℕ) → i < length ns → f (get_or ns i 0) ≡ take 102 (drop (102 * i) rs)) → length rs ≤ 102 * length ns → flat_map f ns ≡ rs
@@ -29,7 +25,7 @@ new_runs f (y ∷ ys) rs each few =
     let rest = new_runs f ys (drop 102 rs) (λ i below.
     let at : 102 * suc i ≡ 102 + 102 * i = omega arith in
     each (suc i) (omega arith) ∙ ap (λ j. take 102 (drop j rs)) at ∙ ap (take 102) (sym (drop-drop (102 * i) 102 rs))) (omega arith) in
-    ap (λ l. l ++ flat_map f ys) (each 0 (omega arith)) ∙ ap (λ l. take 102 rs ++ l) rest ∙ take_drop 102 rs
+    ap (λ l. l ++ flat_map f ys) (each 0 (omega arith)) ∙ ap (λ l. take 102 rs ++ l) rest ∙ take-append-drop 102 rs
 
 -- each header of a chain
 pub all_links : (C : List (List ℕ)) (L : VolumeLayout) (P : ℕ → Type 0) → ((m k : ℕ) → IsLink C L m k → P m) → (os : List ℕ) (k m : ℕ) (front all : List ℕ) → Follows C L.home (Some L.index) front k m os all → All P (m ∷ os)
@@ -47,7 +43,7 @@ old_runs C L f g K z more same last (y ∷ ys) k m front all follows size is =
     ∙ sym (append_assoc (g m) (flat_map g (y ∷ ys)) more)
 
 pub whole_runs : (old runs : List Run) (room : ℕ) → (old ++ take room runs) ++ drop room runs ≡ old ++ runs
-whole_runs old runs room = append_assoc old (take room runs) (drop room runs) ∙ ap (λ l. old ++ l) (take_drop room runs)
+whole_runs old runs room = append_assoc old (take room runs) (drop room runs) ∙ ap (λ l. old ++ l) (take-append-drop room runs)
 
 -- the last header is one of the chain
 pub last_in : (n : ℕ) (others : List ℕ) → Contains (n ∷ others) (last_of n others)
@@ -63,16 +59,6 @@ made_full f b n valid extension count =
     let map : map_word b ≡ 46 = extension.offsets.1 in
     let most : most_words_of b ≡ 204 = extension.offsets.2 in
     omega (arith, size, count)
-
-same_range : (b c : List ℕ) (a n : ℕ) → length c ≡ length b → ((j : ℕ) → j < n → byte c (a + j) ≡ byte b (a + j)) → take n (drop a c) ≡ take n (drop a b)
-same_range b c a n size each =
-    let long : length (take n (drop a c)) ≡ length (take n (drop a b)) = simp (length-take, length-drop) (omega arith) in
-    ext_get_or 0 (take n (drop a c)) (take n (drop a b)) long (λ i below.
-    let few : i < n = below_take i (drop a c) below in
-    get_or-take n (drop a c) i 0 few ∙ get_or-drop a c i 0 ∙ each i few ∙ sym (get_or-drop a b i 0) ∙ sym (get_or-take n (drop a b) i 0 few))
-  where
-    below_take : (i : ℕ) (xs : List ℕ) → i < length (take n xs) → i < n
-    below_take i xs h = omega (arith, length-take n xs)
 
 -- an extension of a header is one of the header with other pointers
 pub extension_stays : (f g b : List ℕ) (n : ℕ) → IsValidHeader f n → length g ≡ length f → KeepsFields f g → IsExtensionOf f b → IsExtensionOf g b

@@ -20,12 +20,15 @@ use Rattle.ods_mount.specs.Faults.{contents_of, mark_at}
 use Rattle.ods_mount.specs.Sound.{IsSoundBy}
 use Rattle.ods_request.specs.declared.requests.Request.TheVariants.{Enter}
 use Rattle.ods_request.specs.declared.answers.Answer.TheVariants.{Entered}
+use Rattle.ods_request.specs.declared.refusals.Refusal.{Refusal}
 use Rattle.ods_request.specs.declared.rights.Right.TheVariants as right
 use Rattle.ods_request.specs.Catalogue.{Catalogue, Directory, names_of}
 use Rattle.ods_request.specs.Steps.{after, answer_of, entered_version, put, file_at, with_body}
 use Rattle.ods_state.specs.Contents.{file_of, body_of, ShowsBy}
-use Rattle.ods_state.specs.Change.{disk, IsCarriedOut}
-use Rattle.ods_state.specs.Wants.{Wants}
+use Rattle.ods_state.specs.Change.{disk}
+use Rattle.ods_state.specs.Served.{IsStepOf}
+use Rattle.ods_state.specs.Wants.{Lacks, Wants}
+use Rattle.ods_state.proofs.Served.{carried_is_step}
 use Rattle.ods_state.proofs.TwoChanges.{nothing_moves_on, put_put}
 use Rattle.ods_look.specs.Opening.{file_shown}
 use Rattle.ods_look.proofs.BlockPlaces.{blocks_are_one}
@@ -65,6 +68,9 @@ module _ {I : List (List ℕ)} {L : VolumeLayout} (S : IsSoundBy I L) {who : Uic
       let mark : mark_at I L n blocks ≡ new.opened.mark = ap (mark_at I L n) (blocks_are_one held e.own.is.held) ∙ sym e.own.is.mark in
       no_growth new.opened.blocks new.opened.mark new.slot w.1.0 e.slot stays_in
       (subst (λ m. IsSlot new.opened.blocks m w.1.0) mark (subst (λ bs. IsSlot bs (mark_at I L n blocks) w.1.0) same w.1.1)) w.1.2
+
+  nothing_lacking : (f : Refusal) → ¬ Lacks I L (Enter dir name given file) f
+  nothing_lacking f lacks = nothing_wanted lacks.headers lacks.blocks lacks.count lacks.wants
 
   module _ {lbn : ℕ} (h : Holds I L n (new.slot.at / 512 + 1) lbn) where
     abbrev entry_is : IsEntry I L dir new.opened new.slot.at lbn
@@ -106,9 +112,9 @@ module _ {I : List (List ℕ)} {L : VolumeLayout} (S : IsSoundBy I L) {who : Uic
       unfolding after
       kept_is_shown same = entry.names_shown entry_is new.bytes C shown names_then (ap (names_in now) (sym same) ∙ names_now)
 
-    -- where the mark stays, the Enter is carried out by the entry alone
-    pub enter_kept : new.slot.mark ≡ new.opened.mark → IsCarriedOut I L who (Enter dir name given file) (Entered new.version) J
-    enter_kept same = record {
+    -- where the mark stays, the Enter is made by the entry alone
+    pub enter_kept : new.slot.mark ≡ new.opened.mark → IsStepOf I L who (Enter dir name given file) (Entered new.version) J L
+    enter_kept same = carried_is_step I L who (Enter dir name given file) (Entered new.version) J refl nothing_lacking (record {
       answered = e.answered;
       sound = sound_now;
       shown = λ C shown. kept_is_shown C shown same;
@@ -125,7 +131,7 @@ module _ {I : List (List ℕ)} {L : VolumeLayout} (S : IsSoundBy I L) {who : Uic
         length-set I lbn b,
         λ y untouched. get_or-set_other I lbn y b [] (λ g. untouched (inr (inr (new.slot.at / 512 + 1, subst (λ z. Holds I L n (new.slot.at / 512 + 1) z) (sym g) h)))),
       );
-    }
+    })
 
     -- ---- where the mark moves, the header changes too
 
@@ -190,9 +196,9 @@ module _ {I : List (List ℕ)} {L : VolumeLayout} (S : IsSoundBy I L) {who : Uic
       own_header : Contains (n ∷ []) n
       own_header = (zero, omega arith, refl)
 
-      -- the Enter is carried out by the entry and the header with the new mark
-      pub enter_moved : IsCarriedOut I L who (Enter dir name given file) (Entered new.version) K
-      enter_moved = record {
+      -- the Enter is made by the entry and the header with the new mark
+      pub enter_moved : IsStepOf I L who (Enter dir name given file) (Entered new.version) K L
+      enter_moved = carried_is_step I L who (Enter dir name given file) (Entered new.version) K refl nothing_lacking (record {
         answered = e.answered;
         sound = header_change.still_sound header_is (λ d. still);
         shown = moved_is_shown;
@@ -220,4 +226,4 @@ module _ {I : List (List ℕ)} {L : VolumeLayout} (S : IsSoundBy I L) {who : Uic
               get_or-set_other J x y c [] (λ g. untouched (inr (inl (n, own_header, place ∙ ap Some (sym g)))))
               ∙ get_or-set_other I lbn y b [] (λ g. untouched (inr (inr (new.slot.at / 512 + 1, subst (λ z. Holds I L n (new.slot.at / 512 + 1) z) (sym g) h)))),
         );
-      }
+      })

@@ -1,5 +1,5 @@
 -- A Remove of a sound volume: what the blocks are then, and what they show.
-use Rattle.std.proofs.Common.{◌≡◌, ℕ, ◌+◌, ◌/◌, ◌%◌, ◌∙◌, ap, sym, subst, List, [], length, replicate, take, drop, arith}
+use Rattle.std.proofs.Common.{◌≡◌, refl, ℕ, ◌+◌, ◌/◌, ◌%◌, ◌∙◌, ap, sym, subst, List, [], length, replicate, take, drop, arith}
 use Rattle.std.specs.Prelude.{slice_set}
 use Rattle.std.specs.FinMap as map
 use Rattle.std.proofs.lemmas.List.{length-set, get_or-set_other}
@@ -23,7 +23,9 @@ use Rattle.ods_request.specs.Catalogue.{Catalogue, names_of}
 use Rattle.ods_request.specs.Steps.{after, file_at, found_version}
 use Rattle.ods_request.proofs.FaultTable.{fault_remove}
 use Rattle.ods_state.specs.Contents.{ShowsBy}
-use Rattle.ods_state.specs.Change.{IsAnsweredBy, IsCarriedOut}
+use Rattle.ods_state.specs.Change.{IsAnsweredBy}
+use Rattle.ods_state.specs.Served.{IsStepOf}
+use Rattle.ods_state.proofs.Served.{carried_is_step, lacks_nothing}
 use Rattle.ods_look.specs.declared.opening.OpenDirectory.{OpenDirectory}
 use Rattle.ods_look.specs.Opening.{IsOpenDirectory}
 use Rattle.ods_look.proofs.OpenDirectories.{names_there, no_fault, removed_is, version_is}
@@ -55,11 +57,11 @@ module _ {I : List (List ℕ)} {L : VolumeLayout} (S : IsSoundBy I L) {dir : Fil
         entry.names_shown entry_is (replicate 16 0) C shown (map.remove (names_of (file_at C dir).body) (key_of name (found_version C dir name pick)))
         (names ∙ (λ i. map.remove (sym there i) (key_of name (sym is i))))
 
-    -- the Remove is carried out by zeros over the entry
-    pub remove_carried_out : IsCarriedOut I L who (Remove dir name pick) (Removed file version) (slice_set I lbn b)
-    remove_carried_out =
+    -- the Remove is made by zeros over the entry
+    pub remove_is_step : IsStepOf I L who (Remove dir name pick) (Removed file version) (slice_set I lbn b) L
+    remove_is_step =
         let same = entry.headers_stay entry_is (replicate 16 0) in
-        record {
+        carried_is_step I L who (Remove dir name pick) (Removed file version) (slice_set I lbn b) refl (lacks_nothing I L (Remove dir name pick) refl) (record {
           answered = remove_answered;
           sound = entry.still_sound entry_is (replicate 16 0) opened.mark (omega arith) stays;
           shown = remove_is_shown;
@@ -72,4 +74,4 @@ module _ {I : List (List ℕ)} {L : VolumeLayout} (S : IsSoundBy I L) {dir : Fil
             length-set I lbn b,
             λ y untouched. get_or-set_other I lbn y b [] (λ g. untouched (at / 512 + 1, subst (λ z. Holds I L dir.number (at / 512 + 1) z) (sym g) h)),
           );
-        }
+        })

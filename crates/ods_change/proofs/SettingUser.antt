@@ -16,7 +16,8 @@ use Rattle.ods_request.specs.Catalogue.{Catalogue, Plain, blocks_of}
 use Rattle.ods_request.specs.Faults.{fault_of}
 use Rattle.ods_request.specs.Steps.{after, answer_of, put, file_at, no_file, with_body}
 use Rattle.ods_state.specs.Contents.{file_of, body_of, ShowsBy}
-use Rattle.ods_state.specs.Change.{IsCarriedOut}
+use Rattle.ods_state.specs.Served.{IsStepOf}
+use Rattle.ods_state.proofs.Served.{carried_is_step, lacks_nothing}
 use Rattle.ods_look.specs.Opening.{IsOpenPlain}
 use Rattle.ods_look.proofs.FileBodies.{plain_body, no_directory}
 use Rattle.ods_change.proofs.AttributesReplaced.{HasOtherAttributes, kind_stays, still_sound, body_shown, sequences_stay, moves_nothing}
@@ -62,10 +63,10 @@ module _ {I : List (List ℕ)} {L : VolumeLayout} (S : IsSoundBy I L) {who : Uic
   own : Contains (n ∷ []) n
   own = (zero, omega arith, refl)
 
-  -- the SetUser that is not refused is carried out by the header with those attributes
-  pub set_user_carried_out : ((C : Catalogue) → ShowsBy I L C → fault_of C who (SetUser id new) ≡ None) → IsCarriedOut I L who (SetUser id new) Done (slice_set I x b)
+  -- the SetUser that is not refused is made by the header with those attributes
+  pub set_user_is_step : ((C : Catalogue) → ShowsBy I L C → fault_of C who (SetUser id new) ≡ None) → IsStepOf I L who (SetUser id new) Done (slice_set I x b) L
   unfolding answer_of
-  set_user_carried_out fine = record {
+  set_user_is_step fine = carried_is_step I L who (SetUser id new) Done (slice_set I x b) refl (lacks_nothing I L (SetUser id new) refl) (record {
     answered = λ C shown. (fine C shown, refl);
     sound = still_sound header_is
         (λ says. absurd (no_directory n b (kind_stays header_is ∙ o.kind) says));
@@ -73,4 +74,4 @@ module _ {I : List (List ℕ)} {L : VolumeLayout} (S : IsSoundBy I L) {who : Uic
     sequences = sequences_stay header_is;
     moves = moves_nothing header_is;
     elsewhere = (length-set I x b, λ y untouched. get_or-set_other I x y b [] (λ e. untouched (n, own, place ∙ ap Some (sym e))));
-  }
+  })

@@ -16,8 +16,9 @@ use Rattle.ods_request.specs.Catalogue.{Catalogue, Plain}
 use Rattle.ods_request.specs.Faults.{fault_of}
 use Rattle.ods_request.specs.Steps.{after, answer_of, put, file_at, no_file, with_body, written}
 use Rattle.ods_state.specs.Contents.{file_of, body_of, ShowsBy}
-use Rattle.ods_state.specs.Change.{IsCarriedOut}
+use Rattle.ods_state.specs.Served.{IsStepOf}
 use Rattle.ods_state.proofs.BlockShown as block
+use Rattle.ods_state.proofs.Served.{carried_is_step, lacks_nothing}
 use Rattle.ods_look.specs.Opening.{IsOpenPlain}
 use Rattle.ods_look.proofs.FileBodies.{plain_body, no_directory, other_contents}
 
@@ -57,19 +58,19 @@ module _ {I : List (List ℕ)} {L : VolumeLayout} (S : IsSoundBy I L) {who : Uic
         let body : body_of n header new ≡ written (file_at C id).body vbn b = plain new ∙ ap (λ d. written d vbn b) (sym body_there) in
         ap (λ f. put C id (with_body f (written (file_at C id).body vbn b))) there ∙ ap (put C id) (sym (other_contents n header old new (written (file_at C id).body vbn b) body))
 
-  -- the Write that is not refused is carried out by setting the block
-  pub write_carried_out : ((C : Catalogue) → ShowsBy I L C → fault_of C who (Write id vbn b) ≡ None) → IsCarriedOut I L who (Write id vbn b) Done (slice_set I x b)
+  -- the Write that is not refused is made by setting the block
+  pub write_is_step : ((C : Catalogue) → ShowsBy I L C → fault_of C who (Write id vbn b) ≡ None) → IsStepOf I L who (Write id vbn b) Done (slice_set I x b) L
   unfolding answer_of
-  write_carried_out fine =
+  write_is_step fine =
       let one = other 1 (omega arith) in
       let two = other 2 (omega arith) in
       let three = other 3 (omega arith) in
       let five = other 5 (omega arith) in
-      record {
+      carried_is_step I L who (Write id vbn b) Done (slice_set I x b) refl (lacks_nothing I L (Write id vbn b) refl) (record {
         answered = λ C shown. (fine C shown, refl);
         sound = block.block_is_sound I L S id vbn x b h one two three five (λ d. absurd (no_directory n header o.kind d.1));
         shown = λ C shown. subst (λ D. ShowsBy (slice_set I x b) L D) (sym (after_is C shown)) (block.block_is_shown I L S id vbn x b h one two three five o.file.1 C shown);
         sequences = block.sequences_stay I L S id vbn x b h one two three five;
         moves = block.nothing_moves I L S id vbn x b h one two three five;
         elsewhere = (length-set I x b, λ y untouched. get_or-set_other I x y b [] (λ e. untouched (subst (λ z. Holds I L n vbn z) (sym e) h)));
-      }
+      })

@@ -1,11 +1,12 @@
 //! An Enter: its checks, which find the entry to be written, and the draft of one that takes no block.
-ghost use Rattle.std.specs.Prelude.{◌≡◌, MatchOption, MatchResult};
+ghost use Rattle.std.specs.Prelude.{◌≡◌, ◌≢◌, MatchOption, MatchResult};
 ghost use Rattle.ods_mount.specs.Sound.{IsSoundBy};
 ghost use Rattle.ods_request.specs.declared.answers.Answer.TheVariants.{Entered};
 ghost use Rattle.ods_request.specs.declared.requests.Request.TheVariants.{Enter};
 ghost use Rattle.ods_space.specs.Draft.{applied};
-ghost use Rattle.ods_state.specs.Change.{IsCarriedOut, IsFaultBy, IsRefusedBy};
+ghost use Rattle.ods_state.specs.Change.{IsFaultBy};
 ghost use Rattle.ods_state.specs.Outcome.{CanBeAsked};
+ghost use Rattle.ods_state.specs.Served.{IsStepOf, IsRefusalOf};
 ghost use Rattle.ods_change.specs.Entering.{IsNewEntry, NeedsBlock, refusal_of};
 
 use crate::drafting::{marked_header, one_block, two_blocks, with_entry};
@@ -88,10 +89,12 @@ pub fn enter_here(
 ) -> Result<Option<(Draft, u16)>, Refusal>
     requires sound { IsSoundBy image.now layout.now }
     requires asked { CanBeAsked (Enter dir name version file) }
+    // What the volume lacks is not asked for here: each refusal but want of memory is the first fault.
     ensures { MatchResult result
         (λ o. MatchOption o (NeedsBlock image.now layout.now who dir name version file)
-        (λ r. IsCarriedOut image.now layout.now who (Enter dir name version file) (Entered r.1) (applied image.now r.0)))
-        (λ f. IsRefusedBy image.now layout.now who (Enter dir name version file) f) }
+        (λ r. IsStepOf image.now layout.now who (Enter dir name version file) (Entered r.1) (applied image.now r.0) layout.now))
+        (λ f. IsRefusalOf image.now layout.now who (Enter dir name version file) f
+        × (f ≢ Refusal.NoMemory → IsFaultBy image.now layout.now who (Enter dir name version file) f)) }
 {
     let entry = match new_entry(image, layout, who, dir, name, version, file) {
         Ok(entry) => entry,

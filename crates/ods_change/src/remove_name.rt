@@ -4,7 +4,7 @@ ghost use Rattle.ods_mount.specs.Sound.{IsSoundBy};
 ghost use Rattle.ods_request.specs.declared.answers.Answer.TheVariants.{Removed};
 ghost use Rattle.ods_request.specs.declared.requests.Request.TheVariants.{Remove};
 ghost use Rattle.ods_space.specs.Draft.{applied};
-ghost use Rattle.ods_state.specs.Change.{IsCarriedOut, IsRefusedBy};
+ghost use Rattle.ods_state.specs.Served.{IsStepOf, IsRefusalOf};
 
 use crate::drafting::{one_block, with_entry};
 use ods_base::{FileId, Image, Name, Pick, Uic};
@@ -26,8 +26,8 @@ pub fn remove(
 ) -> Result<(Draft, FileId, u16), Refusal>
     requires { IsSoundBy image.now layout.now }
     ensures { MatchResult result
-        (λ r. IsCarriedOut image.now layout.now who (Remove dir name pick) (Removed r.1 r.2) (applied image.now r.0))
-        (λ f. IsRefusedBy image.now layout.now who (Remove dir name pick) f) }
+        (λ r. IsStepOf image.now layout.now who (Remove dir name pick) (Removed r.1 r.2) (applied image.now r.0) layout.now)
+        (IsRefusalOf image.now layout.now who (Remove dir name pick)) }
 {
     let opened = match open_directory(image, layout, who, dir, Right::Write) {
         Ok(opened) => opened,

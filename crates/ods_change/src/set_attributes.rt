@@ -4,7 +4,7 @@ ghost use Rattle.ods_mount.specs.Sound.{IsSoundBy};
 ghost use Rattle.ods_request.specs.declared.answers.Answer.TheVariants.{Done};
 ghost use Rattle.ods_request.specs.declared.requests.Request.TheVariants.{SetUser};
 ghost use Rattle.ods_space.specs.Draft.{applied};
-ghost use Rattle.ods_state.specs.Change.{IsCarriedOut, IsRefusedBy};
+ghost use Rattle.ods_state.specs.Served.{IsStepOf, IsRefusalOf};
 
 use crate::drafting::one_block;
 use ods_base::{FileId, Image, Uic};
@@ -25,8 +25,8 @@ pub fn set_user(
 ) -> Result<Draft, Refusal>
     requires { IsSoundBy image.now layout.now }
     ensures { MatchResult result
-        (λ draft. IsCarriedOut image.now layout.now who (SetUser file attributes) Done (applied image.now draft))
-        (λ f. IsRefusedBy image.now layout.now who (SetUser file attributes) f) }
+        (λ draft. IsStepOf image.now layout.now who (SetUser file attributes) Done (applied image.now draft) layout.now)
+        (IsRefusalOf image.now layout.now who (SetUser file attributes)) }
 {
     let first = match open_plain(image, layout, who, file, 5, Right::Write) {
         Ok(first) => first,

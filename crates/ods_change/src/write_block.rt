@@ -4,7 +4,7 @@ ghost use Rattle.ods_mount.specs.Sound.{IsSoundBy};
 ghost use Rattle.ods_request.specs.declared.answers.Answer.TheVariants.{Done};
 ghost use Rattle.ods_request.specs.declared.requests.Request.TheVariants.{Write as WriteRequest};
 ghost use Rattle.ods_space.specs.Draft.{applied};
-ghost use Rattle.ods_state.specs.Change.{IsCarriedOut, IsRefusedBy};
+ghost use Rattle.ods_state.specs.Served.{IsStepOf, IsRefusalOf};
 
 use crate::drafting::one_block;
 use ods_base::{Block, FileId, Image, Uic};
@@ -25,8 +25,8 @@ pub fn write(
 ) -> Result<Draft, Refusal>
     requires { IsSoundBy image.now layout.now }
     ensures { MatchResult result
-        (λ draft. IsCarriedOut image.now layout.now who (WriteRequest file vbn block.now) Done (applied image.now draft))
-        (λ f. IsRefusedBy image.now layout.now who (WriteRequest file vbn block.now) f) }
+        (λ draft. IsStepOf image.now layout.now who (WriteRequest file vbn block.now) Done (applied image.now draft) layout.now)
+        (IsRefusalOf image.now layout.now who (WriteRequest file vbn block.now)) }
 {
     let lbn = match open_block(image, layout, who, file, 5, Right::Write, vbn) {
         Ok(lbn) => lbn,

@@ -3,7 +3,7 @@ use Rattle.std.proofs.Common.{◌≡◌, ℕ, ◌+◌, ◌-◌, ◌*◌, ◌<◌
 use Rattle.std.specs.Prelude.{slice_range}
 use Rattle.ods_base.specs.Block.{IsBlock, byte, word, with_bytes}
 use Rattle.ods_base.proofs.Blocks.{byte-with_bytes, byte-with_bytes_before, byte-with_bytes_behind}
-use Rattle.ods_header.specs.Header.{IsValidHeader, IsLaidOut, runs_of, used_words_of, most_words_of, map_word, ident_word, ident_of, ident_ext_of, segment_of, sequence_of, next_volume_of, next_number_of, next_sequence_of}
+use Rattle.ods_header.specs.Header.{IsValidHeader, IsLaidOut, runs_of, used_words_of, most_words_of, map_word, ident_word, ident_of, ident_ext_of, segment_of}
 use Rattle.ods_header.specs.Writing.{with_sum}
 use Rattle.ods_header.specs.Attributes.{IsWithAttributes, KeepsOtherFields}
 use Rattle.ods_header.proofs.HeaderPlaces.{same_runs}
@@ -39,14 +39,11 @@ module _ (b new c : List ℕ) (w : IsWithAttributes b new c) where
   word_tail : (k : ℕ) → 23 ≤ k → k < 255 → word c k ≡ word b k
   word_tail k low high = λ i. tail (2 * k) (omega arith) (omega arith) i + 256 * tail (2 * k + 1) (omega arith) (omega arith) i
 
-  pub ident_word_is : ident_word c ≡ ident_word b
+  ident_word_is : ident_word c ≡ ident_word b
   ident_word_is = head 0 (omega arith)
 
-  pub map_word_is : map_word c ≡ map_word b
+  map_word_is : map_word c ≡ map_word b
   map_word_is = head 1 (omega arith)
-
-  pub sequence_is : sequence_of c ≡ sequence_of b
-  sequence_is = word_head 2 (omega arith)
 
   module _ (laid : IsLaidOut b) where
     -- a byte of the map area, and a word of it
@@ -60,19 +57,10 @@ module _ (b new c : List ℕ) (w : IsWithAttributes b new c) where
         let p = laid.ident in let q = laid.map in let r = laid.low in
         ap (λ m. word c (m + k)) map_word_is ∙ word_tail (map_word b + k) (omega arith) (omega arith)
 
-    pub segment_is : segment_of c ≡ segment_of b
+    segment_is : segment_of c ≡ segment_of b
     segment_is = ap (byte c) (omega arith) ∙ map_byte 0 (omega arith) ∙ ap (byte b) (omega arith)
 
-    pub next_volume_is : next_volume_of c ≡ next_volume_of b
-    next_volume_is = map_byte 1 (omega arith)
-
-    pub next_number_is : next_number_of c ≡ next_number_of b
-    next_number_is = map_words 1 (omega arith)
-
-    pub next_sequence_is : next_sequence_of c ≡ next_sequence_of b
-    next_sequence_is = map_words 2 (omega arith)
-
-    pub ident_is : ident_of c ≡ ident_of b
+    ident_is : ident_of c ≡ ident_of b
     ident_is =
         let p = laid.ident in let q = laid.map in let r = laid.low in
         ap (λ k. slice_range c (2 * k) (2 * k + 46)) ident_word_is
@@ -89,7 +77,7 @@ module _ (b new c : List ℕ) (w : IsWithAttributes b new c) where
     used_is : used_words_of c ≡ used_words_of b
     used_is = map_byte 8 (omega arith)
 
-    pub runs_are : runs_of c ≡ runs_of b
+    runs_are : runs_of c ≡ runs_of b
     runs_are = same_runs b c map_word_is used_is (λ i below above. let p = laid.ident in let q = laid.map in let f = laid.fits in tail i (omega arith) (omega arith))
 
     laid_out : IsLaidOut c
@@ -101,7 +89,7 @@ module _ (b new c : List ℕ) (w : IsWithAttributes b new c) where
         let p = laid.ident in let q = laid.map in let r = laid.low in let s = laid.even in let v = laid.room in let f = laid.fits in
         record { ident = omega arith; map = omega arith; low = omega arith; even = omega arith; room = omega arith; fits = omega arith }
 
-  pub stays_valid : (n : ℕ) → IsValidHeader b n → IsValidHeader c n
+  stays_valid : (n : ℕ) → IsValidHeader b n → IsValidHeader c n
   stays_valid n v = record {
     header = record {
       checksum = w.checksum;
@@ -125,8 +113,8 @@ module _ (b new c : List ℕ) (w : IsWithAttributes b new c) where
           attributes = w.attributes i;
           ident = ident_is laid i;
           segment = segment_is laid i;
-          next = record { number = next_number_is laid i; sequence = next_sequence_is laid i };
-          next_volume = next_volume_is laid i;
+          next = record { number = map_words laid 1 (omega arith) i; sequence = map_words laid 2 (omega arith) i };
+          next_volume = map_byte laid 1 (omega arith) i;
           ident_offset = ident_word_is i;
           map_offset = map_word_is i;
           most_words = map_byte laid 9 (omega arith) i;

@@ -1,28 +1,32 @@
 -- The blocks that a file of a sound image has: how many, and which at a place, counted from 0.
-use Rattle.std.proofs.Common.{◌≡◌, ◌≢◌, ℕ, ◌+◌, ◌-◌, ◌<◌, ◌≤◌, refl, ap, sym, ◌∙◌, subst, true, List, [], length, Option, Some, None, arith}
+use Rattle.std.proofs.Common.{◌≡◌, ℕ, ◌+◌, ◌-◌, ◌<◌, ◌≤◌, refl, ap, sym, ◌∙◌, subst, true, List, [], length, Option, Some, None, arith}
 use Rattle.std.specs.Prelude.{slice_get, slice_index, is_some}
 use Rattle.std.specs.Option.{IfSome, IfNone, option_map}
 use Rattle.std.proofs.lemmas.Option.{slice_get-map, get_or_from_slice_get, slice_get-get_or}
 use Rattle.std.proofs.lemmas.List.{length-map}
 use Rattle.ods_base.specs.Image.{IsImage, block_at}
 use Rattle.ods_space.specs.Layout.{VolumeLayout}
-use Rattle.ods_space.specs.Chain.{index_for}
+use Rattle.ods_space.specs.Chain.{index_for, named_by}
 use Rattle.ods_space.specs.Files.{IsFile, HasBlocks, Holds}
 use Rattle.ods_space.proofs.Sizes.{chain_size}
+use Rattle.ods_space.proofs.Wholes.{chain_seen}
 use Rattle.ods_mount.specs.Faults.{contents_of}
 use Rattle.ods_mount.specs.Sound.{IsSoundBy}
 use Rattle.ods_state.proofs.Frame.{chain_is_one}
 use Rattle.ods_space.specs.Chain.{chain_blocks}
 use Rattle.ods_look.specs.Blocks.{blocks_in_order}
-use Rattle.ods_look.proofs.InOrder.{order_is}
 
 module _ {I : List (List ℕ)} {L : VolumeLayout} {n : ℕ} where
   pub blocks_are_one : {xs ys : List ℕ} → HasBlocks I L n xs → HasBlocks I L n ys → xs ≡ ys
   blocks_are_one {xs = xs} {ys = ys} h g = (chain_is_one I L.home (index_for L n) [] 0 n h.others g.others xs ys h.whole.chain g.whole.chain).1
 
   -- the blocks in order are the file's
-  pub in_order : IsImage I → IsSoundBy I L → IsFile I L n → n ≢ 1 → HasBlocks I L n (blocks_in_order I L n)
-  in_order image S file other = let whole = S.chains n file in subst (HasBlocks I L n) (order_is I L image n whole.0 other whole.1) whole.1
+  pub in_order : IsImage I → IsSoundBy I L → IsFile I L n → HasBlocks I L n (blocks_in_order I L n)
+  unfolding blocks_in_order
+  in_order image S file =
+      let whole = S.chains n file in
+      let seen = chain_seen I L n whole.1.others whole.0 image S.layout whole.1.whole.chain in
+      subst (HasBlocks I L n) (seen.named ∙ ap named_by (sym seen.headers)) whole.1
 
   pub few_blocks : {xs : List ℕ} → IsImage I → HasBlocks I L n xs → length xs ≤ chain_blocks
   few_blocks {xs = xs} image h = chain_size I L.home (index_for L n) n h.others xs image h.whole.chain

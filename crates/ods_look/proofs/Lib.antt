@@ -3,6 +3,5 @@ pub mod FileBodies
 pub mod FilesFound
 pub mod BlockPlaces
 pub mod BlocksRead
-pub mod InOrder
 pub mod OpenDirectories
 pub mod StatAnswers

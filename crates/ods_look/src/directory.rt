@@ -3,7 +3,8 @@ ghost use Rattle.std.specs.Prelude.{MatchResult};
 ghost use Rattle.ods_mount.specs.Sound.{IsSoundBy};
 ghost use Rattle.ods_request.specs.declared.requests.Request.TheVariants.{LookUp, List as Lines};
 ghost use Rattle.ods_request.specs.declared.answers.Answer.TheVariants.{Found, Names};
-ghost use Rattle.ods_state.specs.Change.{IsAnsweredBy, IsFaultBy, IsRefusedBy};
+ghost use Rattle.ods_state.specs.Change.{IsAnsweredBy};
+ghost use Rattle.ods_state.specs.Served.{IsRefusalOf};
 
 use crate::opening::open_directory;
 use ods_base::{FileId, Image, Name, Pick, Uic};
@@ -23,7 +24,7 @@ pub fn look_up(
 ) -> Result<(FileId, u16), Refusal>
     requires { IsSoundBy image.now layout.now }
     ensures { MatchResult result (λ found. IsAnsweredBy image.now layout.now who (LookUp dir name pick) (Found found.0 found.1))
-        (IsFaultBy image.now layout.now who (LookUp dir name pick)) }
+        (IsRefusalOf image.now layout.now who (LookUp dir name pick)) }
 {
     let opened = match open_directory(image, layout, who, dir, Right::Read) {
         Ok(opened) => opened,
@@ -48,7 +49,7 @@ pub fn list(
 ) -> Result<Listing, Refusal>
     requires { IsSoundBy image.now layout.now }
     ensures { MatchResult result (λ lines. IsAnsweredBy image.now layout.now who (Lines dir) (Names lines))
-        (IsRefusedBy image.now layout.now who (Lines dir)) }
+        (IsRefusalOf image.now layout.now who (Lines dir)) }
 {
     let opened = match open_directory(image, layout, who, dir, Right::Read) {
         Ok(opened) => opened,

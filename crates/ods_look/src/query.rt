@@ -1,5 +1,7 @@
 //! The answers of the requests that only look and take no memory.
-ghost use Rattle.ods_state.specs.Change.{IsAnswered};
+ghost use Rattle.std.specs.Prelude.{MatchResult};
+ghost use Rattle.ods_state.specs.Change.{IsAnsweredBy};
+ghost use Rattle.ods_state.specs.Served.{IsRefusalOf};
 ghost use Rattle.ods_state.specs.Outcome.{request_of};
 ghost use Rattle.ods_mount.specs.Sound.{IsSoundBy};
 
@@ -13,7 +15,7 @@ use ods_space::Layout;
 /// The answer of a query, or its first fault.
 pub fn look(image: &Image, layout: &Layout, who: Uic, query: Query) -> Result<Answer, Refusal>
     requires { IsSoundBy image.now layout.now }
-    ensures { IsAnswered image.now layout.now who (request_of query) result }
+    ensures { MatchResult result (IsAnsweredBy image.now layout.now who (request_of query)) (IsRefusalOf image.now layout.now who (request_of query)) }
 {
     match query {
         Query::LookUp { dir, name, pick } => match look_up(image, layout, who, dir, name, pick) {

@@ -2,7 +2,8 @@
 ghost use Rattle.std.specs.Prelude.{MatchResult};
 ghost use Rattle.ods_request.specs.declared.requests.Request.TheVariants.{Read as ReadRequest};
 ghost use Rattle.ods_request.specs.declared.answers.Answer.TheVariants.{Bytes};
-ghost use Rattle.ods_state.specs.Change.{IsAnsweredBy, IsFaultBy};
+ghost use Rattle.ods_state.specs.Change.{IsAnsweredBy};
+ghost use Rattle.ods_state.specs.Served.{IsRefusalOf};
 ghost use Rattle.ods_mount.specs.Sound.{IsSoundBy};
 
 use crate::opening::open_block;
@@ -20,7 +21,7 @@ pub fn read(
 ) -> Result<Block, Refusal>
     requires { IsSoundBy image.now layout.now }
     ensures { MatchResult result (λ block. IsAnsweredBy image.now layout.now who (ReadRequest file vbn) (Bytes block))
-        (IsFaultBy image.now layout.now who (ReadRequest file vbn)) }
+        (IsRefusalOf image.now layout.now who (ReadRequest file vbn)) }
 {
     match open_block(image, layout, who, file, 2, Right::Read, vbn) {
         Ok(lbn) => Ok(*image.block(lbn)),

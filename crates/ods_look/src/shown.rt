@@ -9,7 +9,8 @@ ghost use Rattle.ods_request.specs.declared.requests.Request.TheVariants.{Stat a
 ghost use Rattle.ods_request.specs.declared.answers.Answer.TheVariants.{Info};
 ghost use Rattle.ods_request.specs.Steps.{kind_of};
 ghost use Rattle.ods_state.specs.Contents.{body_of};
-ghost use Rattle.ods_state.specs.Change.{IsAnsweredBy, IsFaultBy};
+ghost use Rattle.ods_state.specs.Change.{IsAnsweredBy};
+ghost use Rattle.ods_state.specs.Served.{IsRefusalOf};
 
 use crate::opening::{directory_at, named_header};
 use ods_base::{Block, FileId, Image};
@@ -22,7 +23,7 @@ use ods_space::{Layout, count_whole};
 pub fn stat(image: &Image, layout: &Layout, file: FileId) -> Result<Stat, Refusal>
     requires { IsSoundBy image.now layout.now }
     ensures { MatchResult result (λ stat. (who : Uic) → IsAnsweredBy image.now layout.now who (StatRequest file) (Info stat))
-        (λ f. (who : Uic) → IsFaultBy image.now layout.now who (StatRequest file) f) }
+        (λ f. (who : Uic) → IsRefusalOf image.now layout.now who (StatRequest file) f) }
 {
     let Some(block) = named_header(image, layout, file) else {
         return Err(Refusal::NoSuchFile);

@@ -74,7 +74,7 @@ module _ (I : List (List ℕ)) (L : VolumeLayout) (n first : ℕ) (old : List (�
     along_few = omega (arith, w.size, ap length w.parts, length-append w.front (named_by old), named_few I L n blocks image layout has)
 
     -- all blocks are named
-    pub along_all : old ≡ [] → length blocks ≡ first
+    along_all : old ≡ [] → length blocks ≡ first
     along_all none = ap length (named_all I L n blocks image layout has ∙ w.parts ∙ ap (λ hs. w.front ++ named_by hs) none ∙ append-nil w.front) ∙ sym w.size
 
 -- what header k of a chain names, from its pointer i on
@@ -121,7 +121,7 @@ module _ (I : List (List ℕ)) (L : VolumeLayout) (home n i : ℕ) (set : List �
   passed_twice member = held_twice I L n p.blocks p.before b p.has p.table (noted_there p.before set p.blocks i b p.noted next_block member)
 
 -- all blocks are passed
-pub passed_all : (I : List (List ℕ)) (L : VolumeLayout) (home n i : ℕ) (set blocks : List ℕ) → IsPassed I L home n i set → HasBlocks I L n blocks → length blocks ≡ i
+passed_all : (I : List (List ℕ)) (L : VolumeLayout) (home n i : ℕ) (set blocks : List ℕ) → IsPassed I L home n i set → HasBlocks I L n blocks → length blocks ≡ i
     → IsTable (Holds I L) (n + 1) set × NoneIsFree I L blocks × NoneIsPlace home n blocks
 passed_all I L home n i set blocks p has size =
     let same : p.blocks ≡ blocks = same_blocks I L n p.blocks blocks p.has has in
@@ -132,3 +132,8 @@ passed_all I L home n i set blocks p has size =
     let place : NoneIsPlace home n p.blocks = each_of (λ j b. IsHomePlace b → b < home → IsFixed n j) p.blocks i (omega arith) p.no_place in
     let moved = subst Q same (free, place) in
     (table_held I L n p.blocks p.before set p.has p.table (subst P count p.noted), moved.0, moved.1)
+
+-- at the end of a file's headers all its blocks are passed
+pub passed_along : (I : List (List ℕ)) (L : VolumeLayout) (home n first : ℕ) (left : List (ℕ × List ℕ)) (set blocks : List ℕ) → IsAlong I L n first left → IsPassed I L home n first set
+    → IsImage I → IsLayoutOf I L → HasBlocks I L n blocks → left ≡ [] → IsTable (Holds I L) (n + 1) set × NoneIsFree I L blocks × NoneIsPlace home n blocks
+passed_along I L home n first left set blocks w p image layout has none = passed_all I L home n first set blocks p has (along_all I L n first left w blocks image layout has none)

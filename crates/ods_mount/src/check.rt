@@ -44,7 +44,7 @@ fn check_image(alloc: Global, image: &Image) -> Result<Layout, MountFault>
     }
 }
 
-/// Each check of an image that has this layout, and its home block at the LBN `home`.
+/// Each check of an image that has this layout, and its home block at this LBN.
 fn check_volume(
     alloc: Global,
     image: &Image,

@@ -1,5 +1,5 @@
 -- What is looked up in a draft, and what an image becomes, with one change more.
-use Rattle.std.proofs.Common.{◌≡◌, ℕ, zero, suc, ◌+◌, ◌-◌, ◌<◌, ◌≤◌, Bool, true, false, cond, nat_eq, List, [], ◌∷◌, ◌++◌, map, length, set, get_or, take, Option, Some, None, refl, sym, ap, ◌∙◌, arith, inl, inr}
+use Rattle.std.proofs.Common.{◌≡◌, ◌≢◌, ℕ, zero, suc, ◌+◌, ◌-◌, ◌<◌, ◌≤◌, Bool, true, false, cond, nat_eq, List, [], ◌∷◌, ◌++◌, map, length, set, get_or, take, Option, Some, None, refl, sym, ap, ◌∙◌, arith, inl, inr}
 use Rattle.std.specs.Prelude.{unwrap_or}
 use Rattle.std.specs.List.{range_with_len}
 use Rattle.std.proofs.lemmas.Bool.{cases_lt, cases_eq, eqb-true, eqb-false}
@@ -81,20 +81,13 @@ change_at-zeros_inside a (suc n) lbn above below = by (nat_eq a lbn) refl (λ hi
     by true e rest = refl
     by false e rest = let ne = eqb-false a lbn e in rest (omega arith)
 
-pub change_at-zeros_below : (a n lbn : ℕ) → lbn < a → change_at (zeros_from a n) lbn ≡ None
-change_at-zeros_below a zero lbn below = refl
-change_at-zeros_below a (suc n) lbn below = by (nat_eq a lbn) refl (change_at-zeros_below (a + 1) n lbn (omega arith))
+-- a block that is none of the run is not changed
+pub change_at-zeros_outside : (a n lbn : ℕ) → ((k : ℕ) → k < n → a + k ≢ lbn) → change_at (zeros_from a n) lbn ≡ None
+change_at-zeros_outside a zero lbn apart = refl
+change_at-zeros_outside a (suc n) lbn apart = by (nat_eq a lbn) refl (change_at-zeros_outside (a + 1) n lbn (λ k small e. apart (suc k) (omega arith) (omega (arith, e))))
   where
     by : (t : Bool) → nat_eq a lbn ≡ t → change_at (zeros_from (a + 1) n) lbn ≡ None → cond t (Some zeros) (change_at (zeros_from (a + 1) n) lbn) ≡ None
-    by true e rest = let same = eqb-true a lbn e in absurd (omega arith)
-    by false e rest = rest
-
-pub change_at-zeros_above : (a n lbn : ℕ) → a + n ≤ lbn → change_at (zeros_from a n) lbn ≡ None
-change_at-zeros_above a zero lbn above = refl
-change_at-zeros_above a (suc n) lbn above = by (nat_eq a lbn) refl (change_at-zeros_above (a + 1) n lbn (omega arith))
-  where
-    by : (t : Bool) → nat_eq a lbn ≡ t → change_at (zeros_from (a + 1) n) lbn ≡ None → cond t (Some zeros) (change_at (zeros_from (a + 1) n) lbn) ≡ None
-    by true e rest = let same = eqb-true a lbn e in absurd (omega arith)
+    by true e rest = let same = eqb-true a lbn e in absurd (apart 0 (omega arith) (omega (arith, same)))
     by false e rest = rest
 
 -- an image whose blocks of the run are zeros, and the others as they were
@@ -127,13 +120,13 @@ cleared_all I J r to done few rest = applied_is I J (zeroed r []) done.size each
 
     each : (k : ℕ) → k < length I → block_at J k ≡ seen_at I (zeroed r []) k
     each k within = elim (cases_lt k r.lbn) [
-      | inl low ↦ done.below k low ∙ sym (ap (λ f. unwrap_or (f k) (block_at I k)) same ∙ ap (λ o. unwrap_or o (block_at I k)) (change_at-zeros_below r.lbn r.count k low))
+      | inl low ↦ done.below k low ∙ sym (ap (λ f. unwrap_or (f k) (block_at I k)) same ∙ ap (λ o. unwrap_or o (block_at I k)) (change_at-zeros_outside r.lbn r.count k (λ j small e. absurd (omega (arith, e)))))
       | inr high ↦ elim (cases_lt k (r.lbn + r.count)) [
         | inl in_run ↦ elim (cases_lt k to) [
           | inl reached ↦ done.inside k high reached within ∙ sym (ap (λ f. unwrap_or (f k) (block_at I k)) same ∙ ap (λ o. unwrap_or o (block_at I k)) (change_at-zeros_inside r.lbn r.count k high in_run))
           | inr left ↦ let past = rest k left in_run in absurd (omega arith)
         ]
-        | inr behind ↦ done.above k (omega arith) ∙ sym (ap (λ f. unwrap_or (f k) (block_at I k)) same ∙ ap (λ o. unwrap_or o (block_at I k)) (change_at-zeros_above r.lbn r.count k behind))
+        | inr behind ↦ done.above k (omega arith) ∙ sym (ap (λ f. unwrap_or (f k) (block_at I k)) same ∙ ap (λ o. unwrap_or o (block_at I k)) (change_at-zeros_outside r.lbn r.count k (λ j small e. absurd (omega (arith, e)))))
       ]
     ]
 

@@ -83,3 +83,8 @@ module _ (I : List (List ℕ)) (L : VolumeLayout) (who : Uic) (r : Request) (f :
       by None (inl lacks) = absurd (there lacks)
       by None (inr short) = let wrong : true ≡ false = sym short.1 ∙ none in absurd (cc)
       by (Some g) is = ap Some (sym is)
+
+-- where there is no fault, want of memory is a refusal of a request that takes memory
+pub refused_for_memory : (I : List (List ℕ)) (L : VolumeLayout) (who : Uic) (r : Request) → takes_memory r ≡ true → ((C : Catalogue) → ShowsBy I L C → fault_of C who r ≡ None)
+    → IsRefusalOf I L who r refusal.NoMemory
+refused_for_memory I L who r takes fine C shown = subst (λ o. MatchOption o (IsShortOf I L r refusal.NoMemory) (λ g. refusal.NoMemory ≡ g)) (sym (fine C shown)) (inr (refl, takes))

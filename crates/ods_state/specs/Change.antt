@@ -1,6 +1,5 @@
--- What a request that makes no file is answered by a sound image, and what it makes of the blocks.
-use Rattle.std.specs.Prelude.{◌≡◌, ◌≤◌, ℕ, List, MatchOption, MatchResult, None, Some}
-use Rattle.std.specs.declared.result.Result.{Result}
+-- What a request that makes no file is answered by a sound image, and what it makes of the blocks: the forms in which proofs find a step and a refusal of `Served`.
+use Rattle.std.specs.Prelude.{◌≡◌, ◌≤◌, ℕ, List, MatchOption, None, Some}
 use Rattle.ods_base.specs.declared.file_id.Uic.{Uic}
 use Rattle.ods_header.specs.Header.{sequence_of}
 use Rattle.ods_space.specs.Layout.{Disk, VolumeLayout, header_at}
@@ -27,15 +26,12 @@ IsAnsweredBy I L who r a = (C : Catalogue) → ShowsBy I L C → (fault_of C who
 abbrev pub IsFaultBy : List (List ℕ) → VolumeLayout → Uic → Request → Refusal → Type 0
 IsFaultBy I L who r f = (C : Catalogue) → ShowsBy I L C → fault_of C who r ≡ Some f
 
--- the request's answer, or its first fault: memory is not wanted
-abbrev pub IsAnswered : List (List ℕ) → VolumeLayout → Uic → Request → Result Answer Refusal → Type 0
-IsAnswered I L who r result = MatchResult result (IsAnsweredBy I L who r) (IsFaultBy I L who r)
-
--- why a request is refused that takes memory: its first fault; or, where it has none, want of memory
+-- Why a request is refused that takes memory, where the volume lacks nothing: its first fault; or, where it has none, want of memory.
+-- It is a form of `IsRefusalOf` (the law `refusal_is_one`).
 abbrev pub IsRefusedBy : List (List ℕ) → VolumeLayout → Uic → Request → Refusal → Type 0
 IsRefusedBy I L who r f = (C : Catalogue) → ShowsBy I L C → MatchOption (fault_of C who r) (f ≡ refusal.NoMemory) (λ g. f ≡ g)
 
--- The blocks J are what a request, answered so, makes of the blocks I. The layout stays.
+-- The blocks J are what a request, answered so, makes of the blocks I. The layout stays. Where nothing is lacking it is `IsStepOf` (the law `carried_out_is_step`).
 pub record IsCarriedOut (I : List (List ℕ)) (L : VolumeLayout) (who : Uic) (r : Request) (a : Answer) (J : List (List ℕ)) : Type 0 where
   pub answered : IsAnsweredBy I L who r a
   pub sound : IsSoundBy J L

@@ -1,28 +1,14 @@
--- The arms of a match on a request: what is known of the variant holds of the request that is one.
-use Rattle.std.proofs.Common.{◌≡◌, ◌≢◌, ℕ, refl, sym, subst, true, false, List}
+-- The arms of a match on a request.
+use Rattle.std.proofs.Common.{◌≡◌, ◌≢◌, ℕ, refl, false, List}
 use Rattle.ods_base.specs.Name.{RadName}
 use Rattle.ods_base.specs.declared.file_id.FileId.{FileId}
-use Rattle.ods_base.specs.declared.file_id.Uic.{Uic}
 use Rattle.ods_base.specs.declared.name.Pick.{Pick}
-use Rattle.ods_space.specs.Layout.{VolumeLayout}
 use Rattle.ods_request.specs.declared.requests.Query.{Query}
 use Rattle.ods_request.specs.declared.requests.Query.TheVariants as query
 use Rattle.ods_request.specs.declared.requests.Request.{Request}
 use Rattle.ods_request.specs.declared.requests.Request.TheVariants.{Create, Extend, Delete, Enter, LookUp, Remove, Read, Write, List as Lines, Stat, SetUser}
-use Rattle.ods_request.specs.declared.answers.Answer.{Answer}
-use Rattle.ods_request.specs.declared.refusals.Refusal.{Refusal}
 use Rattle.ods_request.specs.Queries.{request_of}
-use Rattle.ods_request.specs.Table.{creates, moves_blocks, takes_memory}
-use Rattle.ods_state.specs.Change.{IsCarriedOut, IsRefusedBy}
-use Rattle.ods_state.specs.Served.{IsStepOf, IsRefusalOf}
-use Rattle.ods_state.proofs.Served.{carried_is_step, lacks_nothing, refused_by_memory}
-
-module _ (I : List (List ℕ)) (L : VolumeLayout) (who : Uic) (request r : Request) (is : request ≡ r) where
-  pub step_by : (a : Answer) (J : List (List ℕ)) → creates r ≡ false → moves_blocks r ≡ false → IsCarriedOut I L who r a J → IsStepOf I L who request a J L
-  step_by a J stays none out = subst (λ q. IsStepOf I L who q a J L) (sym is) (carried_is_step I L who r a J stays (lacks_nothing I L r none) out)
-
-  pub refusal_by : (f : Refusal) → takes_memory r ≡ true → IsRefusedBy I L who r f → IsRefusalOf I L who request f
-  refusal_by f takes refused = subst (λ q. IsRefusalOf I L who q f) (sym is) (refused_by_memory I L who r f takes refused)
+use Rattle.ods_request.specs.Table.{moves_blocks}
 
 -- each request that is served has an arm
 pub no_other : (r : Request) → moves_blocks r ≡ false → ((q : Query) → request_of q ≢ r) → ((dir : FileId) → r ≢ Lines dir)

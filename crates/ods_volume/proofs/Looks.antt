@@ -16,7 +16,7 @@ use Rattle.ods_request.specs.Steps.{after}
 use Rattle.ods_request.specs.Table.{creates, only_looks, moves_blocks}
 use Rattle.ods_state.specs.Contents.{ShowsBy}
 use Rattle.ods_state.specs.Moves.{Moves, NothingMoves}
-use Rattle.ods_state.specs.Change.{disk, IsAnsweredBy, IsCarriedOut}
+use Rattle.ods_state.specs.Change.{disk, IsAnsweredBy}
 use Rattle.ods_state.specs.Served.{IsStepOf}
 use Rattle.ods_state.proofs.Served.{carried_is_step, lacks_nothing}
 
@@ -59,18 +59,15 @@ look_moves_none : (r : Request) → only_looks r ≡ true → moves_blocks r ≡
 look_moves_none r h = grind arith
 
 module _ (I : List (List ℕ)) (L : VolumeLayout) (S : IsSoundBy I L) (who : Uic) (r : Request) (a : Answer) (looks : only_looks r ≡ true) (answered : IsAnsweredBy I L who r a) where
-  look_is_carried_out : IsCarriedOut I L who r a I
-  look_is_carried_out = record {
+  look_is_step : IsStepOf I L who r a I L
+  look_is_step = carried_is_step I L who r a I (look_makes_none r looks) (lacks_nothing I L r (look_moves_none r looks)) (record {
     answered = answered;
     sound = S;
     shown = λ C shown. subst (ShowsBy I L) (sym (after_look C r looks)) shown;
     sequences = λ n. omega arith;
     moves = look_moves (disk I L) r a looks;
     elsewhere = (refl, λ x untouched. refl);
-  }
-
-  look_is_step : IsStepOf I L who r a I L
-  look_is_step = carried_is_step I L who r a I (look_makes_none r looks) (lacks_nothing I L r (look_moves_none r looks)) look_is_carried_out
+  })
 
   -- by a draft without a change
   pub look_by_none : (d : Changes) → d ≡ [] → IsStepOf I L who r a (applied I d) L

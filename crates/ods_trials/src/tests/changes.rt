@@ -1,6 +1,6 @@
 //! Changes of the sample volume with a contiguous file, seen by what the changed image reads as.
 use super::contiguous::{WORLD, WORLD_DENIED, contiguous_file};
-use ods_base::{Image, Pick, word};
+use ods_base::{FileId, Image, Pick, word};
 use ods_change::{enter_here, remove, set_user, write};
 use ods_format_tests::persons::{
     FIRST, MASTER, PROTECTION, SYSTEM, USER, bitmap, c_dat, letter_a, old_block, other_attributes,
@@ -97,19 +97,21 @@ fn rights_to_change(rt: HostRuntime) -> Result<(), Fail> {
     Ok(())
 }
 
+/// The draft of removing BITMAP.SYS from the master directory, and the file and version that go.
+fn without_bitmap(
+    alloc: Global,
+    before: &Mounted,
+    pick: Pick,
+) -> Result<(Draft, FileId, u16), Fail> {
+    let (image, layout) = (before.image(), before.layout());
+    Ok(remove(alloc, image, layout, USER, MASTER, bitmap(), pick)?)
+}
+
 #[test]
 fn a_name_is_removed(rt: HostRuntime) -> Result<(), Fail> {
     let alloc = rt.alloc();
     let before = mounted(alloc, contiguous_file(alloc, PROTECTION)?)?;
-    let removed = remove(
-        alloc,
-        before.image(),
-        before.layout(),
-        USER,
-        MASTER,
-        bitmap(),
-        Pick::Highest,
-    )?;
+    let removed = without_bitmap(alloc, &before, Pick::Highest)?;
     assert_eq!(rt; (removed.1, removed.2), (reserved_id(2), 1));
     let after = changed(alloc, before, &removed.0)?;
     let found = look_up(
@@ -167,15 +169,7 @@ fn a_name_is_entered_at_the_mark(rt: HostRuntime) -> Result<(), Fail> {
 fn a_name_is_entered_in_an_empty_entry(rt: HostRuntime) -> Result<(), Fail> {
     let alloc = rt.alloc();
     let before = mounted(alloc, contiguous_file(alloc, PROTECTION)?)?;
-    let removed = remove(
-        alloc,
-        before.image(),
-        before.layout(),
-        USER,
-        MASTER,
-        bitmap(),
-        Pick::Lowest,
-    )?;
+    let removed = without_bitmap(alloc, &before, Pick::Lowest)?;
     let middle = changed(alloc, before, &removed.0)?;
     let found = entered(alloc, &middle)?;
     let after = changed(alloc, middle, &found.0)?;

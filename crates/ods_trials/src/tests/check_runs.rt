@@ -1,8 +1,7 @@
-//! The replies about whole images: sound ones, bytes that are none, and devices that fail.
+//! The replies about whole images: bytes that are none, and devices that fail.
 use super::broken::Broken;
 use ods_cli::{ServeFault, check_run};
-use ods_format_tests::persons::c_dat;
-use ods_format_tests::volumes::{FileHeader, Variant, added, run, sample_of};
+use ods_format_tests::volumes::{Variant, sample_of};
 use std::alloc::Global;
 use std::test::Fail;
 
@@ -12,41 +11,6 @@ pub fn checked(alloc: Global, bytes: &[u8]) -> Result<(bool, String), Fail> {
     let mut replies = Vec::new(alloc);
     let sound = check_run(alloc, &mut reader, &mut replies)?;
     Ok((sound, String::from_utf8_lossy(alloc, &replies)?))
-}
-
-#[test]
-fn whole_samples(rt: HostRuntime) -> Result<(), Fail> {
-    for (blocks, reply) in [
-        (40, "free 18\nnumbers 11\n"),
-        (512, "free 490\nnumbers 11\n"),
-        (4_200, "free 4177\nnumbers 11\n"),
-    ] {
-        let bytes = sample_of(blocks).image_bytes(rt.alloc())?;
-        let (sound, text) = checked(rt.alloc(), &bytes)?;
-        assert!(rt; sound && text.as_str() == reply, "{blocks} blocks: {text}");
-    }
-    Ok(())
-}
-
-#[test]
-fn one_number_in_use(rt: HostRuntime) -> Result<(), Fail> {
-    let bit = Variant {
-        index_bits: &[(6, true)],
-        ..sample_of(40)
-    };
-    let (sound, text) = checked(rt.alloc(), &bit.image_bytes(rt.alloc())?)?;
-    assert!(rt; sound && text.as_str() == "free 18\nnumbers 10\n", "{text}");
-    let contiguous = FileHeader {
-        user_char: 0o200,
-        ..added(6, c_dat())
-    };
-    let file = Variant {
-        headers: &[(8, contiguous.mapping(&[run(22, 1)]))],
-        ..sample_of(40)
-    };
-    let (sound, text) = checked(rt.alloc(), &file.image_bytes(rt.alloc())?)?;
-    assert!(rt; sound && text.as_str() == "free 17\nnumbers 10\n", "{text}");
-    Ok(())
 }
 
 #[test]

@@ -1,4 +1,6 @@
-//! Sound volumes, with what is free on them, and volumes whose home block or index file lies otherwise.
+//! Sound volumes, with what is free on them by the mount and by the program's check, and volumes whose home block or index file lies
+//! otherwise.
+use super::check_runs::checked;
 use MountFault::{BadChain, BadIndex, NoHome};
 use ods_alloc::{free_count, number_count};
 use ods_base::{Block, Image};
@@ -7,6 +9,7 @@ use ods_format_tests::volumes::{FileHeader, Variant, added, reserved, run, sampl
 use ods_header::Run;
 use ods_mount::{MountFault, mount};
 use std::alloc::Global;
+use std::process::Abort;
 use std::test::Fail;
 
 /// The blocks and the numbers that are free, where the image is sound.
@@ -20,15 +23,29 @@ pub fn counts(alloc: Global, image: Image) -> Result<(u32, u32), MountFault> {
     }
 }
 
+/// Fails where the mount does not find so many blocks and numbers free, or the program does not print it.
+fn sound(
+    rt: &impl Abort,
+    alloc: Global,
+    volume: &Variant<'_>,
+    free: (u32, u32),
+    reply: &str,
+) -> Result<(), Fail> {
+    let found = counts(alloc, volume.image(alloc)?);
+    assert_eq!(rt; found, Ok(free), "{reply}");
+    let (sound, text) = checked(alloc, &volume.image_bytes(alloc)?)?;
+    assert!(rt; sound && text.as_str() == reply, "{text}");
+    Ok(())
+}
+
 #[test]
 fn whole_samples(rt: HostRuntime) -> Result<(), Fail> {
-    for (blocks, free) in [(40, 18), (512, 490), (4_200, 4_073 + 104)] {
-        let image = sample_of(blocks).image(rt.alloc())?;
-        assert_eq!(rt;
-            counts(rt.alloc(), image),
-            Ok((free, 11)),
-            "{blocks} blocks"
-        );
+    for (blocks, free, reply) in [
+        (40, 18, "free 18\nnumbers 11\n"),
+        (512, 490, "free 490\nnumbers 11\n"),
+        (4_200, 4_073 + 104, "free 4177\nnumbers 11\n"),
+    ] {
+        sound(&rt, rt.alloc(), &sample_of(blocks), (free, 11), reply)?;
     }
     Ok(())
 }
@@ -39,23 +56,16 @@ fn one_number_in_use(rt: HostRuntime) -> Result<(), Fail> {
         index_bits: &[(6, true)],
         ..sample_of(40)
     };
-    let image = bit.image(rt.alloc())?;
-    assert_eq!(rt;
-        counts(rt.alloc(), image),
-        Ok((18, 10)),
-        "a set bit and no header"
-    );
-    let private = FileHeader {
-        user_char: 0x80,
+    sound(&rt, rt.alloc(), &bit, (18, 10), "free 18\nnumbers 10\n")?;
+    let contiguous = FileHeader {
+        user_char: 0o200,
         ..added(6, c_dat())
     };
     let file = Variant {
-        headers: &[(8, private.mapping(&[run(22, 1)]))],
+        headers: &[(8, contiguous.mapping(&[run(22, 1)]))],
         ..sample_of(40)
     };
-    let image = file.image(rt.alloc())?;
-    assert_eq!(rt; counts(rt.alloc(), image), Ok((17, 10)), "file 6");
-    Ok(())
+    sound(&rt, rt.alloc(), &file, (17, 10), "free 17\nnumbers 10\n")
 }
 
 /// The volume of 512 blocks with its home block at LBN 256, these runs of INDEXF.SYS, this header 3, and LBN 1 free or not.

@@ -1,4 +1,4 @@
-use Rattle.std.proofs.Common.{◌≡◌, ℕ, ◌≤◌, ◌∙◌, ap, sym, subst, List, [], ◌∷◌, length, arith}
+use Rattle.std.proofs.Common.{◌≡◌, refl, ℕ, ◌≤◌, ◌∙◌, ap, sym, subst, List, [], ◌∷◌, length, arith}
 use Rattle.std.specs.Prelude.{is_some, slice_set}
 use Rattle.ods_header.specs.Attributes.{IsWithAttributes, KeepsOtherFields}
 use Rattle.ods_header.specs.Header.{attributes_of}
@@ -7,16 +7,19 @@ use Rattle.ods_space.proofs.Drafts.{applied_set, applied-applied}
 use Rattle.ods_directory.specs.Mark.{marked}
 use Rattle.ods_request.specs.declared.answers.Answer.TheVariants.{Entered}
 use Rattle.ods_request.specs.declared.requests.Request.TheVariants.{Enter}
-use Rattle.ods_state.specs.Change.{IsCarriedOut}
+use Rattle.ods_state.specs.Served.{IsStepOf}
+use Rattle.ods_state.proofs.Served.{refused_by_fault, refused_for_memory}
 use Rattle.ods_space.specs.Chain.{chain_blocks}
-use Rattle.ods_look.proofs.Rows.{refused_by_fault, refused_by_memory}
 use Rattle.ods_change.proofs.AttributesReplaced.{has_place}
 use Rattle.ods_change.proofs.EntryReplaced.{entry_inside}
 use Rattle.ods_change.proofs.EnteringName.{lies, enter_kept, enter_moved}
 use Rattle.ods_change.proofs.enter_name.enter_here.Goals as goal
 
 pub returns-in-Err : goal.returns-in-Err
-returns-in-Err c = λ C shown. refused_by_fault _ c.in-Err.refusal (c.in-Err.ensures C shown)
+returns-in-Err c = (
+  refused_by_fault c.args.image.now c.args.layout.now c.args.who (Enter c.args.dir c.args.name c.args.version c.args.file) c.in-Err.refusal c.in-Err.ensures,
+  λ other. c.in-Err.ensures,
+)
 
 pub with_entry-lbn-requires-clause-directory : goal.with_entry-lbn-requires-clause-directory
 with_entry-lbn-requires-clause-directory c = c.in-Ok.ensures.own.is
@@ -36,14 +39,15 @@ returns-in-Ok-one_block c =
     let L = c.args.layout.now in
     let x : ℕ = c.with_entry-lbn.result.0 in
     let b : List ℕ = c.with_entry-lbn.result.1 in
-    subst (λ J. IsCarriedOut I L c.args.who (Enter c.args.dir c.args.name c.args.version c.args.file) (Entered c.in-Ok.entry.version) J)
+    subst (λ J. IsStepOf I L c.args.who (Enter c.args.dir c.args.name c.args.version c.args.file) (Entered c.in-Ok.entry.version) J L)
     (ap (slice_set I x) (sym c.with_entry-lbn.ensures.block) ∙ applied_set I x b ∙ ap (applied I) (sym c.in-Ok-one_block.ensures))
     (enter_kept c.requires.sound c.in-Ok.ensures c.if-entry.false c.with_entry-lbn.ensures.held c.if-entry-2.true)
 
 pub returns-in-Err-one_block : goal.returns-in-Err-one_block
-returns-in-Err-one_block c =
-    refused_by_memory c.args.image.now c.args.layout.now c.args.who (Enter c.args.dir c.args.name c.args.version c.args.file)
-    (λ C shown. (c.in-Ok.ensures.answered C shown).0)
+returns-in-Err-one_block c = (
+  refused_for_memory c.args.image.now c.args.layout.now c.args.who (Enter c.args.dir c.args.name c.args.version c.args.file) refl (λ C shown. (c.in-Ok.ensures.answered C shown).0),
+  λ other. absurd (other refl),
+)
 
 pub marked_header-header-requires : goal.marked_header-header-requires
 marked_header-header-requires c =
@@ -65,7 +69,7 @@ returns-in-Ok-two_blocks c =
     let y : ℕ = c.unwrap-first.result in
     let count : ℕ = c.count-count.result in
     let h : List ℕ = c.marked_header-header.result in
-    subst (λ J. IsCarriedOut I L c.args.who (Enter c.args.dir c.args.name c.args.version c.args.file) (Entered entry.version) J)
+    subst (λ J. IsStepOf I L c.args.who (Enter c.args.dir c.args.name c.args.version c.args.file) (Entered entry.version) J L)
     (ap (λ d. slice_set (slice_set I x d) y h) (sym c.with_entry-lbn.ensures.block)
     ∙ ap (λ K. slice_set K y h) (applied_set I x b)
     ∙ applied_set (applied I ((x, b) ∷ [])) y h
@@ -77,6 +81,7 @@ returns-in-Ok-two_blocks c =
     (subst (λ d. KeepsOtherFields d (marked (attributes_of d) entry.slot.mark count) h) e.own.is.header c.marked_header-header.ensures.fields))
 
 pub returns-in-Err-two_blocks : goal.returns-in-Err-two_blocks
-returns-in-Err-two_blocks c =
-    refused_by_memory c.args.image.now c.args.layout.now c.args.who (Enter c.args.dir c.args.name c.args.version c.args.file)
-    (λ C shown. (c.in-Ok.ensures.answered C shown).0)
+returns-in-Err-two_blocks c = (
+  refused_for_memory c.args.image.now c.args.layout.now c.args.who (Enter c.args.dir c.args.name c.args.version c.args.file) refl (λ C shown. (c.in-Ok.ensures.answered C shown).0),
+  λ other. absurd (other refl),
+)

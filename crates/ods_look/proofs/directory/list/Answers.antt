@@ -1,13 +1,15 @@
-use Rattle.std.proofs.Common.{[], ◌∙◌, ap, sym}
+use Rattle.std.proofs.Common.{[], refl, ◌∙◌, ap, sym}
 use Rattle.ods_request.specs.declared.answers.Answer.TheVariants.{Names}
 use Rattle.ods_request.specs.declared.requests.Request.TheVariants.{List as Lines}
 use Rattle.ods_request.proofs.FaultTable.{fault_list}
+use Rattle.ods_state.proofs.Served.{refused_by_fault, refused_for_memory}
 use Rattle.ods_look.proofs.OpenDirectories.{lines_there}
-use Rattle.ods_look.proofs.Rows.{refused_by_fault, refused_by_memory}
 use Rattle.ods_look.proofs.directory.list.Goals as goal
 
 pub returns-in-Err : goal.returns-in-Err
-returns-in-Err c = λ C shown. refused_by_fault _ c.in-Err.refusal (fault_list C c.args.who c.args.dir ∙ c.in-Err.ensures.err C (λ d. []) shown)
+returns-in-Err c =
+    refused_by_fault c.args.image.now c.args.layout.now c.args.who (Lines c.args.dir) c.in-Err.refusal
+    (λ C shown. fault_list C c.args.who c.args.dir ∙ c.in-Err.ensures.err C (λ d. []) shown)
 
 pub returns-in-Ok-entries : goal.returns-in-Ok-entries
 returns-in-Ok-entries c = λ C shown.
@@ -18,4 +20,4 @@ returns-in-Ok-entries c = λ C shown.
 
 pub returns-in-Err-entries : goal.returns-in-Err-entries
 returns-in-Err-entries c =
-    refused_by_memory c.args.image.now c.args.layout.now c.args.who (Lines c.args.dir) (λ C shown. fault_list C c.args.who c.args.dir ∙ (c.in-Ok.ensures.ok.passes C shown).left (λ d. []))
+    refused_for_memory c.args.image.now c.args.layout.now c.args.who (Lines c.args.dir) refl (λ C shown. fault_list C c.args.who c.args.dir ∙ (c.in-Ok.ensures.ok.passes C shown).left (λ d. []))

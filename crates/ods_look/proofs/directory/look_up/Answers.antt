@@ -1,10 +1,15 @@
 use Rattle.std.proofs.Common.{◌∙◌}
+use Rattle.ods_request.specs.declared.refusals.Refusal.TheVariants as refusal
+use Rattle.ods_request.specs.declared.requests.Request.TheVariants.{LookUp}
 use Rattle.ods_request.proofs.FaultTable.{fault_look_up}
+use Rattle.ods_state.proofs.Served.{refused_by_fault}
 use Rattle.ods_look.proofs.OpenDirectories.{name_check, not_found, no_fault, found_is}
 use Rattle.ods_look.proofs.directory.look_up.Goals as goal
 
 pub returns-in-Err : goal.returns-in-Err
-returns-in-Err c = λ C shown. fault_look_up C c.args.who c.args.dir c.args.name c.args.pick ∙ c.in-Err.ensures.err C (name_check c.args.name c.args.pick) shown
+returns-in-Err c =
+    refused_by_fault c.args.image.now c.args.layout.now c.args.who (LookUp c.args.dir c.args.name c.args.pick) c.in-Err.refusal
+    (λ C shown. fault_look_up C c.args.who c.args.dir c.args.name c.args.pick ∙ c.in-Err.ensures.err C (name_check c.args.name c.args.pick) shown)
 
 pub returns-in-Ok-look_up : goal.returns-in-Ok-look_up
 returns-in-Ok-look_up c = λ C shown.
@@ -15,6 +20,7 @@ returns-in-Ok-look_up c = λ C shown.
     )
 
 pub returns-in-Err-look_up : goal.returns-in-Err-look_up
-returns-in-Err-look_up c = λ C shown.
+returns-in-Err-look_up c =
+    refused_by_fault c.args.image.now c.args.layout.now c.args.who (LookUp c.args.dir c.args.name c.args.pick) refusal.NoSuchName (λ C shown.
     fault_look_up C c.args.who c.args.dir c.args.name c.args.pick
-    ∙ not_found c.in-Ok.ensures.ok shown c.args.name c.words.ensures.name.three c.args.pick c.in-Err-look_up.field-0 c.in-Err-look_up.ensures.err
+    ∙ not_found c.in-Ok.ensures.ok shown c.args.name c.words.ensures.name.three c.args.pick c.in-Err-look_up.field-0 c.in-Err-look_up.ensures.err)

@@ -1,12 +1,17 @@
 use Rattle.std.proofs.Common.{[], ◌∙◌, ap}
+use Rattle.ods_request.specs.declared.refusals.Refusal.TheVariants as refusal
+use Rattle.ods_request.specs.declared.requests.Request.TheVariants.{Stat as StatRequest}
 use Rattle.ods_request.specs.Faults.{on_file}
 use Rattle.ods_request.proofs.FaultTable.{fault_stat}
+use Rattle.ods_state.proofs.Served.{refused_by_fault}
 use Rattle.ods_look.proofs.FilesFound.{no_such_file, found_there}
 use Rattle.ods_look.proofs.StatAnswers.{stat_is}
 use Rattle.ods_look.proofs.shown.stat.Goals as goal
 
 pub returns-in_default : goal.returns-in_default
-returns-in_default c = λ who C shown. fault_stat C who c.args.file ∙ no_such_file c.args.image.now c.args.layout.now C shown c.args.file c.in_default.ensures.none (λ f. [])
+returns-in_default c = λ who.
+    refused_by_fault c.args.image.now c.args.layout.now who (StatRequest c.args.file) refusal.NoSuchFile
+    (λ C shown. fault_stat C who c.args.file ∙ no_such_file c.args.image.now c.args.layout.now C shown c.args.file c.in_default.ensures.none (λ f. []))
 
 pub returns : goal.returns
 returns c = λ who C shown.

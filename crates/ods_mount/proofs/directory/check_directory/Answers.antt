@@ -1,4 +1,4 @@
-use Rattle.std.proofs.Common.{◌≡◌, ℕ, List, Ok, length, map, ap, ◌∙◌, subst, arith}
+use Rattle.std.proofs.Common.{◌≡◌, ℕ, List, Ok, length, map, refl, ap, ◌∙◌, subst, arith}
 use Rattle.std.proofs.lemmas.List.{length-map}
 use Rattle.ods_base.specs.Image.{block_at}
 use Rattle.ods_directory.specs.Names.{IsDirectory, HasBadEntry, HasTwins}
@@ -6,8 +6,10 @@ use Rattle.ods_directory.specs.Entry.{used_entries}
 use Rattle.ods_directory.specs.Mark.{mark_in}
 use Rattle.ods_space.specs.Chain.{index_for}
 use Rattle.ods_space.proofs.Sizes.{chain_size}
+use Rattle.ods_mount.specs.Faults.{contents_of, mark_at}
 use Rattle.ods_mount.proofs.Layouts.{same_blocks}
 use Rattle.ods_mount.proofs.directory.check_directory.Goals as goal
+use Rattle.ods_mount.proofs.directory.check_directory.Goals.{After-mark_of-mark}
 
 pub new-blocks-requires-clause-few : goal.new-blocks-requires-clause-few
 new-blocks-requires-clause-few c =
@@ -27,29 +29,27 @@ moved P I J xs ys attributes at_hand mark count same_image same_blocks same_attr
     let S : List (List ℕ) → Type 0 = λ K. P (map (block_at K) xs) (mark_in attributes (length xs)) in
     subst S same_image (subst R same_blocks (subst Q end found))
 
+-- so it is at the end of the check
+found : (c : After-mark_of-mark) (P : List (List ℕ) → ℕ → Type 0) (blocks : List ℕ) → c.in-Ok.lbns.items ≡ blocks
+    → P (map (block_at c.new-blocks.result.image.now) c.new-blocks.result.lbns.now) c.mark_of-mark.result → P (contents_of c.args.image.now blocks) (mark_at c.args.image.now c.args.layout.now c.args.number blocks)
+found c P blocks same =
+    moved P c.args.image.now _ blocks _ _ c.args.attributes.now c.mark_of-mark.result c.count.result c.new-blocks.ensures.0 (c.new-blocks.ensures.1 ∙ c.deref.ensures.value ∙ same) c.requires.attributes
+    c.count.ensures c.mark_of-mark.ensures
+
 pub returns-in-Ok-Good-clause-ok : goal.returns-in-Ok-Good-clause-ok
 returns-in-Ok-Good-clause-ok c blocks has _ =
     let same = same_blocks c.args.image.now c.args.layout.now c.args.number c.in-Ok.lbns.items blocks c.in-Ok.ensures.ok has in
-    moved IsDirectory c.args.image.now _ blocks _ _ c.args.attributes.now c.mark_of-mark.result c.count.result
-    c.new-blocks.ensures.0 (c.new-blocks.ensures.1 ∙ c.deref.ensures.value ∙ same) c.requires.attributes c.count.ensures c.mark_of-mark.ensures (c.in-Ok-Good.ensures.good (ap Ok c.in-Ok-Good.field-0-is))
+    found (goal.at.returns-in-Ok-Good-clause-ok c).After-mark_of-mark IsDirectory blocks same (c.in-Ok-Good.ensures.good (ap Ok c.in-Ok-Good.field-0-is))
 
 pub returns-in-Ok-BadEntry-clause-err : goal.returns-in-Ok-BadEntry-clause-err
-returns-in-Ok-BadEntry-clause-err c _ = (
-  c.if-not-is_directory_file.ensures,
-  c.in-Ok.lbns.items,
-  c.in-Ok.ensures.ok,
-  moved (λ bs m. HasBadEntry (used_entries bs m)) c.args.image.now _ c.in-Ok.lbns.items _ _ c.args.attributes.now c.mark_of-mark.result c.count.result
-      c.new-blocks.ensures.0 (c.new-blocks.ensures.1 ∙ c.deref.ensures.value) c.requires.attributes c.count.ensures c.mark_of-mark.ensures (c.in-Ok-BadEntry.ensures.bad (ap Ok c.in-Ok-BadEntry.field-0-is)),
-)
+returns-in-Ok-BadEntry-clause-err c _ =
+    let bad = found (goal.at.returns-in-Ok-BadEntry-clause-err c).After-mark_of-mark (λ bs m. HasBadEntry (used_entries bs m)) _ refl (c.in-Ok-BadEntry.ensures.bad (ap Ok c.in-Ok-BadEntry.field-0-is)) in
+    (c.if-not-is_directory_file.ensures, c.in-Ok.lbns.items, c.in-Ok.ensures.ok, bad)
 
 pub returns-in-Ok-Twice-clause-err : goal.returns-in-Ok-Twice-clause-err
-returns-in-Ok-Twice-clause-err c _ = (
-  c.if-not-is_directory_file.ensures,
-  c.in-Ok.lbns.items,
-  c.in-Ok.ensures.ok,
-  moved (λ bs m. HasTwins (used_entries bs m)) c.args.image.now _ c.in-Ok.lbns.items _ _ c.args.attributes.now c.mark_of-mark.result c.count.result
-      c.new-blocks.ensures.0 (c.new-blocks.ensures.1 ∙ c.deref.ensures.value) c.requires.attributes c.count.ensures c.mark_of-mark.ensures (c.in-Ok-Twice.ensures.twice (ap Ok c.in-Ok-Twice.field-0-is)),
-)
+returns-in-Ok-Twice-clause-err c _ =
+    let twice = found (goal.at.returns-in-Ok-Twice-clause-err c).After-mark_of-mark (λ bs m. HasTwins (used_entries bs m)) _ refl (c.in-Ok-Twice.ensures.twice (ap Ok c.in-Ok-Twice.field-0-is)) in
+    (c.if-not-is_directory_file.ensures, c.in-Ok.lbns.items, c.in-Ok.ensures.ok, twice)
 
 pub returns-then-not-is_directory_file-clause-ok : goal.returns-then-not-is_directory_file-clause-ok
 returns-then-not-is_directory_file-clause-ok c blocks has dir = absurd (c.if-not-is_directory_file.ensures dir)

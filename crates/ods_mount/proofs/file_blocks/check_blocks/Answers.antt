@@ -1,5 +1,5 @@
-use Rattle.std.proofs.Common.{length, refl, ap, ◌∙◌, arith}
-use Rattle.ods_mount.proofs.Passing.{along_first, along_next, along_names, along_few, along_all, passed_none, passed_all}
+use Rattle.std.proofs.Common.{refl, ◌∙◌}
+use Rattle.ods_mount.proofs.Passing.{along_first, along_next, along_names, along_few, passed_none, passed_along}
 use Rattle.ods_mount.proofs.file_blocks.check_blocks.Goals as goal
 
 pub of-headers-requires-clause-chain : goal.of-headers-requires-clause-chain
@@ -33,17 +33,13 @@ loop-header-preserved c = record {
 
 pub returns-clause-file : goal.returns-clause-file
 returns-clause-file c =
-    let I = c.args.image.now in
-    let L = c.args.layout.now in
     let has = c.requires.whole in
-    let size = along_all I L c.args.number c.loop-header.first c.loop-header.headers c.loop-header.invariant.along has.0 c.len.ensures.image c.requires.layout has.1 c.in_default.ensures.none in
-    let all = passed_all I L c.args.home_lbn c.args.number c.loop-header.first c.loop-header.held has.0 c.loop-header.invariant.passed has.1 size in
+    let all = passed_along c.args.image.now c.args.layout.now c.args.home_lbn c.args.number c.loop-header.first c.loop-header.headers c.loop-header.held has.0 c.loop-header.invariant.along c.loop-header.invariant.passed
+    c.len.ensures.image c.requires.layout has.1 c.in_default.ensures.none in
     (has.0, has.1, all.1, all.2)
 
 pub returns-clause-table : goal.returns-clause-table
 returns-clause-table c =
-    let I = c.args.image.now in
-    let L = c.args.layout.now in
     let has = c.requires.whole in
-    let size = along_all I L c.args.number c.loop-header.first c.loop-header.headers c.loop-header.invariant.along has.0 c.len.ensures.image c.requires.layout has.1 c.in_default.ensures.none in
-    (passed_all I L c.args.home_lbn c.args.number c.loop-header.first c.loop-header.held has.0 c.loop-header.invariant.passed has.1 size).0
+    (passed_along c.args.image.now c.args.layout.now c.args.home_lbn c.args.number c.loop-header.first c.loop-header.headers c.loop-header.held has.0 c.loop-header.invariant.along c.loop-header.invariant.passed
+    c.len.ensures.image c.requires.layout has.1 c.in_default.ensures.none).0

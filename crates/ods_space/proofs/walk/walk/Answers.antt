@@ -1,4 +1,4 @@
-use Rattle.std.proofs.Common.{◌≡◌, ◌≢◌, ◌+◌, ◌++◌, [], refl, sym, ◌∙◌, arith}
+use Rattle.std.proofs.Common.{◌≡◌, ◌+◌, ◌++◌, [], refl, sym, ◌∙◌, arith}
 use Rattle.ods_header.specs.Header.{next_number_of, blocks_of}
 use Rattle.ods_space.proofs.Walks.{walk_none, walk_last, walk_next, walk_end, few_more}
 use Rattle.ods_space.proofs.walk.walk.Goals as goal
@@ -23,9 +23,6 @@ loop-segment-preserved g c =
     let index = g.N.Notes.placed_by c.args.notes.now in
     let all = w.front ++ blocks_of c.loop-segment.block.now in
     let noted = c.in_default-note.ensures c.args.notes.now w.front w.noted in
-    let by = c.known-in-loop-segment.ensures c.args.notes.now all noted in
-    let limit = c.most-most.ensures c.args.notes.now all noted in
-    let some : next_number_of c.loop-segment.block.now ≢ 0 = λ e. c.if-next_number-eq0.false (c.next_number.ensures ∙ e) in
     let link = c.in-Some-next_block.ensures.some in
     record {
       short = link.2;
@@ -33,7 +30,8 @@ loop-segment-preserved g c =
         front = all;
         here = next_number_of c.loop-segment.block.now;
         at = walk_next c.args.image.now c.args.home.now index c.args.number c.most-most.result c.known-in-loop-segment.result.now w.front c.loop-segment.segment w.here c.loop-segment.block.now w.at
-            all refl c.in-Some-next_block.next.now (c.loop-segment.segment + 1) (omega arith) by limit some link.0 link.1;
+            all refl c.in-Some-next_block.next.now (c.loop-segment.segment + 1) (omega arith) (c.known-in-loop-segment.ensures c.args.notes.now all noted) (c.most-most.ensures c.args.notes.now all noted)
+            (λ e. c.if-next_number-eq0.false (c.next_number.ensures ∙ e)) link.0 link.1;
         noted = noted;
         few = few_more c.args.image.now c.args.home.now index c.args.number (g.N.Notes.has c.args.notes.now c.loop-segment.notes) c.loop-segment.segment c.loop-segment.block.now c.len.ensures.image w;
       };
@@ -45,8 +43,6 @@ returns-in_default-next_block g c others blocks chain =
     let index = g.N.Notes.placed_by c.args.notes.now in
     let all = w.front ++ blocks_of c.loop-segment.block.now in
     let noted = c.in_default-note.ensures c.args.notes.now w.front w.noted in
-    let by = c.known-in-loop-segment.ensures c.args.notes.now all noted in
-    let limit = c.most-most.ensures c.args.notes.now all noted in
-    let some : next_number_of c.loop-segment.block.now ≢ 0 = λ e. c.if-next_number-eq0.false (c.next_number.ensures ∙ e) in
     walk_end c.args.image.now c.args.home.now index c.args.number c.most-most.result c.known-in-loop-segment.result.now w.front c.loop-segment.segment w.here c.loop-segment.block.now w.at
-    all refl (c.loop-segment.segment + 1) (omega arith) by limit some c.in_default-next_block.ensures.none blocks (others, chain)
+    all refl (c.loop-segment.segment + 1) (omega arith) (c.known-in-loop-segment.ensures c.args.notes.now all noted) (c.most-most.ensures c.args.notes.now all noted)
+    (λ e. c.if-next_number-eq0.false (c.next_number.ensures ∙ e)) c.in_default-next_block.ensures.none blocks (others, chain)

@@ -1,11 +1,7 @@
 use Rattle.ods_request.specs.Queries.{request_of}
-use Rattle.ods_state.proofs.Served.{refused_by_fault}
 use Rattle.ods_volume.proofs.Looks.{look_by_none, query_looks}
 use Rattle.ods_volume.proofs.prepare.look_only.Goals as goal
 
 pub returns-in-Ok : goal.returns-in-Ok
 returns-in-Ok c =
     look_by_none c.args.image.now c.args.layout.now c.requires c.args.who (request_of c.args.query) c.in-Ok.answer (query_looks c.args.query) c.in-Ok.ensures c.new.result c.new.ensures
-
-pub returns-in-Err : goal.returns-in-Err
-returns-in-Err c = refused_by_fault c.args.image.now c.args.layout.now c.args.who (request_of c.args.query) c.in-Err.refusal c.in-Err.ensures

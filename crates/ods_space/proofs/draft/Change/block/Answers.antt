@@ -3,7 +3,7 @@ use Rattle.std.proofs.lemmas.List.{append-nil}
 use Rattle.ods_header.specs.declared.header.Run.{Run}
 use Rattle.ods_space.specs.Draft.{change_at}
 use Rattle.ods_space.specs.Changes.{changed}
-use Rattle.ods_space.proofs.Drafts.{zeros_from, change_at-zeros_inside, change_at-zeros_below, change_at-zeros_above}
+use Rattle.ods_space.proofs.Drafts.{zeros_from, change_at-zeros_inside, change_at-zeros_outside}
 use Rattle.ods_space.proofs.draft.Change.block.Goals as goal
 use Rattle.ods_space.proofs.draft.Change.block.Goals.{else-run-lbn-via-then-run-lbn+else-lbn-run, else-run-lbn-via-else-run-lbn}
 
@@ -21,6 +21,6 @@ returns-else-run-lbn-clause-value c =
     let n = c.args.lbn in
     let opened = ap (λ x. change_at (changed x []) n) c.in-Zero.is ∙ ap (λ d. change_at d n) (append-nil (zeros_from r.lbn r.count)) in
     elim c.else-run-lbn.branch [
-      | else-run-lbn-via-then-run-lbn+else-lbn-run w ↦ sym (opened ∙ change_at-zeros_above r.lbn r.count n (omega arith))
-      | else-run-lbn-via-else-run-lbn w ↦ sym (opened ∙ change_at-zeros_below r.lbn r.count n (omega arith))
+      | else-run-lbn-via-then-run-lbn+else-lbn-run w ↦ sym (opened ∙ change_at-zeros_outside r.lbn r.count n (λ j small e. absurd (omega (arith, e))))
+      | else-run-lbn-via-else-run-lbn w ↦ sym (opened ∙ change_at-zeros_outside r.lbn r.count n (λ j small e. absurd (omega (arith, e))))
     ]
