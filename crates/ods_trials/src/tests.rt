@@ -1,4 +1,5 @@
 //! Tests of public calls, one idea a file.
+mod ample;
 mod broken;
 mod changes;
 mod check_runs;

@@ -1,8 +1,11 @@
 //! File headers, read and written.
-use crate::volumes::{block_of, sample_of, set_sum};
+use crate::persons::a_txt;
+use crate::volumes::{added, block_of, run, sample_of, set_sum};
 use arrayvec::ArrayVec;
 use ods_base::{Block, set_word, sum};
-use ods_header::{Header, HeaderFault, Run, print_ident, read_header, write_header};
+use ods_header::{
+    Header, HeaderFault, Run, find_home, header_line, print_ident, read_header, write_header,
+};
 use std::alloc::Global;
 use std::test::Fail;
 
@@ -67,5 +70,28 @@ fn full_header_is_read_back(rt: HostRuntime) -> Result<(), Fail> {
     assert_eq!(rt; block.byte(102), 1);
     assert_eq!(rt; block.byte(103), 255);
     assert_eq!(rt; print_ident(&again.ident).as_str(), "INDEXF.SYS;1");
+    Ok(())
+}
+
+/// Header 6 with 102 pointers is the longest line. The last pointers are to the highest LBN with the greatest count.
+#[test]
+fn longest_line_is_made(rt: HostRuntime) -> Result<(), Fail> {
+    let mut runs = [run(0, 1); 102];
+    let mut wanted = String::from_str(
+        rt.alloc(),
+        "HEADER 6,1 A.TXT;1 [1,1] 160000 000,000 segment 0 next 0,0 runs",
+    )?;
+    for k in 0..34 {
+        runs[3 * k] = run(7, 1);
+        runs[3 * k + 1] = run(65_536, 99);
+        runs[3 * k + 2] = run(16_777_215, 256);
+        wanted.push_str(" 7+1 65536+99 16777215+256")?;
+    }
+    let mut image = sample_of(40).image(rt.alloc())?;
+    assert_eq!(rt; image.len(), 40);
+    image.set_block(8, added(6, a_txt()).mapping(&runs));
+    let (_, home) = find_home(&image)?;
+    let line = header_line(rt.alloc(), &image, &home, 6)?;
+    assert!(rt; line.as_str() == wanted.as_str(), "{line}");
     Ok(())
 }

@@ -1,0 +1,241 @@
+//! Requests and mounts with ample memory are served, at sizes that take more of it than the samples do.
+ghost use Rattle.ods_volume.specs.Serving.{IsServed};
+
+use super::changes::mounted;
+use super::check_runs::checked;
+use super::contiguous::{contiguous_file, contiguous_stat};
+use super::mounts::counts;
+use super::trial::{Trial, ask, read, start};
+use ods_base::{Block, FileId, Image, Listed, Name, set_word};
+use ods_format_tests::persons::{
+    DIR, FIRST, PROTECTION, USER, a_txt, b_txt, indexf, letter_a, old_block, reserved_id,
+};
+use ods_format_tests::volumes::{FileHeader, Variant, added, block_of, run, sample_of};
+use ods_look::list;
+use ods_request::{Answer, Request};
+use std::alloc::{AllocError, Global};
+use std::process::Abort;
+use std::test::Fail;
+
+/// The directories that are added: files 6 to 45.
+const DIRECTORIES: u16 = 40;
+
+/// The entries of A.TXT;1, whose file number is put in, and of B.TXT;1, which names file 3,3.
+const A_ENTRY: [u8; 16] = [0, 0, 1, 0, 0, 0, 0x40, 6, 0, 0, 0, 0, 0xd4, 0x80, 1, 0];
+
+const B_ENTRY: [u8; 16] = [3, 0, 3, 0, 0, 0, 0x80, 0x0c, 0, 0, 0, 0, 0xd4, 0x80, 1, 0];
+
+/// The ID of an added directory.
+fn directory_id(number: u16) -> FileId {
+    FileId {
+        number,
+        sequence: 1,
+    }
+}
+
+/// The header of directory A.DIR of this number, which maps one block, and the LBN where it stands: headers 1 to 16 follow the
+/// index bitmap, and header 17 is at LBN 23.
+fn directory_header(number: u16) -> (u32, Block) {
+    let mut attributes = [0; 32];
+    attributes[0] = 1;
+    attributes[2] = 16;
+    attributes[6] = 1;
+    attributes[10] = 1;
+    attributes[12] = if number % 2 == 0 { 32 } else { 16 };
+    let header = FileHeader {
+        attributes,
+        ..added(number, Name::new([1_600, 0, 0], DIR))
+    };
+    let lbn = number as u32 + if number <= 16 { 2 } else { 6 };
+    (lbn, header.mapping(&[run(100 + number as u32, 1)]))
+}
+
+/// The block of that directory: A.TXT;1 is the directory itself, and B.TXT;1, where the number is even, BADBLK.SYS. Behind the
+/// entries are old bytes.
+fn directory_block(number: u16) -> Block {
+    let mut block = old_block();
+    block.set_bytes(0, &A_ENTRY);
+    set_word(&mut block, 0, number);
+    if number % 2 == 0 {
+        block.set_bytes(16, &B_ENTRY);
+    }
+    block
+}
+
+/// The volume of 4,200 blocks with room for 64 files, and 40 directories.
+fn with_directories(alloc: Global) -> Result<Image, Fail> {
+    let index = added(1, indexf()).mapping(&[run(0, 19), run(23, 48)]);
+    let mut headers = [(3, index); 41];
+    for k in 0..DIRECTORIES {
+        headers[k as usize + 1] = directory_header(6 + k);
+    }
+    let mut image = Variant {
+        most_files: 64,
+        headers: &headers,
+        ..sample_of(4_200)
+    }
+    .image(alloc)?;
+    put_blocks(&mut image)?;
+    Ok(image)
+}
+
+/// Puts the blocks of the directories in.
+fn put_blocks(image: &mut Image) -> Result<(), Fail> {
+    for k in 0..DIRECTORIES {
+        let lbn = 106 + k as u32;
+        if image.len() <= lbn {
+            return Err("no such block".into());
+        }
+        image.set_block(lbn, directory_block(6 + k));
+    }
+    Ok(())
+}
+
+/// The lines of that directory.
+fn directory_lines(alloc: Global, number: u16) -> Result<Vec<Listed>, AllocError> {
+    let mut lines = Vec::new(alloc);
+    lines.push(Listed {
+        name: a_txt(),
+        version: 1,
+        file: directory_id(number),
+    })?;
+    if number % 2 == 0 {
+        lines.push(Listed {
+            name: b_txt(),
+            version: 1,
+            file: reserved_id(3),
+        })?;
+    }
+    Ok(lines)
+}
+
+/// 48 blocks are headers, 40 are directories, and 45 of 64 numbers are in use.
+#[test]
+fn directories_are_mounted(rt: HostRuntime) -> Result<(), Fail> {
+    let image = with_directories(rt.alloc())?;
+    let mut bytes = Vec::with_capacity(rt.alloc(), 512 * 4_200)?;
+    image.write_to(&mut bytes)?;
+    let (sound, text) = checked(rt.alloc(), &bytes)?;
+    assert!(rt;
+        sound && text.as_str() == "free 4089\nnumbers 19\n",
+        "{text}"
+    );
+    assert_eq!(rt; counts(rt.alloc(), image), Ok((4_089, 19)));
+    Ok(())
+}
+
+#[test]
+fn directories_are_listed(rt: HostRuntime) -> Result<(), Fail> {
+    let alloc = rt.alloc();
+    let volume = mounted(alloc, with_directories(alloc)?)?;
+    for k in 0..DIRECTORIES {
+        let number = 6 + k;
+        let dir = directory_id(number);
+        let lines = list(alloc, volume.image(), volume.layout(), USER, dir)?;
+        let wanted = directory_lines(alloc, number)?;
+        assert!(rt; lines.names() == wanted.as_slice(), "directory {number}");
+    }
+    Ok(())
+}
+
+/// The volume of 40 blocks with A.TXT, whose second header maps its blocks 3 and 4: LBN 30 and 31.
+fn two_headers(alloc: Global) -> Result<Image, Fail> {
+    let first = FileHeader {
+        next: 7,
+        ..added(6, a_txt())
+    };
+    let second = FileHeader {
+        segment: 1,
+        ..added(7, a_txt())
+    };
+    Variant {
+        headers: &[
+            (8, first.mapping(&[run(22, 2)])),
+            (9, second.mapping(&[run(30, 2)])),
+        ],
+        ..sample_of(40)
+    }
+    .image(alloc)
+}
+
+/// The volume is as that volume was, but for the letter A in LBN 31.
+fn only_31_is_written(rt: &impl Abort, alloc: Global, now: &Image) -> Result<(), Fail> {
+    let before = two_headers(alloc)?;
+    assert_eq!(rt; now.len(), 40);
+    for lbn in 0..40 {
+        let mut wanted = *block_of(&before, lbn)?;
+        if lbn == 31 {
+            wanted = letter_a();
+        }
+        assert!(rt; *block_of(now, lbn)? == wanted, "block {lbn}");
+    }
+    Ok(())
+}
+
+#[test]
+fn block_of_a_second_header_is_written(rt: HostRuntime) -> Result<(), Fail> {
+    let alloc = rt.alloc();
+    let mut it = start(&rt, alloc, two_headers(alloc)?, 4)?;
+    let old = Answer::Bytes(old_block());
+    ask(&rt, alloc, &mut it, read(FIRST, 4), Ok(old))?;
+    let block = letter_a();
+    let write = Request::Write {
+        file: FIRST,
+        vbn: 4,
+        block,
+    };
+    ask(&rt, alloc, &mut it, write, Ok(Answer::Done))?;
+    let new = Answer::Bytes(block);
+    ask(&rt, alloc, &mut it, read(FIRST, 4), Ok(new))?;
+    only_31_is_written(&rt, alloc, it.volume.image())
+}
+
+/// SetUser of C.DAT with these attributes, and Stat.
+fn set_and_show(
+    rt: &impl Abort,
+    alloc: Global,
+    trial: &mut Trial,
+    attributes: [u8; 32],
+) -> Result<(), Fail> {
+    let set = Request::SetUser {
+        file: FIRST,
+        attributes,
+    };
+    ask(rt, alloc, trial, set, Ok(Answer::Done))?;
+    let stat = Request::Stat { file: FIRST };
+    let shown = Answer::Info(contiguous_stat(attributes));
+    ask(rt, alloc, trial, stat, Ok(shown))
+}
+
+/// 32 bytes, each one more than the byte before.
+fn attributes_from(first: u8) -> [u8; 32] {
+    let mut attributes = [0; 32];
+    for i in 0..32 {
+        attributes[i] = first.wrapping_add(i as u8);
+    }
+    attributes
+}
+
+#[test]
+fn any_attributes_are_set(rt: HostRuntime) -> Result<(), Fail> {
+    let alloc = rt.alloc();
+    let mut it = start(&rt, alloc, contiguous_file(alloc, PROTECTION)?, 16)?;
+    for first in [0, 32, 64, 96, 128, 160, 192, 224] {
+        set_and_show(&rt, alloc, &mut it, attributes_from(first))?;
+        // The last byte of the attributes in the header of C.DAT.
+        let header = block_of(it.volume.image(), 8)?;
+        assert_eq!(rt; header.byte(45), first.wrapping_add(31));
+    }
+    Ok(())
+}
+
+#[test]
+fn longest_list_is_made(rt: HostRuntime) -> Result<(), Fail> {
+    let alloc = rt.alloc();
+    let image = contiguous_file(alloc, PROTECTION)?;
+    let mut it = start(&rt, alloc, image, 65_536)?;
+    let old = Answer::Bytes(old_block());
+    ask(&rt, alloc, &mut it, read(FIRST, 1), Ok(old))?;
+    assert_eq!(rt; it.volume.entries().len(), 1);
+    Ok(())
+}
