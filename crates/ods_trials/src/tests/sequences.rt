@@ -128,16 +128,22 @@ fn reserved_files_are_refused(rt: HostRuntime) -> Result<(), Fail> {
 fn name_is_removed(rt: HostRuntime) -> Result<(), Fail> {
     let alloc = rt.alloc();
     let mut it = start(&rt, alloc, sample_of(40).image(alloc)?, 4)?;
-    let remove = Request::Remove {
+    let removed = Answer::Removed(reserved_id(2), 1);
+    ask(&rt, alloc, &mut it, remove_bitmap(), Ok(removed))?;
+    let gone = Refusal::NoSuchName;
+    ask(&rt, alloc, &mut it, remove_bitmap(), Err(gone))?;
+    ask(&rt, alloc, &mut it, look_for_bitmap(), Err(gone))
+}
+
+/// A Remove of the highest version of BITMAP.SYS from the master directory.
+fn remove_bitmap() -> Request
+    ensures { IsServed result }
+{
+    Request::Remove {
         dir: MASTER,
         name: bitmap(),
         pick: Pick::Highest,
-    };
-    let removed = Answer::Removed(reserved_id(2), 1);
-    ask(&rt, alloc, &mut it, remove, Ok(removed))?;
-    ask(&rt, alloc, &mut it, remove, Err(Refusal::NoSuchName))?;
-    let gone = Err(Refusal::NoSuchName);
-    ask(&rt, alloc, &mut it, look_for_bitmap(), gone)
+    }
 }
 
 /// A Stat of INDEXF.SYS.
