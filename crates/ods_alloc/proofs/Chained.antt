@@ -22,7 +22,7 @@ use Rattle.ods_alloc.proofs.Places.{place_not_index, in_use_is, never_in_use, ca
 use Rattle.ods_alloc.proofs.FreeTests.{free_number}
 
 -- a set bit as a sum is the bit set
-set_byte : (x i : ℕ) → x + (1 - bit_at x i) * 2 ^ i ≡ bit_or x (2 ^ i)
+pub set_byte : (x i : ℕ) → x + (1 - bit_at x i) * 2 ^ i ≡ bit_or x (2 ^ i)
 set_byte x i = by (bit_at x i) (bit_at-lt x i) (or_add_and x (2 ^ i)) (and_pow x i)
   where
     by : (b : ℕ) → b < 2 → bit_or x (2 ^ i) + bit_and x (2 ^ i) ≡ x + 2 ^ i → bit_and x (2 ^ i) ≡ b * 2 ^ i → x + (1 - b) * 2 ^ i ≡ bit_or x (2 ^ i)

@@ -7,7 +7,7 @@ use Rattle.std.proofs.lemmas.Bool.{cases_eq, ltb-true, or_right, or_left, ne_eqb
 use Rattle.std.proofs.lemmas.List.Folds.{list_any-append, list_any_at, list_any_none}
 use Rattle.std.proofs.lemmas.List.Elements.{Contains-append_left, Contains-append_right, All-cons}
 use Rattle.std.proofs.lemmas.Option.{same_Some, get_or_from_slice_get}
-use Rattle.std.proofs.lemmas.List.{length-drop, length-take, get_or_default}
+use Rattle.std.proofs.lemmas.List.{append-nil, length-drop, length-take, get_or_default}
 use Rattle.std.proofs.lemmas.List.Concat.{flat_map-append}
 use Rattle.ods_base.specs.Block.{byte, has_bit}
 use Rattle.ods_base.specs.Image.{block_at}
@@ -16,7 +16,7 @@ use Rattle.ods_header.specs.Header.{IsValidHeader, map_word, segment_of, sequenc
 use Rattle.ods_space.specs.Layout.{VolumeLayout, place_of, header_at, is_in_use}
 use Rattle.ods_space.specs.Chain.{IsChain}
 use Rattle.ods_space.specs.Free.{is_covered, storage_bit}
-use Rattle.ods_header.specs.Pointing.{KeepsFields}
+use Rattle.ods_header.specs.Pointing.{KeepsFields, BeginsPointers}
 use Rattle.ods_header.specs.Extension.{IsExtensionOf}
 use Rattle.ods_alloc.specs.Extend.{IsWellPlaced, CanExtend, Extends, IsIndexBitmap, IsStorageBitmap, is_one_of, with_in_use, last_of, cut}
 use Rattle.ods_alloc.specs.Extension.{IsMade, WritesHeaders, first_number, first_sequence}
@@ -229,10 +229,18 @@ module _ (I C J1 J2 J3 J4 : List (List ℕ)) (L : VolumeLayout) (n : ℕ) (other
     | inr other ↦ λ i at. ap (λ b. byte b i) (old_link m k link other)
   ]
 
-  size_first : length (header_at J4 L n) ≡ length (header_at I L n)
-  size_first = elim (cases_eq n (last_of n others)) [
+  begins_link : (m k : ℕ) → IsLink C L m k → BeginsPointers (header_at I L m) (header_at J4 L m)
+  begins_link m k link = elim (cases_eq m (last_of n others)) [
+    | inl e ↦
+        let P : ℕ → Type 0 = λ x. BeginsPointers (header_at I L x) (header_at J4 L x) in
+        subst P (sym e) (take (room_of (header_at I L (last_of n others)) / 2) runs, grown.pointers)
+    | inr other ↦ ([], ap runs_of (old_link m k link other) ∙ sym (append-nil (runs_of (header_at I L m))))
+  ]
+
+  size_link : (m k : ℕ) → IsLink C L m k → length (header_at J4 L m) ≡ length (header_at I L m)
+  size_link m k link = elim (cases_eq m (last_of n others)) [
     | inl e ↦ let P : ℕ → Type 0 = λ x. length (header_at J4 L x) ≡ length (header_at I L x) in subst P (sym e) grown.size
-    | inr other ↦ ap length (old_link n 0 (first_link I C L n others all places high is chain) other)
+    | inr other ↦ ap length (old_link m k link other)
   ]
 
   pub extends : Extends I L n others all blocks numbers J4
@@ -246,11 +254,14 @@ module _ (I C J1 J2 J3 J4 : List (List ℕ)) (L : VolumeLayout) (n : ℕ) (other
         (let enough = goes_on.enough in let size : length (drop (room_of (header_at I L (last_of n others)) / 2) runs) ≡ length runs - room_of (header_at I L (last_of n others)) / 2 = length-drop (room_of (header_at I L (last_of n others)) / 2) runs in omega arith))
         ∙ whole_runs (flat_map (λ m. runs_of (header_at I L m)) (n ∷ others)) runs (room_of (header_at I L (last_of n others)) / 2) ∙ ap (λ l. flat_map (λ m. runs_of (header_at I L m)) (n ∷ others) ++ l) cuts;
     stays = all_links C L (λ m. KeepsFields (header_at I L m) (header_at J4 L m)) keeps_link others 0 n [] all (follows I C L n others all places high is chain);
+    begins = all_links C L (λ m. BeginsPointers (header_at I L m) (header_at J4 L m)) begins_link others 0 n [] all (follows I C L n others all places high is chain);
+    sizes = all_links C L (λ m. length (header_at J4 L m) ≡ length (header_at I L m)) size_link others 0 n [] all (follows I C L n others all places high is chain);
     made = λ i d below.
         let P : ℕ → Type 0 = λ m. IsExtensionOf (header_at J4 L n) (header_at J4 L m) in
-        subst P (get_or_default numbers i 0 d below) (extension_stays (header_at I L n) (header_at J4 L n) (header_at J4 L (get_or numbers i 0)) n (first_valid I C L n others all places high is chain) size_first
+        subst P (get_or_default numbers i 0 d below) (extension_stays (header_at I L n) (header_at J4 L n) (header_at J4 L (get_or numbers i 0)) n (first_valid I C L n others all places high is chain) (size_link n 0 (first_link I C L n others all places high is chain))
         (keeps_link n 0 (first_link I C L n others all places high is chain)) (made_at i below).extension);
     filled = filled;
+    last_volume = λ none. grown.volume (ap first_number none);
     sequences = λ i d below.
         let P : ℕ → Type 0 = λ m. sequence_of (header_at J4 L m) ≡ sequence_of (header_at I L m) + 1 in
         subst P (get_or_default numbers i 0 d below) (made_at i below).sequence;

@@ -56,8 +56,8 @@ unfolding runs_of
 made_full f b n valid extension count =
     let size = length-map-range_with_len (run_at b) 0 (used_words_of b / 2) in
     let even = valid.header.layout.even in
-    let map : map_word b ≡ 46 = extension.offsets.1 in
-    let most : most_words_of b ≡ 204 = extension.offsets.2 in
+    let map : map_word b ≡ 46 = extension.form.1 in
+    let most : most_words_of b ≡ 204 = extension.form.2 in
     omega (arith, size, count)
 
 -- an extension of a header is one of the header with other pointers
@@ -70,7 +70,7 @@ extension_stays f g b n valid size kept extension =
     let owner : word g 4 ≡ word f 4 = λ i. kept 8 (inl (omega arith)) i + 256 * kept 9 (inl (omega arith)) i in
     let protection : word g 5 ≡ word f 5 = λ i. kept 10 (inl (omega arith)) i + 256 * kept 11 (inl (omega arith)) i in
     record {
-      offsets = extension.offsets;
+      form = extension.form;
       copied = (
         extension.copied.0 ∙ sym owner,
         extension.copied.1 ∙ sym protection,

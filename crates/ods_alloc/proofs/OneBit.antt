@@ -24,9 +24,8 @@ pub put_other : (I : List (List ℕ)) (d : Changes) (lbn : ℕ) (b : List ℕ) (
 put_other I d lbn b k other = ap (λ J. block_at J k) (applied_put I d lbn b) ∙ get_or-set_other (applied I d) lbn k b [] other
 
 -- one bit more in a draft
-pub puts_bit : (I : List (List ℕ)) (d e : Changes) (lbn i : ℕ) (value : Bool) (b c : List ℕ) → lbn < length I → b ≡ seen_at I d lbn → HasBit b i value c → e ≡ (lbn, c) ∷ d → PutsBit (applied I d) lbn i value (applied I e)
-puts_bit I d e lbn i value b c inside old bits is =
-    let now : applied I e ≡ applied I ((lbn, c) ∷ d) = ap (applied I) is in
+pub puts_bit : (I : List (List ℕ)) (d e : Changes) (lbn i : ℕ) (value : Bool) (b c : List ℕ) → lbn < length I → b ≡ seen_at I d lbn → HasBit b i value c → applied I e ≡ applied I ((lbn, c) ∷ d) → PutsBit (applied I d) lbn i value (applied I e)
+puts_bit I d e lbn i value b c inside old bits now =
     let before : block_at (applied I d) lbn ≡ b = block_at-applied I d lbn inside ∙ sym old in
     record {
       size = ap length now ∙ size_put I d lbn c;

@@ -8,9 +8,9 @@ use Rattle.ods_base.specs.Image.{block_at}
 use Rattle.ods_header.specs.declared.home.Home.{Home}
 use Rattle.ods_header.specs.declared.header.Run.{Run}
 use Rattle.ods_header.specs.Extension.{IsExtensionOf}
-use Rattle.ods_header.specs.Pointing.{KeepsFields}
+use Rattle.ods_header.specs.Pointing.{KeepsFields, BeginsPointers}
 use Rattle.ods_header.specs.Writing.{deleted}
-use Rattle.ods_header.specs.Header.{runs_of, room_of, sequence_of}
+use Rattle.ods_header.specs.Header.{next_volume_of, runs_of, room_of, sequence_of}
 use Rattle.ods_space.specs.Layout.{VolumeLayout, header_at, place_of, is_in_use}
 use Rattle.ods_space.specs.Chain.{IsChain}
 use Rattle.ods_space.specs.Free.{is_covered, storage_bit, is_free_number}
@@ -95,11 +95,15 @@ pub record Extends (I : List (List ℕ)) (L : VolumeLayout) (n : ℕ) (others al
   pub chain : IsChain J L n (others ++ numbers) (all ++ blocks)
   -- the old pointers stay, and the runs of the blocks follow
   pub runs : chain_runs J L (n ∷ others ++ numbers) ≡ chain_runs I L (n ∷ others) ++ cut blocks
-  -- headers that were there stay what they were, and new ones are made in one form
+  -- headers that were there stay what they were, each with its own pointers first, and new ones are made in one form
   pub stays : All (λ m. KeepsFields (header_at I L m) (header_at J L m)) (n ∷ others)
+  pub begins : All (λ m. BeginsPointers (header_at I L m) (header_at J L m)) (n ∷ others)
+  pub sizes : All (λ m. length (header_at J L m) ≡ length (header_at I L m)) (n ∷ others)
   pub made : All (λ m. IsExtensionOf (header_at J L n) (header_at J L m)) numbers
   -- the old last header and each new one but the last are full
   pub filled : (i m : ℕ) → i < length numbers → slice_get (last_of n others ∷ numbers) i ≡ Some m → room_of (header_at J L m) / 2 ≡ 0
+  -- where no new one follows, the last header names the volume that it named
+  pub last_volume : numbers ≡ [] → next_volume_of (header_at J L (last_of n others)) ≡ next_volume_of (header_at I L (last_of n others))
   pub sequences : All (λ m. sequence_of (header_at J L m) ≡ sequence_of (header_at I L m) + 1) numbers
   pub bits : TakesBits I L blocks (n ∷ numbers) J
   pub only : ChangesOnly I L (n ∷ others ++ numbers) J

@@ -20,7 +20,8 @@ fn put_bit(
 {
     if let Some((lbn, i)) = found {
         let changed = with_bit(&draft.block(image, lbn), i, value);
-        draft.set(lbn, changed)?;
+        // Many bits of one block are one change.
+        draft.renew(lbn, changed)?;
     }
     Ok(())
 }

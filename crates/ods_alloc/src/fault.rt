@@ -8,14 +8,11 @@ use thiserror::Error;
 
 /// Why there is no room for blocks or headers.
 #[derive(Clone, Copy, Debug, PartialEq, Eq, Error)]
+#[error("{}", self.name())]
 pub enum SpaceFault {
-    #[error("VolumeFull")]
     VolumeFull,
-    #[error("HeadersFull")]
     HeadersFull,
-    #[error("ChainFull")]
     ChainFull,
-    #[error("NoMemory")]
     NoMemory,
 }
 

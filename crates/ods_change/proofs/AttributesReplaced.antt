@@ -70,12 +70,19 @@ module _ {I : List (List ℕ)} {L : VolumeLayout} {id : FileId} {x : ℕ} {old n
   pub attributes_are : attributes_of (header_at J L n) ≡ new
   attributes_are = ap attributes_of header_is ∙ h.changed.attributes
 
+  -- the header has other attributes, and no other byte of it changes but its sum
+  pub changed_here : IsWithAttributes (header_at I L n) new (header_at J L n)
+  changed_here = subst (λ d. IsWithAttributes d new (header_at J L n)) (sym h.was) (subst (IsWithAttributes old new) (sym header_is) h.changed)
+
   -- the file is a directory as before
   pub kind_stays : is_directory_header n b ≡ is_directory_header n old
   kind_stays = ap (λ e. (nat_eq n 4) || (nat_lt 5 n && nat_eq e 6778)) (ident_ext_is old new b h.changed h.valid.header.layout)
 
   pub blocks_stay : {blocks : List ℕ} → HasBlocks I L n blocks → HasBlocks J L n blocks
   blocks_stay {blocks = blocks} = change.has_blocks I L S n x b h.place to back n blocks
+
+  pub contents_stay : {blocks : List ℕ} → HasBlocks I L n blocks → n ≢ 1 → contents_of J blocks ≡ contents_of I blocks
+  contents_stay {blocks = blocks} = change.contents_stay I L S n x b h.place n blocks
 
   pub moves_nothing : NothingMoves (disk I L) (disk J L)
   moves_nothing = change.nothing_moves I L S n x b h.place to back
@@ -87,7 +94,7 @@ module _ {I : List (List ℕ)} {L : VolumeLayout} {id : FileId} {x : ℕ} {old n
   still_sound = change.header_is_sound I L S n x b h.place to back (h.fields n h.valid).0.format
 
   -- with the new header a file has another body, and all else stays
-  file_is : (cs ds : List (List ℕ)) (body : Body) → body_of n b ds ≡ body → file_of n b ds ≡ with_body (file_of n old cs) body
+  pub file_is : (cs ds : List (List ℕ)) (body : Body) → body_of n b ds ≡ body → file_of n b ds ≡ with_body (file_of n old cs) body
   unfolding file_of
   file_is cs ds body is =
       let owner = ap (λ (g : Header). g.owner) kept in

@@ -1,12 +1,11 @@
 -- An Enter of a sound volume that takes no block: what the blocks are then, and what they show.
-use Rattle.std.proofs.Common.{◌≡◌, ℕ, zero, ◌+◌, ◌*◌, ◌/◌, ◌%◌, ◌≤◌, refl, ap, sym, ◌∙◌, subst, true, false, cond, List, [], ◌∷◌, ◌++◌, length, Option, Some, take, drop, arith, inl, inr}
+use Rattle.std.proofs.Common.{◌≡◌, ◌≢◌, ℕ, zero, ◌+◌, ◌*◌, ◌/◌, ◌%◌, ◌≤◌, refl, ap, sym, ◌∙◌, subst, true, false, cond, List, [], ◌∷◌, ◌++◌, length, Option, Some, arith, inl, inr}
 use Rattle.std.specs.Prelude.{slice_set}
 use Rattle.std.specs.List.{Contains}
-use Rattle.std.specs.FinMap as map
 use Rattle.std.proofs.lemmas.List.{length-set, length-map, get_or-set_other}
 use Rattle.ods_base.specs.Block.{with_bytes, zeros}
 use Rattle.ods_base.specs.Image.{block_at}
-use Rattle.ods_base.specs.Name.{RadName, key_of}
+use Rattle.ods_base.specs.Name.{RadName}
 use Rattle.ods_base.specs.Names.{NameMap}
 use Rattle.ods_base.specs.declared.file_id.FileId.{FileId}
 use Rattle.ods_base.specs.declared.file_id.Uic.{Uic}
@@ -14,7 +13,7 @@ use Rattle.ods_header.specs.Attributes.{IsWithAttributes, KeepsOtherFields}
 use Rattle.ods_header.specs.Header.{attributes_of, sequence_of, is_directory_header}
 use Rattle.ods_space.specs.Layout.{VolumeLayout, header_at, place_of}
 use Rattle.ods_space.specs.Files.{HasBlocks, Holds}
-use Rattle.ods_directory.specs.Mark.{IsSlot, mark_in, marked, written}
+use Rattle.ods_directory.specs.Mark.{IsSlot, grown, mark_in, marked, written}
 use Rattle.ods_directory.specs.Names.{IsDirectory, names_of as names_in}
 use Rattle.ods_mount.specs.Faults.{contents_of, mark_at}
 use Rattle.ods_mount.specs.Sound.{IsSoundBy}
@@ -22,8 +21,8 @@ use Rattle.ods_request.specs.declared.requests.Request.TheVariants.{Enter}
 use Rattle.ods_request.specs.declared.answers.Answer.TheVariants.{Entered}
 use Rattle.ods_request.specs.declared.refusals.Refusal.{Refusal}
 use Rattle.ods_request.specs.declared.rights.Right.TheVariants as right
-use Rattle.ods_request.specs.Catalogue.{Catalogue, Directory, names_of}
-use Rattle.ods_request.specs.Steps.{after, answer_of, entered_version, put, file_at, with_body}
+use Rattle.ods_request.specs.Catalogue.{Catalogue, Directory}
+use Rattle.ods_request.specs.Steps.{after, put, with_body}
 use Rattle.ods_state.specs.Contents.{file_of, body_of, ShowsBy}
 use Rattle.ods_state.specs.Change.{disk}
 use Rattle.ods_state.specs.Served.{IsStepOf}
@@ -33,20 +32,14 @@ use Rattle.ods_state.proofs.TwoChanges.{nothing_moves_on, put_put}
 use Rattle.ods_look.specs.Opening.{file_shown}
 use Rattle.ods_look.proofs.BlockPlaces.{blocks_are_one}
 use Rattle.ods_look.proofs.FileBodies.{directory_body}
-use Rattle.ods_look.proofs.OpenDirectories.{names_there}
-use Rattle.ods_change.specs.declared.enter_name.NewEntry.{NewEntry}
+use Rattle.ods_change.specs.declared.entering.NewEntry.{NewEntry}
 use Rattle.ods_change.specs.Entering.{IsNewEntry}
-use Rattle.ods_change.proofs.Marks.{IsSlotInside, slot_inside, no_growth, marked_front, marked_back, marked_is}
+use Rattle.ods_change.proofs.Marks.{IsSlotInside, slot_inside, no_growth, marked_is}
+use Rattle.ods_change.proofs.EnteredAt.{entered_at, names_entered, names_then_in, header_changed, header_kept, mark_moves, mark_stays}
 use Rattle.ods_change.proofs.AttributesReplaced.{HasOtherAttributes}
 use Rattle.ods_change.proofs.AttributesReplaced as header_change
 use Rattle.ods_change.proofs.EntryReplaced.{IsEntry}
 use Rattle.ods_change.proofs.EntryReplaced as entry
-
--- the version that an Enter answers is the one under which the name is entered
-version_answered : (C : Catalogue) (dir : FileId) (name : RadName) (given : Option ℕ) (file : FileId) (version : ℕ)
-    → answer_of C (Enter dir name given file) ≡ Entered version → entered_version C dir name given ≡ version
-unfolding answer_of
-version_answered C dir name given file version e = cc
 
 module _ {I : List (List ℕ)} {L : VolumeLayout} (S : IsSoundBy I L) {who : Uic} {dir : FileId} {name : RadName} {given : Option ℕ} {file : FileId} {new : NewEntry}
     (e : IsNewEntry I L who dir name given file new) (stays_in : new.slot.grows ≡ false) where
@@ -88,6 +81,9 @@ module _ {I : List (List ℕ)} {L : VolumeLayout} (S : IsSoundBy I L) {who : Uic
     not_grown : (bs : List (List ℕ)) → cond new.slot.grows (bs ++ zeros ∷ []) bs ≡ bs
     not_grown bs = ap (λ g. cond g (bs ++ zeros ∷ []) bs) stays_in
 
+    grown_now : now ≡ written (grown new.opened.blocks new.slot) new.slot.at new.bytes
+    grown_now = ap (λ bs. written bs new.slot.at new.bytes) (sym (not_grown new.opened.blocks))
+
     is_directory : IsDirectory now new.slot.mark
     is_directory = subst (λ bs. IsDirectory (written bs new.slot.at new.bytes) new.slot.mark) (not_grown new.opened.blocks) e.stays
 
@@ -99,13 +95,10 @@ module _ {I : List (List ℕ)} {L : VolumeLayout} (S : IsSoundBy I L) {who : Uic
 
     module _ (C : Catalogue) (shown : ShowsBy I L C) where
       abbrev names_then : NameMap
-      names_then = map.insert (names_of (file_at C dir).body) (key_of name (entered_version C dir name given)) file
+      names_then = names_then_in e C
 
       names_now : names_in now new.slot.mark ≡ names_then
-      names_now =
-          let there = names_there e.own shown in
-          let version = version_answered C dir name given file new.version (e.answered C shown).1 in
-          ap (λ bs. names_in (written bs new.slot.at new.bytes) new.slot.mark) (sym (not_grown new.opened.blocks)) ∙ e.names ∙ (λ i. map.insert (sym there i) (key_of name (sym version i)) file)
+      names_now = ap (λ bs. names_in bs new.slot.mark) grown_now ∙ names_entered e C shown
 
       -- with the header as it was
       kept_is_shown : new.slot.mark ≡ new.opened.mark → ShowsBy J L (after C (Enter dir name given file))
@@ -124,8 +117,9 @@ module _ {I : List (List ℕ)} {L : VolumeLayout} (S : IsSoundBy I L) {who : Uic
           λ headers blocks count w. absurd (nothing_wanted headers blocks count w),
           λ none. entry.moves_nothing entry_is new.bytes,
         ),
-        (ap (λ c. take 4 (attributes_of c)) header_now, ap (λ c. drop 14 (attributes_of c)) header_now),
-        inl (ap attributes_of header_now),
+        λ none. header_kept (header_at I L n) (header_at J L n) n e.own.is.held.file.valid header_now,
+        entered_at e J lbns (entry.blocks_stay entry_is new.bytes) (entry.contents_then entry_is new.bytes ∙ grown_now)
+            (ap attributes_of header_now ∙ sym (mark_stays e (length lbns) same)),
       );
       elsewhere = (
         length-set I lbn b,
@@ -187,6 +181,9 @@ module _ {I : List (List ℕ)} {L : VolumeLayout} (S : IsSoundBy I L) {who : Uic
           (put_put C dir (file_of n header now) f ∙ ap (λ g. put C dir (with_body g (Directory (names_then C shown)))) (sym (entry.there entry_is new.bytes C shown)))
           then
 
+      changed_then : IsWithAttributes (header_at I L n) attributes (header_at K L n)
+      changed_then = subst (λ d. IsWithAttributes d attributes (header_at K L n)) header_now (header_change.changed_here header_is)
+
       attributes_then : attributes_of (header_at K L n) ≡ attributes
       attributes_then = header_change.attributes_are header_is
 
@@ -197,8 +194,8 @@ module _ {I : List (List ℕ)} {L : VolumeLayout} (S : IsSoundBy I L) {who : Uic
       own_header = (zero, omega arith, refl)
 
       -- the Enter is made by the entry and the header with the new mark
-      pub enter_moved : IsStepOf I L who (Enter dir name given file) (Entered new.version) K L
-      enter_moved = carried_is_step I L who (Enter dir name given file) (Entered new.version) K refl nothing_lacking (record {
+      pub enter_moved : new.slot.mark ≢ new.opened.mark → IsStepOf I L who (Enter dir name given file) (Entered new.version) K L
+      enter_moved moved = carried_is_step I L who (Enter dir name given file) (Entered new.version) K refl nothing_lacking (record {
         answered = e.answered;
         sound = header_change.still_sound header_is (λ d. still);
         shown = moved_is_shown;
@@ -209,16 +206,9 @@ module _ {I : List (List ℕ)} {L : VolumeLayout} (S : IsSoundBy I L) {who : Uic
             λ none. nothing_moves_on (disk I L) (disk J L) (disk K L) (entry.moves_nothing entry_is new.bytes)
                 (header_change.moves_nothing header_is),
           ),
-          (
-            ap (take 4) attributes_then ∙ marked_front (attributes_of header) new.slot.mark count,
-            ap (drop 14) attributes_then ∙ marked_back (attributes_of header) new.slot.mark count,
-          ),
-          inr (
-            new.slot.mark,
-            lbns,
-            header_change.blocks_stay header_is held_now,
-            attributes_then ∙ ap (marked (attributes_of header) new.slot.mark) count_is,
-          ),
+          λ none. header_changed (header_at I L n) attributes (header_at K L n) changed_then,
+          entered_at e K lbns (header_change.blocks_stay header_is held_now) (header_change.contents_stay header_is held_now (entry.one entry_is new.bytes) ∙ contents_now ∙ grown_now)
+              (attributes_then ∙ ap (marked (attributes_of header) new.slot.mark) count_is ∙ sym (mark_moves e (length lbns) moved)),
         );
         elsewhere = (
           length-set J x c ∙ length-set I lbn b,

@@ -1,3 +1,11 @@
+pub mod ChainEnds
+pub mod NewBodies
+pub mod TakenNumbers
+pub mod CreatingFile
+pub mod Idents
+pub mod NewDrafts
+pub mod NewHeaders
+pub mod TakingBlocks
 pub mod Writing
 pub mod AttributesReplaced
 pub mod SettingUser
@@ -5,4 +13,14 @@ pub mod EntryReplaced
 pub mod RemovingName
 pub mod Marks
 pub mod NewEntries
+pub mod EnteredAt
+pub mod BehindBlocks
+pub mod ReadyDirectory
+pub mod GrowingChain
+pub mod GrowingDirectory
 pub mod EnteringName
+pub mod ExtendingFile
+pub mod FirstKept
+pub mod ReadyToGrow
+pub mod HeldByFiles
+pub mod Deleting

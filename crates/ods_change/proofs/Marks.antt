@@ -1,7 +1,7 @@
 -- The end mark of a directory: where a slot in its blocks lies, and what attributes with another mark say.
-use Rattle.std.proofs.Common.{◌≡◌, ◌≢◌, ℕ, ◌+◌, ◌-◌, ◌*◌, ◌/◌, ◌%◌, ◌<◌, ◌≤◌, ap, sym, ◌∙◌, true, false, cond, List, length, take, drop, arith, inl, inr}
+use Rattle.std.proofs.Common.{◌≡◌, ◌≢◌, ℕ, ◌+◌, ◌-◌, ◌*◌, ◌/◌, ◌%◌, ◌<◌, ◌≤◌, ap, sym, ◌∙◌, true, false, cond, List, length, arith, inl, inr}
 use Rattle.std.specs.Prelude.{◌==◌, min, nat_le, slice_set}
-use Rattle.std.proofs.lemmas.List.{length-set, get_or-set_other, take-set-le, drop-set-lt}
+use Rattle.std.proofs.lemmas.List.{length-set, get_or-set_other}
 use borrow.Author.Tests.{ne_eqb, leb-false}
 use Rattle.ods_base.specs.Block.{byte, word, with_word}
 use Rattle.ods_base.proofs.Blocks.{word-with_word}
@@ -68,12 +68,6 @@ word_beside a k v j ne =
     ∙ get_or-set_other a (2 * k) (2 * j + 1) (v % 256) 0 (λ e. absurd (omega arith)) in
     λ i. low i + 256 * high i
 
-take_before : (n : ℕ) (a : List ℕ) (k v : ℕ) → n ≤ 2 * k → take n (with_word a k v) ≡ take n a
-take_before n a k v low = take-set-le n (slice_set a (2 * k) (v % 256)) (2 * k + 1) (v / 256) (omega arith) ∙ take-set-le n a (2 * k) (v % 256) low
-
-drop_behind : (n : ℕ) (a : List ℕ) (k v : ℕ) → 2 * k + 1 < n → drop n (with_word a k v) ≡ drop n a
-drop_behind n a k v high = drop-set-lt n (slice_set a (2 * k) (v % 256)) (2 * k + 1) (v / 256) high ∙ drop-set-lt n a (2 * k) (v % 256) (omega arith)
-
 long : (a : List ℕ) (k v : ℕ) → length (with_word a k v) ≡ length a
 long a k v = length-set (slice_set a (2 * k) (v % 256)) (2 * k + 1) (v / 256) ∙ length-set a (2 * k) (v % 256)
 
@@ -89,27 +83,6 @@ module _ (a : List ℕ) (mark count : ℕ) where
 
   abbrev end_low : List ℕ
   end_low = with_word end_high 5 ((mark / 512 + 1) % 65536)
-
-  -- the bytes before F.HIBK and behind F.FFBY stay
-  front_by : (n : ℕ) → n ≤ 4 → take n (marked a mark count) ≡ take n a
-  unfolding marked
-  front_by n low =
-      take_before n end_low 6 (mark % 512) (omega arith) ∙ take_before n end_high 5 ((mark / 512 + 1) % 65536) (omega arith)
-      ∙ take_before n size_low 4 ((mark / 512 + 1) / 65536) (omega arith) ∙ take_before n size_high 3 (count % 65536) (omega arith)
-      ∙ take_before n a 2 (count / 65536) (omega arith)
-
-  back_by : (n : ℕ) → 14 ≤ n → drop n (marked a mark count) ≡ drop n a
-  unfolding marked
-  back_by n high =
-      drop_behind n end_low 6 (mark % 512) (omega arith) ∙ drop_behind n end_high 5 ((mark / 512 + 1) % 65536) (omega arith)
-      ∙ drop_behind n size_low 4 ((mark / 512 + 1) / 65536) (omega arith) ∙ drop_behind n size_high 3 (count % 65536) (omega arith)
-      ∙ drop_behind n a 2 (count / 65536) (omega arith)
-
-  pub marked_front : take 4 (marked a mark count) ≡ take 4 a
-  marked_front = front_by 4 (omega arith)
-
-  pub marked_back : drop 14 (marked a mark count) ≡ drop 14 a
-  marked_back = back_by 14 (omega arith)
 
   module _ (size : length a ≡ 32) (inside : mark ≤ 512 * count) where
     long_low : length size_low ≡ 32

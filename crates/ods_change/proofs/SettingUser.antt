@@ -20,7 +20,7 @@ use Rattle.ods_state.specs.Served.{IsStepOf}
 use Rattle.ods_state.proofs.Served.{carried_is_step, lacks_nothing}
 use Rattle.ods_look.specs.Opening.{IsOpenPlain}
 use Rattle.ods_look.proofs.FileBodies.{plain_body, no_directory}
-use Rattle.ods_change.proofs.AttributesReplaced.{HasOtherAttributes, kind_stays, still_sound, body_shown, sequences_stay, moves_nothing}
+use Rattle.ods_change.proofs.AttributesReplaced.{HasOtherAttributes, kind_stays, still_sound, body_shown, changed_here, sequences_stay, moves_nothing}
 
 module _ {I : List (List ℕ)} {L : VolumeLayout} (S : IsSoundBy I L) {who : Uic} {r : Right} {id : FileId} (o : IsOpenPlain I L id 5 who r) (x : ℕ) (new b : List ℕ)
     (place : place_of L id.number ≡ Some x) (w : IsWithAttributes (header_at I L id.number) new b) (fields : KeepsOtherFields (header_at I L id.number) new b) where
@@ -72,6 +72,6 @@ module _ {I : List (List ℕ)} {L : VolumeLayout} (S : IsSoundBy I L) {who : Uic
         (λ says. absurd (no_directory n b (kind_stays header_is ∙ o.kind) says));
     shown = set_is_shown;
     sequences = sequences_stay header_is;
-    moves = moves_nothing header_is;
+    moves = (moves_nothing header_is, changed_here header_is);
     elsewhere = (length-set I x b, λ y untouched. get_or-set_other I x y b [] (λ e. untouched (n, own, place ∙ ap Some (sym e))));
   })

@@ -1,5 +1,5 @@
 -- What an Enter finds of a name that can be entered, and when that needs a block more of its directory.
-use Rattle.std.specs.Prelude.{◌≡◌, ℕ, List, Option, true}
+use Rattle.std.specs.Prelude.{◌≡◌, ℕ, List, Option, None}
 use Rattle.std.specs.FinMap.{insert}
 use Rattle.ods_base.specs.Name.{RadName, key_of}
 use Rattle.ods_base.specs.declared.file_id.FileId.{FileId}
@@ -7,6 +7,7 @@ use Rattle.ods_base.specs.declared.file_id.Uic.{Uic}
 use Rattle.ods_space.specs.Layout.{VolumeLayout}
 use Rattle.ods_directory.specs.declared.fault.DirFault.{DirFault}
 use Rattle.ods_directory.specs.declared.fault.DirFault.TheVariants as fault
+use Rattle.ods_directory.specs.Entry.{entry_bytes}
 use Rattle.ods_directory.specs.Mark.{IsSlot, grown, written}
 use Rattle.ods_directory.specs.Names.{IsDirectory, names_of}
 use Rattle.ods_request.specs.declared.refusals.Refusal.{Refusal}
@@ -14,9 +15,12 @@ use Rattle.ods_request.specs.declared.refusals.Refusal.TheVariants as refusal
 use Rattle.ods_request.specs.declared.requests.Request.TheVariants.{Enter}
 use Rattle.ods_request.specs.declared.answers.Answer.TheVariants.{Entered}
 use Rattle.ods_request.specs.declared.rights.Right.TheVariants as right
+use Rattle.ods_space.specs.Draft.{Changes, applied}
 use Rattle.ods_state.specs.Change.{IsAnsweredBy}
+use Rattle.ods_state.specs.Served.{IsStepOf, IsRefusalOf}
+use Rattle.ods_state.specs.Wants.{HasHeaders, lack_of, taken_blocks, taken_numbers}
 use Rattle.ods_look.specs.Opening.{IsOpenDirectory}
-use Rattle.ods_change.specs.declared.enter_name.NewEntry.{NewEntry}
+use Rattle.ods_change.specs.declared.entering.NewEntry.{NewEntry}
 
 -- a fault of a directory as a refusal
 abbrev pub refusal_of : DirFault → Refusal
@@ -29,10 +33,25 @@ pub record IsNewEntry (I : List (List ℕ)) (L : VolumeLayout) (who : Uic) (dir 
   pub own : IsOpenDirectory I L dir who right.Write new.opened
   pub answered : IsAnsweredBy I L who (Enter dir name given file) (Entered new.version)
   pub slot : IsSlot new.opened.blocks new.opened.mark new.slot
+  pub bytes : new.bytes ≡ entry_bytes file (key_of name new.version)
   pub names : names_of (written (grown new.opened.blocks new.slot) new.slot.at new.bytes) new.slot.mark
       ≡ insert (names_of new.opened.blocks new.opened.mark) (key_of name new.version) file
   pub stays : IsDirectory (written (grown new.opened.blocks new.slot) new.slot.at new.bytes) new.slot.mark
 
--- the Enter is not refused, and its entry goes behind the last block of the directory
-abbrev pub NeedsBlock : List (List ℕ) → VolumeLayout → Uic → FileId → RadName → Option ℕ → FileId → Type 0
-NeedsBlock I L who dir name given file = (new : NewEntry) × IsNewEntry I L who dir name given file new × (new.slot.grows ≡ true)
+-- some Enter in this directory writes this
+abbrev pub IsSomeEntry : List (List ℕ) → VolumeLayout → FileId → NewEntry → Type 0
+IsSomeEntry I L dir new = (who : Uic) × (name : RadName) × (given : Option ℕ) × (file : FileId) × IsNewEntry I L who dir name given file new
+
+-- the draft carries out each Enter in this directory that writes this
+abbrev pub IsEntering : List (List ℕ) → VolumeLayout → FileId → NewEntry → Changes → Type 0
+IsEntering I L dir new draft = (who : Uic) (name : RadName) (given : Option ℕ) (file : FileId) → IsNewEntry I L who dir name given file new
+    → IsStepOf I L who (Enter dir name given file) (Entered new.version) (applied I draft) L
+
+-- each such Enter is refused so
+abbrev pub IsWhyNotEntering : List (List ℕ) → VolumeLayout → FileId → NewEntry → Refusal → Type 0
+IsWhyNotEntering I L dir new f = (who : Uic) (name : RadName) (given : Option ℕ) (file : FileId) → IsNewEntry I L who dir name given file new → IsRefusalOf I L who (Enter dir name given file) f
+
+-- directory n takes this block, and these numbers for its headers
+abbrev pub IsTakenFor : List (List ℕ) → VolumeLayout → ℕ → List ℕ → List ℕ → Type 0
+IsTakenFor I L n blocks numbers = (headers old : List ℕ) → HasHeaders I L n headers old
+    → (blocks ≡ taken_blocks I L 1) × (numbers ≡ taken_numbers I L headers 1) × (lack_of I L headers 1 ≡ None)

@@ -1,1 +1,4 @@
+pub mod Creating
 pub mod Entering
+pub mod Taking
+pub mod Extending

@@ -6,6 +6,7 @@ pub mod Searches
 pub mod Used
 pub mod Keyed
 pub mod Lookups
+pub mod AnyNames
 pub mod Picked
 pub mod Written
 pub mod Changed

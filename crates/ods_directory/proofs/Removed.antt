@@ -18,7 +18,7 @@ use Rattle.ods_directory.proofs.Changed.{IsSameBut, directory_less, names_less}
 
 module _ (blocks : List (List ℕ)) (mark : ℕ) (n : RadName) (f : Found) (directory : IsDirectory blocks mark) (cut : mark ≤ 512 * length blocks)
     (found : IsEntryOf (entry_at blocks) (mark / 16) n f) (whole : IsBlock (block_at blocks (f.position / 32))) where
-  used : is_used (entry_at blocks f.position) ≡ true
+  pub used : is_used (entry_at blocks f.position) ≡ true
   used = (and_parts (is_used (entry_at blocks f.position)) (is_of n (entry_at blocks f.position).key) found.named).0
 
   key : (entry_at blocks f.position).key ≡ key_of n f.version

@@ -10,6 +10,7 @@ use Rattle.ods_directory.specs.Entry.{Entry, is_used, is_good}
 abbrev pub is_kind : Kind → Entry → Bool
 is_kind kind.Empty e = not (is_used e)
 is_kind kind.Bad e = is_used e && not (is_good e)
+is_kind kind.Used e = is_used e
 
 -- the first position so far, after entry k
 abbrev pub first_after : First → ℕ → Entry → First

@@ -1,10 +1,11 @@
-//! How many names a directory has.
-ghost use Rattle.std.specs.Prelude.{◌≡◌, ◌*◌, ◌≤◌, length, map, filter};
+//! How many names a directory has, and whether it has one.
+ghost use Rattle.std.specs.Prelude.{◌≡◌, ◌==◌, ◌*◌, ◌≤◌, not, length, map, filter};
 ghost use Rattle.std.specs.List.{range_with_len};
 ghost use Rattle.std.specs.FinMap.{len};
 ghost use Rattle.ods_directory.specs.Entry.{entry_in, is_used};
 ghost use Rattle.ods_directory.specs.Names.{IsDirectory, names_of};
 
+use crate::first::{Kind, first_entry};
 use crate::scan::entries_in;
 use crate::{DirBlocks, entry};
 use ods_base::Block;
@@ -24,6 +25,15 @@ pub fn name_count<B: DirBlocks>(blocks: &B, mark: u64) -> u64
         names += used_in(blocks.block(i), count);
     }
     names
+}
+
+/// Whether there is a name. The pass ends with the block where the first one is found.
+pub fn has_names<B: DirBlocks>(blocks: &B, mark: u64) -> bool
+    requires directory { IsDirectory (B.blocks blocks.now) mark }
+    requires mark { mark ≤ 512 * length (B.blocks blocks.now) }
+    ensures { result ≡ not (len (names_of (B.blocks blocks.now) mark) == 0) }
+{
+    first_entry(blocks, mark, Kind::Used).is_some()
 }
 
 /// How many of the first `count` entries of a block name a file.

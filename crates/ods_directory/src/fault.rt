@@ -31,15 +31,13 @@ impl Coded for Verdict {
 
 /// Why a name is not found or not entered.
 #[derive(Clone, Copy, Debug, PartialEq, Eq, Error)]
+#[error("{}", self.name())]
 pub enum DirFault {
     /// The directory has no such name, or no such version of it.
-    #[error("NoSuchName")]
     NoSuchName,
     /// The version given is there already.
-    #[error("NameTaken")]
     NameTaken,
     /// No version is given, and the highest is 32,767.
-    #[error("VersionsFull")]
     VersionsFull,
 }
 

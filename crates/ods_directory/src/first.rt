@@ -14,6 +14,8 @@ pub enum Kind {
     Empty,
     /// One that names a file and is not good.
     Bad,
+    /// One that names a file.
+    Used,
 }
 
 /// The position of the first entry of a kind, so far.
@@ -44,6 +46,7 @@ impl First {
         match self.kind {
             Kind::Empty => !entry::is_used(block, at),
             Kind::Bad => entry::is_used(block, at) && !entry::is_good(block, at),
+            Kind::Used => entry::is_used(block, at),
         }
     }
 }

@@ -18,7 +18,7 @@ mod slot;
 mod slots;
 
 pub use blocks::DirBlocks;
-pub use count::name_count;
+pub use count::{has_names, name_count};
 pub use entering::enter;
 pub use fault::{DirFault, Verdict};
 pub use listing::{check, entries};

@@ -1,7 +1,8 @@
 //! The check of a directory, and all its names.
-ghost use Rattle.std.specs.Prelude.{◌≡◌, ◌*◌, ◌≤◌, length, IfOk};
+ghost use Rattle.std.specs.Prelude.{◌≡◌, ◌*◌, ◌≤◌, length, IfOk, OnErr};
+ghost use Rattle.std.specs.List.{All};
 ghost use Rattle.ods_base.specs.Names.{lines_of};
-ghost use Rattle.ods_directory.specs.Entry.{used_entries};
+ghost use Rattle.ods_directory.specs.Entry.{IsGoodEntry, used_entries};
 ghost use Rattle.ods_directory.specs.Names.{IsDirectory, HasBadEntry, HasTwins, names_of};
 
 use crate::first::{Kind, first_entry};
@@ -10,11 +11,12 @@ use crate::{DirBlocks, Verdict};
 use ods_base::Listed;
 use std::alloc::{AllocError, Global};
 
-/// Whether the entries before the mark are good, and no two have one name, type and version.
+/// Whether the entries before the mark are good, and no two have one name, type and version. Memory is wanted only where each is good.
 pub fn check<B: DirBlocks>(alloc: Global, blocks: &B, mark: u64) -> Result<Verdict, AllocError>
     ensures good { result ≡ Ok Verdict.Good → IsDirectory (B.blocks blocks.now) mark }
     ensures bad { result ≡ Ok Verdict.BadEntry → HasBadEntry (used_entries (B.blocks blocks.now) mark) }
     ensures twice { result ≡ Ok Verdict.Twice → HasTwins (used_entries (B.blocks blocks.now) mark) }
+    ensures memory { OnErr result (All IsGoodEntry (used_entries (B.blocks blocks.now) mark)) }
 {
     let cut = mark.min(512 * u64::from(blocks.count()));
     if first_entry(blocks, cut, Kind::Bad).is_some() {

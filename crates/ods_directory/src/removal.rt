@@ -1,9 +1,9 @@
 //! The removal of names.
-ghost use Rattle.std.specs.Prelude.{◌≡◌, ℕ, ◌*◌, ◌/◌, ◌<◌, ◌≤◌, length, replicate, IfOk, IfErr};
+ghost use Rattle.std.specs.Prelude.{◌≡◌, ℕ, ◌*◌, ◌/◌, ◌<◌, ◌≤◌, length, replicate, IfOk, IfErr, IsTrue};
 ghost use Rattle.std.specs.FinMap.{remove};
 ghost use Rattle.ods_base.specs.Name.{key_of};
 ghost use Rattle.ods_base.specs.Names.{Finds};
-ghost use Rattle.ods_directory.specs.Entry.{entry_at};
+ghost use Rattle.ods_directory.specs.Entry.{entry_at, is_used};
 ghost use Rattle.ods_directory.specs.Faults.{IsLookUpFault};
 ghost use Rattle.ods_directory.specs.Mark.{written};
 ghost use Rattle.ods_directory.specs.Names.{IsDirectory, names_of};
@@ -24,9 +24,9 @@ pub fn remove<B: DirBlocks>(
     requires mark { mark ≤ 512 * length (B.blocks blocks.now) }
     ensures found { IfOk result (λ r. Finds (names_of (B.blocks blocks.now) mark) name.now pick r.0 r.1) }
 
-    // The position is that of the name's entry. With 16 zero bytes there the directory has that name less.
+    // The position is that of the name's entry, which is in use. With 16 zero bytes there the directory has that name less.
     ensures position { IfOk result (λ r. (k : ℕ) × (k < mark / 16) × (r.2 ≡ 16 * k)
-        × (entry_at (B.blocks blocks.now) k ≡ record { file = r.0; volume = 0; key = key_of name.now r.1 })) }
+        × (entry_at (B.blocks blocks.now) k ≡ record { file = r.0; volume = 0; key = key_of name.now r.1 }) × IsTrue (is_used (entry_at (B.blocks blocks.now) k))) }
     ensures names { IfOk result (λ r. names_of (written (B.blocks blocks.now) r.2 (replicate 16 0)) mark
         ≡ remove (names_of (B.blocks blocks.now) mark) (key_of name.now r.1)) }
     ensures stays { IfOk result (λ r. IsDirectory (written (B.blocks blocks.now) r.2 (replicate 16 0)) mark) }

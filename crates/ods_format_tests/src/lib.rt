@@ -2,6 +2,8 @@
 //! made on, and the users, files and names that they ask about.
 #![tactic(auto)]
 
+pub mod contiguous;
+pub mod dice;
 pub mod persons;
 #[cfg(test)]
 mod tests;

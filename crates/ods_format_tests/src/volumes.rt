@@ -91,6 +91,16 @@ pub fn reserved(number: u16, name: Name) -> FileHeader {
 }
 
 impl FileHeader {
+    /// The same header, with this next one in its chain; 0 for none.
+    pub fn before(self, next: u16) -> FileHeader {
+        FileHeader { next, ..self }
+    }
+
+    /// The same header as the second one of its chain.
+    pub fn second(self) -> FileHeader {
+        FileHeader { segment: 1, ..self }
+    }
+
     /// The block of the header with these retrieval pointers, and its sum.
     pub fn mapping(&self, runs: &[Run]) -> Block {
         let mut pointers = ArrayVec::new();

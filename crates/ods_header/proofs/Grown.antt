@@ -3,7 +3,7 @@ use Rattle.std.proofs.Common.{◌≡◌, ◌≢◌, ℕ, ◌+◌, ◌*◌, ◌/�
 use Rattle.std.proofs.lemmas.List.{length-take, take_min}
 use Rattle.ods_base.specs.Block.{byte}
 use Rattle.ods_header.specs.declared.header.Run.{Run}
-use Rattle.ods_header.specs.Header.{IsValidHeader, IsLaidOut, runs_of, map_word, used_words_of, most_words_of, next_number_of, room_of}
+use Rattle.ods_header.specs.Header.{IsValidHeader, IsLaidOut, runs_of, map_word, used_words_of, most_words_of, next_number_of, next_volume_of, room_of}
 use Rattle.ods_header.specs.Pointing.{KeepsFields, IsWithRuns, IsWithNext, IsGrown}
 
 map_kept : (b c : List ℕ) → IsLaidOut b → KeepsFields b c → map_word c ≡ map_word b
@@ -38,6 +38,11 @@ next_stays b c runs laid appended kept =
     let second : byte c (2 * (map_word c + 1) + 1) ≡ byte b (2 * (map_word b + 1) + 1) = ap (λ k. byte c (2 * (k + 1) + 1)) m ∙ appended.others (2 * (map_word b + 1) + 1) (omega arith) (λ e. absurd (omega arith)) (inl (omega arith)) in
     λ i. first i + 256 * second i
 
+volume_stays : (b c : List ℕ) (runs : List Run) → IsLaidOut b → IsWithRuns b runs c → KeepsFields b c → next_volume_of c ≡ next_volume_of b
+volume_stays b c runs laid appended kept =
+    let low = laid.low in
+    ap (λ k. byte c (2 * k + 1)) (map_kept b c laid kept) ∙ appended.others (2 * map_word b + 1) (omega arith) (λ e. absurd (omega arith)) (inl (omega arith))
+
 -- the pointers that have room, where they were cut to those that there are
 pub as_many_as_fit : (b c : List ℕ) (runs : List Run) (n room : ℕ) → n ≡ min room (length runs) → room ≡ room_of b / 2 → IsWithRuns b (take n runs) c → IsWithRuns b (take (room_of b / 2) runs) c
 as_many_as_fit b c runs n room least is appended =
@@ -55,6 +60,7 @@ grown_alone b c runs number n s valid appended kept stays none =
       full = room_left b c runs laid (map_kept b c laid kept) (most_kept b c laid kept) appended.used;
       linked = λ some. absurd (some none);
       alone = λ e. next_stays b c (take (room_of b / 2) runs) laid appended kept;
+      volume = λ e. volume_stays b c (take (room_of b / 2) runs) laid appended kept;
     }
 
 pub grown_linked : (b c d : List ℕ) (runs : List Run) (number n s : ℕ) → IsValidHeader b number → IsWithRuns b (take (room_of b / 2) runs) c → KeepsFields b c → ((m : ℕ) → IsValidHeader b m → IsValidHeader c m)
@@ -73,4 +79,5 @@ grown_linked b c d runs number n s valid appended kept stays next again same las
       full = room_left b d runs laid (map_kept b d laid all) (most_kept b d laid all) (used ∙ appended.used);
       linked = λ e. (next.number, next.volume, next.sequence);
       alone = λ none. absurd (some none);
+      volume = λ none. absurd (some none);
     }

@@ -2,6 +2,7 @@ pub mod AttributesSet
 pub mod Grown
 pub mod HeaderPlaces
 pub mod HeaderSteps
+pub mod KeptFields
 pub mod Made
 pub mod Missing
 pub mod Octal
@@ -11,3 +12,4 @@ pub mod Ranges
 pub mod RunsAt
 pub mod Summed
 pub mod Written
+pub mod AllButOne

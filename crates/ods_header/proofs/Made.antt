@@ -14,7 +14,7 @@ made_from f b first file segment next rs e is =
     let user : byte b 12 ≡ 0 = ap (λ h. h.user_char) is in
     let system : byte b 13 ≡ 0 = ap (λ h. h.system_char) is in
     record {
-      offsets = (ap (λ h. h.ident_offset) is, ap (λ h. h.map_offset) is, ap (λ h. h.most_words) is);
+      form = (ap (λ h. h.ident_offset) is, ap (λ h. h.map_offset) is, ap (λ h. h.most_words) is, ap (λ h. h.next_volume) is);
       copied = (λ i. member i + 256 * group i, ap (λ h. h.protection) is ∙ sym (ap (λ h. h.protection) e), ap (λ h. h.ident) is ∙ sym (ap (λ h. h.ident) e));
       plain = (λ i. user i + 256 * system i, ap (λ h. h.attributes) is);
     }

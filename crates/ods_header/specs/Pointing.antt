@@ -8,6 +8,15 @@ use Rattle.ods_header.specs.Header.{IsValidHeader, map_word, used_words_of, next
 abbrev pub KeepsFields : List ℕ → List ℕ → Type 0
 KeepsFields b c = (i : ℕ) → (i < 2 * map_word b + 1) ⊎ (i ≡ 2 * map_word b + 6) ⊎ (i ≡ 2 * map_word b + 7) ⊎ (i ≡ 2 * map_word b + 9) → byte c i ≡ byte b i
 
+-- c keeps of header b what no request changes: all but the user characteristics, the attributes, the link, M.USE, the pointers, what is behind them, and the sum
+abbrev pub KeepsForm : List ℕ → List ℕ → Type 0
+KeepsForm b c = (i : ℕ) → (i < 12) ⊎ (i ≡ 13) ⊎ ((46 ≤ i) × (i < 2 * map_word b + 1)) ⊎ (i ≡ 2 * map_word b + 6) ⊎ (i ≡ 2 * map_word b + 7) ⊎ (i ≡ 2 * map_word b + 9)
+    → byte c i ≡ byte b i
+
+-- the pointers of header b stand first among those of c
+abbrev pub BeginsPointers : List ℕ → List ℕ → Type 0
+BeginsPointers b c = (more : List Run) × (runs_of c ≡ runs_of b ++ more)
+
 -- where the first pointer that is not in use stands, in bytes
 abbrev pub behind_pointers : List ℕ → ℕ
 behind_pointers b = 2 * map_word b + 10 + 2 * used_words_of b
@@ -42,3 +51,4 @@ pub record IsGrown (b : List ℕ) (runs : List Run) (n s : ℕ) (c : List ℕ) :
   pub full : room_of b / 2 ≤ length runs → room_of c / 2 ≡ 0
   pub linked : n ≢ 0 → (next_number_of c ≡ n) × (next_volume_of c ≡ 0) × (next_sequence_of c ≡ s)
   pub alone : n ≡ 0 → next_number_of c ≡ next_number_of b
+  pub volume : n ≡ 0 → next_volume_of c ≡ next_volume_of b

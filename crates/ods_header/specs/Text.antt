@@ -6,6 +6,7 @@ use Rattle.ods_base.specs.Block.{word}
 use Rattle.ods_base.specs.Name.{name_version_text}
 use Rattle.ods_header.specs.declared.header.Run.{Run}
 use Rattle.ods_base.specs.declared.file_id.FileId.{FileId}
+use Rattle.ods_base.specs.declared.file_id.Uic.{Uic}
 use Rattle.ods_header.specs.declared.header.Header.{Header}
 
 -- this many octal digits, zeros in front
@@ -33,11 +34,15 @@ run_text r = 32 ∷ decimal r.lbn ++ 43 ∷ decimal r.count
 abbrev pub name_part : Header → List ℕ
 name_part h = codes "HEADER " ++ file_id_text h.file ++ 32 ∷ ident_text h.ident
 
--- the owner [g,m], the protection in six digits, and both bytes of characteristics in three: [g,m] pppppp uuu,ccc
+-- an owner, a protection in six digits, and both bytes of characteristics in three: [g,m] pppppp uuu,ccc
+abbrev pub owner_text : Uic → ℕ → ℕ → ℕ → List ℕ
+owner_text owner protection user system =
+    codes " [" ++ octal owner.group ++ 44 ∷ octal owner.member ++ codes "] " ++ octal_digits 6 protection
+    ++ 32 ∷ octal_digits 3 user ++ 44 ∷ octal_digits 3 system
+
+-- those of a header
 abbrev pub owner_part : Header → List ℕ
-owner_part h =
-    codes " [" ++ octal h.owner.group ++ 44 ∷ octal h.owner.member ++ codes "] " ++ octal_digits 6 h.protection
-    ++ 32 ∷ octal_digits 3 h.user_char ++ 44 ∷ octal_digits 3 h.system_char
+owner_part h = owner_text h.owner h.protection h.user_char h.system_char
 
 -- segment e next n,s runs
 abbrev pub segment_part : Header → List ℕ

@@ -2,11 +2,13 @@
 #![tactic(auto)]
 
 mod append;
+mod contiguous;
 mod delete;
 mod extension;
 mod fault;
 mod fields;
 mod find;
+mod first;
 mod header;
 mod home;
 mod line;
@@ -18,6 +20,7 @@ mod sum;
 mod write;
 
 pub use append::{append_runs, grown_last, with_next};
+pub use contiguous::without_contiguous;
 pub use delete::deleted_header;
 pub use extension::extension_block;
 pub use fault::LineFault;
@@ -26,12 +29,13 @@ pub use fields::{
     user_char,
 };
 pub use find::find_home;
+pub use first::first_block;
 pub use header::{Header, HeaderFault, Run};
 pub use home::{Home, HomeFault};
-pub use line::{header_line, print_ident};
+pub use line::{header_line, print_ident, push_owner};
 pub use map_area::{
     is_valid_header, next_number, next_sequence, next_volume, pointer_at, pointer_count, room,
-    segment,
+    room_words, segment,
 };
 pub use read::read_header;
 pub use set_attributes::with_attributes;

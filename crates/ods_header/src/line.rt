@@ -5,11 +5,11 @@ ghost use Rattle.std.specs.String.{string_bytes};
 ghost use Rattle.std.specs.List.{flat_map};
 ghost use Rattle.ods_header.specs.Header.{IsValidHeader, header_of};
 ghost use Rattle.ods_header.specs.Line.{line_block, IsLineFault};
-ghost use Rattle.ods_header.specs.Text.{header_text, name_part, owner_part, segment_part, ident_text, run_text, octal as octal_text, octal_digits as octal_digits_text};
+ghost use Rattle.ods_header.specs.Text.{header_text, name_part, owner_text, segment_part, ident_text, run_text, octal as octal_text, octal_digits as octal_digits_text};
 
 use crate::{Header, HeaderFault, Home, LineFault, Run, read_header};
 use arrayvec::ArrayString;
-use ods_base::{Image, print_words};
+use ods_base::{Image, Uic, print_words};
 use std::alloc::{AllocError, Global};
 
 /// The line of one of the first 16 headers, which follow the index bitmap on the disk: its fields and its
@@ -42,7 +42,13 @@ fn text_of(alloc: Global, header: &Header) -> Result<String, AllocError>
 {
     let mut line = String::new(alloc);
     push_name(&mut line, header)?;
-    push_owner(&mut line, header)?;
+    push_owner(
+        &mut line,
+        header.owner,
+        header.protection,
+        header.user_char,
+        header.system_char,
+    )?;
     push_segment(&mut line, header)?;
     push_runs(&mut line, header.pointers.as_slice())?;
     Ok(line)
@@ -57,15 +63,21 @@ fn push_name(line: &mut String, header: &Header) -> Result<(), AllocError>
     write!(line, "HEADER {},{} {name}", file.number, file.sequence)
 }
 
-/// Appends the owner, the protection and the characteristics, in octal.
-fn push_owner(line: &mut String, header: &Header) -> Result<(), AllocError>
-    ensures { OnOk result (string_bytes line.new ≡ string_bytes line.old ++ owner_part header.now) }
+/// Appends an owner, a protection word and the two bytes of characteristics, the user's and the system's, in octal.
+pub fn push_owner(
+    line: &mut String,
+    owner: Uic,
+    protection: u16,
+    user_char: u8,
+    system_char: u8,
+) -> Result<(), AllocError>
+    ensures { OnOk result (string_bytes line.new ≡ string_bytes line.old ++ owner_text owner protection user_char system_char) }
 {
-    let group = octal(header.owner.group);
-    let member = octal(header.owner.member);
-    let protection = octal_digits(header.protection, 6);
-    let user = octal_digits(header.user_char as u16, 3);
-    let system = octal_digits(header.system_char as u16, 3);
+    let group = octal(owner.group);
+    let member = octal(owner.member);
+    let protection = octal_digits(protection, 6);
+    let user = octal_digits(user_char as u16, 3);
+    let system = octal_digits(system_char as u16, 3);
     write!(line, " [{group},{member}] {protection} {user},{system}")
 }
 

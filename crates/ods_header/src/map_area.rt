@@ -82,13 +82,21 @@ pub fn pointer_at(block: &Block, k: usize) -> Run
     pointer(block, block.byte(1) as usize, k)
 }
 
+/// How many words have room behind the pointers of a header.
+pub fn room_words(block: &Block) -> usize
+    requires { IsLaidOut block.now }
+    ensures { result ≡ room_of block.now }
+{
+    let map = 2 * block.byte(1) as usize;
+    let used = used_words(block) as usize;
+    let most = most_words(block) as usize;
+    most.min((510 - (map + 10)) / 2) - used
+}
+
 /// How many pointers have room behind those of a header.
 pub fn room(block: &Block) -> usize
     requires { IsLaidOut block.now }
     ensures { result ≡ room_of block.now / 2 }
 {
-    let map = 2 * block.byte(1) as usize;
-    let used = used_words(block) as usize;
-    let most = most_words(block) as usize;
-    (most.min((510 - (map + 10)) / 2) - used) / 2
+    room_words(block) / 2
 }

@@ -28,7 +28,7 @@ pub fn named_header<'a>(image: &'a Image, layout: &Layout, file: FileId) -> Opti
 }
 
 /// Whether the protection in this first header grants the user this right.
-fn is_granted(header: &Block, who: Uic, right: Right) -> bool
+pub fn is_granted(header: &Block, who: Uic, right: Right) -> bool
     ensures { result ≡ permits who (owner_of header.now) (protection_of header.now) right }
 {
     permits(&who, &owner(header), protection(header), right)
@@ -121,7 +121,7 @@ pub fn open_directory<'a>(
 }
 
 /// The directory with this first header.
-pub(crate) fn directory_at<'a>(
+pub fn directory_at<'a>(
     image: &'a Image,
     layout: &'a Layout,
     number: u16,

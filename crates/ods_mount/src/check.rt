@@ -1,9 +1,7 @@
 //! The whole check of an image.
-ghost use Rattle.std.specs.Prelude.{◌≡◌, ◌≢◌, IfOk, IfErr, OnOk};
-ghost use Rattle.ods_header.specs.Home.{IsHomeAt};
-ghost use Rattle.ods_space.specs.Files.{IsLayoutOf};
+ghost use Rattle.std.specs.Prelude.{◌≡◌, ◌≢◌, IfOk, IfErr};
 ghost use Rattle.ods_mount.specs.Faults.{FaultIsTrue, IsSound};
-ghost use Rattle.ods_mount.specs.Checks.{IsFault, IsChecked};
+ghost use Rattle.ods_mount.specs.Checks.{IsChecked};
 ghost use Rattle.ods_mount.specs.Sound.{IsSoundBy};
 
 use crate::file::check_files;
@@ -30,6 +28,7 @@ pub fn mount(alloc: Global, image: Image) -> Result<Mounted, (Image, MountFault)
 }
 
 /// The layout of an image that passes each check.
+#[tactic(auto, using(crate::proofs::Unlaid::true_by_layout))]
 fn check_image(alloc: Global, image: &Image) -> Result<Layout, MountFault>
     ensures ok { IfOk result (IsChecked image.now) }
     ensures err { IfErr result (λ e. e ≢ MountFault.NoMemory → FaultIsTrue image.now e) }
@@ -38,32 +37,17 @@ fn check_image(alloc: Global, image: &Image) -> Result<Layout, MountFault>
         Ok(found) => found,
         Err(fault) => return Err(fault),
     };
-    match check_volume(alloc, image, &layout, home_lbn) {
+    if let Err(fault) = check_index(image, &layout, home_lbn) {
+        return Err(fault);
+    }
+    if let Err(fault) = check_system_files(image, &layout) {
+        return Err(fault);
+    }
+    if let Err(fault) = check_formats(image, &layout) {
+        return Err(fault);
+    }
+    match check_files(alloc, image, &layout, home_lbn) {
         Ok(()) => Ok(layout),
         Err(fault) => Err(fault),
     }
-}
-
-/// Each check of an image that has this layout, and its home block at this LBN.
-fn check_volume(
-    alloc: Global,
-    image: &Image,
-    layout: &Layout,
-    home_lbn: u32,
-) -> Result<(), MountFault>
-    requires layout { IsLayoutOf image.now layout.now }
-    requires home { IsHomeAt image.now home_lbn }
-    ensures ok { OnOk result (IsChecked image.now layout.now) }
-    ensures err { IfErr result (IsFault image.now layout.now) }
-{
-    if let Err(fault) = check_index(image, layout, home_lbn) {
-        return Err(fault);
-    }
-    if let Err(fault) = check_system_files(image, layout) {
-        return Err(fault);
-    }
-    if let Err(fault) = check_formats(image, layout) {
-        return Err(fault);
-    }
-    check_files(alloc, image, layout, home_lbn)
 }

@@ -16,27 +16,34 @@ use Rattle.ods_request.proofs.FaultTable.{NoneHolds, IsThere}
 use Rattle.ods_plain.specs.Rows.{catalogue_in, place_of}
 use Rattle.ods_plain.proofs.RowLists.{IsAt, stands, set_place}
 
--- a file that a request names first, and its place
-pub record IsFound (rows : List (FileId × File)) (past : List FileId) (protection : ℕ) (C : Catalogue) (id : FileId) (at : ℕ) (checks : File → List (Bool × Refusal)) : Type 0 where
+-- a file that a request names first, its place, and the row there
+pub record IsFound (rows : List (FileId × File)) (past : List FileId) (protection : ℕ) (C : Catalogue) (id : FileId) (at : ℕ) (row : FileId × File) (checks : File → List (Bool × Refusal)) : Type 0 where
   pub file : File
   pub none : NoneHolds (checks file)
   pub there : map.get C.files id ≡ Some file
   pub file_is : file_at C id ≡ file
-  pub within : at < length rows
-  pub row : (d : FileId × File) → get_or rows at d ≡ (id, file)
+  pub row_is : row ≡ (id, file)
   pub puts : (f : File) (new : List (FileId × File)) → new ≡ set rows at (id, f) → catalogue_in new past protection ≡ put C id f
 
-pub found_at : (rows : List (FileId × File)) (past : List FileId) (protection : ℕ) (C : Catalogue) (id : FileId) (at : ℕ) (checks : File → List (Bool × Refusal))
-    → catalogue_in rows past protection ≡ C → at ≡ place_of id rows → IsThere (map.get C.files id) checks → IsFound rows past protection C id at checks
-found_at rows past protection C id at checks is place t =
-    let s : IsAt rows id t.file = stands rows id t.file (ap (λ (D : Catalogue). map.get D.files id) is ∙ t.there) in
+abbrev stands_at : (rows : List (FileId × File)) (past : List FileId) (protection : ℕ) (C : Catalogue) (id : FileId) (checks : File → List (Bool × Refusal))
+    → catalogue_in rows past protection ≡ C → (t : IsThere (map.get C.files id) checks) → IsAt rows id t.file
+stands_at rows past protection C id checks is t = stands rows id t.file (ap (λ (D : Catalogue). map.get D.files id) is ∙ t.there)
+
+-- there is a row at its place
+pub within_at : (rows : List (FileId × File)) (past : List FileId) (protection : ℕ) (C : Catalogue) (id : FileId) (at : ℕ) (checks : File → List (Bool × Refusal))
+    → catalogue_in rows past protection ≡ C → at ≡ place_of id rows → IsThere (map.get C.files id) checks → at < length rows
+within_at rows past protection C id at checks is place t = subst (λ n. n < length rows) (sym place) (stands_at rows past protection C id checks is t).within
+
+pub found_at : (rows : List (FileId × File)) (past : List FileId) (protection : ℕ) (C : Catalogue) (id : FileId) (at : ℕ) (row : FileId × File) (checks : File → List (Bool × Refusal))
+    → catalogue_in rows past protection ≡ C → at ≡ place_of id rows → row ≡ get_or rows at row → IsThere (map.get C.files id) checks → IsFound rows past protection C id at row checks
+found_at rows past protection C id at row checks is place there t =
+    let s = stands_at rows past protection C id checks is t in
     record {
       file = t.file;
       none = t.none;
       there = t.there;
       file_is = ap (λ o. unwrap_or o no_file) t.there;
-      within = subst (λ n. n < length rows) (sym place) s.within;
-      row = λ d. ap (λ n. get_or rows n d) place ∙ s.row d;
+      row_is = there ∙ ap (λ n. get_or rows n row) place ∙ s.row row;
       puts = λ f new e.
           ap (λ (l : List (FileId × File)). catalogue_in l past protection) (e ∙ ap (λ n. set rows n (id, f)) place)
           ∙ ap (λ m. let D : Catalogue = record { files = m; past = (catalogue_in rows past protection).past; default = protection } in D) (set_place id f rows s.within)
@@ -44,9 +51,9 @@ found_at rows past protection C id at checks is place t =
     }
 
 -- so it is, by the table of the request's refusals
-abbrev pub FoundBy : (rows : List (FileId × File)) (past : List FileId) (protection : ℕ) (C : Catalogue) (id : FileId) (at : ℕ) (x : Option Refusal) (checks : File → List (Bool × Refusal))
+abbrev pub FoundBy : (rows : List (FileId × File)) (past : List FileId) (protection : ℕ) (C : Catalogue) (id : FileId) (at : ℕ) (row : FileId × File) (x : Option Refusal) (checks : File → List (Bool × Refusal))
     → x ≡ on_file (map.get C.files id) checks → Type 0
-FoundBy rows past protection C id at x checks table = IsFound rows past protection C id at checks
+FoundBy rows past protection C id at row x checks table = IsFound rows past protection C id at row checks
 
 -- a file that a request names first is there, where the request is not refused
 pub is_there : (o : Option File) (checks : File → List (Bool × Refusal)) → on_file o checks ≡ None → o ≢ None

@@ -82,30 +82,20 @@ fn lower(lowest: Option<u16>, version: u16) -> u16
     }
 }
 
-/// The highest version of a name.
-fn highest(lines: &[Listed], name: &Name) -> Option<u16>
-    ensures { result ≡ highest_of (versions_in lines.now name.now) }
+/// The lowest and the highest version of a name.
+fn ends(lines: &[Listed], name: &Name) -> (Option<u16>, Option<u16>)
+    ensures lowest { result.0 ≡ lowest_of (versions_in lines.now name.now) }
+    ensures highest { result.1 ≡ highest_of (versions_in lines.now name.now) }
 {
+    let mut lowest = None;
     let mut highest = None;
     for line in lines {
         if has_name(line, name) {
+            lowest = Some(lower(lowest, line.version));
             highest = Some(higher(highest, line.version));
         }
     }
-    highest
-}
-
-/// The lowest version of a name.
-fn lowest(lines: &[Listed], name: &Name) -> Option<u16>
-    ensures { result ≡ lowest_of (versions_in lines.now name.now) }
-{
-    let mut lowest = None;
-    for line in lines {
-        if has_name(line, name) {
-            lowest = Some(lower(lowest, line.version));
-        }
-    }
-    lowest
+    (lowest, highest)
 }
 
 /// Where a key goes: before the first line with a higher one.
@@ -158,8 +148,8 @@ impl Names {
     {
         match pick {
             Pick::Exact(version) => self.get(name, version).map(|_| version),
-            Pick::Highest => highest(self.lines.as_slice(), name),
-            Pick::Lowest => lowest(self.lines.as_slice(), name),
+            Pick::Highest => ends(self.lines.as_slice(), name).1,
+            Pick::Lowest => ends(self.lines.as_slice(), name).0,
         }
     }
 
@@ -194,7 +184,7 @@ impl Names {
     }
 
     /// The lines, in the order of their names and versions.
-    pub(crate) fn lines(&self, alloc: Global) -> Result<Vec<Listed>, AllocError>
+    pub fn lines(&self, alloc: Global) -> Result<Vec<Listed>, AllocError>
         ensures { IfOk result (λ lines. lines.items ≡ lines_of self.now) }
     {
         Vec::from_slice(alloc, self.lines.as_slice())

@@ -173,3 +173,36 @@ module _ (cs : List Change) (k lbn : ℕ) (c : Change) (some : 0 < k) (within : 
 
   pub passed_over : None ≡ change_at (changed c []) lbn → change_at (changes_of cs) lbn ≡ change_at (changes_of (take (k - 1) cs)) lbn
   passed_over none = looked ∙ ap (λ o. or_older o (change_at (changes_of (take (k - 1) cs)) lbn)) (sym none)
+
+-- the changes of a list whose last one sets a block, and of the list with another block set there
+record EndsIn (d : Changes) (cs : List Change) (k lbn : ℕ) (old new : List ℕ) : Type 0 where
+  older : Changes
+  was : changes_after d cs ≡ (lbn, old) ∷ older
+  now : changes_after d (set cs k (Set lbn new)) ≡ (lbn, new) ∷ older
+
+ends_in : (d : Changes) (cs : List Change) (k lbn : ℕ) (old new : List ℕ) (other : Change) → length cs ≡ suc k → get_or cs k other ≡ Set lbn old → EndsIn d cs k lbn old new
+ends_in d [] k lbn old new other size last = absurd (omega (arith, size))
+ends_in d (c ∷ []) zero lbn old new other size last = record { older = d; was = ap (λ x. changed x d) last; now = refl }
+ends_in d (c ∷ []) (suc k) lbn old new other size last = absurd (omega (arith, size))
+ends_in d (c ∷ e ∷ cs) zero lbn old new other size last = absurd (omega (arith, size))
+ends_in d (c ∷ e ∷ cs) (suc k) lbn old new other size last =
+    let rest = ends_in (changed c d) (e ∷ cs) k lbn old new other (omega (arith, size)) last in
+    record { older = rest.older; was = rest.was; now = rest.now }
+
+-- of two changes of one block the newer counts
+over_older : (I : List (List ℕ)) (d : Changes) (lbn : ℕ) (old new : List ℕ) (x : ℕ) → seen_at I ((lbn, new) ∷ d) x ≡ seen_at I ((lbn, new) ∷ (lbn, old) ∷ d) x
+over_older I d lbn old new x = by (nat_eq lbn x)
+  where
+    by : (t : Bool) → unwrap_or (cond t (Some new) (change_at d x)) (block_at I x) ≡ unwrap_or (cond t (Some new) (cond t (Some old) (change_at d x))) (block_at I x)
+    by true = refl
+    by false = refl
+
+-- where the last change sets a block, another one in its place is as good as one more
+pub renewed : (I : List (List ℕ)) (cs : List Change) (k lbn : ℕ) (old new : List ℕ) (other : Change) → length cs ≡ suc k → get_or cs k other ≡ Set lbn old
+    → applied I (changes_of (set cs k (Set lbn new))) ≡ applied I ((lbn, new) ∷ changes_of cs)
+unfolding applied
+renewed I cs k lbn old new other size last =
+    let ends = ends_in [] cs k lbn old new other size last in
+    ap (λ d. map (seen_at I d) (range_with_len 0 (length I))) ends.now
+    ∙ (λ i. map (λ x. over_older I ends.older lbn old new x i) (range_with_len 0 (length I)))
+    ∙ ap (λ d. map (seen_at I ((lbn, new) ∷ d)) (range_with_len 0 (length I))) (sym ends.was)

@@ -22,8 +22,8 @@ fn push_run(named: &mut Vec<u32>, run: &Run) -> Result<(), AllocError>
     Ok(())
 }
 
-/// The blocks that a header's pointers name, put behind these.
-fn push_header(named: &mut Vec<u32>, block: &Block) -> Result<(), AllocError>
+/// The blocks that a header's pointers name, put behind these. After an `Err` some of them may be there.
+pub fn push_header(named: &mut Vec<u32>, block: &Block) -> Result<(), AllocError>
     requires { IsLaidOut block.now }
     ensures { OnOk result (named.new.items ≡ named.old.items ++ blocks_of block.now) }
 {

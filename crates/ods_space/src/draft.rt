@@ -13,10 +13,22 @@ enum Change {
 }
 
 impl Change {
-    ghost use Rattle.std.specs.Prelude.{◌≡◌, [], IfSome};
+    ghost use Rattle.std.specs.Prelude.{◌≡◌, true, [], IfSome};
     ghost use Rattle.ods_base.specs.Block.{IsBlock};
     ghost use Rattle.ods_space.specs.Draft.{change_at, applied};
     ghost use Rattle.ods_space.specs.Changes.{changed};
+    ghost use Rattle.std.specs.Prelude.{ℕ, List};
+    ghost use Rattle.ods_space.specs.declared.draft.Change.TheVariants.{Set};
+
+    /// Whether this change sets the block at this LBN.
+    fn sets(&self, lbn: u32) -> bool
+        ensures { result ≡ true → (old : List ℕ) × (self.now ≡ Set lbn old) }
+    {
+        match self {
+            Change::Set(at, _) => *at == lbn,
+            Change::Zero(_) => false,
+        }
+    }
 
     /// The block that stands at this LBN by this change.
     fn block(&self, lbn: u32) -> Option<Block>
@@ -71,7 +83,7 @@ impl Model for Draft {
 }
 
 impl Draft {
-    ghost use Rattle.std.specs.Prelude.{◌≡◌, ◌<◌, ◌∷◌, [], length, IfOk, OnOk, OnErr};
+    ghost use Rattle.std.specs.Prelude.{◌≡◌, ◌<◌, ◌∷◌, ℕ, List, [], length, IfOk, OnOk, OnErr};
     ghost use Rattle.ods_base.specs.Block.{IsBlock};
     ghost use Rattle.ods_space.specs.Draft.{seen_at, applied, zeroed};
 
@@ -105,6 +117,20 @@ impl Draft {
     {
         self.changes.push(Change::Set(lbn, block))?;
         Ok(())
+    }
+
+    /// One block changes; where the newest change is of that block, this one takes its place. An image becomes what it
+    /// becomes after `set`. After an `Err` the draft is as it was.
+    pub fn renew(&mut self, lbn: u32, block: Block) -> Result<(), AllocError>
+        ensures ok { OnOk result ((I : List (List ℕ)) → applied I self.new ≡ applied I ((lbn, block) ∷ self.old)) }
+        ensures err { OnErr result (self.new ≡ self.old) }
+    {
+        let count = self.changes.len();
+        if 0 < count && self.changes[count - 1].sets(lbn) {
+            self.changes[count - 1] = Change::Set(lbn, block);
+            return Ok(());
+        }
+        self.set(lbn, block)
     }
 
     /// The blocks of a run become zeros. After an `Err` the draft is as it was.

@@ -16,6 +16,7 @@ mod walk;
 mod whole_chain;
 
 pub use bits::{in_use, is_free};
+pub use collect::push_header;
 pub use draft::Draft;
 pub use fault::{ChainFault, LayoutFault};
 pub use files::{block_count, chain, check_chain, file_header, first_header, locate};

@@ -79,12 +79,12 @@ module _ (I J : List (List ℕ)) (L : VolumeLayout) (id : FileId) (before : sequ
   other_number : (X : List (List ℕ)) → sequence_of (header_at X L id.number) ≡ id.sequence → (q : FileId) → q ≢ id → sequence_of (header_at X L q.number) ≡ q.sequence → q.number ≢ id.number
   other_number X own q ne known e = ne (λ i. record { number = e i; sequence = (sym known ∙ ap (λ m. sequence_of (header_at X L m)) e ∙ own) i })
 
-  stays : (q : FileId) (g : File) → q ≢ id → IsFileIn I L q g → IsFileIn J L q g
+  pub stays : (q : FileId) (g : File) → q ≢ id → IsFileIn I L q g → IsFileIn J L q g
   stays q g ne p =
       let alike = others q.number (other_number I before q ne p.sequence) in
       record { blocks = p.blocks; held = alike.has p.blocks p.held; sequence = alike.sequence ∙ p.sequence; shown = alike.shown p.blocks p.held ∙ p.shown }
 
-  was : (q : FileId) (g : File) → q ≢ id → IsFileIn J L q g → IsFileIn I L q g
+  pub was : (q : FileId) (g : File) → q ≢ id → IsFileIn J L q g → IsFileIn I L q g
   was q g ne p =
       let alike = others q.number (other_number J now q ne p.sequence) in
       let old = alike.had p.blocks p.held in

@@ -1,9 +1,11 @@
 pub mod Contents
 pub mod Version
 pub mod Wants
+pub mod Made
 pub mod Moves
 pub mod Outcome
 pub mod Laws
 pub mod Links
 pub mod Change
 pub mod Served
+pub mod Growth

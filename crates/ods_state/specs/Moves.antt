@@ -1,25 +1,25 @@
 -- How the blocks that files hold, the free blocks and the free numbers move in an accepted request, and which blocks it may change.
-use Rattle.std.specs.Prelude.{◌≡◌, ◌≢◌, ◌↔◌, ℕ, ◌+◌, ◌⊎◌, not, ◌&&◌, ◌||◌, ◌==◌, nat_lt, List, [], ◌∷◌, ◌++◌, length, replicate, take, drop, slice_get, if◌then◌else◌, Some}
+use Rattle.std.specs.Prelude.{◌≡◌, ◌≢◌, ◌↔◌, ℕ, ◌+◌, ◌⊎◌, not, ◌&&◌, ◌||◌, ◌==◌, nat_lt, List, [], ◌∷◌, ◌++◌, length, replicate, drop, slice_get, if◌then◌else◌, Some}
 use Rattle.std.specs.List.{Contains}
 use Rattle.ods_base.specs.Image.{block_at}
-use Rattle.ods_base.specs.Name.{RadName, directory_type}
+use Rattle.ods_base.specs.Name.{RadName, directory_type, key_of}
+use Rattle.ods_base.specs.declared.file_id.FileId.{FileId}
+use Rattle.ods_header.specs.Attributes.{IsWithAttributes}
+use Rattle.ods_directory.specs.Entry.{entry_bytes}
 use Rattle.ods_header.specs.Header.{sequence_of, attributes_of}
-use Rattle.ods_space.specs.Layout.{Disk, header_at}
-use Rattle.ods_space.specs.Files.{HasBlocks, Holds}
+use Rattle.ods_space.specs.Layout.{Disk}
+use Rattle.ods_space.specs.Files.{Holds}
 use Rattle.ods_space.specs.Free.{is_free_block, is_free_number, is_covered}
 use Rattle.ods_directory.specs.Mark.{marked}
 use Rattle.ods_request.specs.declared.requests.Request.{Request}
 use Rattle.ods_request.specs.declared.requests.Request.TheVariants.{Create, Extend, Delete, Enter, LookUp, Remove, Read, Write, List as Lines, Stat, SetUser}
 use Rattle.ods_request.specs.declared.answers.Answer.{Answer}
-use Rattle.ods_request.specs.declared.answers.Answer.TheVariants.{Created}
+use Rattle.ods_request.specs.declared.answers.Answer.TheVariants.{Created, Entered, Removed}
 use Rattle.ods_space.specs.Chain.{IsChain}
 use Rattle.ods_header.specs.Writing.{deleted}
 use Rattle.ods_alloc.specs.Extend.{GivesBits, IsHeaderPlace, IsIndexBitmap, IsStorageBitmap, TakesBits, chain_runs, cut, is_one_of}
 use Rattle.ods_state.specs.Wants.{HasHeaders, Wants, taken_blocks, taken_numbers}
-
--- header n of a disk, and what a file of it holds
-abbrev pub header_on : Disk → ℕ → List ℕ
-header_on D n = header_at D.image D.layout n
+use Rattle.ods_state.specs.Made.{AreMade, AreZeroed, IsEnteredAt, IsErased, header_on}
 
 -- file n of a disk holds this LBN as this block
 abbrev pub holds_on : Disk → ℕ → ℕ → ℕ → Type 0
@@ -47,6 +47,8 @@ pub record AreTaken (D E : Disk) (headers blocks : List ℕ) (count : ℕ) : Typ
   pub bits : TakesBits D.image D.layout (taken_blocks D.image D.layout count) (taken_numbers D.image D.layout headers count) E.image
   -- each new header has the old sequence number plus one
   pub sequences : (n : ℕ) → Contains (taken_numbers D.image D.layout headers count) n → sequence_of (header_on E n) ≡ sequence_of (header_on D n) + 1
+  -- and this is how its headers are made
+  pub made : AreMade D E headers (taken_numbers D.image D.layout headers count)
 
 -- the blocks and the numbers of a file were given back
 pub record AreGivenBack (D E : Disk) (number : ℕ) : Type 0 where
@@ -79,19 +81,19 @@ abbrev pub HasNewAttributes : Disk → Answer → RadName → ℕ → Type 0
 HasNewAttributes E (Created id) name count = attributes_of (header_on E id.number) ≡ new_attributes name count
 HasNewAttributes E _ name count = Unit {0}
 
--- the attributes of a directory are as they were, or have another mark and its count of blocks
-abbrev pub IsMarkedAnew : Disk → Disk → ℕ → Type 0
-IsMarkedAnew D E n =
-    (attributes_of (header_on E n) ≡ attributes_of (header_on D n))
-    ⊎ ((mark : ℕ) × (blocks : List ℕ) × HasBlocks E.image E.layout n blocks
-    × (attributes_of (header_on E n) ≡ marked (attributes_of (header_on D n)) mark (length blocks)))
+-- the header has other attributes at most
+abbrev pub ChangesAttributes : List ℕ → List ℕ → Type 0
+ChangesAttributes b c = IsWithAttributes b (attributes_of c) c
 
--- the attributes of a directory stay but for F.HIBK, F.EFBK and F.FFBY, bytes 4 to 13
-abbrev pub KeepsOtherAttributes : Disk → Disk → ℕ → Type 0
-KeepsOtherAttributes D E n =
-    let old = attributes_of (header_on D n) in
-    let new = attributes_of (header_on E n) in
-    (take 4 new ≡ take 4 old) × (drop 14 new ≡ drop 14 old)
+-- a name that was entered stands in the directory, under the version that the answer says
+abbrev pub IsNameEntered : Disk → Disk → FileId → RadName → FileId → Answer → Type 0
+IsNameEntered D E dir name file (Entered version) = IsEnteredAt D E dir.number (entry_bytes file (key_of name version))
+IsNameEntered D E dir name file _ = Unit {0}
+
+-- a name that was removed, of the version that the answer says, is in the directory no more
+abbrev pub IsNameErased : Disk → Disk → FileId → RadName → Answer → Type 0
+IsNameErased D E dir name (Removed file version) = IsErased D E dir.number (key_of name version)
+IsNameErased D E dir name _ = Unit {0}
 
 -- it takes blocks and they are taken, or it takes none and nothing moves
 abbrev pub MayTake : Disk → Disk → Request → Type 0
@@ -99,21 +101,26 @@ MayTake D E r =
     ((headers : List ℕ) (blocks : List ℕ) (count : ℕ) → Wants D.image D.layout r headers blocks count → AreTaken D E headers blocks count)
     × (((headers : List ℕ) (blocks : List ℕ) (count : ℕ) → ¬ Wants D.image D.layout r headers blocks count) → NothingMoves D E)
 
--- what an accepted request moves, case by case
+-- the first header of directory dir has other attributes at most, where the request takes no block
+abbrev pub KeepsHeader : Disk → Disk → Request → FileId → Type 0
+KeepsHeader D E r dir =
+    ((headers : List ℕ) (blocks : List ℕ) (count : ℕ) → ¬ Wants D.image D.layout r headers blocks count) → ChangesAttributes (header_on D dir.number) (header_on E dir.number)
+
+-- what an accepted request moves and makes, case by case
 abbrev pub Moves : Disk → Request → Answer → Disk → Type 0
 Moves D (Create name version count stamp) a E =
-    MayTake D E (Create name version count stamp) × IsCreatedId D E a × HasNewAttributes E a name count
-Moves D (Extend file count) a E = MayTake D E (Extend file count)
+    MayTake D E (Create name version count stamp) × IsCreatedId D E a × HasNewAttributes E a name count × AreZeroed D E count
+Moves D (Extend file count) a E = MayTake D E (Extend file count) × AreZeroed D E count
 Moves D (Delete file) a E = AreGivenBack D E file.number
 Moves D (Enter dir name version file) a E =
-    MayTake D E (Enter dir name version file) × KeepsOtherAttributes D E dir.number × IsMarkedAnew D E dir.number
-Moves D (Remove dir name pick) a E = NothingMoves D E × KeepsOtherAttributes D E dir.number
+    MayTake D E (Enter dir name version file) × KeepsHeader D E (Enter dir name version file) dir × IsNameEntered D E dir name file a
+Moves D (Remove dir name pick) a E = NothingMoves D E × (header_on E dir.number ≡ header_on D dir.number) × IsNameErased D E dir name a
 Moves D (LookUp dir name pick) a E = NothingMoves D E
 Moves D (Read file vbn) a E = NothingMoves D E
 Moves D (Write file vbn block) a E = NothingMoves D E
 Moves D (Lines dir) a E = NothingMoves D E
 Moves D (Stat file) a E = NothingMoves D E
-Moves D (SetUser file attributes) a E = NothingMoves D E
+Moves D (SetUser file attributes) a E = NothingMoves D E × IsWithAttributes (header_on D file.number) attributes (header_on E file.number)
 
 -- file n holds LBN x
 abbrev pub IsBlockOf : Disk → ℕ → ℕ → Type 0

@@ -1,8 +1,5 @@
-//! Tests that cross crates, and what they compare with: a plain and slow reader of small volumes.
+//! Tests that cross crates: mounts, looks, drafts of changes, and the program's engine with its words.
 #![tactic(auto)]
 
-mod reader;
 #[cfg(test)]
 mod tests;
-
-pub use reader::plain_catalogue;

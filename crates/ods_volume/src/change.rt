@@ -6,8 +6,7 @@ ghost use Rattle.ods_request.specs.Faults.{fault_of};
 ghost use Rattle.ods_request.specs.Table.{takes_memory};
 ghost use Rattle.ods_state.specs.Version.{IsPresent};
 ghost use Rattle.ods_state.specs.Wants.{Lacks};
-ghost use Rattle.ods_state.specs.Outcome.{Accepts, IsReason, IsLawfulPlan, carried_out, entry_of};
-ghost use Rattle.ods_volume.specs.Serving.{IsServed};
+ghost use Rattle.ods_state.specs.Outcome.{Accepts, CanBeAsked, IsReason, IsLawfulPlan, carried_out, entry_of};
 
 use crate::planned::Prepared;
 use crate::volume::Volume;
@@ -44,7 +43,8 @@ impl Volume {
         who: Uic,
         request: Request,
     ) -> Result<Answer, Refusal>
-        requires { IsServed request }
+        // A version that is given is 1 to 32,767.
+        requires { CanBeAsked request }
         // At the limit nothing else is looked at.
         ensures full { length self.old.entries ≡ self.old.limit → result ≡ Err Refusal.ListFull }
         // Below it the first fault that holds of the present catalogue is the answer.

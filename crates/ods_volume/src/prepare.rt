@@ -11,13 +11,12 @@ ghost use Rattle.ods_request.specs.Table.{takes_memory};
 ghost use Rattle.ods_state.specs.Version.{IsPresent};
 ghost use Rattle.ods_state.specs.Wants.{Lacks};
 ghost use Rattle.ods_state.specs.Served.{IsStepOf, IsRefusalOf};
-ghost use Rattle.ods_state.specs.Outcome.{IsReason, IsLawfulPlan, entry_of};
-ghost use Rattle.ods_volume.specs.Serving.{IsServed};
+ghost use Rattle.ods_state.specs.Outcome.{CanBeAsked, IsReason, IsLawfulPlan, entry_of};
 
 use crate::planned::Prepared;
 use crate::volume::Volume;
 use ods_base::{Image, Uic};
-use ods_change::{remove, set_user, write};
+use ods_change::{create, delete, enter, extend, remove, set_user, write};
 use ods_look::{list, look};
 use ods_request::{Answer, Entry, Query, Refusal, Request};
 use ods_space::{Draft, Layout};
@@ -49,7 +48,7 @@ fn carry_out(
     who: Uic,
     request: &Request,
 ) -> Result<(Answer, Draft), Refusal>
-    requires served { IsServed request.now }
+    requires asked { CanBeAsked request.now }
     requires sound { IsSoundBy image.now layout.now }
     ensures { MatchResult result (λ p. IsStepOf image.now layout.now who request.now p.0 (applied image.now p.1) layout.now)
         (IsRefusalOf image.now layout.now who request.now) }
@@ -58,6 +57,34 @@ fn carry_out(
         return look_only(alloc, image, layout, who, query);
     }
     match *request {
+        Request::Create {
+            name,
+            version,
+            blocks,
+            stamp,
+        } => match create(alloc, image, layout, who, name, version, blocks, stamp) {
+            Ok((draft, file)) => Ok((Answer::Created(file), draft)),
+            Err(refusal) => Err(refusal),
+        },
+        Request::Extend { file, blocks } => {
+            match extend(alloc, image, layout, who, file, blocks) {
+                Ok((draft, count)) => Ok((Answer::Extended(count), draft)),
+                Err(refusal) => Err(refusal),
+            }
+        }
+        Request::Delete { file } => match delete(alloc, image, layout, who, file) {
+            Ok(draft) => Ok((Answer::Done, draft)),
+            Err(refusal) => Err(refusal),
+        },
+        Request::Enter {
+            dir,
+            name,
+            version,
+            file,
+        } => match enter(alloc, image, layout, who, dir, name, version, file) {
+            Ok((draft, version)) => Ok((Answer::Entered(version), draft)),
+            Err(refusal) => Err(refusal),
+        },
         Request::List { dir } => match list(alloc, image, layout, who, dir) {
             Ok(lines) => Ok((Answer::Names(lines), Draft::new(alloc))),
             Err(refusal) => Err(refusal),
@@ -80,7 +107,7 @@ fn carry_out(
                 Err(refusal) => Err(refusal),
             }
         }
-        // No other request is served.
+        // The others are queries.
         _ => unreachable!(),
     }
 }
@@ -94,7 +121,8 @@ impl Volume {
         who: Uic,
         request: Request,
     ) -> Result<Prepared, Refusal>
-        requires { IsServed request }
+        // A version that is given is 1 to 32,767.
+        requires { CanBeAsked request }
         // At the limit nothing else is looked at.
         ensures full { length self.now.entries ≡ self.now.limit → result ≡ Err Refusal.ListFull }
         // Below it the first fault that holds of the present catalogue is the answer.

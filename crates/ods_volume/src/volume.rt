@@ -1,6 +1,7 @@
 //! The volume: how it begins, and what is shown of it.
 ghost use Rattle.std.specs.Prelude.{◌≡◌, ◌≤◌, [], length, IfOk, IfErr};
 ghost use Rattle.ods_space.specs.Free.{free_blocks, free_numbers};
+ghost use Rattle.ods_mount.specs.Faults.{IsSound};
 ghost use Rattle.ods_request.specs.Catalogue.{Catalogue};
 ghost use Rattle.ods_state.specs.Version.{IsVersionBy, IsPresent, IsLawful};
 
@@ -82,9 +83,10 @@ impl Volume {
         self.entries.as_slice()
     }
 
-    /// The image now. It is a version of the mounted one.
+    /// The image now. It is a version of the mounted one, and no fault is true of it.
     pub fn image(&self) -> &Image
         ensures value { result.now ≡ self.now.image }
+        ensures no_fault { IsSound self.now.image }
         ensures version { IsVersionBy self.now.mounted self.now.entries self.now.image self.now.layout }
     {
         &self.image
@@ -102,6 +104,13 @@ impl Volume {
         ensures { result.now ≡ self.now.mounted }
     {
         &self.mounted
+    }
+
+    /// How many entries the list may have, from 1 to 65,536.
+    pub fn limit(&self) -> u32
+        ensures { result ≡ self.now.limit }
+    {
+        self.limit
     }
 
     /// How many blocks are free.

@@ -4,6 +4,7 @@ ghost use Rattle.std.specs.Option.{ForSome};
 ghost use Rattle.ods_directory.specs.Names.{IsDirectory};
 
 use super::kept::{Kept, demand, put, zeroed};
+use crate::dice::Dice;
 use crate::persons::TXT;
 use ods_base::{Block, FileId, Name, Pick};
 use ods_directory::{DirFault, enter, entries, look_up, name_count, remove, slot_for};
@@ -11,22 +12,6 @@ use std::alloc::Global;
 use std::collections::BTreeMap;
 use std::process::Abort;
 use std::test::Fail;
-
-/// Numbers that look random, from a seed.
-#[derive(Drop)]
-struct Dice(u64);
-
-impl Dice {
-    /// The next number, below `sides`.
-    fn roll(&mut self, sides: u64) -> u64
-        requires { 0 < sides }
-        ensures { result < sides }
-    {
-        self.0 = self.0.wrapping_mul(6_364_136_223_846_793_005);
-        self.0 = self.0.wrapping_add(1_442_695_040_888_963_407);
-        (self.0 >> 33) % sides
-    }
-}
 
 /// Versions and files by the first word of a name, as a map of std has them.
 type Model = BTreeMap<(u16, u16), FileId>;
@@ -160,7 +145,7 @@ fn compare(
 #[test]
 fn beside_a_map(rt: HostRuntime) -> Result<(), Fail> {
     let alloc = rt.alloc();
-    let mut dice = Dice(2026);
+    let mut dice = Dice::from(2026);
     let mut kept = zeroed(alloc, 0)?;
     let mut model = BTreeMap::new(alloc);
     let mut mark = 0;

@@ -69,6 +69,16 @@ fn create(rt: &impl Abort, name: Name, blocks: u32) -> Request {
     }
 }
 
+/// A Read of block 1.
+fn read(file: FileId) -> Request {
+    Request::Read { file, vbn: 1 }
+}
+
+/// A Delete.
+fn delete(file: FileId) -> Request {
+    Request::Delete { file }
+}
+
 /// An Enter of the first file in the master directory, as A.TXT.
 fn enter(version: Option<u16>) -> Request {
     Request::Enter {
@@ -92,13 +102,23 @@ fn play(
     }
 }
 
+/// The catalogue that requests make of the sample's, each answered as it is said.
+fn play_sample(
+    rt: &impl Abort,
+    alloc: Global,
+    steps: &[(Uic, &Request, Result<Answer, StepError>)],
+) -> Result<Catalogue, Fail> {
+    let mut catalogue = sample_catalogue(rt, alloc)?;
+    play(rt, &mut catalogue, steps);
+    Ok(catalogue)
+}
+
 fn refused(refusal: Refusal) -> Result<Answer, StepError> {
     Err(StepError::Refused(refusal))
 }
 
 #[test]
 fn versions_count_up(rt: HostRuntime) -> Result<(), Fail> {
-    let mut catalogue = sample_catalogue(&rt, rt.alloc())?;
     let create = create(&rt, a_txt(), 0);
     let enter = enter(None);
     let look = |pick| Request::LookUp {
@@ -106,9 +126,9 @@ fn versions_count_up(rt: HostRuntime) -> Result<(), Fail> {
         name: a_txt(),
         pick,
     };
-    play(
+    play_sample(
         &rt,
-        &mut catalogue,
+        rt.alloc(),
         &[
             (USER, &create, Ok(Answer::Created(FIRST))),
             (USER, &enter, Ok(Answer::Entered(1))),
@@ -118,30 +138,28 @@ fn versions_count_up(rt: HostRuntime) -> Result<(), Fail> {
             (USER, &look(Pick::Lowest), Ok(Answer::Found(FIRST, 1))),
             (USER, &look(Pick::Exact(4)), refused(Refusal::NoSuchName)),
         ],
-    );
+    )?;
     Ok(())
 }
 
 #[test]
 fn versions_end(rt: HostRuntime) -> Result<(), Fail> {
-    let mut catalogue = sample_catalogue(&rt, rt.alloc())?;
     let create = create(&rt, a_txt(), 0);
-    play(
+    play_sample(
         &rt,
-        &mut catalogue,
+        rt.alloc(),
         &[
             (USER, &create, Ok(Answer::Created(FIRST))),
             (USER, &enter(Some(32_767)), Ok(Answer::Entered(32_767))),
             (USER, &enter(None), refused(Refusal::VersionsFull)),
             (USER, &enter(Some(32_767)), refused(Refusal::NameTaken)),
         ],
-    );
+    )?;
     Ok(())
 }
 
 #[test]
 fn a_directory_goes_when_it_is_empty(rt: HostRuntime) -> Result<(), Fail> {
-    let mut catalogue = sample_catalogue(&rt, rt.alloc())?;
     let sub_dir = Name::new([31_242, 0, 0], DIR);
     let x_dat = Name::new([38_400, 0, 0], DAT);
     let enter = Request::Enter {
@@ -155,68 +173,54 @@ fn a_directory_goes_when_it_is_empty(rt: HostRuntime) -> Result<(), Fail> {
         name: x_dat,
         pick: Pick::Highest,
     };
-    let delete = Request::Delete { file: FIRST };
-    let read = Request::Read {
-        file: FIRST,
-        vbn: 1,
-    };
-    play(
+    play_sample(
         &rt,
-        &mut catalogue,
+        rt.alloc(),
         &[
             (USER, &create(&rt, sub_dir, 0), Ok(Answer::Created(FIRST))),
             (USER, &create(&rt, x_dat, 0), Ok(Answer::Created(SECOND))),
             (USER, &enter, Ok(Answer::Entered(1))),
-            (USER, &delete, refused(Refusal::NotEmpty)),
+            (USER, &delete(FIRST), refused(Refusal::NotEmpty)),
             (USER, &remove, Ok(Answer::Removed(SECOND, 1))),
-            (USER, &delete, Ok(Answer::Done)),
-            (USER, &read, refused(Refusal::NoSuchFile)),
+            (USER, &delete(FIRST), Ok(Answer::Done)),
+            (USER, &read(FIRST), refused(Refusal::NoSuchFile)),
         ],
-    );
+    )?;
     Ok(())
 }
 
 #[test]
 fn rights_are_asked_of_each_user(rt: HostRuntime) -> Result<(), Fail> {
-    let mut catalogue = sample_catalogue(&rt, rt.alloc())?;
     let create = create(&rt, a_txt(), 1);
     let enter = enter(None);
-    let read = Request::Read {
-        file: FIRST,
-        vbn: 1,
-    };
     let write = Request::Write {
         file: FIRST,
         vbn: 1,
         block: letter_a(),
     };
-    let delete = Request::Delete { file: FIRST };
-    play(
+    play_sample(
         &rt,
-        &mut catalogue,
+        rt.alloc(),
         &[
             (OWNER, &create, Ok(Answer::Created(FIRST))),
             (OWNER, &enter, refused(Refusal::Denied)),
-            (STRANGER, &read, Ok(Answer::Bytes(Block::zeros()))),
+            (STRANGER, &read(FIRST), Ok(Answer::Bytes(Block::zeros()))),
             (STRANGER, &write, refused(Refusal::Denied)),
             (COLLEAGUE, &write, Ok(Answer::Done)),
-            (COLLEAGUE, &read, Ok(Answer::Bytes(letter_a()))),
-            (SYSTEM, &delete, Ok(Answer::Done)),
+            (COLLEAGUE, &read(FIRST), Ok(Answer::Bytes(letter_a()))),
+            (SYSTEM, &delete(FIRST), Ok(Answer::Done)),
         ],
-    );
+    )?;
     Ok(())
 }
 
 #[test]
 fn refusals_come_in_order(rt: HostRuntime) -> Result<(), Fail> {
-    let mut catalogue = sample_catalogue(&rt, rt.alloc())?;
-    let read = |file| Request::Read { file, vbn: 1 };
     let write = Request::Write {
         file: MASTER,
         vbn: 1,
         block: Block::zeros(),
     };
-    let delete = Request::Delete { file: MASTER };
     let look = Request::LookUp {
         dir: reserved_id(3),
         name: a_txt(),
@@ -227,30 +231,29 @@ fn refusals_come_in_order(rt: HostRuntime) -> Result<(), Fail> {
         number: 4,
         sequence: 5,
     };
-    play(
+    play_sample(
         &rt,
-        &mut catalogue,
+        rt.alloc(),
         &[
             (USER, &read(reserved_id(1)), refused(Refusal::Reserved)),
             (USER, &write, refused(Refusal::Reserved)),
-            (USER, &delete, refused(Refusal::Reserved)),
+            (USER, &delete(MASTER), refused(Refusal::Reserved)),
             (USER, &read(MASTER), refused(Refusal::IsDirectory)),
             (USER, &look, refused(Refusal::NotADirectory)),
             (USER, &read(reserved_id(3)), refused(Refusal::NoSuchBlock)),
             (USER, &read(unknown), refused(Refusal::NoSuchFile)),
             (USER, &create, refused(Refusal::BadCount)),
         ],
-    );
+    )?;
     Ok(())
 }
 
 #[test]
 fn lists_and_shows(rt: HostRuntime) -> Result<(), Fail> {
-    let mut catalogue = sample_catalogue(&rt, rt.alloc())?;
     let lines = reserved_lines(rt.alloc())?;
-    play(
+    play_sample(
         &rt,
-        &mut catalogue,
+        rt.alloc(),
         &[
             (
                 USER,
@@ -265,7 +268,7 @@ fn lists_and_shows(rt: HostRuntime) -> Result<(), Fail> {
                 Ok(Answer::Names(lines)),
             ),
         ],
-    );
+    )?;
     Ok(())
 }
 
@@ -316,17 +319,15 @@ fn a_contiguous_file_grows(rt: HostRuntime) -> Result<(), Fail> {
 
 #[test]
 fn an_id_of_the_past_is_not_given_again(rt: HostRuntime) -> Result<(), Fail> {
-    let mut catalogue = sample_catalogue(&rt, rt.alloc())?;
     let create = create(&rt, a_txt(), 0);
-    let delete = Request::Delete { file: FIRST };
-    play(
+    let mut catalogue = play_sample(
         &rt,
-        &mut catalogue,
+        rt.alloc(),
         &[
             (USER, &create, Ok(Answer::Created(FIRST))),
-            (USER, &delete, Ok(Answer::Done)),
+            (USER, &delete(FIRST), Ok(Answer::Done)),
         ],
-    );
+    )?;
     let again = catalogue.step(USER, &create, FIRST);
     assert_eq!(rt; again, Err(StepError::NotNew));
     Ok(())

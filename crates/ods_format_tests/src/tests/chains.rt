@@ -1,7 +1,7 @@
 //! Chains of headers: the blocks of a file, and a chain into itself.
 use super::layouts::{layout_of, scattered};
 use crate::persons::a_txt;
-use crate::volumes::{FileHeader, Variant, added, run, sample_of};
+use crate::volumes::{Variant, added, run, sample_of};
 use ods_alloc::runs_of_blocks;
 use ods_base::{Coded, Image};
 use ods_space::{ChainFault, block_count, chain, file_header, locate};
@@ -10,15 +10,8 @@ use std::test::Fail;
 
 /// Header 7 names itself as the next header.
 fn looped(alloc: Global) -> Result<Image, Fail> {
-    let first = FileHeader {
-        next: 7,
-        ..added(6, a_txt())
-    };
-    let second = FileHeader {
-        segment: 1,
-        next: 7,
-        ..added(7, a_txt())
-    };
+    let first = added(6, a_txt()).before(7);
+    let second = added(7, a_txt()).second().before(7);
     Variant {
         headers: &[(8, first.mapping(&[run(22, 1)])), (9, second.mapping(&[]))],
         ..sample_of(40)

@@ -3,7 +3,7 @@ ghost use Rattle.std.specs.Prelude.{IfOk};
 ghost use Rattle.ods_space.specs.Files.{IsLayoutOf};
 
 use crate::persons::a_txt;
-use crate::volumes::{FileHeader, Variant, added, run, sample_of};
+use crate::volumes::{Variant, added, run, sample_of};
 use ods_base::Image;
 use ods_header::find_home;
 use ods_space::Layout;
@@ -28,14 +28,8 @@ pub fn scattered(alloc: Global) -> Result<Image, Fail> {
     for k in 0..102 {
         runs[k].lbn = 22 + 2 * k as u32;
     }
-    let first = FileHeader {
-        next: 8,
-        ..added(6, a_txt())
-    };
-    let second = FileHeader {
-        segment: 1,
-        ..added(8, a_txt())
-    };
+    let first = added(6, a_txt()).before(8);
+    let second = added(8, a_txt()).second();
     Variant {
         headers: &[
             (8, first.mapping(&runs)),

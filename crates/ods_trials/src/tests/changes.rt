@@ -1,7 +1,7 @@
 //! Changes of the sample volume with a contiguous file, seen by what the changed image reads as.
-use super::contiguous::{WORLD, WORLD_DENIED, contiguous_file};
-use ods_base::{FileId, Image, Pick, word};
-use ods_change::{enter_here, remove, set_user, write};
+use ods_base::{Block, FileId, Image, Pick, word};
+use ods_change::{enter, remove, set_user, write};
+use ods_format_tests::contiguous::{WORLD, WORLD_DENIED, contiguous_file};
 use ods_format_tests::persons::{
     FIRST, MASTER, PROTECTION, SYSTEM, USER, bitmap, c_dat, letter_a, old_block, other_attributes,
     reserved_id,
@@ -23,50 +23,48 @@ pub fn mounted(alloc: Global, image: Image) -> Result<Mounted, Fail> {
 }
 
 /// The image with the changes of a draft, where it is sound.
-fn changed(alloc: Global, before: Mounted, draft: &Draft) -> Result<Mounted, Fail> {
+pub fn changed(alloc: Global, before: Mounted, draft: &Draft) -> Result<Mounted, Fail> {
     let (mut image, _) = before.into_parts();
     draft.apply(&mut image);
     mounted(alloc, image)
+}
+
+/// The block of the contiguous file.
+fn its_block(volume: &Mounted) -> Result<Block, Fail> {
+    Ok(read(volume.image(), volume.layout(), USER, FIRST, 1)?)
+}
+
+/// The draft of writing the letter A into it.
+fn written(alloc: Global, before: &Mounted) -> Result<Draft, Fail> {
+    let (image, layout) = (before.image(), before.layout());
+    Ok(write(alloc, image, layout, USER, FIRST, 1, &letter_a())?)
 }
 
 #[test]
 fn a_block_is_written(rt: HostRuntime) -> Result<(), Fail> {
     let alloc = rt.alloc();
     let before = mounted(alloc, contiguous_file(alloc, PROTECTION)?)?;
-    let old = read(before.image(), before.layout(), USER, FIRST, 1)?;
-    assert_eq!(rt; old, old_block());
-    let block = letter_a();
-    let draft = write(
-        alloc,
-        before.image(),
-        before.layout(),
-        USER,
-        FIRST,
-        1,
-        &block,
-    )?;
+    assert_eq!(rt; its_block(&before)?, old_block());
+    let draft = written(alloc, &before)?;
     let after = changed(alloc, before, &draft)?;
-    let new = read(after.image(), after.layout(), USER, FIRST, 1)?;
-    assert_eq!(rt; new, block);
+    assert_eq!(rt; its_block(&after)?, letter_a());
     Ok(())
+}
+
+/// The draft of setting the other attributes of the contiguous file.
+fn with_attributes(alloc: Global, before: &Mounted) -> Result<Draft, Fail> {
+    let (image, layout) = (before.image(), before.layout());
+    let attributes = other_attributes();
+    Ok(set_user(alloc, image, layout, USER, FIRST, attributes)?)
 }
 
 #[test]
 fn attributes_are_set(rt: HostRuntime) -> Result<(), Fail> {
     let alloc = rt.alloc();
     let before = mounted(alloc, contiguous_file(alloc, PROTECTION)?)?;
-    let attributes = other_attributes();
-    let draft = set_user(
-        alloc,
-        before.image(),
-        before.layout(),
-        USER,
-        FIRST,
-        attributes,
-    )?;
+    let draft = with_attributes(alloc, &before)?;
     let after = changed(alloc, before, &draft)?;
-    let data = read(after.image(), after.layout(), USER, FIRST, 1)?;
-    assert_eq!(rt; data, old_block());
+    assert_eq!(rt; its_block(&after)?, old_block());
     let header = block_of(after.image(), 8)?;
     assert_eq!(rt; header.byte(12), 0o200);
     assert_eq!(rt; header.byte(13), 0);
@@ -126,22 +124,10 @@ fn a_name_is_removed(rt: HostRuntime) -> Result<(), Fail> {
     Ok(())
 }
 
-/// The draft of entering C.DAT in the master directory, which has room, and its version.
+/// The draft of entering C.DAT in the master directory, and its version.
 fn entered(alloc: Global, before: &Mounted) -> Result<(Draft, u16), Fail> {
-    let found = enter_here(
-        alloc,
-        before.image(),
-        before.layout(),
-        USER,
-        MASTER,
-        c_dat(),
-        None,
-        FIRST,
-    )?;
-    match found {
-        Some(found) => Ok(found),
-        None => Err("no room".into()),
-    }
+    let (image, layout) = (before.image(), before.layout());
+    Ok(enter(alloc, image, layout, USER, MASTER, c_dat(), None, FIRST)?)
 }
 
 /// F.HIBK, F.EFBK and F.FFBY of the master directory, whose header is LBN 6.
@@ -162,6 +148,20 @@ fn a_name_is_entered_at_the_mark(rt: HostRuntime) -> Result<(), Fail> {
     assert_eq!(rt; found.1, 1);
     let after = changed(alloc, before, &found.0)?;
     assert_eq!(rt; end_of_master(after.image())?, [0, 1, 0, 1, 96]);
+    Ok(())
+}
+
+#[test]
+fn a_directory_takes_a_block(rt: HostRuntime) -> Result<(), Fail> {
+    let alloc = rt.alloc();
+    let mut volume = mounted(alloc, contiguous_file(alloc, PROTECTION)?)?;
+    // Five names stand there, and a block has room for 32.
+    for version in 1..29u16 {
+        let found = entered(alloc, &volume)?;
+        assert_eq!(rt; found.1, version);
+        volume = changed(alloc, volume, &found.0)?;
+    }
+    assert_eq!(rt; end_of_master(volume.image())?, [0, 2, 0, 2, 16]);
     Ok(())
 }
 

@@ -1,7 +1,23 @@
 //! The replies about single headers.
+ghost use Rattle.std.specs.Prelude.{◌≤◌};
+
 use super::broken::Broken;
 use ods_cli::{ServeFault, header_run, sample};
+use std::alloc::Global;
+use std::process::Abort;
 use std::test::Fail;
+
+/// Fails where what is replied about this header of the image is another line, or is not said to be found or refused.
+fn replied(rt: &impl Abort, alloc: Global, image: &[u8], number: u16, found: bool, reply: &str)
+    requires some { 1 ≤ number }
+    requires most { number ≤ 16 }
+{
+    let mut reader = image;
+    let mut out = Vec::new(alloc);
+    let answer = header_run(alloc, &mut reader, number, &mut out);
+    assert_eq!(rt; answer, Ok(found), "header {number}");
+    assert!(rt; out.as_slice() == reply.as_bytes(), "{reply}");
+}
 
 #[test]
 fn headers_are_replied(rt: HostRuntime) -> Result<(), Fail> {
@@ -30,10 +46,7 @@ fn headers_are_replied(rt: HostRuntime) -> Result<(), Fail> {
         (6, false, "NO 11 WrongNumber\n"),
         (16, false, "NO 11 WrongNumber\n"),
     ] {
-        let mut out = Vec::new(rt.alloc());
-        let answer = header_run(rt.alloc(), &mut bytes.as_slice(), number, &mut out);
-        assert_eq!(rt; answer, Ok(found));
-        assert!(rt; out.as_slice() == reply.as_bytes(), "header {number}");
+        replied(&rt, rt.alloc(), bytes.as_slice(), number, found, reply);
     }
     Ok(())
 }
@@ -56,11 +69,7 @@ fn refused_bytes_are_replied(rt: HostRuntime) -> Result<(), Fail> {
         (spoiled.as_slice(), "NO 15 NoHome\n"),
         (unsummed.as_slice(), "NO 10 BadSum\n"),
     ] {
-        let mut reader = image;
-        let mut out = Vec::new(rt.alloc());
-        let answer = header_run(rt.alloc(), &mut reader, 4, &mut out);
-        assert_eq!(rt; answer, Ok(false));
-        assert!(rt; out.as_slice() == reply.as_bytes(), "{reply}");
+        replied(&rt, rt.alloc(), image, 4, false, reply);
     }
     Ok(())
 }

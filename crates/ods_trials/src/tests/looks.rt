@@ -1,7 +1,7 @@
 //! Looks at the sample volume of 40 blocks, and at one with a contiguous file on it.
 use super::changes::mounted;
-use super::contiguous::{WORLD, WORLD_DENIED, contiguous_file};
 use ods_base::{FileId, Pick, Uic};
+use ods_format_tests::contiguous::{WORLD, WORLD_DENIED, contiguous_file};
 use ods_format_tests::persons::{
     FIRST, MASTER, PROTECTION, bitmap, index_stat, old_block, reserved_id, reserved_lines,
 };

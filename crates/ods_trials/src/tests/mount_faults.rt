@@ -27,27 +27,19 @@ fn refused(
     Ok(())
 }
 
-/// The first header of A.TXT, file 6, and of B.TXT, file 7, with this next header.
-fn a_header(next: u16) -> FileHeader {
-    FileHeader {
-        next,
-        ..added(6, a_txt())
-    }
+/// The first header of A.TXT, file 6.
+fn a_header() -> FileHeader {
+    added(6, a_txt())
 }
 
-fn b_header(next: u16) -> FileHeader {
-    FileHeader {
-        next,
-        ..added(7, b_txt())
-    }
+/// The first header of B.TXT, file 7.
+fn b_header() -> FileHeader {
+    added(7, b_txt())
 }
 
 /// A header 8 of A.TXT, the second of its chain.
 fn second_header() -> FileHeader {
-    FileHeader {
-        segment: 1,
-        ..added(8, a_txt())
-    }
+    added(8, a_txt()).second()
 }
 
 #[test]
@@ -69,18 +61,18 @@ fn reserved_files_are_wanted(rt: HostRuntime) -> Result<(), Fail> {
 #[test]
 fn blocks_are_held_twice(rt: HostRuntime) -> Result<(), Fail> {
     let at_22 = [run(22, 1)];
-    let b = b_header(0).mapping(&at_22);
+    let b = b_header().mapping(&at_22);
     let wanted = DoublyUsed(6, 7, 22);
     let reply = "NO 53 DoublyUsed 6 7 22\n";
     let volume = Variant {
-        headers: &[(8, a_header(0).mapping(&at_22)), (9, b)],
+        headers: &[(8, a_header().mapping(&at_22)), (9, b)],
         ..sample_of(40)
     };
     refused(&rt, rt.alloc(), &volume, wanted, reply)?;
     // One of them by its second header.
     let volume = Variant {
         headers: &[
-            (8, a_header(8).mapping(&[])),
+            (8, a_header().before(8).mapping(&[])),
             (9, b),
             (10, second_header().mapping(&at_22)),
         ],
@@ -89,52 +81,52 @@ fn blocks_are_held_twice(rt: HostRuntime) -> Result<(), Fail> {
     refused(&rt, rt.alloc(), &volume, wanted, reply)
 }
 
+/// A file of one block that is marked free, or lies past the end, or is mapped by a pointer of another format. LBN 22 is free or not.
 #[test]
-fn blocks_are_held_and_free(rt: HostRuntime) -> Result<(), Fail> {
-    let volume = Variant {
-        headers: &[(8, a_header(0).mapping(&[run(22, 1)]))],
-        storage_bits: &[(22, true)],
-        ..sample_of(40)
-    };
-    let reply = "NO 54 MarkedFree 6 22\n";
-    refused(&rt, rt.alloc(), &volume, MarkedFree(6, 22), reply)
-}
-
-#[test]
-fn pointers_past_the_end(rt: HostRuntime) -> Result<(), Fail> {
-    let volume = Variant {
-        headers: &[(8, a_header(0).mapping(&[run(40, 1)]))],
-        ..sample_of(40)
-    };
-    let reply = "NO 21 OutsideVolume 6 40\n";
-    refused(&rt, rt.alloc(), &volume, OutsideVolume(6, 40), reply)
-}
-
-#[test]
-fn pointers_of_another_format(rt: HostRuntime) -> Result<(), Fail> {
-    let other = FileHeader {
+fn pointers_are_bad(rt: HostRuntime) -> Result<(), Fail> {
+    let other_format = FileHeader {
         count_size: 2,
-        ..a_header(0)
+        ..a_header()
     };
-    let volume = Variant {
-        headers: &[(8, other.mapping(&[run(22, 1)]))],
-        storage_bits: &[(22, false)],
-        ..sample_of(40)
-    };
-    let reply = "NO 14 UnsupportedMap 6\n";
-    refused(&rt, rt.alloc(), &volume, UnsupportedMap(6), reply)
+    for (header, lbn, is_free, wanted, reply) in [
+        (
+            a_header(),
+            22,
+            true,
+            MarkedFree(6, 22),
+            "NO 54 MarkedFree 6 22\n",
+        ),
+        (
+            a_header(),
+            40,
+            true,
+            OutsideVolume(6, 40),
+            "NO 21 OutsideVolume 6 40\n",
+        ),
+        (
+            other_format,
+            22,
+            false,
+            UnsupportedMap(6),
+            "NO 14 UnsupportedMap 6\n",
+        ),
+    ] {
+        let volume = Variant {
+            headers: &[(8, header.mapping(&[run(lbn, 1)]))],
+            storage_bits: &[(22, is_free)],
+            ..sample_of(40)
+        };
+        refused(&rt, rt.alloc(), &volume, wanted, reply)?;
+    }
+    Ok(())
 }
 
 #[test]
 fn chains_that_do_not_end_well(rt: HostRuntime) -> Result<(), Fail> {
-    let itself = FileHeader {
-        segment: 1,
-        next: 7,
-        ..added(7, a_txt())
-    };
+    let itself = added(7, a_txt()).second().before(7);
     let volume = Variant {
         headers: &[
-            (8, a_header(7).mapping(&[run(22, 1)])),
+            (8, a_header().before(7).mapping(&[run(22, 1)])),
             (9, itself.mapping(&[])),
         ],
         ..sample_of(40)
@@ -143,8 +135,8 @@ fn chains_that_do_not_end_well(rt: HostRuntime) -> Result<(), Fail> {
     // Two files with one header.
     let volume = Variant {
         headers: &[
-            (8, a_header(8).mapping(&[])),
-            (9, b_header(8).mapping(&[])),
+            (8, a_header().before(8).mapping(&[])),
+            (9, b_header().before(8).mapping(&[])),
             (10, second_header().mapping(&[])),
         ],
         ..sample_of(40)

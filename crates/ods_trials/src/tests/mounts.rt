@@ -109,14 +109,8 @@ fn late_home(rt: HostRuntime) -> Result<(), Fail> {
 
 /// The volume of 40 blocks with room for 20 files, and headers 1 and 17 of INDEXF.SYS with these runs. LBN 22 and 23 are held.
 fn with_longer_index(alloc: Global, first: &[Run], second: &[Run]) -> Result<Image, Fail> {
-    let one = FileHeader {
-        next: 17,
-        ..added(1, indexf())
-    };
-    let other = FileHeader {
-        segment: 1,
-        ..added(17, indexf())
-    };
+    let one = added(1, indexf()).before(17);
+    let other = added(17, indexf()).second();
     Variant {
         most_files: 20,
         headers: &[(3, one.mapping(first)), (22, other.mapping(second))],

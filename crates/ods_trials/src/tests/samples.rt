@@ -1,6 +1,8 @@
-//! The sample volume of 40 blocks byte for byte, its sums, and the sample of 512 blocks.
+//! The sample volumes of 40 and 512 blocks byte for byte, and the sums of the first.
 use ods_base::{Image, sum};
 use ods_cli::sample;
+use std::alloc::Global;
+use std::process::Abort;
 use std::test::Fail;
 
 /// The sample's bytes that are not zero, but for the free blocks: an LBN, a byte place and the bytes there.
@@ -78,10 +80,10 @@ const SAMPLE: [(u32, usize, &[u8]); 38] = [
     (39, 511, b"\x5a"),
 ];
 
-#[test]
-fn sample_has_its_bytes(rt: HostRuntime) -> Result<(), Fail> {
-    let mut wanted = vec![in rt.alloc(); 0u8; 512 * 22]?;
-    wanted.extend_from_slice(vec![in rt.alloc(); 0x5au8; 512 * 18]?.as_slice())?;
+/// The bytes of the sample of so many blocks. Where it has 512, the storage bits up to LBN 511 are set.
+fn published(rt: &impl Abort, alloc: Global, blocks: usize) -> Result<Vec<u8>, Fail> {
+    let mut wanted = vec![in alloc; 0u8; 512 * 22]?;
+    wanted.resize(512 * blocks.min(512), 0x5a)?;
     for (lbn, at, bytes) in &SAMPLE {
         for (i, byte) in bytes.iter().enumerate() {
             let place = (512 * *lbn as usize).wrapping_add(*at).wrapping_add(i);
@@ -89,11 +91,23 @@ fn sample_has_its_bytes(rt: HostRuntime) -> Result<(), Fail> {
             wanted[place] = *byte;
         }
     }
-    let found = sample(rt.alloc(), 40)?;
-    assert_eq!(rt; found.len(), wanted.len());
-    for i in 0..wanted.len() {
-        assert!(rt; i < found.len());
-        assert_eq!(rt; found[i], wanted[i], "byte {i}");
+    if blocks == 512 {
+        assert!(rt; 512 * 21 <= wanted.len());
+        wanted[512 * 20 + 5..512 * 20 + 64].copy_from_slice(&[0xff; 59]);
+    }
+    Ok(wanted)
+}
+
+#[test]
+fn samples_have_their_bytes(rt: HostRuntime) -> Result<(), Fail> {
+    for blocks in [40, 512] {
+        let wanted = published(&rt, rt.alloc(), blocks as usize)?;
+        let found = sample(rt.alloc(), blocks)?;
+        assert_eq!(rt; found.len(), wanted.len());
+        for i in 0..wanted.len() {
+            assert!(rt; i < found.len());
+            assert_eq!(rt; found[i], wanted[i], "byte {i} of {blocks} blocks");
+        }
     }
     Ok(())
 }
@@ -116,9 +130,5 @@ fn sample_has_its_sums(rt: HostRuntime) -> Result<(), Fail> {
     ] {
         assert_eq!(rt; sum(image.block(lbn), words), total, "at {lbn}");
     }
-    let large = sample(rt.alloc(), 512)?;
-    assert_eq!(rt; large.len(), 512 * 512);
-    assert_eq!(rt; large[512 * 20 + 63], 0xff);
-    assert_eq!(rt; large[512 * 20 + 64], 0);
     Ok(())
 }

@@ -1,4 +1,5 @@
-use Rattle.std.proofs.Common.{◌∙◌, length, sym, subst}
+use Rattle.std.proofs.Common.{◌∙◌, length, sym, subst, Result, Ok, Err}
+use Rattle.std.specs.Prelude.{OnErr}
 use Rattle.std.specs.List.{All}
 use Rattle.std.specs.List.Sorted.{IsPermutation}
 use Rattle.ods_directory.specs.Entry.{IsGoodEntry}
@@ -34,3 +35,14 @@ returns-clause-good g c =
       good = subst (All IsGoodEntry) (used_same (g.B.DirBlocks.blocks c.args.blocks.now) c.args.mark c.min-cut.result c.from.result c.count.result c.min-cut.ensures c.from.ensures c.count.ensures) good;
       distinct = subst AreDistinct (used_same (g.B.DirBlocks.blocks c.args.blocks.now) c.args.mark c.min-cut.result c.from.result c.count.result c.min-cut.ensures c.from.ensures c.count.ensures) (distinct_found blocks c.min-cut.result lines permuted c.sort.ensures.order alone);
     }
+
+-- what is so anyway is so at an error
+at_err : {T E P : Type 0} → (r : Result T E) → P → OnErr r P
+at_err (Ok x) p = tt
+at_err (Err e) p = p
+
+pub returns-in_err-lines-clause-memory : goal.returns-in_err-lines-clause-memory
+returns-in_err-lines-clause-memory g c =
+    let good = all_good (g.B.DirBlocks.blocks c.args.blocks.now) c.min-cut.result c.first_entry.result c.first_entry.ensures (sym c.is_some.ensures ∙ c.if-is_some.false) in
+    at_err c.from_residual.result
+    (subst (All IsGoodEntry) (used_same (g.B.DirBlocks.blocks c.args.blocks.now) c.args.mark c.min-cut.result c.from.result c.count.result c.min-cut.ensures c.from.ensures c.count.ensures) good)

@@ -1,7 +1,7 @@
 use Rattle.std.proofs.Common.{refl, arith, subst}
 use Rattle.ods_base.specs.Block.{IsBlock}
 use Rattle.ods_directory.proofs.Picked.{finds, finds_none}
-use Rattle.ods_directory.proofs.Removed.{entry_there, removed_stays, removed_names}
+use Rattle.ods_directory.proofs.Removed.{entry_there, used, removed_stays, removed_names}
 use Rattle.ods_directory.proofs.removal.remove.Goals as goal
 
 pub block-requires : goal.block-requires
@@ -17,7 +17,7 @@ returns-in-Some g c =
     let whole = subst IsBlock c.block.ensures.value c.block.ensures.block in
     record {
       found = finds blocks mark name c.args.pick found c.requires.directory here;
-      position = (found.position, here.0.below, refl, entry_there blocks mark name found c.requires.directory c.requires.mark here.0 whole);
+      position = (found.position, here.0.below, refl, entry_there blocks mark name found c.requires.directory c.requires.mark here.0 whole, used blocks mark name found c.requires.directory c.requires.mark here.0 whole);
       names = removed_names blocks mark name found c.requires.directory c.requires.mark here.0 whole;
       stays = removed_stays blocks mark name found c.requires.directory c.requires.mark here.0 whole;
       err = tt;

@@ -2,8 +2,9 @@ use Rattle.std.proofs.Common.{refl, sym, subst}
 use Rattle.std.specs.Prelude.{MatchResult}
 use Rattle.ods_space.specs.Draft.{applied}
 use Rattle.ods_request.specs.declared.requests.Request.TheVariants.{List as Lines}
-use Rattle.ods_request.specs.declared.answers.Answer.TheVariants.{Done, Names, Removed}
+use Rattle.ods_request.specs.declared.answers.Answer.TheVariants.{Created, Done, Entered, Extended, Names, Removed}
 use Rattle.ods_state.specs.Served.{IsRefusalOf, IsStepOf}
+use Rattle.ods_state.specs.Outcome.{CanBeAsked}
 use Rattle.ods_volume.proofs.Arms.{no_other}
 use Rattle.ods_volume.proofs.Looks.{look_by_none}
 use Rattle.ods_volume.proofs.prepare.carry_out.Goals as goal
@@ -15,16 +16,17 @@ returns-in-Some c =
 
 pub unreachable-requires : goal.unreachable-requires
 unreachable-requires c =
-    no_other c.args.request.now c.requires.served (λ q e. c.in_default.not-Some q ((c.as_query.ensures q).1 e)) c.in_default-request.not-List
-    c.in_default-request.not-Write c.in_default-request.not-SetUser c.in_default-request.not-Remove
+    no_other c.args.request.now (λ q e. c.in_default.not-Some q ((c.as_query.ensures q).1 e)) c.in_default-request.not-Create c.in_default-request.not-Extend
+    c.in_default-request.not-Delete c.in_default-request.not-Enter c.in_default-request.not-List c.in_default-request.not-Write c.in_default-request.not-SetUser
+    c.in_default-request.not-Remove
 
-pub returns-in-Ok : goal.returns-in-Ok
-returns-in-Ok c =
-    subst (λ r. IsStepOf c.args.image.now c.args.layout.now c.args.who r (Names c.in-Ok.lines) (applied c.args.image.now c.new.result) c.args.layout.now) (sym c.in-List.is)
-    (look_by_none c.args.image.now c.args.layout.now c.requires.sound c.args.who (Lines c.in-List.dir) (Names c.in-Ok.lines) refl c.in-Ok.ensures c.new.result c.new.ensures)
+pub returns-in-Ok-list : goal.returns-in-Ok-list
+returns-in-Ok-list c =
+    subst (λ r. IsStepOf c.args.image.now c.args.layout.now c.args.who r (Names c.in-Ok-list.lines) (applied c.args.image.now c.new.result) c.args.layout.now) (sym c.in-List.is)
+    (look_by_none c.args.image.now c.args.layout.now c.requires.sound c.args.who (Lines c.in-List.dir) (Names c.in-Ok-list.lines) refl c.in-Ok-list.ensures c.new.result c.new.ensures)
 
-pub returns-in-Err : goal.returns-in-Err
-returns-in-Err c = subst (λ r. IsRefusalOf c.args.image.now c.args.layout.now c.args.who r c.in-Err.refusal) (sym c.in-List.is) c.in-Err.ensures
+pub returns-in-Err-list : goal.returns-in-Err-list
+returns-in-Err-list c = subst (λ r. IsRefusalOf c.args.image.now c.args.layout.now c.args.who r c.in-Err-list.refusal) (sym c.in-List.is) c.in-Err-list.ensures
 
 pub returns-in-Ok-write : goal.returns-in-Ok-write
 returns-in-Ok-write c =
@@ -51,3 +53,45 @@ returns-in-Ok-remove c =
 
 pub returns-in-Err-remove : goal.returns-in-Err-remove
 returns-in-Err-remove c = subst (λ r. IsRefusalOf c.args.image.now c.args.layout.now c.args.who r c.in-Err-remove.refusal) (sym c.in-Remove.is) c.in-Err-remove.ensures
+
+pub returns-in-Ok : goal.returns-in-Ok
+returns-in-Ok c =
+    let answer = Created c.in-Ok.file in
+    subst (λ r. IsStepOf c.args.image.now c.args.layout.now c.args.who r answer (applied c.args.image.now c.in-Ok.draft) c.args.layout.now) (sym c.in-Create.is)
+    c.in-Ok.ensures
+
+pub returns-in-Err : goal.returns-in-Err
+returns-in-Err c = subst (λ r. IsRefusalOf c.args.image.now c.args.layout.now c.args.who r c.in-Err.refusal) (sym c.in-Create.is) c.in-Err.ensures
+
+pub returns-in-Ok-extend : goal.returns-in-Ok-extend
+returns-in-Ok-extend c =
+    let answer = Extended c.in-Ok-extend.count in
+    subst (λ r. IsStepOf c.args.image.now c.args.layout.now c.args.who r answer (applied c.args.image.now c.in-Ok-extend.draft) c.args.layout.now) (sym c.in-Extend.is)
+    c.in-Ok-extend.ensures
+
+pub returns-in-Err-extend : goal.returns-in-Err-extend
+returns-in-Err-extend c = subst (λ r. IsRefusalOf c.args.image.now c.args.layout.now c.args.who r c.in-Err-extend.refusal) (sym c.in-Extend.is) c.in-Err-extend.ensures
+
+pub returns-in-Ok-delete : goal.returns-in-Ok-delete
+returns-in-Ok-delete c =
+    let answer = Done in
+    subst (λ r. IsStepOf c.args.image.now c.args.layout.now c.args.who r answer (applied c.args.image.now c.in-Ok-delete.draft) c.args.layout.now) (sym c.in-Delete.is)
+    c.in-Ok-delete.ensures
+
+pub returns-in-Err-delete : goal.returns-in-Err-delete
+returns-in-Err-delete c = subst (λ r. IsRefusalOf c.args.image.now c.args.layout.now c.args.who r c.in-Err-delete.refusal) (sym c.in-Delete.is) c.in-Err-delete.ensures
+
+pub returns-in-Ok-enter : goal.returns-in-Ok-enter
+returns-in-Ok-enter c =
+    let answer = Entered c.in-Ok-enter.version in
+    subst (λ r. IsStepOf c.args.image.now c.args.layout.now c.args.who r answer (applied c.args.image.now c.in-Ok-enter.draft) c.args.layout.now) (sym c.in-Enter.is)
+    c.in-Ok-enter.ensures
+
+pub returns-in-Err-enter : goal.returns-in-Err-enter
+returns-in-Err-enter c = subst (λ r. IsRefusalOf c.args.image.now c.args.layout.now c.args.who r c.in-Err-enter.refusal) (sym c.in-Enter.is) c.in-Err-enter.ensures
+
+pub create-requires-clause-asked : goal.create-requires-clause-asked
+create-requires-clause-asked c = subst CanBeAsked c.in-Create.is c.requires.asked
+
+pub enter-requires-clause-asked : goal.enter-requires-clause-asked
+enter-requires-clause-asked c = subst CanBeAsked c.in-Enter.is c.requires.asked

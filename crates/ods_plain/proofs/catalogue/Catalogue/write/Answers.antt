@@ -1,33 +1,30 @@
-use Rattle.std.proofs.Common.{◌≡◌, length, sym, ap, ◌∙◌, arith, set}
+use Rattle.std.proofs.Common.{length, sym, ap, ◌∙◌, arith, set}
 use Rattle.ods_request.specs.Faults.{lacks_block}
 use Rattle.ods_request.specs.Catalogue.{File}
 use Rattle.ods_request.specs.Steps.{after, put, with_body, written}
 use Rattle.ods_request.proofs.FaultTable.{passed, fault_write}
 use Rattle.ods_plain.specs.Rows.{place_of}
-use Rattle.ods_plain.proofs.Changes.{FoundBy, found_at}
+use Rattle.ods_plain.proofs.Changes.{FoundBy, found_at, within_at}
 use Rattle.ods_plain.proofs.catalogue.Catalogue.write.Goals as goal
 use Rattle.ods_plain.proofs.catalogue.Catalogue.write.Goals.{After-index_mut-row}
 
 pub index_mut-row-requires : goal.index_mut-row-requires
 index_mut-row-requires c =
-    let found = found_at c.self.inside.rows.items c.self.inside.past.items c.self.inside.default c.args.self.now c.args.file c.place-at.result _ c.self.view_is
+    let within = within_at c.self.inside.rows.items c.self.inside.past.items c.self.inside.default c.args.self.now c.args.file c.place-at.result _ c.self.view_is
     (c.place-at.ensures.value ∙ ap (place_of c.args.file) c.as_slice.ensures.value) (passed _ _ (sym (fault_write c.args.self.now c.requires.who c.args.file c.args.vbn c.args.block.now) ∙ c.requires.allowed)) in
-    omega (arith, found.within, ap length c.as_slice.ensures.value, c.as_slice.ensures.len)
+    omega (arith, within, ap length c.as_slice.ensures.value, c.as_slice.ensures.len)
 
-found : (c : After-index_mut-row) → FoundBy c.self.inside.rows.items c.self.inside.past.items c.self.inside.default c.args.self.now c.args.file c.place-at.result _ _
+found : (c : After-index_mut-row) → FoundBy c.self.inside.rows.items c.self.inside.past.items c.self.inside.default c.args.self.now c.args.file c.place-at.result c.index_mut-row.result.now _ _
     (fault_write c.args.self.now c.requires.who c.args.file c.args.vbn c.args.block.now)
-found c = found_at _ _ _ _ _ _ _ c.self.view_is (c.place-at.ensures.value ∙ ap (place_of c.args.file) c.as_slice.ensures.value) (passed _ _ (sym (fault_write c.args.self.now c.requires.who c.args.file c.args.vbn c.args.block.now) ∙ c.requires.allowed))
-
-row : (c : After-index_mut-row) → c.index_mut-row.result.now ≡ (c.args.file, (found c).file)
-row c = c.index_mut-row.ensures.value ∙ (found c).row c.index_mut-row.result.now
+found c = found_at _ _ _ _ _ _ _ _ c.self.view_is (c.place-at.ensures.value ∙ ap (place_of c.args.file) c.as_slice.ensures.value) c.index_mut-row.ensures.value (passed _ _ (sym (fault_write c.args.self.now c.requires.who c.args.file c.args.vbn c.args.block.now) ∙ c.requires.allowed))
 
 pub write-requires : goal.write-requires
-write-requires c = ap (λ r. lacks_block r.1 c.args.vbn) (row c) ∙ (found c).none.1.1.1.0
+write-requires c = ap (λ r. lacks_block r.1 c.args.vbn) (found c).row_is ∙ (found c).none.1.1.1.0
 
 pub returns : goal.returns
 unfolding after
 returns c =
     let at = (goal.at.returns c).After-index_mut-row in
     let change : File → File = λ f. with_body f (written f.body c.args.vbn c.args.block.now) in
-    (found at).puts (change (found at).file) _ (ap (set c.self.inside.rows.items c.place-at.result) (c.write.ensures ∙ ap (λ r. (r.0, change r.1)) (row at)))
+    (found at).puts (change (found at).file) _ (ap (set c.self.inside.rows.items c.place-at.result) (c.write.ensures ∙ ap (λ r. (r.0, change r.1)) (found at).row_is))
     ∙ ap (λ f. put c.args.self.now c.args.file (change f)) (sym (found at).file_is)

@@ -1,0 +1,71 @@
+use Rattle.std.proofs.Common.{◌≡◌, ◌∙◌, Some, drop, ap, sym, subst}
+use Rattle.std.specs.Prelude.{is_some, slice_set}
+use Rattle.ods_header.specs.Contiguous.{IsWithoutContiguous, KeepsAllButContiguous}
+use Rattle.ods_space.specs.Chain.{headers_of, named_by, numbers_of}
+use Rattle.ods_space.specs.Draft.{applied}
+use Rattle.ods_space.specs.Layout.{header_at, place_of}
+use Rattle.ods_change.specs.Taking.{IsZeroed}
+use Rattle.ods_change.proofs.AttributesReplaced.{has_place}
+use Rattle.ods_change.proofs.ReadyToGrow.{chain_asked, growth_asked, has_grown, layout_asked, set_is, walked_as, zeroed_first}
+use Rattle.ods_state.proofs.GrowthReady.{well_placed}
+use Rattle.ods_change.proofs.extend_file.grown.Goals as goal
+use Rattle.ods_change.proofs.extend_file.grown.Goals.{In_ok-set}
+
+pub unwrap-lbn-requires : goal.unwrap-lbn-requires
+unwrap-lbn-requires c =
+    let w = c.requires.wanted.3 in
+    ap is_some c.place.ensures ∙ has_place c.args.image.now c.args.layout.now c.args.number w.file
+
+place_is : (c : In_ok-set) → place_of c.args.layout.now c.args.number ≡ Some c.unwrap-lbn.result
+place_is c = sym c.place.ensures ∙ c.unwrap-lbn.ensures
+
+changed : (c : In_ok-set) → IsWithoutContiguous (header_at c.args.image.now c.args.layout.now c.args.number) c.without_contiguous.result
+changed c = subst (λ b. IsWithoutContiguous b c.without_contiguous.result) c.requires.first c.without_contiguous.ensures.changed
+
+fields : (c : In_ok-set) → KeepsAllButContiguous (header_at c.args.image.now c.args.layout.now c.args.number) c.without_contiguous.result
+fields c = subst (λ b. KeepsAllButContiguous b c.without_contiguous.result) c.requires.first c.without_contiguous.ensures.fields
+
+zeroed : (c : In_ok-set) → IsZeroed c.args.image.now c.args.taken.now.blocks.items (applied c.args.image.now c.zero_blocks.new.draft)
+zeroed c = zeroed_first c.args.image.now (applied c.args.image.now c.zero_blocks.new.draft) c.new-draft.result c.deref.result.now c.args.taken.now.blocks.items c.new-draft.ensures c.deref.ensures.value
+    (c.in_ok-zero_blocks.ensures c.args.image.now)
+
+set : (c : In_ok-set) → applied c.args.image.now c.set.new.self ≡ slice_set (applied c.args.image.now c.zero_blocks.new.draft) c.unwrap-lbn.result c.without_contiguous.result
+set c = set_is c.args.image.now c.zero_blocks.new.draft c.set.new.self c.unwrap-lbn.result c.without_contiguous.result c.in_ok-set.ensures.ok
+
+pub extend_chain-requires : goal.extend_chain-requires
+extend_chain-requires c =
+    let I = c.args.image.now in
+    let L = c.args.layout.now in
+    let n = c.args.number in
+    let s = (goal.at.extend_chain-requires c).In_ok-set in
+    let headers = c.requires.wanted.0 in
+    let old = c.requires.wanted.1 in
+    let count = c.requires.wanted.2 in
+    let w = c.requires.wanted.3 in
+    let Z = applied I c.zero_blocks.new.draft in
+    let K = applied I c.set.new.self in
+    let walk = walked_as I L n headers old c.len.ensures.image c.requires.sound.layout w.has in (
+      layout_asked I Z K L c.requires.sound n c.unwrap-lbn.result c.without_contiguous.result (place_is s) (changed s) (fields s) headers old count c.args.taken.now c.requires.above w (zeroed s) (set s),
+      (
+        well_placed I L c.requires.sound,
+        (
+          chain_asked I Z K L c.requires.sound n c.unwrap-lbn.result c.without_contiguous.result (place_is s) (changed s) (fields s) headers old count c.args.taken.now c.requires.above w (zeroed s) (set s)
+              c.len.ensures.image (drop 1 (numbers_of (headers_of I L n))) (named_by (headers_of I L n)) walk.0 walk.1,
+          growth_asked I Z K L c.requires.sound n c.unwrap-lbn.result c.without_contiguous.result (place_is s) (changed s) (fields s) headers old count c.args.taken.now c.requires.above w (zeroed s) (set s)
+              (drop 1 (numbers_of (headers_of I L n))) c.deref-2.result.now c.deref-3.result.now walk.0 c.deref-2.ensures.value c.deref-3.ensures.value,
+        ),
+      ),
+    )
+
+pub returns : goal.returns
+returns c = λ headers old count w.
+    let I = c.args.image.now in
+    let L = c.args.layout.now in
+    let n = c.args.number in
+    let s = (goal.at.returns c).In_ok-set in
+    let Z = applied I c.zero_blocks.new.draft in
+    let K = applied I c.set.new.self in
+    let walk = walked_as I L n headers old c.len.ensures.image c.requires.sound.layout w.has in
+    has_grown I Z K L c.requires.sound n c.unwrap-lbn.result c.without_contiguous.result (place_is s) (changed s) (fields s) headers old count c.args.taken.now c.requires.above w (zeroed s) (set s)
+    (applied I c.extend_chain.new.draft) (drop 1 (numbers_of (headers_of I L n))) (named_by (headers_of I L n)) c.deref-2.result.now c.deref-3.result.now walk.0 walk.1 c.deref-2.ensures.value c.deref-3.ensures.value
+    c.in_ok-extend_chain.ensures.ok

@@ -1,0 +1,64 @@
+use Rattle.std.proofs.Common.{◌≡◌, ◌<◌, ◌≤◌, ℕ, List, Some, length, take, sym, ap, ◌∙◌, inl, inr, subst, arith}
+use Rattle.std.proofs.lemmas.List.{length-take-le}
+use Rattle.ods_space.specs.Free.{free_blocks, free_numbers}
+use Rattle.ods_state.specs.Wants.{room_in, taken_count}
+use Rattle.ods_change.proofs.TakingBlocks.{cut_few, lacks_blocks, lacks_none, lacks_numbers, lacks_segments, new_room, short_blocks, short_numbers, wanted_is}
+use Rattle.ods_change.proofs.taking.take.Goals as goal
+use Rattle.ods_change.proofs.taking.take.Goals.{After-headers_wanted-needed}
+
+pub returns-in-Err-clause-err : goal.returns-in-Err-clause-err
+returns-in-Err-clause-err c =
+    let I = c.args.image.now in
+    let L = c.args.layout.now in
+    elim (short_blocks c.in-Err.fault (length (free_blocks I L)) c.args.count c.in-Err.ensures.err) [
+      | inl none ↦ inl (c.refusal_for.ensures ∙ none)
+      | inr few ↦ inr (λ hs count room. lacks_blocks I L hs c.args.count few.1 ∙ ap Some (sym (c.refusal_for.ensures ∙ few.0)))
+    ]
+
+pub headers_wanted-needed-requires : goal.headers_wanted-needed-requires
+headers_wanted-needed-requires c =
+    let runs = ap length (c.as_slice.ensures.value ∙ c.in-Ok-runs_of_blocks.ensures.cut) in
+    let few = cut_few c.deref.result.now in
+    let got = c.in-Ok.ensures.ok in
+    let long = ap length (c.deref.ensures.value ∙ got.0) ∙ length-take-le c.args.count (free_blocks c.args.image.now c.args.layout.now) got.1 in
+    let most = c.ranges.count.fits in
+    omega (arith, runs, few, long, most)
+
+-- how many numbers are asked for
+needed_is : (c : After-headers_wanted-needed) → (hs : List ℕ) → length hs ≡ c.args.headers → room_in c.args.image.now c.args.layout.now hs ≡ c.args.room
+    → c.headers_wanted-needed.result ≡ taken_count c.args.image.now c.args.layout.now hs c.args.count
+needed_is c hs count room =
+    let I = c.args.image.now in
+    let L = c.args.layout.now in
+    wanted_is I L hs c.args.room c.args.count c.headers_wanted-needed.result c.deref.result.now c.as_slice.result.now room (c.deref.ensures.value ∙ c.in-Ok.ensures.ok.0)
+    (c.as_slice.ensures.value ∙ c.in-Ok-runs_of_blocks.ensures.cut) (c.headers_wanted-needed.ensures.wanted hs count (new_room I L hs c.args.headers c.args.room count room))
+
+pub returns-in-Err-pick_numbers-clause-err : goal.returns-in-Err-pick_numbers-clause-err
+returns-in-Err-pick_numbers-clause-err c =
+    let I = c.args.image.now in
+    let L = c.args.layout.now in
+    elim (short_numbers c.in-Err-pick_numbers.fault (length (free_numbers I L)) c.headers_wanted-needed.result c.in-Err-pick_numbers.ensures.err) [
+      | inl none ↦ inl (c.refusal_for-in-Err-pick_numbers.ensures ∙ none)
+      | inr few ↦ inr (λ hs count room.
+          lacks_numbers I L hs c.args.count c.in-Ok.ensures.ok.1 (subst (λ n. length (free_numbers I L) < n) (needed_is (goal.at.returns-in-Err-pick_numbers-clause-err c).After-headers_wanted-needed hs count room) few.1)
+          ∙ ap Some (sym (c.refusal_for-in-Err-pick_numbers.ensures ∙ few.0)))
+    ]
+
+pub returns-then-headers-needed-gt256-clause-err : goal.returns-then-headers-needed-gt256-clause-err
+returns-then-headers-needed-gt256-clause-err c = inr (λ hs count room.
+    let I = c.args.image.now in
+    let L = c.args.layout.now in
+    let needed = needed_is (goal.at.returns-then-headers-needed-gt256-clause-err c).After-headers_wanted-needed hs count room in
+    let many = c.if-headers-needed-gt256.true in
+    lacks_segments I L hs c.args.count c.in-Ok.ensures.ok.1 (subst (λ n. n ≤ length (free_numbers I L)) needed c.in-Ok-pick_numbers.ensures.ok.1) (omega (arith, many, count, needed)))
+
+pub returns-clause-ok : goal.returns-clause-ok
+returns-clause-ok c = λ hs count room.
+    let I = c.args.image.now in
+    let L = c.args.layout.now in
+    let needed = needed_is (goal.at.returns-clause-ok c).After-headers_wanted-needed hs count room in
+    let few = c.if-headers-needed-gt256.false in (
+      c.in-Ok.ensures.ok.0,
+      c.in-Ok-pick_numbers.ensures.ok.0 ∙ ap (λ n. take n (free_numbers I L)) needed,
+      lacks_none I L hs c.args.count c.in-Ok.ensures.ok.1 (subst (λ n. n ≤ length (free_numbers I L)) needed c.in-Ok-pick_numbers.ensures.ok.1) (omega (arith, few, count, needed)),
+    )

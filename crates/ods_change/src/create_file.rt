@@ -1,0 +1,208 @@
+//! A Create: its check, the first header of the new file, and the draft that makes it.
+ghost use Rattle.std.specs.Prelude.{◌≡◌, ◌+◌, ◌/◌, ◌%◌, ◌<◌, [], IfOk, MatchResult, length};
+ghost use Rattle.ods_header.specs.Header.{sequence_of};
+ghost use Rattle.ods_mount.specs.Sound.{IsSoundBy};
+ghost use Rattle.ods_request.specs.Steps.{new_ident};
+ghost use Rattle.ods_request.specs.declared.answers.Answer.TheVariants.{Created};
+ghost use Rattle.ods_request.specs.declared.requests.Request.TheVariants.{Create};
+ghost use Rattle.ods_space.specs.Draft.{applied};
+ghost use Rattle.ods_space.specs.Layout.{header_at};
+ghost use Rattle.ods_state.specs.Growth.{IsNewFirst, IsTaking};
+ghost use Rattle.ods_state.specs.Moves.{new_attributes};
+ghost use Rattle.ods_state.specs.Outcome.{CanBeAsked};
+ghost use Rattle.ods_state.specs.Served.{IsStepOf, IsRefusalOf};
+ghost use Rattle.ods_state.specs.Wants.{taken_blocks};
+ghost use Rattle.ods_change.specs.Creating.{IsMadeFile, IsNewHeaderFor, new_id};
+
+use crate::taking::{take, zero_blocks};
+use ods_alloc::extend_chain;
+use ods_base::{Block, FileId, Image, Name, Uic};
+use ods_directory::with_mark;
+use ods_header::first_block;
+use ods_request::{Refusal, Stamp};
+use ods_space::{Draft, Layout, sequence};
+use std::alloc::{AllocError, Global};
+
+/// The type of a directory, DIR.
+const DIRECTORY_TYPE: u16 = 6778;
+
+/// The draft that makes a file of the user, with its ID, or why that is refused. The file is entered nowhere.
+pub fn create(
+    alloc: Global,
+    image: &Image,
+    layout: &Layout,
+    who: Uic,
+    name: Name,
+    version: u16,
+    count: u32,
+    stamp: Stamp,
+) -> Result<(Draft, FileId), Refusal>
+    requires sound { IsSoundBy image.now layout.now }
+    requires asked { CanBeAsked (Create name version count stamp) }
+    ensures { MatchResult result
+        (λ r. IsStepOf image.now layout.now who (Create name version count stamp) (Created r.1) (applied image.now r.0) layout.now)
+        (IsRefusalOf image.now layout.now who (Create name version count stamp)) }
+{
+    if count > 65535 {
+        return Err(Refusal::BadCount);
+    }
+    // A new header has room for 204 words of pointers.
+    let taken = match take(alloc, image, layout, 0, 204, count) {
+        Ok(taken) => taken,
+        Err(refusal) => return Err(refusal),
+    };
+    // A name has three words.
+    let _ = name.words();
+    let numbers = taken.numbers.as_slice();
+    let file = new_id(image, layout, numbers[0]);
+    let protection = layout.home().protection;
+    let header = new_header(file, who, protection, &name, version, count, &stamp);
+    let blocks = taken.blocks.as_slice();
+    let others = &numbers[1..];
+    match new_file(alloc, image, layout, file.number, header, blocks, others) {
+        Ok(draft) => Ok((draft, file)),
+        Err(_) => Err(Refusal::NoMemory),
+    }
+}
+
+/// The ID of a new file whose first header has this number.
+fn new_id(image: &Image, layout: &Layout, number: u16) -> FileId
+    requires { sequence_of (header_at image.now layout.now number) < 65535 }
+    ensures { result ≡ new_id image.now layout.now number }
+{
+    FileId {
+        number,
+        sequence: sequence(image, layout, number) + 1,
+    }
+}
+
+/// The draft that makes a file, with this first header: the blocks that it takes become zeros, and its chain grows by
+/// them, with these headers behind the first.
+fn new_file(
+    alloc: Global,
+    image: &Image,
+    layout: &Layout,
+    number: u16,
+    header: Block,
+    blocks: &[u32],
+    others: &[u16],
+) -> Result<Draft, AllocError>
+    requires sound { IsSoundBy image.now layout.now }
+    requires taking { IsTaking image.now layout.now number [] [] (length blocks.now) others.now }
+    requires lowest { blocks.now ≡ taken_blocks image.now layout.now (length blocks.now) }
+    requires header { IsNewFirst (header_at image.now layout.now number) header number }
+    ensures { IfOk result (λ draft. IsMadeFile image.now layout.now number header (length blocks.now) others.now (applied image.now draft)) }
+{
+    // An image has blocks of bytes.
+    let _ = image.len();
+    let mut draft = Draft::new(alloc);
+    zero_blocks(alloc, blocks, &mut draft)?;
+    let first = layout.place(number).unwrap();
+    draft.set(first, header)?;
+    extend_chain(alloc, image, layout, number, blocks, others, &mut draft)?;
+    Ok(draft)
+}
+
+/// The first header of a new file, before its chain has grown.
+fn new_header(
+    file: FileId,
+    who: Uic,
+    protection: u16,
+    name: &Name,
+    version: u16,
+    count: u32,
+    stamp: &Stamp,
+) -> Block
+    ensures { IsNewHeaderFor who protection file name.now version count stamp.now result }
+{
+    let attributes = new_attributes(name, count);
+    let ident = new_ident(name, version, stamp);
+    first_block(file, who, protection, attributes, ident)
+}
+
+/// The attributes of a new file: zeros; or, of a directory, that its records have 16 bytes, how many blocks it has, and
+/// that its names end where they begin.
+fn new_attributes(name: &Name, count: u32) -> [u8; 32]
+    ensures { result ≡ new_attributes name.now count }
+{
+    let mut attributes = [0; 32];
+    if name.ext() != DIRECTORY_TYPE {
+        return attributes;
+    }
+    // F.RTYP: records of one size; F.RSIZ: how many bytes each has.
+    attributes[0] = 1;
+    attributes[2] = 16;
+    with_mark(attributes, 0, count)
+}
+
+/// The ident area of a new file: its name, type and version, revision 1, and the stamp as its dates of revision and
+/// creation.
+fn new_ident(name: &Name, version: u16, stamp: &Stamp) -> [u8; 46]
+    ensures { result ≡ new_ident name.now version stamp.now }
+{
+    let [first, second, third] = name.words();
+    let ext = name.ext();
+    let [a, b, c, d, e, f, g, h, i, j, k, l, m] = *stamp.text();
+    [
+        low(first),
+        high(first),
+        low(second),
+        high(second),
+        low(third),
+        high(third),
+        low(ext),
+        high(ext),
+        low(version),
+        high(version),
+        1,
+        0,
+        a,
+        b,
+        c,
+        d,
+        e,
+        f,
+        g,
+        h,
+        i,
+        j,
+        k,
+        l,
+        m,
+        a,
+        b,
+        c,
+        d,
+        e,
+        f,
+        g,
+        h,
+        i,
+        j,
+        k,
+        l,
+        m,
+        0,
+        0,
+        0,
+        0,
+        0,
+        0,
+        0,
+        0,
+    ]
+}
+
+/// The low byte of a word.
+fn low(word: u16) -> u8
+    ensures { result ≡ word % 256 }
+{
+    (word % 256) as u8
+}
+
+/// The high byte of a word.
+fn high(word: u16) -> u8
+    ensures { result ≡ word / 256 }
+{
+    (word / 256) as u8
+}

@@ -1,0 +1,130 @@
+//! An Extend: its checks, and the draft by which the file gets blocks of zeros behind its own.
+ghost use Rattle.std.specs.Prelude.{◌≡◌, ◌<◌, ◌==◌, ◌||◌, nat_lt, ℕ, List, IfOk, IfErr, MatchResult};
+ghost use Rattle.ods_header.specs.Header.{owner_of, protection_of};
+ghost use Rattle.ods_space.specs.Draft.{applied};
+ghost use Rattle.ods_space.specs.Layout.{header_at};
+ghost use Rattle.ods_mount.specs.Sound.{IsSoundBy};
+ghost use Rattle.ods_request.specs.declared.answers.Answer.TheVariants.{Extended};
+ghost use Rattle.ods_request.specs.declared.requests.Request.TheVariants.{Extend};
+ghost use Rattle.ods_request.specs.Rights.{permits};
+ghost use Rattle.ods_state.specs.Change.{IsFaultBy};
+ghost use Rattle.ods_state.specs.Served.{IsStepOf, IsRefusalOf};
+ghost use Rattle.ods_change.specs.Extending.{IsExtensible, IsGrownBy, IsWanted};
+
+use crate::taking::{Taken, chain_end, take, zero_blocks};
+use ods_alloc::extend_chain;
+use ods_base::{Block, FileId, Image, Uic};
+use ods_header::{is_directory, owner, protection, without_contiguous};
+use ods_look::opening::named_header;
+use ods_request::{Refusal, Right, permits};
+use ods_space::{Draft, Layout};
+use std::alloc::{AllocError, Global};
+
+/// The first header of a file that the user may extend by so many blocks, or the first fault.
+fn open_to_extend<'a>(
+    image: &'a Image,
+    layout: &Layout,
+    who: Uic,
+    file: FileId,
+    count: u32,
+) -> Result<&'a Block, Refusal>
+    requires { IsSoundBy image.now layout.now }
+    ensures ok { IfOk result (λ block. IsExtensible image.now layout.now who file count × (block.now ≡ header_at image.now layout.now file.number)) }
+    ensures err { IfErr result (IsFaultBy image.now layout.now who (Extend file count)) }
+{
+    let Some(block) = named_header(image, layout, file) else {
+        return Err(Refusal::NoSuchFile);
+    };
+    if file.number <= 5 {
+        return Err(Refusal::Reserved);
+    }
+    if is_directory(file.number, block) {
+        return Err(Refusal::IsDirectory);
+    }
+    if is_bad_count(count) {
+        return Err(Refusal::BadCount);
+    }
+    if !may_extend(block, who) {
+        return Err(Refusal::Denied);
+    }
+    Ok(block)
+}
+
+/// Whether a file cannot get so many blocks at once.
+fn is_bad_count(count: u32) -> bool
+    ensures { result ≡ (nat_lt 65535 count || (count == 0)) }
+{
+    65535 < count || count == 0
+}
+
+/// Whether the protection in this first header grants the user the right to extend.
+fn may_extend(header: &Block, who: Uic) -> bool
+    ensures { result ≡ permits who (owner_of header.now) (protection_of header.now) Right.Extend }
+{
+    permits(&who, &owner(header), protection(header), Right::Extend)
+}
+
+/// The draft by which a file takes these blocks and numbers. The blocks become zeros, and the first header says no
+/// more that the file's blocks are contiguous.
+fn grown(
+    alloc: Global,
+    image: &Image,
+    layout: &Layout,
+    number: u16,
+    first: &Block,
+    taken: &Taken,
+) -> Result<Draft, AllocError>
+    requires sound { IsSoundBy image.now layout.now }
+    requires above { 5 < number }
+    requires first { first.now ≡ header_at image.now layout.now number }
+    requires wanted { (headers : List ℕ) × (old : List ℕ) × (count : ℕ) × IsWanted image.now layout.now number headers old count taken.now }
+    ensures { IfOk result (λ draft. (headers old : List ℕ) (count : ℕ) → IsWanted image.now layout.now number headers old count taken.now
+        → IsGrownBy image.now layout.now number headers old count taken.now.numbers.items (applied image.now draft)) }
+{
+    // The blocks of an image have bytes.
+    let _ = image.len();
+    let mut draft = Draft::new(alloc);
+    zero_blocks(alloc, &taken.blocks, &mut draft)?;
+    let lbn = layout.place(number).unwrap();
+    draft.set(lbn, without_contiguous(first))?;
+    extend_chain(
+        alloc,
+        image,
+        layout,
+        number,
+        &taken.blocks,
+        &taken.numbers,
+        &mut draft,
+    )?;
+    Ok(draft)
+}
+
+/// The draft that puts this many blocks of zeros behind a file's own, with the count that it has then, or why that is
+/// refused.
+pub fn extend(
+    alloc: Global,
+    image: &Image,
+    layout: &Layout,
+    who: Uic,
+    file: FileId,
+    count: u32,
+) -> Result<(Draft, u32), Refusal>
+    requires { IsSoundBy image.now layout.now }
+    ensures { MatchResult result
+        (λ r. IsStepOf image.now layout.now who (Extend file count) (Extended r.1) (applied image.now r.0) layout.now)
+        (IsRefusalOf image.now layout.now who (Extend file count)) }
+{
+    let first = match open_to_extend(image, layout, who, file, count) {
+        Ok(first) => first,
+        Err(refusal) => return Err(refusal),
+    };
+    let end = chain_end(image, layout, file.number, first);
+    let taken = match take(alloc, image, layout, end.headers, end.room, count) {
+        Ok(taken) => taken,
+        Err(refusal) => return Err(refusal),
+    };
+    match grown(alloc, image, layout, file.number, first, &taken) {
+        Ok(draft) => Ok((draft, end.blocks + count)),
+        Err(_) => Err(Refusal::NoMemory),
+    }
+}

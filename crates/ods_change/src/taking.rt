@@ -1,0 +1,146 @@
+//! What a file takes to grow: the lowest free blocks, and the lowest free numbers for the headers that their pointers need.
+ghost use Rattle.std.specs.Prelude.{◌≡◌, ◌+◌, ◌⊎◌, ◌<◌, ◌≤◌, ◌^◌, ℕ, List, None, Some, length, IfOk, IfErr, OnOk};
+ghost use Rattle.ods_header.specs.Header.{IsLaidOut, blocks_of};
+ghost use Rattle.ods_space.specs.Chain.{chain_blocks, header_blocks};
+ghost use Rattle.ods_space.specs.Draft.{applied};
+ghost use Rattle.ods_space.specs.Files.{IsLayoutOf};
+ghost use Rattle.ods_space.specs.Layout.{header_at};
+ghost use Rattle.ods_state.specs.Wants.{HasHeaders, lack_of, new_headers, room_in, taken_blocks, taken_numbers};
+ghost use Rattle.ods_change.specs.Taking.{IsZeroed, refusal_for};
+
+use ods_alloc::{SpaceFault, pick_blocks, pick_numbers, runs_of_blocks};
+use ods_base::{Block, Image};
+use ods_header::{pointer_at, pointer_count, room_words};
+use ods_request::Refusal;
+use ods_space::{ChainHeaders, Draft, Layout};
+use std::alloc::{AllocError, Global};
+
+/// Where the chain of a file ends: how many headers it has, how many blocks they map, and the room in words for
+/// pointers in the last of them.
+#[derive(Clone, Copy)]
+pub(crate) struct ChainEnd {
+    pub headers: u32,
+    pub blocks: u32,
+    pub room: u32,
+}
+
+/// Where the chain of a file ends, by one walk along it. `first` is its first header.
+pub(crate) fn chain_end(image: &Image, layout: &Layout, number: u16, first: &Block) -> ChainEnd
+    requires layout { IsLayoutOf image.now layout.now }
+    requires whole { (hs : List ℕ) × (blocks : List ℕ) × HasHeaders image.now layout.now number hs blocks }
+    requires first { first.now ≡ header_at image.now layout.now number }
+    ensures end { (hs blocks : List ℕ) → HasHeaders image.now layout.now number hs blocks → (result.headers ≡ length hs) × (result.blocks ≡ length blocks) × (result.room ≡ room_in image.now layout.now hs) }
+    ensures few { result.headers ≤ 256 }
+    ensures small { result.blocks ≤ chain_blocks }
+{
+    // The blocks of an image have bytes, so a chain has at most 256 headers.
+    let _ = image.len();
+    let mut count = 0;
+    let mut blocks = 0;
+    let mut room = 0;
+    let mut headers = ChainHeaders::from(image, layout, number, first);
+    while let Some((_, header)) = headers.next() {
+        count += 1;
+        blocks += mapped(header);
+        room = room_words(header) as u32;
+    }
+    ChainEnd {
+        headers: count,
+        blocks,
+        room,
+    }
+}
+
+/// How many blocks the pointers of a header map.
+fn mapped(header: &Block) -> u32
+    requires { IsLaidOut header.now }
+    ensures count { result ≡ length (blocks_of header.now) }
+    ensures few { result ≤ header_blocks }
+{
+    let mut count = 0;
+    for k in 0..pointer_count(header) {
+        count += pointer_at(header, k).count as u32;
+    }
+    count
+}
+
+/// What a file takes: blocks, and numbers for the headers that their pointers need. Both ascend.
+#[derive(Drop)]
+pub(crate) struct Taken {
+    pub blocks: Vec<u32>,
+    pub numbers: Vec<u16>,
+}
+
+/// What a file takes that gets `count` blocks, where it has so many headers, and this room in words for pointers in
+/// the last of them (for a new file none, and 204); or what the volume lacks.
+pub(crate) fn take(
+    alloc: Global,
+    image: &Image,
+    layout: &Layout,
+    headers: u32,
+    room: u32,
+    count: u32,
+) -> Result<Taken, Refusal>
+    requires layout { IsLayoutOf image.now layout.now }
+    requires few { headers ≤ 256 }
+    ensures ok { IfOk result (λ t. (hs : List ℕ) → length hs ≡ headers → room_in image.now layout.now hs ≡ room
+        → (t.blocks.items ≡ taken_blocks image.now layout.now count) × (t.numbers.items ≡ taken_numbers image.now layout.now hs count) × (lack_of image.now layout.now hs count ≡ None)) }
+    ensures err { IfErr result (λ f. (f ≡ Refusal.NoMemory) ⊎ ((hs : List ℕ) → length hs ≡ headers → room_in image.now layout.now hs ≡ room → lack_of image.now layout.now hs count ≡ Some f)) }
+{
+    let blocks = match pick_blocks(alloc, image, layout, count) {
+        Ok(blocks) => blocks,
+        Err(fault) => return Err(refusal_for(fault)),
+    };
+    let runs = match runs_of_blocks(alloc, &blocks) {
+        Ok(runs) => runs,
+        Err(_) => return Err(Refusal::NoMemory),
+    };
+    let needed = headers_wanted(headers, room, runs.as_slice().len());
+    let numbers = match pick_numbers(alloc, image, layout, needed) {
+        Ok(numbers) => numbers,
+        Err(fault) => return Err(refusal_for(fault)),
+    };
+    // A segment is a byte, so a chain has at most 256 headers.
+    if headers + needed > 256 {
+        return Err(Refusal::ChainFull);
+    }
+    Ok(Taken { blocks, numbers })
+}
+
+/// A want of room as a refusal.
+fn refusal_for(fault: SpaceFault) -> Refusal
+    ensures { result ≡ refusal_for fault }
+{
+    match fault {
+        SpaceFault::VolumeFull => Refusal::VolumeFull,
+        SpaceFault::HeadersFull => Refusal::HeadersFull,
+        SpaceFault::ChainFull => Refusal::ChainFull,
+        SpaceFault::NoMemory => Refusal::NoMemory,
+    }
+}
+
+/// How many new headers so many runs need, where a file has so many headers and this room in words in the last: a
+/// pointer takes two words, a new header has room for 102 of them, and a new file needs its first header too.
+fn headers_wanted(headers: u32, room: u32, runs: usize) -> u32
+    requires { runs < 2 ^ 32 }
+    ensures wanted { (hs : List ℕ) → length hs ≡ headers → (headers ≡ 0 → room ≡ 204) → result ≡ new_headers hs room runs }
+    ensures few { result < 2 ^ 31 }
+{
+    let more = (runs.saturating_sub(room as usize / 2).div_ceil(102)) as u32;
+    if headers == 0 { more + 1 } else { more }
+}
+
+/// The blocks become zeros in a draft.
+pub(crate) fn zero_blocks(
+    alloc: Global,
+    blocks: &[u32],
+    draft: &mut Draft,
+) -> Result<(), AllocError>
+    ensures { OnOk result ((I : List (List ℕ)) → IsZeroed (applied I draft.old) blocks.now (applied I draft.new)) }
+{
+    let runs = runs_of_blocks(alloc, blocks)?;
+    for run in &runs {
+        draft.zero(*run)?;
+    }
+    Ok(())
+}

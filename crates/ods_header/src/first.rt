@@ -1,0 +1,45 @@
+//! First headers of new files.
+ghost use Rattle.std.specs.Prelude.{◌≡◌};
+ghost use Rattle.ods_base.specs.Block.{IsBlock};
+ghost use Rattle.ods_header.specs.First.{first_header};
+ghost use Rattle.ods_header.specs.Header.{IsValidHeader, header_of};
+ghost use Rattle.ods_header.specs.Writing.{AreZeros};
+
+use crate::{Header, write_header};
+use arrayvec::ArrayVec;
+use ods_base::{Block, FileId, Uic};
+
+/// The block of the first header of a new file: it has no pointer yet and names no next header.
+pub fn first_block(
+    file: FileId,
+    owner: Uic,
+    protection: u16,
+    attributes: [u8; 32],
+    ident: [u8; 46],
+) -> Block
+    ensures block { IsBlock result }
+    ensures valid { IsValidHeader result file.number }
+    ensures fields { header_of result ≡ first_header file owner protection attributes ident }
+    ensures rest { AreZeros result 102 510 }
+{
+    let header = Header {
+        file,
+        owner,
+        protection,
+        user_char: 0,
+        system_char: 0,
+        attributes,
+        ident,
+        segment: 0,
+        next: FileId {
+            number: 0,
+            sequence: 0,
+        },
+        next_volume: 0,
+        ident_offset: 23,
+        map_offset: 46,
+        most_words: 204,
+        pointers: ArrayVec::new(),
+    };
+    write_header(&header)
+}

@@ -1,0 +1,59 @@
+-- Free blocks and numbers are taken from the lowest up: they rise, and each stands once.
+use Rattle.std.proofs.Common.{◌≡◌, ℕ, ◌+◌, ◌<◌, ◌≤◌, ap, sym, ◌∙◌, subst, List, length, take, get_or, Some, arith, inl, inr}
+use Rattle.std.specs.Prelude.{◌⊎◌, min, slice_get}
+use Rattle.std.specs.List.{Contains, range_with_len}
+use Rattle.std.specs.List.Sorted.{IsStrictlyIncreasing}
+use Rattle.std.proofs.lemmas.Bool.{cases_lt}
+use Rattle.std.proofs.lemmas.List.{get_or-take, length-take}
+use Rattle.std.proofs.lemmas.List.FromFn.{get_or-range_with_len, length-range_with_len}
+use Rattle.std.proofs.lemmas.List.Kept.{IsStrictlyIncreasing-filter}
+use Rattle.std.proofs.lemmas.Option.{slice_get-get_or, slice_get_within, get_or_from_slice_get}
+use Rattle.ods_space.specs.Layout.{VolumeLayout, last_number}
+use Rattle.ods_space.specs.Free.{is_free_block, is_free_number, free_blocks, free_numbers}
+use Rattle.ods_alloc.proofs.NewHeaders.{rising_apart}
+use Rattle.ods_state.specs.Wants.{taken_blocks, taken_count, taken_numbers}
+
+-- what stands at a place of a list is one of it, and the other way round
+pub stands_in : (xs : List ℕ) (k x : ℕ) → slice_get xs k ≡ Some x → Contains xs x
+stands_in xs k x e = (k, slice_get_within xs k x e, get_or_from_slice_get xs k x x e)
+
+pub stands_at : (xs : List ℕ) (x : ℕ) → Contains xs x → (k : ℕ) × (slice_get xs k ≡ Some x)
+stands_at xs x c = (c.0, slice_get-get_or xs c.0 x c.1 ∙ ap (λ y. Some y) c.2)
+
+-- of numbers that rise each stands once
+pub stands_once : (xs : List ℕ) → IsStrictlyIncreasing xs → (i j x : ℕ) → slice_get xs i ≡ Some x → slice_get xs j ≡ Some x → i ≡ j
+stands_once xs rises i j x p q = by (cases_lt i j) (cases_lt j i)
+  where
+    same : get_or xs i 0 ≡ get_or xs j 0
+    same = get_or_from_slice_get xs i x 0 p ∙ sym (get_or_from_slice_get xs j x 0 q)
+
+    by : (i < j) ⊎ (j ≤ i) → (j < i) ⊎ (i ≤ j) → i ≡ j
+    by (inl below) s = absurd (rising_apart xs rises i j below (slice_get_within xs j x q) same)
+    by (inr le) (inl above) = absurd (rising_apart xs rises j i above (slice_get_within xs i x p) (sym same))
+    by (inr le) (inr ge) = omega arith
+
+-- the first of numbers that rise, rise
+rises_in : (n : ℕ) (xs : List ℕ) → IsStrictlyIncreasing xs → IsStrictlyIncreasing (take n xs)
+rises_in n xs rises k within =
+    let long = length-take n xs in
+    let few : k + 1 < min n (length xs) = subst (λ m. k + 1 < m) long within in
+    let less = rises k (omega arith) in
+    omega (arith, get_or-take n xs k 0 (omega arith), get_or-take n xs (k + 1) 0 (omega arith), less)
+
+range_rises : (a n : ℕ) → IsStrictlyIncreasing (range_with_len a n)
+range_rises a n k within =
+    let long = length-range_with_len a n in
+    omega (arith, get_or-range_with_len a n k 0 (omega arith), get_or-range_with_len a n (k + 1) 0 (omega arith))
+
+module _ (I : List (List ℕ)) (L : VolumeLayout) where
+  pub blocks_rise : (count : ℕ) → IsStrictlyIncreasing (taken_blocks I L count)
+  unfolding free_blocks
+  blocks_rise count = rises_in count (free_blocks I L) (IsStrictlyIncreasing-filter (is_free_block I L) (range_with_len 0 (length I)) (range_rises 0 (length I)))
+
+  pub numbers_rise : (headers : List ℕ) (count : ℕ) → IsStrictlyIncreasing (taken_numbers I L headers count)
+  unfolding free_numbers
+  numbers_rise headers count = rises_in (taken_count I L headers count) (free_numbers I L) (IsStrictlyIncreasing-filter (is_free_number I L) (range_with_len 1 (last_number L)) (range_rises 1 (last_number L)))
+
+  -- a block is taken once
+  pub block_once : (count i j x : ℕ) → slice_get (taken_blocks I L count) i ≡ Some x → slice_get (taken_blocks I L count) j ≡ Some x → i ≡ j
+  block_once count i j x p q = stands_once (taken_blocks I L count) (blocks_rise count) i j x p q

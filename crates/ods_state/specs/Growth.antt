@@ -1,0 +1,71 @@
+-- A file that gets blocks, and headers for their pointers: what the blocks I of its volume become, J. It serves Create, Extend, and an Enter that takes a block.
+-- K is I with what is written before the chain grows: the file's first header, and the blocks that are taken.
+use Rattle.std.specs.Prelude.{◌≡◌, ◌≢◌, ◌⊎◌, ℕ, ◌+◌, ◌≤◌, List, [], ◌∷◌, ◌++◌, length, drop, None, Some}
+use Rattle.std.specs.List.{Contains}
+use Rattle.ods_base.specs.Image.{block_at}
+use Rattle.ods_header.specs.Extension.{IsMadeHeader}
+use Rattle.ods_header.specs.Header.{IsValidHeader, next_number_of, room_of, runs_of, segment_of, sequence_of}
+use Rattle.ods_header.specs.Pointing.{KeepsForm}
+use Rattle.ods_space.specs.Layout.{VolumeLayout, header_at, place_of}
+use Rattle.ods_space.specs.Chain.{IsChain}
+use Rattle.ods_space.specs.Files.{IsFile}
+use Rattle.ods_alloc.specs.Extend.{IsBookkeeping, TakesBits, chain_runs, cut}
+use Rattle.ods_state.specs.Links.{SameLinks}
+use Rattle.ods_state.specs.Wants.{HasHeaders, lack_of, taken_blocks, taken_numbers}
+
+-- file n had these headers and blocks; or it is new and had none
+abbrev pub HadHeaders : List (List ℕ) → VolumeLayout → ℕ → List ℕ → List ℕ → Type 0
+HadHeaders I L n headers old = (IsFile I L n × HasHeaders I L n headers old) ⊎ ((headers ≡ []) × (old ≡ []))
+
+-- the headers of file n then, where `numbers` are its new ones behind the first: a new file's first header is new too
+abbrev pub all_headers : ℕ → List ℕ → List ℕ → List ℕ
+all_headers n headers numbers = n ∷ drop 1 headers ++ numbers
+
+-- There is what a file with these headers and blocks takes to get `count` blocks.
+pub record IsTaking (I : List (List ℕ)) (L : VolumeLayout) (n : ℕ) (headers old : List ℕ) (count : ℕ) (numbers : List ℕ) : Type 0 where
+  pub above : 3 ≤ n
+  pub before : HadHeaders I L n headers old
+  pub all : all_headers n headers numbers ≡ headers ++ taken_numbers I L headers count
+  pub enough : lack_of I L headers count ≡ None
+
+-- c is written for the first header b of a file that is there: it links alike, and keeps its form and its pointers
+pub record IsKeptFirst (b c : List ℕ) (n : ℕ) : Type 0 where
+  pub links : SameLinks b c n
+  pub back : SameLinks c b n
+  pub form : KeepsForm b c
+  pub pointers : runs_of c ≡ runs_of b
+  pub room : room_of c ≡ room_of b
+
+-- c is the first header of a new file, with no pointer and no next header; b was in its place
+pub record IsNewFirst (b c : List ℕ) (n : ℕ) : Type 0 where
+  pub valid : IsValidHeader c n
+  pub segment : segment_of c ≡ 0
+  pub alone : next_number_of c ≡ 0
+  pub pointers : runs_of c ≡ []
+  pub room : room_of c ≡ 204
+  pub form : IsMadeHeader c
+  pub sequence : sequence_of c ≡ sequence_of b + 1
+
+-- c is written for b as the first header of a file that had these
+abbrev pub IsFirstFor : List ℕ → List ℕ → List ℕ → ℕ → Type 0
+IsFirstFor [] b c n = IsNewFirst b c n
+IsFirstFor (h ∷ hs) b c n = IsKeptFirst b c n
+
+-- K is I with the first header and the taken blocks written
+pub record IsReady (I K : List (List ℕ)) (L : VolumeLayout) (n : ℕ) (headers : List ℕ) (count : ℕ) : Type 0 where
+  pub long : length K ≡ length I
+  pub first : IsFirstFor headers (header_at I L n) (header_at K L n) n
+  pub elsewhere : (x : ℕ) → place_of L n ≢ Some x → ¬ Contains (taken_blocks I L count) x → block_at K x ≡ block_at I x
+
+-- J is I with the file grown
+pub record IsGrowth (I J : List (List ℕ)) (L : VolumeLayout) (n : ℕ) (headers old : List ℕ) (count : ℕ) (numbers : List ℕ) : Type 0 where
+  pub taking : IsTaking I L n headers old count numbers
+  pub long : length J ≡ length I
+  pub chain : IsChain J L n (drop 1 headers ++ numbers) (old ++ taken_blocks I L count)
+  pub pointers : chain_runs J L (all_headers n headers numbers) ≡ chain_runs I L headers ++ cut (taken_blocks I L count)
+  -- each other header stays; of these the sequence numbers stay but for new ones, which have one more
+  pub stays : (m : ℕ) → ¬ Contains (all_headers n headers numbers) m → header_at J L m ≡ header_at I L m
+  pub kept : (m : ℕ) → Contains headers m → sequence_of (header_at J L m) ≡ sequence_of (header_at I L m)
+  pub raised : (m : ℕ) → Contains (taken_numbers I L headers count) m → sequence_of (header_at J L m) ≡ sequence_of (header_at I L m) + 1
+  pub bits : TakesBits I L (taken_blocks I L count) (all_headers n headers numbers) J
+  pub elsewhere : (x : ℕ) → ¬ IsBookkeeping L (all_headers n headers numbers) x → ¬ Contains (taken_blocks I L count) x → block_at J x ≡ block_at I x

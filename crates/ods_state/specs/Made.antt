@@ -1,0 +1,56 @@
+-- What stands in the blocks that a request makes or changes: the headers of a file that takes blocks, its new blocks, and the entries of directories.
+use Rattle.std.specs.Prelude.{◌≡◌, ◌≢◌, ℕ, ◌+◌, ◌*◌, ◌/◌, ◌<◌, ◌≤◌, ◌==◌, List, ◌++◌, length, replicate, drop, slice_get, if◌then◌else◌, Some, IsTrue}
+use Rattle.std.specs.List.{All, Contains}
+use Rattle.ods_base.specs.Block.{zeros}
+use Rattle.ods_base.specs.Image.{block_at}
+use Rattle.ods_header.specs.Extension.{IsExtensionOf, IsMadeHeader}
+use Rattle.ods_header.specs.Header.{attributes_of, room_of}
+use Rattle.ods_header.specs.Pointing.{BeginsPointers, KeepsFields, KeepsForm}
+use Rattle.ods_space.specs.Files.{HasBlocks}
+use Rattle.ods_space.specs.Layout.{Disk, header_at}
+use Rattle.ods_directory.specs.declared.slot.Slot.{Slot}
+use Rattle.ods_directory.specs.Entry.{entry_at, is_used}
+use Rattle.ods_directory.specs.Mark.{IsSlot, grown, marked, written}
+use Rattle.ods_mount.specs.Faults.{contents_of, mark_at}
+use Rattle.ods_state.specs.Wants.{taken_blocks}
+
+-- header n of a disk
+abbrev pub header_on : Disk → ℕ → List ℕ
+header_on D n = header_at D.image D.layout n
+
+-- The headers of a file that took blocks: it had `headers` and got `numbers`.
+pub record AreMade (D E : Disk) (headers numbers : List ℕ) : Type 0 where
+  -- those that it had keep their form and their pointers; but for the first, they keep all that says what the file is
+  pub stays : All (λ m. KeepsForm (header_on D m) (header_on E m)) headers
+  pub others : All (λ m. KeepsFields (header_on D m) (header_on E m)) (drop 1 headers)
+  pub begins : All (λ m. BeginsPointers (header_on D m) (header_on E m)) headers
+  -- new ones have one form, and each but the first of the file is an extension header of it
+  pub form : All (λ m. IsMadeHeader (header_on E m)) numbers
+  pub made : (first m : ℕ) → slice_get (headers ++ numbers) 0 ≡ Some first → Contains numbers m → m ≢ first → IsExtensionOf (header_on E first) (header_on E m)
+  -- a header is full before a new one follows it
+  pub filled : (i m : ℕ) → length headers ≤ i + 1 → i + 1 < length (headers ++ numbers) → slice_get (headers ++ numbers) i ≡ Some m → room_of (header_on E m) / 2 ≡ 0
+
+-- the blocks that were taken are zeros
+abbrev pub AreZeroed : Disk → Disk → ℕ → Type 0
+AreZeroed D E count = All (λ lbn. block_at E.image lbn ≡ zeros) (taken_blocks D.image D.layout count)
+
+-- An entry was put into directory n: it stands at the slot, behind a block of zeros where the slot grows, and no other byte of the blocks changes.
+-- The mark is the slot's: where it moves it is written, with the count of blocks; else the attributes stay.
+pub record IsEnteredAt (D E : Disk) (n : ℕ) (entry : List ℕ) : Type 0 where
+  pub old : List ℕ
+  pub new : List ℕ
+  pub slot : Slot
+  pub held : HasBlocks D.image D.layout n old × HasBlocks E.image E.layout n new
+  pub place : IsSlot (contents_of D.image old) (mark_at D.image D.layout n old) slot
+  pub bytes : contents_of E.image new ≡ written (grown (contents_of D.image old) slot) slot.at entry
+  pub mark : attributes_of (header_on E n)
+      ≡ (if slot.mark == mark_at D.image D.layout n old then attributes_of (header_on D n) else marked (attributes_of (header_on D n)) slot.mark (length new))
+
+-- the entry of this name in directory n is 16 zero bytes, and no other byte of the blocks changes
+pub record IsErased (D E : Disk) (n : ℕ) (key : List ℕ) : Type 0 where
+  pub blocks : List ℕ
+  pub held : HasBlocks D.image D.layout n blocks
+  pub at : ℕ
+  pub below : at < mark_at D.image D.layout n blocks / 16
+  pub found : IsTrue (is_used (entry_at (contents_of D.image blocks) at)) × ((entry_at (contents_of D.image blocks) at).key ≡ key)
+  pub erased : contents_of E.image blocks ≡ written (contents_of D.image blocks) (16 * at) (replicate 16 0)

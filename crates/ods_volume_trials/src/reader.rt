@@ -1,0 +1,219 @@
+//! A plain and slow reader of small volumes: the catalogue that the blocks show, byte by byte, with no call of the layers that serve
+//! requests. It is right for sound volumes of at most 16 files whose index bitmap is LBN 2 alone, as the samples are.
+use ods_base::{Block, FileId, Image, Name, Uic};
+use ods_plain::{Body, Catalogue, File, Names};
+use std::alloc::{AllocError, Global};
+
+/// The type DIR.
+const DIRECTORY: u16 = 6778;
+
+/// A byte of a block, 0 where there is none.
+fn byte(image: &Image, lbn: u32, at: usize) -> u8 {
+    if lbn < image.len() && at < 512 {
+        image.block(lbn).byte(at)
+    } else {
+        0
+    }
+}
+
+/// The word at this byte.
+fn word(image: &Image, lbn: u32, at: usize) -> u16 {
+    u16::from_le_bytes([byte(image, lbn, at), byte(image, lbn, at.wrapping_add(1))])
+}
+
+/// These bytes of a block.
+fn bytes<const N: usize>(image: &Image, lbn: u32, from: usize) -> [u8; N] {
+    let mut found = [0; N];
+    for i in 0..N {
+        found[i] = byte(image, lbn, from.wrapping_add(i));
+    }
+    found
+}
+
+/// Adds the blocks of a run.
+fn push_run(
+    image: &Image,
+    lbn: u32,
+    count: u32,
+    blocks: &mut Vec<Block>,
+) -> Result<(), AllocError> {
+    for i in 0..count {
+        let at = lbn.wrapping_add(i);
+        if at < image.len() {
+            blocks.push(*image.block(at))?;
+        }
+    }
+    Ok(())
+}
+
+/// Adds the blocks that the header at this LBN names.
+fn push_header(image: &Image, header: u32, blocks: &mut Vec<Block>) -> Result<(), AllocError> {
+    let map = 2 * byte(image, header, 1) as usize;
+    let pointers = byte(image, header, map.wrapping_add(8)) as usize / 2;
+    for k in 0..pointers {
+        let at = map.wrapping_add(10).wrapping_add(4usize.wrapping_mul(k));
+        let high = byte(image, header, at) as u32;
+        let count = byte(image, header, at.wrapping_add(1)) as u32;
+        let low = word(image, header, at.wrapping_add(2)) as u32;
+        push_run(image, 65_536 * high + low, count + 1, blocks)?;
+    }
+    Ok(())
+}
+
+/// The blocks of the file with this first header.
+fn blocks_of(alloc: Global, image: &Image, number: u16) -> Result<Vec<Block>, AllocError> {
+    let mut blocks = Vec::new(alloc);
+    let mut next = number;
+    for _header in 0..16 {
+        if next != 0 {
+            let lbn = next as u32 + 2;
+            push_header(image, lbn, &mut blocks)?;
+            let map = 2 * byte(image, lbn, 1) as usize;
+            next = word(image, lbn, map.wrapping_add(2));
+        }
+    }
+    Ok(blocks)
+}
+
+/// Adds the name at entry `k` of a directory. An empty entry adds none, nor does one that is no name or is there twice.
+fn push_name(blocks: &[Block], k: usize, names: &mut Names) -> Result<(), AllocError> {
+    let Some(block) = blocks.get(k / 32) else {
+        return Ok(());
+    };
+    let mut words = [0u16; 8];
+    for i in 0..8 {
+        let at = 16 * (k % 32) + 2 * i;
+        words[i] = u16::from_le_bytes([block.byte(at), block.byte(at + 1)]);
+    }
+    let [
+        number,
+        sequence,
+        _volume,
+        first,
+        second,
+        third,
+        ext,
+        version,
+    ] = words;
+    if number == 0 || 64_000 <= first || 64_000 <= second || 64_000 <= third || 64_000 <= ext {
+        return Ok(());
+    }
+    let name = Name::new([first, second, third], ext);
+    if names.get(&name, version).is_some() {
+        return Ok(());
+    }
+    names.insert(name, version, FileId { number, sequence })
+}
+
+/// The names of the directory with this header and these blocks. They end at byte F.FFBY of block F.EFBK, and before the first one
+/// where F.EFBK is 0.
+fn names_of(
+    alloc: Global,
+    image: &Image,
+    header: u32,
+    blocks: &[Block],
+) -> Result<Names, AllocError> {
+    let mut names = Names::new(alloc);
+    let end = 65_536 * word(image, header, 22) as usize + word(image, header, 24) as usize;
+    let mark = match end {
+        0 => 0,
+        _ => 512usize
+            .wrapping_mul(end - 1)
+            .wrapping_add(word(image, header, 26) as usize),
+    };
+    for k in 0..mark / 16 {
+        push_name(blocks, k, &mut names)?;
+    }
+    Ok(names)
+}
+
+/// The body of the file with this number.
+fn body_of(alloc: Global, image: &Image, number: u16) -> Result<Body, AllocError> {
+    let header = number as u32 + 2;
+    let ident = 2 * byte(image, header, 0) as usize;
+    if number <= 2 {
+        return Ok(Body::System);
+    }
+    let blocks = blocks_of(alloc, image, number)?;
+    if number == 4 || (5 < number && word(image, header, ident.wrapping_add(6)) == DIRECTORY) {
+        return Ok(Body::Directory(names_of(alloc, image, header, &blocks)?));
+    }
+    Ok(Body::Plain {
+        attributes: bytes(image, header, 14),
+        blocks,
+    })
+}
+
+/// Whether the number is a file's: its index bit is set, and its header is a first one of this number.
+fn is_file(image: &Image, number: u16) -> bool {
+    let header = number as u32 + 2;
+    let map = 2 * byte(image, header, 1) as usize;
+    let bit = byte(image, 2, (number as usize).saturating_sub(1) / 8)
+        >> (number.saturating_sub(1) % 8)
+        & 1;
+    number != 0 && bit == 1 && word(image, header, 2) == number && byte(image, header, map) == 0
+}
+
+/// The file with this number.
+fn file_of(alloc: Global, image: &Image, number: u16) -> Result<File, AllocError> {
+    let header = number as u32 + 2;
+    Ok(File {
+        owner: Uic {
+            group: byte(image, header, 9),
+            member: byte(image, header, 8),
+        },
+        protection: word(image, header, 10),
+        user_char: byte(image, header, 12),
+        system_char: byte(image, header, 13),
+        ident: bytes(image, header, 2 * byte(image, header, 0) as usize),
+        body: body_of(alloc, image, number)?,
+    })
+}
+
+/// The catalogue of a sound small volume. The protection of new files is that of LBN 1, the home block.
+pub fn plain_catalogue(alloc: Global, image: &Image) -> Result<Catalogue, AllocError> {
+    let mut catalogue = Catalogue::new(alloc, word(image, 1, 36));
+    for number in 1..17 {
+        if is_file(image, number) {
+            let file = file_of(alloc, image, number)?;
+            let id = plain_id(image, number);
+            if catalogue.file(id).is_none() && file.may_have(id) {
+                catalogue.add(id, file)?;
+            }
+        }
+    }
+    Ok(catalogue)
+}
+
+/// How many blocks are free: the bits that are set in the blocks of BITMAP.SYS behind the first, up to the end of the image.
+pub fn plain_free_blocks(alloc: Global, image: &Image) -> Result<u32, AllocError> {
+    let bitmap = blocks_of(alloc, image, 2)?;
+    let mut free = 0u32;
+    for lbn in 0..image.len() {
+        if let Some(block) = bitmap.get(1 + lbn as usize / 4096) {
+            let bit = lbn % 4096;
+            free = free.wrapping_add((block.byte(bit as usize / 8) >> (bit % 8) & 1) as u32);
+        }
+    }
+    Ok(free)
+}
+
+/// How many numbers are free: from 6 to 16, their index bit clear, and the sequence word of their header below 65,535.
+pub fn plain_free_numbers(image: &Image) -> u32 {
+    let mut free = 0u32;
+    for number in 6..17u16 {
+        let bit = byte(image, 2, (number as usize - 1) / 8) >> ((number - 1) % 8) & 1;
+        if bit == 0 && word(image, number as u32 + 2, 4) < 65_535 {
+            free = free.wrapping_add(1);
+        }
+    }
+    free
+}
+
+/// The ID that the header of this number has.
+pub fn plain_id(image: &Image, number: u16) -> FileId {
+    FileId {
+        number,
+        sequence: word(image, number as u32 + 2, 4),
+    }
+}

@@ -1,0 +1,12 @@
+//! Tests of requests on a volume, one idea a file.
+mod ample;
+mod growing;
+mod long_names;
+mod naming;
+mod plain_reader;
+mod random;
+mod refused_memory;
+mod rows;
+mod sequences;
+mod timed;
+mod trial;

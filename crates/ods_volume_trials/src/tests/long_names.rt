@@ -1,0 +1,105 @@
+//! Random names in a directory of forty blocks in two headers, beside the plain program: the directory ends at byte 0 with old bytes behind
+//! it, in the midst of an entry, and past the blocks that it has.
+use super::random::{ask_freely, some_pick, some_version, times};
+use super::rows::{create, delete, enter, id, letter, look, made, remove, sub_dir};
+use super::trial::{Trial, ask, same_catalogue, start};
+use ods_base::{Block, FileId, Image, Name};
+use ods_format_tests::dice::Dice;
+use ods_format_tests::persons::{FIRST, MASTER, TXT, USER};
+use ods_format_tests::volumes::{FileHeader, Variant, added, run, sample_of};
+use ods_request::{Answer, Request};
+use std::alloc::Global;
+use std::process::Abort;
+use std::rt::Env;
+use std::test::Fail;
+
+/// The volume of 512 blocks with SUB.DIR, file 6, which has LBN 22 to 41 in its first header and LBN 60 to 79 in its second, header 7.
+/// It ends at this byte (F.FFBY) of this block (F.EFBK).
+fn long_directory(alloc: Global, block: u8, byte: u8) -> Result<Image, Fail> {
+    let mut attributes = [0; 32];
+    attributes[0] = 1;
+    attributes[2] = 16;
+    attributes[6] = 40;
+    attributes[10] = block;
+    attributes[12] = byte;
+    let header = FileHeader {
+        attributes,
+        ..added(6, sub_dir())
+    };
+    Variant {
+        headers: &[
+            (8, header.before(7).mapping(&[run(22, 20)])),
+            (9, added(7, sub_dir()).second().mapping(&[run(60, 20)])),
+        ],
+        ..sample_of(512)
+    }
+    .image(alloc)
+}
+
+/// Puts zeros into the blocks of the directory.
+fn clear(image: &mut Image) {
+    for lbn in 22..80 {
+        if lbn < image.len() && !(42..60).contains(&lbn) {
+            image.set_block(lbn, Block::zeros());
+        }
+    }
+}
+
+/// A request on names of the directory.
+fn some_request(dice: &mut Dice) -> Request {
+    let name: Name = letter(1 + dice.roll(20) as u16, TXT);
+    let file: FileId = match dice.roll(4) {
+        0 => id(8, 1),
+        1 => MASTER,
+        _ => FIRST,
+    };
+    match dice.roll(8) {
+        0 => look(FIRST, name, some_pick(dice)),
+        1 | 2 => remove(FIRST, name, some_pick(dice)),
+        3 => Request::List { dir: FIRST },
+        _ => enter(FIRST, name, some_version(dice), file),
+    }
+}
+
+/// A file that is gone, whose ID names stay free to name.
+fn with_a_file_that_is_gone(rt: &impl Abort, alloc: Global, trial: &mut Trial) -> Result<(), Fail> {
+    ask(rt, alloc, trial, create(letter(9, TXT), 0)?, made(8, 1))?;
+    let kept = enter(FIRST, letter(9, TXT), None, id(8, 1));
+    ask(rt, alloc, trial, kept, Ok(Answer::Entered(1)))?;
+    ask(rt, alloc, trial, delete(id(8, 1)), Ok(Answer::Done))
+}
+
+/// Makes random requests on a directory with this end.
+fn try_names(rt: &(impl Abort + Env), alloc: Global, image: Image, seed: u64) -> Result<(), Fail> {
+    let mut trial = start(rt, alloc, image, 65_536)?;
+    with_a_file_that_is_gone(rt, alloc, &mut trial)?;
+    let mut dice = Dice::from(seed);
+    for k in 0..150u32.saturating_mul(times(rt)) {
+        let request = some_request(&mut dice);
+        ask_freely(rt, &mut trial, USER, request)?;
+        if k % 10 == 0 {
+            same_catalogue(rt, alloc, &trial)?;
+        }
+    }
+    same_catalogue(rt, alloc, &trial)
+}
+
+#[test]
+fn directory_over_old_bytes(rt: HostRuntime) -> Result<(), Fail> {
+    let image = long_directory(rt.alloc(), 1, 0)?;
+    try_names(&rt, rt.alloc(), image, 6_000)
+}
+
+#[test]
+fn directory_that_ends_in_an_entry(rt: HostRuntime) -> Result<(), Fail> {
+    let mut image = long_directory(rt.alloc(), 39, 20)?;
+    clear(&mut image);
+    try_names(&rt, rt.alloc(), image, 6_001)
+}
+
+#[test]
+fn directory_that_ends_past_its_blocks(rt: HostRuntime) -> Result<(), Fail> {
+    let mut image = long_directory(rt.alloc(), 99, 0)?;
+    clear(&mut image);
+    try_names(&rt, rt.alloc(), image, 6_002)
+}

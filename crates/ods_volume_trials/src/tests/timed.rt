@@ -1,0 +1,108 @@
+//! Loads of one kind of request, which `bench/requests.sh` times: TRIALS says how many times 60 requests are made.
+use super::random::times;
+use super::rows::{create, dat, delete, enter, extend, id, letter, look, remove, sub_dir};
+use super::trial::can_be_asked;
+use ods_base::{FileId, Name, Pick};
+use ods_format_tests::persons::{FIRST, TXT, USER, letter_a};
+use ods_format_tests::volumes::sample_of;
+use ods_mount::mount;
+use ods_request::{Answer, Request};
+use ods_volume::Volume;
+use std::alloc::Global;
+use std::process::Abort;
+use std::rt::Env;
+use std::test::Fail;
+
+/// A volume of so many blocks with room for the longest list.
+fn volume_of(alloc: Global, blocks: u32) -> Result<Volume, Fail> {
+    let Ok(mounted) = mount(alloc, sample_of(blocks).image(alloc)?) else {
+        return Err("a sound image, and memory".into());
+    };
+    let Ok(volume) = Volume::new(alloc, mounted, 65_536) else {
+        return Err("memory for a volume".into());
+    };
+    Ok(volume)
+}
+
+/// Makes a request that is accepted.
+fn accept(rt: &impl Abort, volume: &mut Volume, request: Request) -> Answer {
+    assert!(rt; can_be_asked(&request));
+    match volume.request(1, 1, USER, request) {
+        Ok(answer) => answer,
+        Err(refusal) => panic!(rt; "{request:?} was refused: {refusal:?}"),
+    }
+}
+
+/// The file that a Create makes.
+fn make(rt: &impl Abort, volume: &mut Volume, name: Name, blocks: u32) -> Result<FileId, Fail> {
+    match accept(rt, volume, create(name, blocks)?) {
+        Answer::Created(file) => Ok(file),
+        _ => Err("no file".into()),
+    }
+}
+
+#[test]
+fn creates_and_deletes(rt: HostRuntime) -> Result<(), Fail> {
+    let mut volume = volume_of(rt.alloc(), 512)?;
+    for _k in 0..30u32.saturating_mul(times(&rt)) {
+        let file = make(&rt, &mut volume, dat(b'X'), 1)?;
+        accept(&rt, &mut volume, delete(file));
+    }
+    assert_eq!(rt; volume.free_count(), 490);
+    Ok(())
+}
+
+#[test]
+fn extends(rt: HostRuntime) -> Result<(), Fail> {
+    let mut volume = volume_of(rt.alloc(), 4_200)?;
+    for _k in 0..times(&rt) {
+        let file = make(&rt, &mut volume, dat(b'X'), 0)?;
+        for _block in 0..58u32 {
+            accept(&rt, &mut volume, extend(file, 1));
+        }
+        accept(&rt, &mut volume, delete(file));
+    }
+    assert_eq!(rt; volume.number_count(), 11);
+    Ok(())
+}
+
+#[test]
+fn reads_and_writes(rt: HostRuntime) -> Result<(), Fail> {
+    let mut volume = volume_of(rt.alloc(), 4_200)?;
+    let file = make(&rt, &mut volume, dat(b'X'), 1_000)?;
+    for k in 0..30u32.saturating_mul(times(&rt)) {
+        let vbn = 1 + k % 1_000;
+        let block = letter_a();
+        let request = Request::Write { file, vbn, block };
+        accept(&rt, &mut volume, request);
+        let answer = accept(&rt, &mut volume, Request::Read { file, vbn });
+        assert!(rt; answer == Answer::Bytes(block));
+    }
+    Ok(())
+}
+
+/// A directory with so many versions of A.TXT: 32 of them in a block.
+fn long_directory(rt: &impl Abort, volume: &mut Volume, names: u16) -> Result<FileId, Fail> {
+    let dir = make(rt, volume, sub_dir(), 0)?;
+    for version in 1..names.saturating_add(1) {
+        let request = enter(dir, letter(1, TXT), Some(version), FIRST);
+        accept(rt, volume, request);
+    }
+    Ok(dir)
+}
+
+#[test]
+fn names_of_a_long_directory(rt: HostRuntime) -> Result<(), Fail> {
+    let times = times(&rt);
+    let names = if times == 1 { 100 } else { 2_000 };
+    let mut volume = volume_of(rt.alloc(), 4_200)?;
+    let dir = long_directory(&rt, &mut volume, names)?;
+    assert_eq!(rt; dir, id(6, 1));
+    for _k in 0..20u32.saturating_mul(times) {
+        let name = letter(2, TXT);
+        accept(&rt, &mut volume, enter(dir, name, None, dir));
+        accept(&rt, &mut volume, look(dir, name, Pick::Highest));
+        accept(&rt, &mut volume, remove(dir, name, Pick::Highest));
+    }
+    Ok(())
+}
