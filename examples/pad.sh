@@ -7,7 +7,7 @@ here=$(cd "$(dirname "$0")" && pwd)
 # A volume with one more file, A.TXT: header 6, whose pointer maps block 39, which was never written.
 make_volume whole.dsk
 put whole.dsk 2 0 '\077'
-header whole.dsk 6 1 '\100\006\000\000\000\000\324\200' '\002\314\000\000\047\000' '\137\146'
+header whole.dsk 6 '\100\006\000\000\000\000\324\200' '\000\000\000\000' '\001\003\002\314\000\000\047\000' '\000'
 put whole.dsk 20 4 '\177'
 dd if=whole.dsk of=short.dsk bs=1 count=11300 2>/dev/null
 

@@ -38,6 +38,10 @@ pub no_reply : (About : List (List ℕ) → Bool → List ℕ → Type 0) (bytes
 no_reply About bytes rest old fault.Read why = (why, Keeps-refl old)
 no_reply About bytes rest old fault.NoMemory why = (why, Keeps-refl old)
 no_reply About bytes rest old fault.Write why = absurd why
+no_reply About bytes rest old (fault.Refused number) why = absurd why
+no_reply About bytes rest old (fault.WriteOut part) why = absurd why
+no_reply About bytes rest old fault.NoThread why = absurd why
+no_reply About bytes rest old fault.Unmatched why = absurd why
 
 -- a reply is written whole, or cut where writing failed
 pub sent : (About : List (List ℕ) → Bool → List ℕ → Type 0) (bytes : List ℕ) (rest old new : Option (List ℕ)) (found : Bool) (text : List ℕ) (r : Result Bool ServeFault) →

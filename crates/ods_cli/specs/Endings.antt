@@ -1,16 +1,30 @@
 -- The exit status and the line of each end of a run.
-use Rattle.std.specs.Prelude.{ℕ, Bool, true, false, List, codes, Result, Ok, Err}
+use Rattle.std.specs.Prelude.{ℕ, Bool, true, false, List, codes, Option, Some, None, Result, Ok, Err}
 use Rattle.ods_cli.specs.declared.fault.ServeFault.{ServeFault}
-use Rattle.ods_cli.specs.declared.fault.ServeFault.TheVariants.{Read, Write, NoMemory}
+use Rattle.ods_cli.specs.declared.fault.ServeFault.TheVariants.{Refused, Read, Write, WriteOut, NoMemory, NoThread, Unmatched}
 
--- 0 for the reply that was asked for, 1 for a refusal, 3 for a device or memory that failed
+-- 1 for a refusal, 3 for a device, memory or a thread that failed, 4 where the list is not that of the sessions
+abbrev pub fault_status : ServeFault → ℕ
+fault_status (Refused number) = 1
+fault_status Read = 3
+fault_status Write = 3
+fault_status (WriteOut fault) = 3
+fault_status NoMemory = 3
+fault_status NoThread = 3
+fault_status Unmatched = 4
+
+-- 0 for the reply that was asked for, 1 for a refusal, else that of the fault
 abbrev pub status_of : Result Bool ServeFault → ℕ
 status_of (Ok true) = 0
 status_of (Ok false) = 1
-status_of (Err fault) = 3
+status_of (Err fault) = fault_status fault
 
--- what is said on standard error of a run that fails
-abbrev pub line_of : ServeFault → List ℕ
-line_of Read = codes "f11: reading failed"
-line_of Write = codes "f11: writing failed"
-line_of NoMemory = codes "f11: no memory"
+-- what is said on standard error of a run that fails; nothing of a refusal, whose line stands among the replies
+abbrev pub line_of : ServeFault → Option (List ℕ)
+line_of (Refused number) = None
+line_of Read = Some (codes "f11: reading failed")
+line_of Write = Some (codes "f11: writing failed")
+line_of (WriteOut fault) = Some (codes "f11: writing failed")
+line_of NoMemory = Some (codes "f11: no memory")
+line_of NoThread = Some (codes "f11: no thread")
+line_of Unmatched = Some (codes "f11: unmatched")

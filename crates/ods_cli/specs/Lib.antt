@@ -6,3 +6,4 @@ pub mod CheckReply
 pub mod CheckRun
 pub mod Runs
 pub mod Endings
+pub mod Serve

@@ -6,12 +6,9 @@ use Rattle.ods_base.specs.Image.{IsImage, IsNoReading, image_bytes}
 use Rattle.ods_base.specs.Refusals.{image_row}
 use Rattle.ods_base.specs.declared.faults.ImageError.{ImageError}
 use Rattle.ods_base.specs.declared.faults.ImageError.TheVariants as image
+pub use Rattle.ods_script.specs.Texts.{refusal_line}
 use Rattle.ods_cli.specs.declared.fault.ServeFault.{ServeFault}
-use Rattle.ods_cli.specs.declared.fault.ServeFault.TheVariants.{Read, Write, NoMemory}
-
--- a refusal as it is printed: NO, its number and its name, and a line feed
-abbrev pub refusal_line : ℕ → List ℕ → List ℕ
-refusal_line number name = codes "NO " ++ decimal number ++ 32 ∷ name ++ 10 ∷ []
+use Rattle.ods_cli.specs.declared.fault.ServeFault.TheVariants.{Refused, Read, Write, WriteOut, NoMemory, NoThread, Unmatched}
 
 -- the refusals of bytes that are no image; a device's fault and want of memory are none
 abbrev pub IsRefusal : ImageError → Type 0
@@ -45,3 +42,7 @@ abbrev pub IsReplyFault : List ℕ → ServeFault → Type 0
 IsReplyFault bytes Read = length bytes ≤ 2 ^ 29
 IsReplyFault bytes Write = ⊥
 IsReplyFault bytes NoMemory = length bytes ≤ 2 ^ 29 + 1
+IsReplyFault bytes (Refused number) = ⊥
+IsReplyFault bytes (WriteOut fault) = ⊥
+IsReplyFault bytes NoThread = ⊥
+IsReplyFault bytes Unmatched = ⊥

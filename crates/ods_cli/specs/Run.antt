@@ -3,7 +3,7 @@ use Rattle.std.specs.Prelude.{ℕ, Bool, List, Option, Result, Ok, Err}
 use Rattle.std.specs.Io.KnownBytes.{Appends, Keeps}
 use Rattle.ods_base.specs.Image.{TookBytes}
 use Rattle.ods_cli.specs.declared.fault.ServeFault.{ServeFault}
-use Rattle.ods_cli.specs.declared.fault.ServeFault.TheVariants.{Read, Write, NoMemory}
+use Rattle.ods_cli.specs.declared.fault.ServeFault.TheVariants.{Refused, Read, Write, WriteOut, NoMemory, NoThread, Unmatched}
 use Rattle.ods_cli.specs.Reply.{IsReply, IsReplyFault}
 
 -- a writer that had `old` and has `new` took a first part of the reply, and no more
@@ -21,3 +21,7 @@ EndsRun About bytes rest old new (Ok found) = (reply : List ℕ) × IsReply Abou
 EndsRun About bytes rest old new (Err Read) = IsReplyFault bytes Read × Keeps old new
 EndsRun About bytes rest old new (Err NoMemory) = IsReplyFault bytes NoMemory × Keeps old new
 EndsRun About bytes rest old new (Err Write) = IsCutReply About bytes rest old new
+EndsRun About bytes rest old new (Err (Refused number)) = ⊥
+EndsRun About bytes rest old new (Err (WriteOut fault)) = ⊥
+EndsRun About bytes rest old new (Err NoThread) = ⊥
+EndsRun About bytes rest old new (Err Unmatched) = ⊥

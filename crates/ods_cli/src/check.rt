@@ -67,7 +67,7 @@ fn counted(alloc: Global, mounted: &Mounted) -> Result<Reply, AllocError>
 }
 
 /// The reply with a fault of an image. Want of memory is none.
-fn faulty(alloc: Global, fault: MountFault) -> Result<Reply, ServeFault>
+pub(crate) fn faulty(alloc: Global, fault: MountFault) -> Result<Reply, ServeFault>
     ensures ok { IfOk result (λ reply. (fault ≢ MountFault.NoMemory) × (reply.found ≡ false) × (string_bytes reply.text ≡ fault_line fault)) }
     ensures err { IsOkUnless result ServeFault.NoMemory }
 {

@@ -2,21 +2,33 @@
 ghost use Rattle.std.specs.Prelude.{◌≡◌};
 ghost use Rattle.ods_cli.specs.declared.fault.ServeFault.TheVariants.{NoMemory};
 
+use ods_base::WriteFault;
 use std::alloc::AllocError;
 use thiserror::Error;
 
-/// Why a run ends without its replies. None of these is a refusal of the volume's: a device failed, or memory
-/// ran out.
+/// Why a run ends without its replies, or without the image that it was to write.
 #[derive(Clone, Copy, Debug, PartialEq, Eq, Error)]
 pub enum ServeFault {
+    /// The bytes that were read are no sound image. The line with this number stands among the replies.
+    #[error("refused")]
+    Refused(u16),
     /// A read failed.
     #[error("reading failed")]
     Read,
     /// A write of the replies failed.
     #[error("writing failed")]
     Write,
+    /// A write of the image failed, after so many bytes.
+    #[error("writing failed")]
+    WriteOut(WriteFault),
     #[error("no memory")]
     NoMemory,
+    /// A thread could not be started.
+    #[error("no thread")]
+    NoThread,
+    /// The volume's list is not that of the sessions.
+    #[error("unmatched")]
+    Unmatched,
 }
 
 impl From<AllocError> for ServeFault {

@@ -3,18 +3,22 @@
 
 mod check;
 mod endings;
+mod engine;
 mod fault;
 mod headers;
 mod question;
 mod reply;
-mod runs;
 mod samples;
+mod script_text;
+mod sessions;
+mod sound;
 mod words;
 
 pub use check::check_run;
 pub use endings::{WRONG_WORDS, status};
+pub use engine::{Options, serve};
 pub use fault::ServeFault;
 pub use headers::header_run;
-pub use runs::{Run, run_for};
 pub use samples::sample;
+pub use script_text::{ScriptFault, read_script};
 pub use words::{Words, WordsFault, parse_words};

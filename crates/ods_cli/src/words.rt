@@ -1,18 +1,37 @@
-//! The words of the command line: `f11 [IMAGE] [--header N]`.
-ghost use Rattle.std.specs.Prelude.{◌≤◌, IfOk, IfSome};
+//! The words of the command line: `f11 [IMAGE] [--limit N] [--stamp S] [--out FILE] [--header N] [SCRIPT..]`.
+ghost use Rattle.std.specs.Prelude.{◌≤◌, IfOk, IfSome, vec_len};
+ghost use Rattle.ods_cli.specs.Runs.{IsHeaderNumber, IsLimit};
 
 use clap::error::ErrorKind;
 use clap::{Arg, ArgMatches, Command, Error, value_parser};
+use ods_request::Stamp;
 use std::alloc::{AllocError, Global};
 use std::convert::AsStr;
 
+/// How many scripts there are at most.
+const MOST_SCRIPTS: usize = 8;
+
+/// How many requests are accepted where no limit is given.
+const LIMIT: u32 = 4096;
+
+/// The stamp of new files where none is given.
+const STAMP: &str = "01JAN80000000";
+
 /// What the words ask for.
-#[derive(Clone, Copy, Debug, PartialEq, Eq)]
+#[derive(Debug, PartialEq, Eq, Drop)]
 pub struct Words<'a> {
     /// The path of an image; with none the sample volume of 40 blocks is meant.
     pub image: Option<&'a str>,
-    /// The number, from 1 to 16, of the header that is asked for; with none the image is to be checked.
+    /// The number, from 1 to 16, of the header that is asked for; with none the image is to be served.
     pub header: Option<u16>,
+    /// How many requests are accepted at most, from 1 to 65,536.
+    pub limit: u32,
+    /// The stamp of the files that are made.
+    pub stamp: Stamp,
+    /// The path of the file that the image is written to, if one is given.
+    pub out: Option<&'a str>,
+    /// The paths of at most 8 scripts.
+    pub scripts: Vec<&'a str>,
 }
 
 /// Why the words ask for nothing.
@@ -33,20 +52,43 @@ impl From<AllocError> for WordsFault {
 
 /// What the words after the program's name ask for.
 pub fn parse_words<'a, S: AsStr>(alloc: Global, words: &'a [S]) -> Result<Words<'a>, WordsFault>
-    ensures { IfOk result (λ words. IfSome words.header (λ number. (1 ≤ number) × (number ≤ 16))) }
+    ensures header { IfOk result (λ words. IfSome words.header IsHeaderNumber) }
+    ensures limit { IfOk result (λ words. IsLimit words.limit) }
+    ensures scripts { IfOk result (λ words. vec_len words.scripts ≤ 8) }
 {
     match matches(alloc, words) {
-        Ok(matches) => Ok(Words {
-            image: matches.get_str("image"),
-            header: header_number(&matches),
-        }),
+        Ok(matches) => found_words(alloc, &matches),
         Err(error) => Err(told(alloc, &error)?),
     }
 }
 
+/// What the words ask for, by what clap found in them.
+fn found_words<'a>(alloc: Global, matches: &ArgMatches<'a>) -> Result<Words<'a>, WordsFault>
+    ensures header { IfOk result (λ words. IfSome words.header IsHeaderNumber) }
+    ensures limit { IfOk result (λ words. IsLimit words.limit) }
+    ensures scripts { IfOk result (λ words. vec_len words.scripts ≤ 8) }
+{
+    let scripts = script_paths(alloc, matches)?;
+    let given = matches.get_str("stamp").unwrap_or(STAMP);
+    let Some(stamp) = Stamp::parse(given.as_bytes()) else {
+        let line = format!(in alloc;
+            "error: invalid value '{given}' for '--stamp <S>': it is no DDMMMYYHHMMSS"
+        )?;
+        return Err(WordsFault::Wrong(line));
+    };
+    Ok(Words {
+        image: matches.get_str("image"),
+        header: header_number(matches),
+        limit: limit(matches),
+        stamp,
+        out: matches.get_str("out"),
+        scripts,
+    })
+}
+
 /// The number of the header that is asked for. Clap has refused any that is not from 1 to 16.
 fn header_number(matches: &ArgMatches<'_>) -> Option<u16>
-    ensures { IfSome result (λ number. (1 ≤ number) × (number ≤ 16)) }
+    ensures { IfSome result IsHeaderNumber }
 {
     match matches.get_one::<u16>("header") {
         Some(number) if 1 <= number && number <= 16 => Some(number),
@@ -54,27 +96,120 @@ fn header_number(matches: &ArgMatches<'_>) -> Option<u16>
     }
 }
 
+/// How many requests are accepted at most. Clap has refused any number that is not from 1 to 65,536.
+fn limit(matches: &ArgMatches<'_>) -> u32
+    ensures { IsLimit result }
+{
+    match matches.get_one::<u32>("limit") {
+        Some(number) if 1 <= number && number <= 65_536 => number,
+        _ => LIMIT,
+    }
+}
+
+/// The paths of the scripts.
+fn script_paths<'a>(alloc: Global, matches: &ArgMatches<'a>) -> Result<Vec<&'a str>, AllocError>
+    ensures { IfOk result (λ paths. vec_len paths ≤ 8) }
+{
+    match matches.get_strs("script") {
+        Some(given) => first_paths(alloc, given),
+        None => Ok(Vec::new(alloc)),
+    }
+}
+
+/// At most 8 paths. Clap has refused more.
+fn first_paths<'a>(alloc: Global, given: &[&'a str]) -> Result<Vec<&'a str>, AllocError>
+    ensures { IfOk result (λ paths. vec_len paths ≤ 8) }
+{
+    let mut paths = Vec::new(alloc);
+    for path in given {
+        if paths.len() < MOST_SCRIPTS {
+            paths.push(*path)?;
+        }
+    }
+    Ok(paths)
+}
+
 /// What clap finds in the words.
 fn matches<'a, S: AsStr>(alloc: Global, words: &'a [S]) -> Result<ArgMatches<'a>, Error> {
-    let image = Arg::new(alloc, "image").value_name("IMAGE").help(
+    Command::new(alloc, "f11")
+        .about("Serves volumes of RSX-11, Files-11 structure level 1")
+        .override_usage("f11 [IMAGE] [--limit N] [--stamp S] [--out FILE] [--header N] [SCRIPT..]")
+        .after_help(AFTER_HELP)
+        .no_binary_name(true)
+        .arg(image(alloc))?
+        .arg(scripts(alloc))?
+        .arg(limit_word(alloc))?
+        .arg(stamp_word(alloc))?
+        .arg(out_word(alloc))?
+        .arg(header_word(alloc)?)?
+        .try_get_matches_from(words)
+}
+
+fn image<'a>(alloc: Global) -> Arg<'a> {
+    Arg::new(alloc, "image").value_name("IMAGE").help(
         "The image to read; with none, a sample volume of 40 blocks",
-    );
-    let header = Arg::new(alloc, "header")
+    )
+}
+
+fn scripts<'a>(alloc: Global) -> Arg<'a> {
+    Arg::new(alloc, "script")
+        .value_name("SCRIPT")
+        .num_args(0..=MOST_SCRIPTS)
+        .help("Scripts, at most 8, each of at most 1,048,576 bytes, served side by side")
+}
+
+fn limit_word<'a>(alloc: Global) -> Arg<'a> {
+    Arg::new(alloc, "limit")
+        .long("limit")
+        .value_name("N")
+        .value_parser(value_parser!(u32).range(1..=65_536))
+        .help("Accept at most N requests, 1 to 65536; with none, 4096")
+}
+
+fn stamp_word<'a>(alloc: Global) -> Arg<'a> {
+    Arg::new(alloc, "stamp").long("stamp").value_name("S").help(
+        "The date and time of new files, DDMMMYYHHMMSS; with none, 01JAN80000000",
+    )
+}
+
+fn out_word<'a>(alloc: Global) -> Arg<'a> {
+    Arg::new(alloc, "out")
+        .long("out")
+        .value_name("FILE")
+        .help("Write the image to FILE at the end; it may be IMAGE")
+}
+
+fn header_word<'a>(alloc: Global) -> Result<Arg<'a>, AllocError> {
+    Arg::new(alloc, "header")
         .long("header")
         .value_name("N")
         .value_parser(value_parser!(u16).range(1..=16))
-        .help("Print the line of header N, 1 to 16, and do not check the image");
-    Command::new(alloc, "f11")
-        .about("Reads volumes of RSX-11, Files-11 structure level 1")
-        .override_usage("f11 [IMAGE] [--header N]")
-        .after_help(
-            "An image alone is checked whole. With no words header 4 of the sample is printed.",
-        )
-        .no_binary_name(true)
-        .arg(image)?
-        .arg(header)?
-        .try_get_matches_from(words)
+        .help("Print the line of header N, 1 to 16, and mount nothing")
+        .conflicts_with("out")?
+        .conflicts_with("script")
 }
+
+/// What the help says behind the words.
+const AFTER_HELP: &str =
+    "With no words at all one script is read from standard input, on the sample volume.
+
+A line of a script is one command, and each is answered by OK, NO and a refusal, or BAD and its number:
+  USER [g,m]              go on as this user; the first is [1,1]
+  CREATE name n           make a file of n blocks
+  EXTEND id n             add n blocks
+  DELETE id               delete a file
+  ENTER id name id        enter a name in a directory
+  LOOK id name            look a name up
+  REMOVE id name          remove a name
+  READ id vbn             read a block
+  WRITE id vbn block      write a block, in hex
+  LIST id                 list a directory
+  STAT id                 what a file is
+  SETUSER id attributes   set a file's attributes, in hex
+An id is number,sequence or $, the file that was last made, found or removed: CREATE A.TXT;1 3, then WRITE $ 1 48690d0a.
+
+The status is 0; 1 where the image or the header is refused; 2 for wrong words or scripts that are too large; 3 where
+reading, writing, memory or a thread failed; 4 where the volume's list is not that of the sessions.";
 
 /// What is to be said where clap found no words of the program's.
 fn told(alloc: Global, error: &Error) -> Result<WordsFault, AllocError> {

@@ -1,21 +1,27 @@
 //! The words of the command line, and the texts of help and of wrong words.
 use ods_cli::{Words, WordsFault, parse_words};
+use ods_request::Stamp;
+use std::alloc::Global;
 use std::test::Fail;
 
-/// What `--help` prints.
-const HELP: &str = "Reads volumes of RSX-11, Files-11 structure level 1
+/// The stamp of new files where none is given.
+const STAMP: &str = "01JAN80000000";
 
-Usage: f11 [IMAGE] [--header N]
-
-Arguments:
-  [IMAGE]  The image to read; with none, a sample volume of 40 blocks
-
-Options:
-      --header <N>  Print the line of header N, 1 to 16, and do not check the image
-  -h, --help        Print help
-
-An image alone is checked whole. With no words header 4 of the sample is printed.
-";
+/// What the words ask for that say nothing of limit, stamp, file and scripts.
+fn asked<'a>(
+    alloc: Global,
+    image: Option<&'a str>,
+    header: Option<u16>,
+) -> Result<Words<'a>, Fail> {
+    Ok(Words {
+        image,
+        header,
+        limit: 4_096,
+        stamp: Stamp::parse(STAMP.as_bytes()).ok_or("a stamp")?,
+        out: None,
+        scripts: Vec::new(alloc),
+    })
+}
 
 #[test]
 fn words_that_are_right(rt: HostRuntime) -> Result<(), Fail> {
@@ -37,7 +43,33 @@ fn words_that_are_right(rt: HostRuntime) -> Result<(), Fail> {
         (["--", "--header"].as_slice(), Some("--header"), None),
     ] {
         let found = parse_words(rt.alloc(), words).ok().ok_or("wrong words")?;
-        assert!(rt; found == Words { image, header }, "{words:?}");
+        let wanted = asked(rt.alloc(), image, header)?;
+        assert!(rt; found == wanted, "{words:?}");
+    }
+    Ok(())
+}
+
+/// Words that name everything but a header.
+const SERVED: [&str; 9] = [
+    "a.dsk",
+    "--limit",
+    "65536",
+    "--stamp",
+    "31DEC99235959",
+    "--out",
+    "b.dsk",
+    "one",
+    "two",
+];
+
+#[test]
+fn words_of_a_served_run(rt: HostRuntime) -> Result<(), Fail> {
+    for words in [SERVED.as_slice()] {
+        let found = parse_words(rt.alloc(), words).ok().ok_or("wrong words")?;
+        assert!(rt; found.image == Some("a.dsk") && found.out == Some("b.dsk"));
+        assert!(rt; found.header.is_none() && found.limit == 65_536);
+        assert!(rt; *found.stamp.text() == *b"31DEC99235959");
+        assert!(rt; found.scripts.as_slice() == ["one", "two"].as_slice());
     }
     Ok(())
 }
@@ -70,8 +102,16 @@ fn words_that_are_wrong(rt: HostRuntime) -> Result<(), Fail> {
             "error: unexpected argument '--nope' found",
         ),
         (
-            ["a.dsk", "b.dsk"].as_slice(),
-            "error: unexpected argument 'b.dsk' found",
+            ["--limit", "0"].as_slice(),
+            "error: invalid value '0' for '--limit <N>': 0 is not in 1..=65536",
+        ),
+        (
+            ["--limit", "65537"].as_slice(),
+            "error: invalid value '65537' for '--limit <N>': 65537 is not in 1..=65536",
+        ),
+        (
+            ["--header", "1", "--out", "b.dsk"].as_slice(),
+            "error: the argument '--header <N>' cannot be used with '--out <FILE>'",
         ),
     ] {
         let answer = parse_words(rt.alloc(), words);
@@ -83,8 +123,52 @@ fn words_that_are_wrong(rt: HostRuntime) -> Result<(), Fail> {
     Ok(())
 }
 
+/// A stamp that is none, a script beside a header, and nine scripts.
 #[test]
-fn help_is_printed(rt: HostRuntime) -> Result<(), Fail> {
+fn runs_that_cannot_be(rt: HostRuntime) -> Result<(), Fail> {
+    for words in [
+        ["--stamp", "1JAN80000000"].as_slice(),
+        ["--stamp", "01jan80000000"].as_slice(),
+        ["a.dsk", "--header", "1", "one"].as_slice(),
+        ["a", "1", "2", "3", "4", "5", "6", "7", "8", "9"].as_slice(),
+    ] {
+        let answer = parse_words(rt.alloc(), words);
+        match &answer {
+            Err(WordsFault::Wrong(found)) => {
+                assert!(rt; found.as_str().starts_with("error: "), "{found}")
+            }
+            _ => assert!(rt; false, "{words:?}"),
+        }
+    }
+    Ok(())
+}
+
+/// The help names each word, each command and each status.
+const HELP: [&str; 20] = [
+    "[IMAGE]",
+    "--limit <N>",
+    "--stamp <S>",
+    "--out <FILE>",
+    "--header <N>",
+    "SCRIPT",
+    "USER ",
+    "CREATE ",
+    "EXTEND ",
+    "DELETE ",
+    "ENTER ",
+    "LOOK ",
+    "REMOVE ",
+    "READ ",
+    "WRITE ",
+    "LIST ",
+    "STAT ",
+    "SETUSER ",
+    "status",
+    "standard input",
+];
+
+#[test]
+fn help_names_all(rt: HostRuntime) -> Result<(), Fail> {
     for words in [
         ["--help"].as_slice(),
         ["-h"].as_slice(),
@@ -92,7 +176,11 @@ fn help_is_printed(rt: HostRuntime) -> Result<(), Fail> {
     ] {
         let answer = parse_words(rt.alloc(), words);
         match &answer {
-            Err(WordsFault::Help(text)) => assert!(rt; text.as_str() == HELP, "{text}"),
+            Err(WordsFault::Help(text)) => {
+                for part in HELP {
+                    assert!(rt; text.as_str().contains(part), "{part}");
+                }
+            }
             _ => assert!(rt; false, "{words:?}"),
         }
     }

@@ -1,0 +1,165 @@
+//! Scripts from files or from standard input, served on an image.
+ghost use Rattle.std.specs.Prelude.{◌+◌, ◌≤◌, All, IfOk, length, vec_len};
+ghost use Rattle.ods_share.specs.Scripts.{CanBeRun};
+ghost use Rattle.ods_cli.specs.Runs.{IsLimit};
+
+use crate::out_file::OutFile;
+use ods_cli::{Options, ScriptFault, ServeFault, Words, read_script, sample, serve};
+use ods_share::{Gate, Script};
+use std::alloc::AllocError;
+use std::io::Read;
+use std::rt::Files;
+use std::sync::Wait;
+use std::thread::Threads;
+use std::{fs, io};
+
+/// Why scripts are not served to the end.
+#[derive(Clone, Copy)]
+pub enum ServedFault {
+    /// A script has too many bytes.
+    TooLarge,
+    Fault(ServeFault),
+}
+
+impl From<ServeFault> for ServedFault {
+    fn from(fault: ServeFault) -> ServedFault {
+        ServedFault::Fault(fault)
+    }
+}
+
+impl From<AllocError> for ServedFault {
+    fn from(_error: AllocError) -> ServedFault {
+        ServedFault::Fault(ServeFault::NoMemory)
+    }
+}
+
+impl From<ScriptFault> for ServedFault {
+    fn from(fault: ScriptFault) -> ServedFault {
+        match fault {
+            ScriptFault::Read => ServedFault::Fault(ServeFault::Read),
+            ScriptFault::TooLarge => ServedFault::TooLarge,
+            ScriptFault::NoMemory => ServedFault::Fault(ServeFault::NoMemory),
+        }
+    }
+}
+
+/// A gate that keeps nobody.
+#[derive(Drop)]
+struct Open;
+
+impl Gate for Open {
+    fn before(&self, _session: u16, _nth: u32) {}
+
+    fn held(&self, _session: u16, _nth: u32) {}
+
+    fn after(&self, _session: u16, _nth: u32) {}
+}
+
+/// Serves one script from standard input.
+pub fn serve_bare<R: Files + Input + AllocGlobal + Print + Threads + Wait + Sync>(
+    rt: &R,
+    words: &Words<'_>,
+) -> Result<(), ServedFault>
+    requires { IsLimit words.now.limit }
+{
+    let mut scripts = Vec::new(rt.alloc());
+    add_script(&mut scripts, read_script(rt.alloc(), &mut rt.reader())?)?;
+    serve_scripts(rt, words, scripts.as_slice())
+}
+
+/// Serves the scripts that the words name.
+pub fn serve_words<R: Files + AllocGlobal + Print + Threads + Wait + Sync>(
+    rt: &R,
+    words: &Words<'_>,
+) -> Result<(), ServedFault>
+    requires limit { IsLimit words.now.limit }
+    requires few { vec_len words.now.scripts ≤ 8 }
+{
+    let scripts = script_files(rt, words.scripts.as_slice())?;
+    serve_scripts(rt, words, scripts.as_slice())
+}
+
+/// The scripts at these paths.
+fn script_files<R: Files + AllocGlobal>(rt: &R, paths: &[&str]) -> Result<Vec<Script>, ServedFault>
+    ensures count { IfOk result (λ scripts. vec_len scripts ≤ length paths.now) }
+    ensures can { IfOk result (λ scripts. All (λ s. CanBeRun s.commands.items) scripts.items) }
+{
+    let mut scripts = Vec::new(rt.alloc());
+    for path in paths {
+        match fs::open(rt, *path) {
+            Ok(mut file) => add_script(&mut scripts, read_script(rt.alloc(), &mut file)?)?,
+            Err(_) => return Err(ServedFault::Fault(ServeFault::Read)),
+        }
+    }
+    Ok(scripts)
+}
+
+/// Puts a script behind the others.
+fn add_script(scripts: &mut Vec<Script>, script: Script) -> Result<(), AllocError>
+    requires can { CanBeRun script.commands.items }
+    requires runs { All (λ s. CanBeRun s.commands.items) scripts.old.items }
+    ensures count { vec_len scripts.new ≤ vec_len scripts.old + 1 }
+    ensures runs { All (λ s. CanBeRun s.commands.items) scripts.new.items }
+{
+    if scripts.push(script).is_err() {
+        return Err(AllocError);
+    }
+    Ok(())
+}
+
+/// Serves the scripts on the image that the words name, or on the sample volume of 40 blocks.
+fn serve_scripts<R: Files + AllocGlobal + Print + Threads + Wait + Sync>(
+    rt: &R,
+    words: &Words<'_>,
+    scripts: &[Script],
+) -> Result<(), ServedFault>
+    requires limit { IsLimit words.now.limit }
+    requires few { length scripts.now ≤ 8 }
+    requires can { All (λ s. CanBeRun s.commands.items) scripts.now }
+{
+    match words.image {
+        Some(path) => match fs::open(rt, path) {
+            Ok(mut file) => serve_image(rt, words, &mut file, scripts),
+            Err(_) => Err(ServedFault::Fault(ServeFault::Read)),
+        },
+        None => {
+            let bytes = sample(rt.alloc(), 40)?;
+            serve_image(rt, words, &mut bytes.as_slice(), scripts)
+        }
+    }
+}
+
+/// Serves the scripts on the image that a reader gives.
+fn serve_image<I: Read, R: Files + AllocGlobal + Print + Threads + Wait + Sync>(
+    rt: &R,
+    words: &Words<'_>,
+    image: &mut I,
+    scripts: &[Script],
+) -> Result<(), ServedFault>
+    requires limit { IsLimit words.now.limit }
+    requires few { length scripts.now ≤ 8 }
+    requires can { All (λ s. CanBeRun s.commands.items) scripts.now }
+{
+    let mut out = match words.out {
+        Some(path) => Some(OutFile::new(rt, path)),
+        None => None,
+    };
+    let options = Options {
+        limit: words.limit,
+        stamp: words.stamp,
+    };
+    let served = serve(
+        rt,
+        rt.alloc(),
+        image,
+        scripts,
+        &mut io::writer(rt),
+        &mut out,
+        options,
+        &Open,
+    );
+    match served {
+        Ok(_) => Ok(()),
+        Err(fault) => Err(ServedFault::Fault(fault)),
+    }
+}

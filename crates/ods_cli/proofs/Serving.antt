@@ -1,0 +1,105 @@
+-- Runs that serve scripts, from what was read to what is written.
+use Rattle.std.proofs.Common.{◌≡◌, ℕ, List, ◌++◌, length, Option, Some, None, true, false, sym, subst, inl, inr}
+use Rattle.std.specs.Prelude.{Result, Ok, Err, IfOk, IfErr, OnOk, IsOkUnless, MatchResult, is_err}
+use Rattle.std.specs.Io.KnownBytes.{Appends}
+use Rattle.std.proofs.KnownBytes.{Keeps-refl}
+use Rattle.ods_base.specs.Image.{TookBytes}
+use Rattle.ods_base.specs.declared.faults.WriteFault.{WriteFault}
+use Rattle.ods_space.specs.Free.{free_blocks, free_numbers}
+use Rattle.ods_state.specs.Version.{State, IsLawful}
+use Rattle.ods_share.specs.Scripts.{EachOutcome}
+use Rattle.ods_share.specs.Settles.{Calls, IsSettled, AreLengths}
+use Rattle.ods_share.specs.declared.outcome.Outcome.{Outcome}
+use Rattle.ods_share.specs.declared.script.Script.{Script}
+use Rattle.ods_share.specs.declared.settlement.Report.{Report}
+use Rattle.ods_script.specs.Texts.{sessions_text}
+use Rattle.ods_cli.specs.Reply.{AreImageBytes, IsReplyFault}
+use Rattle.ods_cli.specs.Serve.{AreSound, AreRefused, EndsServe, EndsWriting, IsFaultOf, IsRefusedWith, IsServedTo, IsServingFault, IsSoundImage, IsUntouched, Wrote, calls_in, totals_text, wrote}
+use Rattle.ods_cli.specs.declared.fault.ServeFault.{ServeFault}
+use Rattle.ods_cli.specs.declared.fault.ServeFault.TheVariants as fault
+use Rattle.ods_cli.proofs.Replies.{most_of_image}
+
+-- to a writer that stays as it was nothing was written
+pub untouched : {W : Type 0} (contents : W → Option (List ℕ)) (o : Option W) → IsUntouched (wrote contents o o)
+untouched contents None = tt
+untouched contents (Some w) = Keeps-refl (contents w)
+
+-- where writing failed a first part of the text is written
+pub cut_text : {A : Type 0} (r : Result A WriteFault) (old new : Option (List ℕ)) (bytes text : List ℕ) → bytes ≡ text → is_err r ≡ true →
+    IfErr r (λ f. TookBytes old new bytes f.written) → (count : ℕ) × TookBytes old new text count
+cut_text (Ok u) old new bytes text same e took = cc
+cut_text (Err f) old new bytes text same e took = (f.written, subst (λ (t : List ℕ). TookBytes old new t f.written) same took)
+
+-- else all of it is
+pub whole_text : {A : Type 0} (r : Result A WriteFault) (old new : Option (List ℕ)) (bytes text : List ℕ) → bytes ≡ text → is_err r ≡ false →
+    OnOk r (Appends old new bytes) → Appends old new text
+whole_text (Ok u) old new bytes text same e wrote = subst (λ (t : List ℕ). Appends old new t) same wrote
+whole_text (Err f) old new bytes text same e wrote = cc
+
+-- a volume whose list is settled was served so
+pub served_to : (stamp : List ℕ) (scripts : List Script) (I : List (List ℕ)) (v : State) (os : List Outcome) (lists : List Calls) (r : Report) (text : List ℕ) →
+    IsLawful v → length os ≡ length scripts → EachOutcome stamp scripts os → lists ≡ calls_in os → IsSettled I v lists → AreLengths v.entries lists r →
+    text ≡ sessions_text 1 scripts os ++ totals_text (length v.entries) (length (free_blocks v.image v.layout)) (length (free_numbers v.image v.layout)) →
+    IsServedTo stamp scripts v.mounted v.image r text
+served_to stamp scripts I v os lists r text lawful count each same settled lengths lines = record {
+  entries = v.entries;
+  layout = v.layout;
+  version = lawful.version;
+  outcomes = os;
+  count = count;
+  each = each;
+  calls = rw same at settled.calls;
+  report = rw same at lengths;
+  lines = lines;
+}
+
+-- the image, or a fault of it, is that of the bytes
+pub of_image : {M N : Type 0} (image_of : M → List (List ℕ)) (number : N → ℕ) (line : N → List ℕ) (r : Result (Result M N) ServeFault)
+    (bytes : List ℕ) (rest : Option (List ℕ)) (I : List (List ℕ)) → AreImageBytes bytes rest I →
+    IfOk r (λ found. MatchResult found (λ m. (image_of m ≡ I) × IsSoundImage I) (λ n. IsFaultOf I (number n) (line n))) → IsOkUnless r fault.NoMemory →
+    MatchResult r (λ found. MatchResult found (λ m. AreSound bytes rest (image_of m)) (λ n. AreRefused bytes rest (number n) (line n))) (IsReplyFault bytes)
+of_image image_of number line (Ok (Ok m)) bytes rest I read found only =
+    let P : List (List ℕ) → Type 0 = λ J. AreSound bytes rest J in subst P (sym found.0) (record { read = read; sound = found.1 })
+of_image image_of number line (Ok (Err n)) bytes rest I read found only = inr (I, read, found)
+of_image image_of number line (Err e) bytes rest I read found only =
+    let P : ServeFault → Type 0 = λ f. IsReplyFault bytes f in subst P (sym only) (most_of_image bytes rest I read)
+
+-- a run that could not be served writes nothing
+pub failed : (stamp : List ℕ) (scripts : List Script) (bytes : List ℕ) (rest old : Option (List ℕ)) (out : Option Wrote) (I : List (List ℕ)) (f : ServeFault) →
+    AreSound bytes rest I → IsServingFault f → IsUntouched out → EndsServe stamp scripts bytes rest (record { old = old; new = old }) out (Err f)
+failed stamp scripts bytes rest old out I fault.NoMemory sound why same = (most_of_image bytes rest I sound.read, Keeps-refl old, same)
+failed stamp scripts bytes rest old out I fault.NoThread sound why same = (Keeps-refl old, same)
+failed stamp scripts bytes rest old out I fault.Unmatched sound why same = (Keeps-refl old, same)
+failed stamp scripts bytes rest old out I fault.Read sound why same = absurd why
+failed stamp scripts bytes rest old out I fault.Write sound why same = absurd why
+failed stamp scripts bytes rest old out I (fault.WriteOut part) sound why same = absurd why
+failed stamp scripts bytes rest old out I (fault.Refused number) sound why same = absurd why
+
+-- a run that was served ends as its writing does
+pub delivered : (stamp : List ℕ) (scripts : List Script) (bytes : List ℕ) (rest : Option (List ℕ)) (replies : Wrote) (out : Option Wrote)
+    (I J : List (List ℕ)) (report : Report) (text : List ℕ) (r : Result Report ServeFault) →
+    AreSound bytes rest I → IsServedTo stamp scripts I J report text → EndsWriting report text J replies out r → EndsServe stamp scripts bytes rest replies out r
+delivered stamp scripts bytes rest replies out I J report text (Ok r) sound served wrote =
+    let P : Report → Type 0 = λ x. IsServedTo stamp scripts I J x text in
+    (J, text, record { image = I; sound = sound; served = subst P (sym wrote.0) served }, wrote.1, wrote.2)
+delivered stamp scripts bytes rest replies out I J report text (Err fault.Write) sound served wrote =
+    (text, wrote.0.0, inl (J, report, record { image = I; sound = sound; served = served }), wrote.0.1, wrote.1)
+delivered stamp scripts bytes rest replies out I J report text (Err (fault.WriteOut part)) sound served wrote =
+    (J, report, text, record { image = I; sound = sound; served = served }, wrote.0, wrote.1)
+delivered stamp scripts bytes rest replies out I J report text (Err fault.Read) sound served wrote = absurd wrote
+delivered stamp scripts bytes rest replies out I J report text (Err fault.NoMemory) sound served wrote = absurd wrote
+delivered stamp scripts bytes rest replies out I J report text (Err fault.NoThread) sound served wrote = absurd wrote
+delivered stamp scripts bytes rest replies out I J report text (Err fault.Unmatched) sound served wrote = absurd wrote
+delivered stamp scripts bytes rest replies out I J report text (Err (fault.Refused number)) sound served wrote = absurd wrote
+
+-- a run that is refused writes the line of the refusal
+pub turned_away : (stamp : List ℕ) (scripts : List Script) (bytes : List ℕ) (rest : Option (List ℕ)) (replies : Wrote) (out : Option Wrote) (number : ℕ) (line : List ℕ) (f : ServeFault) →
+    AreRefused bytes rest number line → IsRefusedWith number line replies f → IsUntouched out → EndsServe stamp scripts bytes rest replies out (Err f)
+turned_away stamp scripts bytes rest replies out number line (fault.Refused n) are wrote same =
+    let P : ℕ → Type 0 = λ k. AreRefused bytes rest k line in (line, subst P (sym wrote.0) are, wrote.1, same)
+turned_away stamp scripts bytes rest replies out number line fault.Write are wrote same = (line, wrote.0, inr (number, are), wrote.1, same)
+turned_away stamp scripts bytes rest replies out number line fault.Read are wrote same = absurd wrote
+turned_away stamp scripts bytes rest replies out number line fault.NoMemory are wrote same = absurd wrote
+turned_away stamp scripts bytes rest replies out number line fault.NoThread are wrote same = absurd wrote
+turned_away stamp scripts bytes rest replies out number line fault.Unmatched are wrote same = absurd wrote
+turned_away stamp scripts bytes rest replies out number line (fault.WriteOut part) are wrote same = absurd wrote

@@ -1,0 +1,166 @@
+-- How a run that serves scripts ends: what was read, what went out, and which list of requests stands behind it.
+use Rattle.std.specs.Prelude.{◌≡◌, ℕ, ◌⊎◌, List, ◌∷◌, ◌++◌, length, map, codes, Option, None, Some, Result, Ok, Err}
+use Rattle.std.specs.Fmt.{decimal}
+use Rattle.std.specs.Io.KnownBytes.{Appends, Keeps}
+use Rattle.ods_base.specs.Image.{IsNoReading, TookBytes, image_bytes}
+use Rattle.ods_base.specs.Refusals.{image_row}
+use Rattle.ods_base.specs.declared.faults.ImageError.{ImageError}
+use Rattle.ods_space.specs.Layout.{VolumeLayout}
+use Rattle.ods_space.specs.Free.{free_blocks, free_numbers}
+use Rattle.ods_mount.specs.declared.fault.MountFault.{MountFault}
+use Rattle.ods_mount.specs.Refusals.{mount_row}
+use Rattle.ods_mount.specs.Faults.{FaultIsTrue}
+use Rattle.ods_mount.specs.Sound.{IsSoundBy}
+use Rattle.ods_request.specs.declared.answers.Entry.{Entry}
+use Rattle.ods_state.specs.Version.{IsVersionBy}
+use Rattle.ods_share.specs.declared.script.Script.{Script}
+use Rattle.ods_share.specs.declared.outcome.Outcome.{Outcome}
+use Rattle.ods_share.specs.declared.settlement.Report.{Report}
+use Rattle.ods_share.specs.Scripts.{EachOutcome}
+use Rattle.ods_share.specs.Settles.{Calls, AreCalls, AreLengths}
+use Rattle.ods_script.specs.Texts.{refusal_line, sessions_text}
+use Rattle.ods_cli.specs.Reply.{AreImageBytes, IsRefusal, IsReplyFault}
+use Rattle.ods_cli.specs.CheckReply.{count_lines, fault_line}
+use Rattle.ods_cli.specs.declared.fault.ServeFault.{ServeFault}
+use Rattle.ods_cli.specs.declared.fault.ServeFault.TheVariants.{Read, Write, WriteOut, NoMemory, Refused, NoThread, Unmatched}
+
+-- the list of calls of each session
+abbrev pub calls_in : List Outcome → List Calls
+calls_in os = map (λ (o : Outcome). o.calls) os
+
+-- list n, then the lines about what is free
+abbrev pub totals_text : ℕ → ℕ → ℕ → List ℕ
+totals_text entries blocks numbers = codes "list " ++ decimal entries ++ 10 ∷ count_lines blocks numbers
+
+-- The image I was served: there is a list of accepted requests that leads from it to the image J. Its entries are just the calls of the
+-- scripts, each session's in the order of its script, with the answers that were replied. The report has its numbers, and the text has
+-- the replies and the totals.
+pub record IsServedTo (stamp : List ℕ) (scripts : List Script) (I J : List (List ℕ)) (r : Report) (text : List ℕ) : Type 0 where
+  pub entries : List Entry
+  pub layout : VolumeLayout
+  pub version : IsVersionBy I entries J layout
+  pub outcomes : List Outcome
+  pub count : length outcomes ≡ length scripts
+  pub each : EachOutcome stamp scripts outcomes
+  pub calls : AreCalls entries (calls_in outcomes)
+  pub report : AreLengths entries (calls_in outcomes) r
+  pub lines : text ≡ sessions_text 1 scripts outcomes ++ totals_text (length entries) (length (free_blocks J layout)) (length (free_numbers J layout))
+
+-- the image is sound, by some layout
+abbrev pub IsSoundImage : List (List ℕ) → Type 0
+IsSoundImage I = (L : VolumeLayout) × IsSoundBy I L
+
+-- the bytes that were read spell a sound image
+pub record AreSound (bytes : List ℕ) (rest : Option (List ℕ)) (I : List (List ℕ)) : Type 0 where
+  pub read : AreImageBytes bytes rest I
+  pub sound : IsSoundImage I
+
+-- the bytes spell a sound image, which was served
+pub record IsRun (stamp : List ℕ) (scripts : List Script) (bytes : List ℕ) (rest : Option (List ℕ)) (J : List (List ℕ)) (r : Report) (text : List ℕ) : Type 0 where
+  pub image : List (List ℕ)
+  pub sound : AreSound bytes rest image
+  pub served : IsServedTo stamp scripts image J r text
+
+-- the bytes spell no image, and this is the number of a refusal that is true of them, with its line
+pub record AreNoImage (bytes : List ℕ) (rest : Option (List ℕ)) (number : ℕ) (line : List ℕ) : Type 0 where
+  pub refusal : ImageError
+  pub is_refusal : IsRefusal refusal
+  pub reason : IsNoReading bytes rest refusal
+  pub number_is : number ≡ (image_row refusal).0
+  pub line_is : line ≡ refusal_line (image_row refusal).0 (image_row refusal).1
+
+-- a fault is true of the image, and this is its number, with its line
+pub record IsFaultOf (I : List (List ℕ)) (number : ℕ) (line : List ℕ) : Type 0 where
+  pub fault : MountFault
+  pub reason : FaultIsTrue I fault
+  pub number_is : number ≡ (mount_row fault).0
+  pub line_is : line ≡ fault_line fault
+
+-- the bytes spell an image that has a fault with this number and this line
+abbrev pub AreUnsound : List ℕ → Option (List ℕ) → ℕ → List ℕ → Type 0
+AreUnsound bytes rest number line = (I : List (List ℕ)) × AreImageBytes bytes rest I × IsFaultOf I number line
+
+-- the bytes spell no sound image, and this is the number of a fault that is true of them, with its line
+abbrev pub AreRefused : List ℕ → Option (List ℕ) → ℕ → List ℕ → Type 0
+AreRefused bytes rest number line = AreNoImage bytes rest number line ⊎ AreUnsound bytes rest number line
+
+-- what a writer had and has, where its bytes are known
+pub record Wrote : Type 0 where
+  pub old : Option (List ℕ)
+  pub new : Option (List ℕ)
+
+-- how a run ends that writes the line of a refusal with this number: with the number, where all of it is written
+abbrev pub IsRefusedWith : ℕ → List ℕ → Wrote → ServeFault → Type 0
+IsRefusedWith number line replies (Refused n) = (n ≡ number) × Appends replies.old replies.new line
+IsRefusedWith number line replies Write = (count : ℕ) × TookBytes replies.old replies.new line count
+IsRefusedWith number line replies Read = ⊥
+IsRefusedWith number line replies (WriteOut fault) = ⊥
+IsRefusedWith number line replies NoMemory = ⊥
+IsRefusedWith number line replies NoThread = ⊥
+IsRefusedWith number line replies Unmatched = ⊥
+
+-- why a sound image is not served to the end: memory, threads, or a list that is not the sessions'
+abbrev pub IsServingFault : ServeFault → Type 0
+IsServingFault NoMemory = Unit {0}
+IsServingFault NoThread = Unit {0}
+IsServingFault Unmatched = Unit {0}
+IsServingFault (Refused number) = ⊥
+IsServingFault Read = ⊥
+IsServingFault Write = ⊥
+IsServingFault (WriteOut fault) = ⊥
+
+-- what a writer wrote that may be there, by what is known of its bytes before and after
+abbrev pub wrote : {W : Type 0} → (W → Option (List ℕ)) → Option W → Option W → Option Wrote
+wrote contents None after = None
+wrote contents (Some w) None = None
+wrote contents (Some w) (Some v) = Some (record { old = contents w; new = contents v })
+
+-- nothing was written to it, if there is one
+abbrev pub IsUntouched : Option Wrote → Type 0
+IsUntouched None = Unit {0}
+IsUntouched (Some w) = Keeps w.old w.new
+
+-- all these bytes were written to it, if there is one
+abbrev pub GotAll : Option Wrote → List ℕ → Type 0
+GotAll None bytes = Unit {0}
+GotAll (Some w) bytes = Appends w.old w.new bytes
+
+-- just so many of these bytes were written to it
+abbrev pub GotPart : Option Wrote → List ℕ → ℕ → Type 0
+GotPart None bytes count = ⊥
+GotPart (Some w) bytes count = TookBytes w.old w.new bytes count
+
+-- The end of the writing of a text and an image: both are written; or a first part of the text and no image; or the text, and just so many
+-- bytes of the image.
+abbrev pub EndsWriting : Report → List ℕ → List (List ℕ) → Wrote → Option Wrote → Result Report ServeFault → Type 0
+EndsWriting report text J replies out (Ok r) = (r ≡ report) × Appends replies.old replies.new text × GotAll out (image_bytes J)
+EndsWriting report text J replies out (Err Write) = ((count : ℕ) × TookBytes replies.old replies.new text count) × IsUntouched out
+EndsWriting report text J replies out (Err (WriteOut fault)) = Appends replies.old replies.new text × GotPart out (image_bytes J) fault.written
+EndsWriting report text J replies out (Err (Refused number)) = ⊥
+EndsWriting report text J replies out (Err Read) = ⊥
+EndsWriting report text J replies out (Err NoMemory) = ⊥
+EndsWriting report text J replies out (Err NoThread) = ⊥
+EndsWriting report text J replies out (Err Unmatched) = ⊥
+
+-- The end of a run over a reader that gave `bytes` and has `rest` left, with a writer of replies, and a writer of the image if there is one.
+abbrev pub EndsServe : List ℕ → List Script → List ℕ → Option (List ℕ) → Wrote → Option Wrote → Result Report ServeFault → Type 0
+-- all is written
+EndsServe stamp scripts bytes rest replies out (Ok r) =
+    (J : List (List ℕ)) × (text : List ℕ) × IsRun stamp scripts bytes rest J r text × Appends replies.old replies.new text × GotAll out (image_bytes J)
+-- the line of a refusal is written
+EndsServe stamp scripts bytes rest replies out (Err (Refused number)) =
+    (line : List ℕ) × AreRefused bytes rest number line × Appends replies.old replies.new line × IsUntouched out
+-- nothing is written
+EndsServe stamp scripts bytes rest replies out (Err Read) = IsReplyFault bytes Read × Keeps replies.old replies.new × IsUntouched out
+EndsServe stamp scripts bytes rest replies out (Err NoMemory) = IsReplyFault bytes NoMemory × Keeps replies.old replies.new × IsUntouched out
+EndsServe stamp scripts bytes rest replies out (Err NoThread) = Keeps replies.old replies.new × IsUntouched out
+EndsServe stamp scripts bytes rest replies out (Err Unmatched) = Keeps replies.old replies.new × IsUntouched out
+-- a first part of the replies is written, or of the line of a refusal, and no image
+EndsServe stamp scripts bytes rest replies out (Err Write) =
+    (text : List ℕ) × (count : ℕ)
+    × (((J : List (List ℕ)) × (r : Report) × IsRun stamp scripts bytes rest J r text) ⊎ ((number : ℕ) × AreRefused bytes rest number text))
+    × TookBytes replies.old replies.new text count × IsUntouched out
+-- the replies are written, and just so many bytes of the image
+EndsServe stamp scripts bytes rest replies out (Err (WriteOut fault)) =
+    (J : List (List ℕ)) × (r : Report) × (text : List ℕ) × IsRun stamp scripts bytes rest J r text
+    × Appends replies.old replies.new text × GotPart out (image_bytes J) fault.written

@@ -1,0 +1,102 @@
+//! The engine: an image is read and mounted, scripts are served on it by sessions, and replies and image are written.
+ghost use Rattle.std.specs.Prelude.{◌≡◌, ◌≤◌, ℕ, List, All, length, is_some, OnOk, IfErr};
+ghost use Rattle.std.specs.String.{string_bytes};
+ghost use Rattle.std.specs.Io.KnownBytes.{Consumes};
+ghost use Rattle.ods_base.specs.Image.{image_bytes};
+ghost use Rattle.ods_base.specs.declared.faults.WriteFault.{WriteFault};
+ghost use Rattle.ods_share.specs.Scripts.{CanBeRun};
+ghost use Rattle.ods_cli.specs.Serve.{EndsServe, EndsWriting, IsRefusedWith, GotAll, GotPart, wrote};
+ghost use Rattle.ods_cli.specs.declared.fault.ServeFault.TheVariants.{WriteOut};
+
+use crate::ServeFault;
+use crate::sessions::{Served, serve_all};
+use crate::sound::{NoImage, sound_image};
+use ods_base::{Image, write_bytes};
+use ods_request::Stamp;
+use ods_share::{Gate, Report, Script};
+use std::alloc::Global;
+use std::io::{Read, Write};
+use std::sync::Wait;
+use std::thread::Threads;
+
+/// How a run serves.
+#[derive(Clone, Copy)]
+pub struct Options {
+    /// How many requests are accepted at most, from 1 to 65,536.
+    pub limit: u32,
+    /// The stamp of the files that are made.
+    pub stamp: Stamp,
+}
+
+/// Serves at most 8 scripts on the image that a reader gives, each as a session in a thread of its own, and answers how many requests
+/// were accepted, in all and of each session. The replies and the totals are written first, and last the image as it is then, if
+/// there is a writer for it. Where the bytes are no sound image, the line of that refusal is written and nothing else.
+pub fn serve<I: Read, W: Write, O: Write, G: Gate + Sync, R: Threads + Wait + Sync>(
+    rt: &R,
+    alloc: Global,
+    reader: &mut I,
+    scripts: &[Script],
+    replies: &mut W,
+    out: &mut Option<O>,
+    options: Options,
+    gate: &G,
+) -> Result<Report, ServeFault>
+    requires low { 1 ≤ options.limit }
+    requires high { options.limit ≤ 65536 }
+    requires few { length scripts.now ≤ 8 }
+    requires can { All (λ s. CanBeRun s.commands.items) scripts.now }
+    ensures ends { (bytes : List ℕ) × Consumes (I.remaining reader.old) (I.remaining reader.new) bytes
+        × EndsServe options.stamp scripts.now bytes (I.remaining reader.new) (record { old = W.contents replies.old; new = W.contents replies.new })
+        (wrote O.contents out.old out.new) result }
+    ensures kept { is_some out.new ≡ is_some out.old }
+{
+    match sound_image(alloc, reader)? {
+        Ok(mounted) => {
+            let served = serve_all(rt, alloc, mounted, scripts, options, gate)?;
+            deliver(served, replies, out)
+        }
+        Err(no_image) => Err(refuse(replies, &no_image)),
+    }
+}
+
+/// Writes the line of a refusal, and says how the run ends then.
+fn refuse<W: Write>(replies: &mut W, no_image: &NoImage) -> ServeFault
+    ensures { IsRefusedWith no_image.now.number (string_bytes no_image.now.line) (record { old = W.contents replies.old; new = W.contents replies.new }) result }
+{
+    match write_bytes(replies, no_image.line.as_bytes()) {
+        Ok(()) => ServeFault::Refused(no_image.number),
+        Err(_) => ServeFault::Write,
+    }
+}
+
+/// Writes the replies and the totals, and then the image, if there is a writer for it.
+fn deliver<W: Write, O: Write>(
+    served: Served,
+    replies: &mut W,
+    out: &mut Option<O>,
+) -> Result<Report, ServeFault>
+    ensures ends { EndsWriting served.report (string_bytes served.text) served.volume.image
+        (record { old = W.contents replies.old; new = W.contents replies.new }) (wrote O.contents out.old out.new) result }
+    ensures kept { is_some out.new ≡ is_some out.old }
+{
+    if write_bytes(replies, served.text.as_bytes()).is_err() {
+        return Err(ServeFault::Write);
+    }
+    write_image(served.volume.image(), out)?;
+    Ok(served.report)
+}
+
+/// Writes an image, if there is a writer for it.
+fn write_image<O: Write>(image: &Image, out: &mut Option<O>) -> Result<(), ServeFault>
+    ensures ok { OnOk result (GotAll (wrote O.contents out.old out.new) (image_bytes image.now)) }
+    ensures err { IfErr result (λ f. (part : WriteFault) × (f ≡ WriteOut part) × GotPart (wrote O.contents out.old out.new) (image_bytes image.now) part.written) }
+    ensures kept { is_some out.new ≡ is_some out.old }
+{
+    match out {
+        Some(writer) => match image.write_to(writer) {
+            Ok(()) => Ok(()),
+            Err(fault) => Err(ServeFault::WriteOut(fault)),
+        },
+        None => Ok(()),
+    }
+}

@@ -1,0 +1,11 @@
+pub mod Asked
+pub mod Files
+pub mod HexTexts
+pub mod Lawful
+pub mod LineCuts
+pub mod Meaning
+pub mod Numerals
+pub mod Pairs
+pub mod Places
+pub mod VerbWords
+pub mod Versions

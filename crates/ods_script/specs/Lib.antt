@@ -1,0 +1,6 @@
+pub mod Commands
+pub mod Naming
+pub mod Numbered
+pub mod Said
+pub mod Spelling
+pub mod Texts

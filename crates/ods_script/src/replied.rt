@@ -1,0 +1,154 @@
+//! Replies as they are printed: a line for each command, and the lines of all sessions.
+ghost use Rattle.std.specs.Prelude.{◌≡◌, ◌++◌, ◌<◌, ◌≤◌, ◌+◌, ◌^◌, OnOk, IfOk, length};
+ghost use Rattle.std.specs.String.{string_bytes};
+ghost use Rattle.ods_script.specs.Texts.{refusal_line, asked_name as name_asked, looked_name as name_looked, spoken_name as name_spoken, no_name as name_of_blanks, reply_text, replies_text, session_text, sessions_text as text_of_sessions};
+
+use crate::answered::push_answer;
+use ods_base::{Coded, Name};
+use ods_share::{Action, Ask, Command, Look, Outcome, Reply, Script};
+use std::alloc::{AllocError, Global};
+
+/// The name of blanks, for what speaks of no name.
+fn no_name() -> Name
+    ensures { result ≡ name_of_blanks }
+{
+    Name::new([0, 0, 0], 0)
+}
+
+/// The name that a request speaks of.
+fn asked_name(ask: &Ask) -> Name
+    ensures { result ≡ name_asked ask.now }
+{
+    match ask {
+        Ask::Create { name, .. }
+        | Ask::Enter { name, .. }
+        | Ask::LookUp { name, .. }
+        | Ask::Remove { name, .. } => *name,
+        Ask::Extend { .. }
+        | Ask::Delete { .. }
+        | Ask::Read { .. }
+        | Ask::Write { .. }
+        | Ask::List { .. }
+        | Ask::Stat { .. }
+        | Ask::SetUser { .. } => no_name(),
+    }
+}
+
+/// The name that a VIEW speaks of.
+fn looked_name(look: &Look) -> Name
+    ensures { result ≡ name_looked look.now }
+{
+    match look {
+        Look::LookUp { name, .. } => *name,
+        Look::Read { .. } | Look::Stat { .. } => no_name(),
+    }
+}
+
+/// The name that a command speaks of.
+fn spoken_name(action: &Action) -> Name
+    ensures { result ≡ name_spoken action.now }
+{
+    match action {
+        Action::Submit(ask) => asked_name(ask),
+        Action::View(look) => looked_name(look),
+        Action::User(_) | Action::Bad => no_name(),
+    }
+}
+
+/// Appends the line of a refusal, with its line feed.
+fn push_refusal(text: &mut String, number: u16, name: &str) -> Result<(), AllocError>
+    ensures { OnOk result (string_bytes text.new ≡ string_bytes text.old ++ refusal_line number name.now) }
+{
+    write!(text, "NO {number} {name}\n")
+}
+
+/// Appends the reply to a command, with its line feed.
+pub fn push_reply(
+    alloc: Global,
+    text: &mut String,
+    command: &Command,
+    reply: &Reply,
+) -> Result<(), AllocError>
+    ensures { OnOk result (string_bytes text.new ≡ string_bytes text.old ++ reply_text command.now reply.now) }
+{
+    match reply {
+        Reply::User => text.push_str("OK\n"),
+        Reply::Got(answer) => {
+            text.push_str("OK")?;
+            push_answer(alloc, text, &spoken_name(&command.action), answer)?;
+            text.push_str("\n")
+        }
+        Reply::No(refusal) => push_refusal(text, refusal.code(), refusal.name()),
+        Reply::Closed => push_refusal(text, 61, "Closed"),
+        Reply::Bad => {
+            let nth = command.nth;
+            write!(text, "BAD {nth}\n")
+        }
+    }
+}
+
+/// Appends the replies to a script's commands, in order.
+fn push_replies(
+    alloc: Global,
+    text: &mut String,
+    commands: &[Command],
+    replies: &[Reply],
+) -> Result<(), AllocError>
+    ensures { OnOk result (string_bytes text.new ≡ string_bytes text.old ++ replies_text commands.now replies.now) }
+{
+    let mut commands = commands;
+    let mut replies = replies;
+    while let Some((command, later)) = commands.split_first() {
+        let Some((reply, others)) = replies.split_first() else {
+            return Ok(());
+        };
+        push_reply(alloc, text, command, reply)?;
+        commands = later;
+        replies = others;
+    }
+    Ok(())
+}
+
+/// What is printed of the sessions of these scripts: for each, in order, the line `session k`, with k from 1, and its replies.
+pub fn sessions_text(
+    alloc: Global,
+    scripts: &[Script],
+    outcomes: &[Outcome],
+) -> Result<String, AllocError>
+    requires { length scripts.now ≤ 8 }
+    ensures { IfOk result (λ text. string_bytes text ≡ text_of_sessions 1 scripts.now outcomes.now) }
+{
+    let mut text = String::new(alloc);
+    let mut number: u16 = 1;
+    let mut scripts = scripts;
+    let mut outcomes = outcomes;
+    while let Some((script, later)) = scripts.split_first() {
+        let Some((outcome, others)) = outcomes.split_first() else {
+            return Ok(text);
+        };
+        push_session(alloc, &mut text, number, script, outcome)?;
+        number += 1;
+        scripts = later;
+        outcomes = others;
+    }
+    Ok(text)
+}
+
+/// Appends the line `session k` and the session's replies.
+fn push_session(
+    alloc: Global,
+    text: &mut String,
+    number: u16,
+    script: &Script,
+    outcome: &Outcome,
+) -> Result<(), AllocError>
+    ensures { OnOk result (string_bytes text.new ≡ string_bytes text.old ++ session_text number script.now outcome.now) }
+{
+    write!(text, "session {number}\n")?;
+    push_replies(
+        alloc,
+        text,
+        script.commands.as_slice(),
+        outcome.replies.as_slice(),
+    )
+}

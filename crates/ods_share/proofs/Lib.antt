@@ -1,0 +1,5 @@
+pub mod Desks
+pub mod Handles
+pub mod Rooms
+pub mod Runs
+pub mod Settled

@@ -1,0 +1,117 @@
+-- What a script means: which requests its commands make, and which replies and calls come of it.
+use Rattle.std.specs.Prelude.{◌≡◌, ℕ, ◌<◌, List, [], ◌∷◌, ◌++◌, length, Option, Some, None, All, slice_index_or, Result, IfOk, MatchOption}
+use Rattle.std.specs.declared.alloc.AllocError.{AllocError}
+use Rattle.std.specs.Option.{option_map, option_and_then}
+use Rattle.ods_base.specs.declared.file_id.Uic.{Uic}
+use Rattle.ods_base.specs.declared.file_id.FileId.{FileId}
+use Rattle.ods_request.specs.declared.requests.Request.{Request}
+use Rattle.ods_request.specs.declared.requests.Request.TheVariants as request
+use Rattle.ods_request.specs.declared.answers.Answer.{Answer}
+use Rattle.ods_request.specs.declared.answers.Answer.TheVariants as answer
+use Rattle.ods_state.specs.Outcome.{CanBeAsked}
+use Rattle.ods_share.specs.declared.script.Id.{Id}
+use Rattle.ods_share.specs.declared.script.Id.TheVariants.{Given, Last}
+use Rattle.ods_share.specs.declared.script.Ask.{Ask}
+use Rattle.ods_share.specs.declared.script.Ask.TheVariants as ask
+use Rattle.ods_share.specs.declared.script.Action.{Action}
+use Rattle.ods_share.specs.declared.script.Action.TheVariants as action
+use Rattle.ods_share.specs.declared.script.Command.{Command}
+use Rattle.ods_share.specs.declared.script.Script.{Script}
+use Rattle.ods_share.specs.declared.outcome.Reply.{Reply}
+use Rattle.ods_share.specs.declared.outcome.Reply.TheVariants as reply
+use Rattle.ods_share.specs.declared.outcome.Call.{Call}
+use Rattle.ods_share.specs.declared.outcome.Outcome.{Outcome}
+
+-- the file that is meant, if `$` stands for one
+abbrev pub resolved : Option FileId → Id → Option FileId
+resolved last (Given id) = Some id
+resolved last Last = last
+
+-- the request that is meant, with this stamp; none where `$` stands for no file
+abbrev pub request_of : List ℕ → Option FileId → Ask → Option Request
+request_of stamp last (ask.Create name version blocks) = Some (request.Create name version blocks stamp)
+request_of stamp last (ask.Extend file blocks) = option_map (λ f. request.Extend f blocks) (resolved last file)
+request_of stamp last (ask.Delete file) = option_map (λ f. request.Delete f) (resolved last file)
+request_of stamp last (ask.Enter dir name version file) =
+    option_and_then (λ d. option_map (λ f. request.Enter d name version f) (resolved last file)) (resolved last dir)
+request_of stamp last (ask.LookUp dir name pick) = option_map (λ d. request.LookUp d name pick) (resolved last dir)
+request_of stamp last (ask.Remove dir name pick) = option_map (λ d. request.Remove d name pick) (resolved last dir)
+request_of stamp last (ask.Read file vbn) = option_map (λ f. request.Read f vbn) (resolved last file)
+request_of stamp last (ask.Write file vbn block) = option_map (λ f. request.Write f vbn block.value) (resolved last file)
+request_of stamp last (ask.List dir) = option_map (λ d. request.List d) (resolved last dir)
+request_of stamp last (ask.Stat file) = option_map (λ f. request.Stat f) (resolved last file)
+request_of stamp last (ask.SetUser file attributes) = option_map (λ f. request.SetUser f attributes) (resolved last file)
+
+-- what `$` stands for after an answer: the file that was made, found or taken out
+abbrev pub last_after : Option FileId → Answer → Option FileId
+last_after last (answer.Created id) = Some id
+last_after last (answer.Extended count) = last
+last_after last answer.Done = last
+last_after last (answer.Entered version) = last
+last_after last (answer.Found file version) = Some file
+last_after last (answer.Removed file version) = Some file
+last_after last (answer.Bytes block) = last
+last_after last (answer.Names lines) = last
+last_after last (answer.Info stat) = last
+
+-- a session so far: the user in force, what `$` stands for, and the accepted calls
+pub record Sitting : Type 0 where
+  pub who : Uic
+  pub last : Option FileId
+  pub calls : List Call
+
+-- an accepted call
+abbrev pub call_of : ℕ → Uic → Request → Answer → Call
+call_of nth who r a = record { nth = nth; who = who; request = r; answer = a }
+
+-- Where `$` stands for no file it is BAD. Else it is an accepted call, with the answer of the reply, or a refusal, which is no call.
+abbrev pub Submits : Sitting → ℕ → Option Request → Reply → Sitting → Type 0
+Submits s nth None r t = (r ≡ reply.Bad) × (t ≡ s)
+Submits s nth (Some q) (reply.Got a) t = t ≡ record { who = s.who; last = last_after s.last a.value; calls = s.calls ++ call_of nth s.who q a.value ∷ [] }
+Submits s nth (Some q) (reply.No f) t = t ≡ s
+Submits s nth (Some q) reply.User t = ⊥
+Submits s nth (Some q) reply.Closed t = ⊥
+Submits s nth (Some q) reply.Bad t = ⊥
+
+-- One command with its reply. There is no version to view yet, so a VIEW is BAD.
+abbrev pub Tells : List ℕ → Sitting → ℕ → Action → Reply → Sitting → Type 0
+Tells stamp s nth (action.User who) r t = (r ≡ reply.User) × (t ≡ record { who = who; last = s.last; calls = s.calls })
+Tells stamp s nth (action.Submit a) r t = Submits s nth (request_of stamp s.last a) r t
+Tells stamp s nth (action.View look) r t = (r ≡ reply.Bad) × (t ≡ s)
+Tells stamp s nth action.Bad r t = (r ≡ reply.Bad) × (t ≡ s)
+
+-- one reply for each command, in order
+abbrev pub Runs : List ℕ → Sitting → List Command → List Reply → Sitting → Type 0
+Runs stamp s [] [] t = t ≡ s
+Runs stamp s [] (r ∷ rs) t = ⊥
+Runs stamp s (c ∷ cs) [] t = ⊥
+Runs stamp s (c ∷ cs) (r ∷ rs) t = (u : Sitting) × Tells stamp s c.nth c.action r u × Runs stamp u cs rs t
+
+-- a session begins as user [1,1]
+abbrev pub start : Sitting
+start = record { who = record { group = 1; member = 1 }; last = None; calls = [] }
+
+-- what comes of a script: one reply for each command, and just the accepted calls
+pub record IsOutcome (stamp : List ℕ) (cs : List Command) (o : Outcome) : Type 0 where
+  pub last : Sitting
+  pub runs : Runs stamp start cs o.replies.items last
+  pub calls : o.calls.items ≡ last.calls
+
+-- outcome k is that of script k
+abbrev pub EachOutcome : List ℕ → List Script → List Outcome → Type 0
+EachOutcome stamp ss os = (k : ℕ) (s : Script) (o : Outcome) → k < length ss → IsOutcome stamp (slice_index_or ss k s).commands.items (slice_index_or os k o)
+
+-- the same so far as there is an outcome
+abbrev pub EachIfOk : List ℕ → List Script → List (Result Outcome AllocError) → Type 0
+EachIfOk stamp ss rs = (k : ℕ) (s : Script) (r : Result Outcome AllocError) → k < length ss → IfOk (slice_index_or rs k r) (λ o. IsOutcome stamp (slice_index_or ss k s).commands.items o)
+
+-- whatever `$` stands for, what the command asks for may be made
+abbrev pub CanBeObeyed : Action → Type 0
+CanBeObeyed (action.User who) = Unit {0}
+CanBeObeyed (action.Submit a) = (stamp : List ℕ) (last : Option FileId) → MatchOption (request_of stamp last a) (Unit {0}) CanBeAsked
+CanBeObeyed (action.View look) = Unit {0}
+CanBeObeyed action.Bad = Unit {0}
+
+-- each command of the script can be obeyed
+abbrev pub CanBeRun : List Command → Type 0
+CanBeRun cs = All (λ c. CanBeObeyed c.action) cs

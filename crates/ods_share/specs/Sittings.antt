@@ -1,0 +1,54 @@
+-- A session as its code keeps it: its seat, and the room for what comes of its script.
+use Rattle.std.specs.Prelude.{◌≡◌, ◌+◌, ◌≤◌, ◌++◌, ◌∷◌, [], ℕ, List, Option, Some, None, length, option_to_list}
+use Rattle.std.specs.List.{sum_by}
+use Rattle.std.specs.Vec.{vec_capacity}
+use Rattle.ods_base.specs.declared.file_id.Uic.{Uic}
+use Rattle.ods_request.specs.declared.requests.Request.{Request}
+use Rattle.ods_share.specs.declared.script.Action.{Action}
+use Rattle.ods_share.specs.declared.script.Action.TheVariants as action
+use Rattle.ods_share.specs.declared.script.Command.{Command}
+use Rattle.ods_share.specs.declared.outcome.Call.{Call}
+use Rattle.ods_share.specs.declared.outcome.Outcome.{Outcome}
+use Rattle.ods_share.specs.declared.outcome.Reply.{Reply}
+use Rattle.ods_share.specs.declared.outcome.Reply.TheVariants as reply
+use Rattle.ods_share.specs.declared.session.Seat.{Seat}
+use Rattle.ods_share.specs.Scripts.{Sitting, Tells, call_of}
+
+-- a seat with the calls so far
+abbrev pub sitting : Seat → List Call → Sitting
+sitting s calls = record { who = s.who; last = s.last; calls = calls }
+
+-- an answer with its call, or a refusal with none
+abbrev pub IsReply : ℕ → Uic → Request → Reply → Option Call → Type 0
+IsReply nth who q (reply.Got a) c = c ≡ Some (call_of nth who q a.value)
+IsReply nth who q (reply.No f) c = c ≡ None
+IsReply nth who q reply.User c = ⊥
+IsReply nth who q reply.Closed c = ⊥
+IsReply nth who q reply.Bad c = ⊥
+
+-- One command from seat to seat: this reply, and this call behind those that there were, if there is one.
+abbrev pub TellsSeat : List ℕ → Command → Seat → Reply → Option Call → Seat → Type 0
+TellsSeat stamp c s r call t = (calls : List Call) → Tells stamp (sitting s calls) c.nth c.action r (sitting t (calls ++ option_to_list call))
+
+-- One command from outcome to outcome: its reply is behind the others, and its call, if there is one.
+abbrev pub TellsMore : List ℕ → Command → Seat → Outcome → Seat → Outcome → Type 0
+TellsMore stamp c s was t now = (r : Reply) × (now.replies.items ≡ was.replies.items ++ r ∷ []) × Tells stamp (sitting s was.calls.items) c.nth c.action r (sitting t now.calls.items)
+
+-- how many calls may come of a command: one of a request
+abbrev pub room_of : Action → ℕ
+room_of (action.User who) = 0
+room_of (action.Submit a) = 1
+room_of (action.View look) = 0
+room_of action.Bad = 0
+
+-- and of a script
+abbrev pub room_for : List Command → ℕ
+room_for cs = sum_by (λ c. room_of c.action) cs
+
+-- there is room for so many calls and replies more, without another growth
+abbrev pub HasRoom : Outcome → ℕ → ℕ → Type 0
+HasRoom o calls replies = (length o.calls.items + calls ≤ vec_capacity o.calls) × (length o.replies.items + replies ≤ vec_capacity o.replies)
+
+-- no room is given back
+abbrev pub KeepsRoom : Outcome → Outcome → Type 0
+KeepsRoom old new = (vec_capacity old.calls ≤ vec_capacity new.calls) × (vec_capacity old.replies ≤ vec_capacity new.replies)

@@ -1,0 +1,116 @@
+//! Which request a command asks for, and what `$` stands for after its answer.
+ghost use Rattle.std.specs.Prelude.{◌≡◌};
+ghost use Rattle.ods_share.specs.Scripts.{resolved as id_of, request_of, last_after};
+
+use crate::script::{Ask, Id};
+use ods_base::FileId;
+use ods_request::{Answer, Request, Stamp};
+
+/// The file that is meant; none where `$` stands for none.
+fn resolved(last: Option<FileId>, id: Id) -> Option<FileId>
+    ensures { result ≡ id_of last id }
+{
+    match id {
+        Id::Given(file) => Some(file),
+        Id::Last => last,
+    }
+}
+
+/// The request that a command asks for; none where it uses `$`, and `$` stands for no file.
+pub(crate) fn request_for(stamp: Stamp, last: Option<FileId>, ask: &Ask) -> Option<Request>
+    ensures { result ≡ request_of stamp last ask.now }
+{
+    match ask {
+        Ask::Create {
+            name,
+            version,
+            blocks,
+        } => Some(Request::Create {
+            name: *name,
+            version: *version,
+            blocks: *blocks,
+            stamp,
+        }),
+        Ask::Extend { file, blocks } => {
+            let file = resolved(last, *file)?;
+            Some(Request::Extend {
+                file,
+                blocks: *blocks,
+            })
+        }
+        Ask::Delete { file } => {
+            let file = resolved(last, *file)?;
+            Some(Request::Delete { file })
+        }
+        Ask::Enter {
+            dir,
+            name,
+            version,
+            file,
+        } => {
+            let dir = resolved(last, *dir)?;
+            let file = resolved(last, *file)?;
+            Some(Request::Enter {
+                dir,
+                name: *name,
+                version: *version,
+                file,
+            })
+        }
+        Ask::LookUp { dir, name, pick } => {
+            let dir = resolved(last, *dir)?;
+            Some(Request::LookUp {
+                dir,
+                name: *name,
+                pick: *pick,
+            })
+        }
+        Ask::Remove { dir, name, pick } => {
+            let dir = resolved(last, *dir)?;
+            Some(Request::Remove {
+                dir,
+                name: *name,
+                pick: *pick,
+            })
+        }
+        Ask::Read { file, vbn } => {
+            let file = resolved(last, *file)?;
+            Some(Request::Read { file, vbn: *vbn })
+        }
+        Ask::Write { file, vbn, block } => {
+            let file = resolved(last, *file)?;
+            Some(Request::Write {
+                file,
+                vbn: *vbn,
+                block: **block,
+            })
+        }
+        Ask::List { dir } => {
+            let dir = resolved(last, *dir)?;
+            Some(Request::List { dir })
+        }
+        Ask::Stat { file } => {
+            let file = resolved(last, *file)?;
+            Some(Request::Stat { file })
+        }
+        Ask::SetUser { file, attributes } => {
+            let file = resolved(last, *file)?;
+            Some(Request::SetUser {
+                file,
+                attributes: *attributes,
+            })
+        }
+    }
+}
+
+/// What `$` stands for after an answer.
+pub(crate) fn next_last(last: Option<FileId>, answer: &Answer) -> Option<FileId>
+    ensures { result ≡ last_after last answer.now }
+{
+    match answer {
+        Answer::Created(id) => Some(*id),
+        Answer::Found(file, _) => Some(*file),
+        Answer::Removed(file, _) => Some(*file),
+        _ => last,
+    }
+}

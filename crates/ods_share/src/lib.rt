@@ -1,0 +1,27 @@
+//! A volume that sessions share: the desk that lies under the lock, sessions in threads of their own, and the settlement.
+#![tactic(auto)]
+
+mod asking;
+mod desk;
+mod faults;
+mod gate;
+mod naming;
+mod outcome;
+mod run;
+mod script;
+mod session;
+mod settlement;
+mod threads;
+mod told;
+mod viewer;
+
+pub use desk::Desk;
+pub use faults::{RunFault, SettleFault};
+pub use gate::Gate;
+pub use naming::Naming;
+pub use outcome::{Call, Outcome, Reply};
+pub use run::{run_scripts, run_sessions};
+pub use script::{Action, Ask, Command, Id, Look, Script};
+pub use settlement::{Report, settle};
+pub use told::Told;
+pub use viewer::Viewer;

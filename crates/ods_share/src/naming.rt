@@ -1,0 +1,21 @@
+//! What is known of a desk wherever it lies, under a lock too.
+use std::marker::Brand;
+
+/// The name of a desk: which image was mounted, and which entries there were when the desk was opened. Only contracts see it. A program
+/// picks it where it opens a desk; no value of it is made.
+pub trait Naming {
+    ghost use Rattle.std.specs.Prelude.{List, ℕ};
+    ghost use Rattle.ods_request.specs.declared.answers.Entry.{Entry};
+
+    ghost mounted: { List (List ℕ) };
+
+    ghost opening: { List Entry };
+}
+
+impl Naming for Brand {
+    ghost use Rattle.std.specs.Prelude.{[]};
+
+    ghost mounted = { [] };
+
+    ghost opening = { [] };
+}

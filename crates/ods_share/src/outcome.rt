@@ -1,0 +1,82 @@
+//! What comes of a script, and the room for it, which is taken before the first command.
+ghost use Rattle.std.specs.Prelude.{◌≡◌, ◌≤◌, ◌++◌, ◌∷◌, [], IfOk, length, option_to_list};
+ghost use Rattle.std.specs.Vec.{vec_capacity};
+ghost use Rattle.ods_share.specs.Sittings.{room_of, room_for, HasRoom, KeepsRoom};
+
+use crate::script::{Action, Command};
+use ods_base::Uic;
+use ods_request::{Answer, Refusal, Request};
+use std::alloc::{AllocError, Global};
+
+/// What a command is replied.
+#[derive(Drop, PartialEq, Eq, Debug)]
+pub enum Reply {
+    /// The user changed.
+    User,
+    /// The request was accepted, with this answer. It is in a box, so that other replies stay small.
+    Got(Box<Answer>),
+    /// The request was refused.
+    No(Refusal),
+    /// There is no version to look at any more.
+    Closed,
+    /// The command is none, or `$` stands for no file in it.
+    Bad,
+}
+
+/// An accepted request of a session: the command's number, the user in force, the request as it was made, and its answer.
+#[derive(Drop, PartialEq, Eq, Debug)]
+pub struct Call {
+    pub nth: u32,
+    pub who: Uic,
+    pub request: Request,
+    pub answer: Answer,
+}
+
+/// What comes of a script: its accepted requests in order, and a reply for each command.
+#[derive(Drop, PartialEq, Eq, Debug)]
+pub struct Outcome {
+    pub calls: Vec<Call>,
+    pub replies: Vec<Reply>,
+}
+
+/// How many calls may come of these commands: one of each request.
+fn submit_count(script: &[Command]) -> usize
+    ensures value { result ≡ room_for script.now }
+    ensures bound { result ≤ length script.now }
+{
+    let mut count = 0;
+    for command in script {
+        if let Action::Submit(_) = &command.action {
+            count += 1;
+        }
+    }
+    count
+}
+
+/// An outcome of nothing yet, with room for all that may come of a script.
+pub(crate) fn roomy(alloc: Global, script: &[Command]) -> Result<Outcome, AllocError>
+    ensures { IfOk result (λ o. (o.calls.items ≡ []) × (o.replies.items ≡ []) × HasRoom o (room_for script.now) (length script.now)) }
+{
+    let calls = Vec::with_capacity(alloc, submit_count(script))?;
+    let replies = Vec::with_capacity(alloc, script.len())?;
+    Ok(Outcome { calls, replies })
+}
+
+/// Puts a command's call and reply behind the others. There is room for both, so it takes no memory.
+pub(crate) fn keep(outcome: &mut Outcome, call: Option<Call>, reply: Reply)
+    requires { HasRoom outcome.old (length (option_to_list call)) 1 }
+    ensures room { KeepsRoom outcome.old outcome.new }
+    ensures calls { outcome.new.calls.items ≡ outcome.old.calls.items ++ option_to_list call }
+    ensures replies { outcome.new.replies.items ≡ outcome.old.replies.items ++ reply ∷ [] }
+{
+    if let Some(call) = call {
+        match outcome.calls.push(call) {
+            Ok(()) => {}
+            Err(_) => unreachable!(),
+        }
+    }
+    match outcome.replies.push(reply) {
+        Ok(()) => {}
+        Err(_) => unreachable!(),
+    }
+}

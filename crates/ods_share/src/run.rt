@@ -1,0 +1,116 @@
+//! All sessions: they run at one desk, and the volume comes back from it.
+ghost use Rattle.std.specs.Prelude.{◌≡◌, ◌≤◌, All, length, map, Ok, vec_len, IfOk};
+ghost use Rattle.ods_request.specs.Lists.{Begins};
+ghost use Rattle.ods_share.specs.Scripts.{CanBeRun, EachIfOk, EachOutcome};
+
+use crate::desk::Desk;
+use crate::faults::RunFault;
+use crate::gate::Gate;
+use crate::naming::Naming;
+use crate::outcome::Outcome;
+use crate::script::Script;
+use crate::threads::all_run;
+use crate::viewer::Viewer;
+use ods_request::Stamp;
+use ods_volume::Volume;
+use std::alloc::{AllocError, Global};
+use std::marker::Brand;
+use std::sync::{Mutex, Wait};
+use std::thread::Threads;
+
+/// The outcomes, if each session came to its end.
+fn unpacked(
+    alloc: Global,
+    done: Vec<Result<Outcome, AllocError>>,
+) -> Result<Vec<Outcome>, AllocError>
+    ensures { IfOk result (λ v. done.items ≡ map Ok v.items) }
+{
+    let mut outcomes = Vec::with_capacity(alloc, done.len())?;
+    for one in done {
+        if outcomes.push(one?).is_err() {
+            return Err(AllocError);
+        }
+    }
+    Ok(outcomes)
+}
+
+/// Runs each of at most 8 scripts as a session in a thread of its own, the first as session 1, waits for all, and gives the volume back
+/// with what came of each script, in their order. Files are made with this stamp. After a fault, of memory or of threads, all threads have
+/// ended too, and the volume is given up.
+pub fn run_sessions<J: Naming + Send + Sync, G: Gate + Sync, R: Threads + Wait + Sync>(
+    rt: &R,
+    alloc: Global,
+    desk: Desk<J>,
+    viewers: Vec<Viewer<J>>,
+    scripts: &[Script],
+    stamp: Stamp,
+    gate: &G,
+) -> Result<(Volume, Vec<Outcome>), RunFault>
+    requires few { length scripts.now ≤ 8 }
+    requires can { All (λ s. CanBeRun s.commands.items) scripts.now }
+    ensures mounted { IfOk result (λ p. p.0.mounted ≡ J.mounted) }
+    ensures opening { IfOk result (λ p. Begins J.opening p.0.entries) }
+    ensures outcomes { IfOk result (λ p. (vec_len p.1 ≡ length scripts.now) × EachOutcome stamp scripts.now p.1.items) }
+{
+    let _ = viewers;
+    let lock = Mutex::new(desk);
+    let done = all_run(rt, alloc, &lock, gate, scripts, &stamp);
+    let volume = lock.into_inner().close();
+    match done {
+        Ok(done) => match unpacked(alloc, done) {
+            Ok(outcomes) => Ok((volume, outcomes)),
+            Err(_) => Err(RunFault::NoMemory),
+        },
+        Err(fault) => Err(fault),
+    }
+}
+
+/// How many places a desk has: one for each script, and one where there is none.
+fn places_for(scripts: usize) -> usize
+    requires { scripts ≤ 8 }
+    ensures low { 1 ≤ result }
+    ensures high { result ≤ 8 }
+{
+    if scripts == 0 { 1 } else { scripts }
+}
+
+/// Opens a desk with this name, and runs the scripts at it.
+fn run_named<J: Naming + Send + Sync, G: Gate + Sync, R: Threads + Wait + Sync>(
+    rt: &R,
+    alloc: Global,
+    volume: Volume,
+    scripts: &[Script],
+    stamp: Stamp,
+    gate: &G,
+) -> Result<(Volume, Vec<Outcome>), RunFault>
+    requires mounted { volume.mounted ≡ J.mounted }
+    requires opening { volume.entries ≡ J.opening }
+    requires few { length scripts.now ≤ 8 }
+    requires can { All (λ s. CanBeRun s.commands.items) scripts.now }
+    ensures mounted { IfOk result (λ p. p.0.mounted ≡ volume.mounted) }
+    ensures opening { IfOk result (λ p. Begins volume.entries p.0.entries) }
+    ensures outcomes { IfOk result (λ p. (vec_len p.1 ≡ length scripts.now) × EachOutcome stamp scripts.now p.1.items) }
+{
+    match Desk::<J>::new(alloc, volume, places_for(scripts.len())) {
+        Ok((desk, viewers)) => { run_sessions(rt, alloc, desk, viewers, scripts, stamp, gate) }
+        Err(_) => Err(RunFault::NoMemory),
+    }
+}
+
+/// Opens a desk of a volume, and runs each of at most 8 scripts as a session at it, as [`run_sessions`] does, with no name to be picked.
+pub fn run_scripts<G: Gate + Sync, R: Threads + Wait + Sync>(
+    rt: &R,
+    alloc: Global,
+    volume: Volume,
+    scripts: &[Script],
+    stamp: Stamp,
+    gate: &G,
+) -> Result<(Volume, Vec<Outcome>), RunFault>
+    requires few { length scripts.now ≤ 8 }
+    requires can { All (λ s. CanBeRun s.commands.items) scripts.now }
+    ensures mounted { IfOk result (λ p. p.0.mounted ≡ volume.mounted) }
+    ensures opening { IfOk result (λ p. Begins volume.entries p.0.entries) }
+    ensures outcomes { IfOk result (λ p. (vec_len p.1 ≡ length scripts.now) × EachOutcome stamp scripts.now p.1.items) }
+{
+    run_named::<Brand, G, R>(rt, alloc, volume, scripts, stamp, gate)
+}

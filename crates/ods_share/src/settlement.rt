@@ -1,0 +1,129 @@
+//! The settlement, after all sessions have ended: a volume's list against their calls.
+ghost use Rattle.std.specs.Prelude.{◌≡◌, ◌<◌, ◌≤◌, ◌^◌, ◌↔◌, All, IsTrue, IfOk, length, map};
+ghost use Rattle.ods_share.specs.Settles.{call_in, calls_of, EachMatches, IsSettled, SettlesAs};
+
+use crate::faults::SettleFault;
+use crate::outcome::Call;
+use crate::told::entry_count;
+use ods_base::Image;
+use ods_request::Entry;
+use ods_volume::Volume;
+use std::alloc::{AllocError, Global};
+
+/// How many entries a settled list has, in all, and of each session in order.
+#[derive(Drop, PartialEq, Eq, Debug)]
+pub struct Report {
+    pub entries: u32,
+    pub of_session: Vec<u32>,
+}
+
+/// Whether the call is that of the entry.
+fn is_entry(call: &Call, entry: &Entry) -> bool
+    ensures { IsTrue result ↔ (call.now ≡ call_in entry.now) }
+{
+    call.nth == entry.nth
+        && call.who == entry.who
+        && call.request.is_same(&entry.request)
+        && call.answer.is_same(&entry.answer)
+}
+
+/// Whether the entries of a session are these calls.
+fn matches(entries: &[Entry], session: usize, calls: &[Call]) -> bool
+    ensures { IsTrue result ↔ (calls.now ≡ calls_of session entries.now) }
+{
+    let mut entries = entries;
+    let mut calls = calls;
+    while let Some((entry, rest)) = entries.split_first() {
+        if entry.session as usize == session {
+            let Some((call, others)) = calls.split_first() else {
+                return false;
+            };
+            if !is_entry(call, entry) {
+                return false;
+            }
+            calls = others;
+        }
+        entries = rest;
+    }
+    calls.is_empty()
+}
+
+/// Whether each session's entries are its calls.
+fn each_matches(entries: &[Entry], calls: &[Vec<Call>]) -> bool
+    ensures { IsTrue result ↔ EachMatches entries.now calls.now }
+{
+    for (k, list) in calls.iter().enumerate() {
+        if !matches(entries, k + 1, list.as_slice()) {
+            return false;
+        }
+    }
+    true
+}
+
+/// Whether each entry is of one of so many sessions.
+fn in_range(entries: &[Entry], sessions: usize) -> bool
+    ensures { IsTrue result ↔ All (λ e. (1 ≤ e.session) × (e.session ≤ sessions)) entries.now }
+{
+    entries
+        .iter()
+        .all(|e| 1 <= e.session && e.session as usize <= sessions)
+}
+
+/// Whether the image is the one that was mounted.
+fn is_mounted(image: &Image, volume: &Volume) -> bool
+    ensures { IsTrue result ↔ (image.now ≡ volume.now.mounted) }
+{
+    image == volume.mounted()
+}
+
+/// Whether the list is settled.
+fn is_settled(image: &Image, volume: &Volume, calls: &[Vec<Call>]) -> bool
+    ensures { IsTrue result ↔ IsSettled image.now volume.now calls.now }
+{
+    if !is_mounted(image, volume) {
+        return false;
+    }
+    if !in_range(volume.entries(), calls.len()) {
+        return false;
+    }
+    each_matches(volume.entries(), calls)
+}
+
+/// How many calls each session made. None made as many as 2^32.
+fn lengths(alloc: Global, calls: &[Vec<Call>]) -> Result<Vec<u32>, AllocError>
+    requires { All (λ c. length c.items < 2 ^ 32) calls.now }
+    ensures { IfOk result (λ v. v.items ≡ map (λ c. length c.items) calls.now) }
+{
+    let mut lengths = Vec::with_capacity(alloc, calls.len())?;
+    for list in calls {
+        let count = list.as_slice().len() as u32;
+        if lengths.push(count).is_err() {
+            return Err(AllocError);
+        }
+    }
+    Ok(lengths)
+}
+
+/// Compares a volume's mounted image with this one, and its list with the calls of the sessions, session 1 first: each entry is of a
+/// session, and each session's entries are just its calls, in order. It is Ok exactly where all of this is so; else it is Unmatched.
+/// Want of memory for the report is NoMemory, of a list that is settled.
+pub fn settle(
+    alloc: Global,
+    image: &Image,
+    volume: &Volume,
+    calls: &[Vec<Call>],
+) -> Result<Report, SettleFault>
+    ensures { SettlesAs image.now volume.now calls.now result }
+{
+    if !is_settled(image, volume, calls) {
+        return Err(SettleFault::Unmatched);
+    }
+    let entries = entry_count(volume);
+    match lengths(alloc, calls) {
+        Ok(of_session) => Ok(Report {
+            entries,
+            of_session,
+        }),
+        Err(_) => Err(SettleFault::NoMemory),
+    }
+}

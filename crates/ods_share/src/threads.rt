@@ -1,0 +1,144 @@
+//! The threads of a run: one for each script, all joined.
+ghost use Rattle.std.specs.Prelude.{◌≡◌, ◌+◌, ◌≤◌, ◌++◌, ◌∷◌, [], All, length, vec_len, IfOk};
+ghost use Rattle.ods_share.specs.Scripts.{CanBeRun, IsOutcome, EachIfOk};
+
+use crate::desk::Desk;
+use crate::faults::RunFault;
+use crate::gate::Gate;
+use crate::naming::Naming;
+use crate::outcome::Outcome;
+use crate::script::Script;
+use crate::session::{Session, sit};
+use ods_request::Stamp;
+use std::alloc::{AllocError, Global};
+use std::snapshot::Snapshot;
+use std::sync::{Mutex, Wait};
+use std::thread;
+use std::thread::{Promise, PromisedHandle, Scope, Threads};
+
+/// That what a thread gives is the outcome of this script.
+#[derive(Drop)]
+pub(crate) struct OfScript {
+    script: Snapshot<Script>,
+    stamp: Snapshot<Stamp>,
+}
+
+impl Promise<Result<Outcome, AllocError>> for OfScript {
+    ghost use Rattle.std.specs.Prelude.{IfOk};
+    ghost use Rattle.ods_share.specs.Scripts.{IsOutcome};
+
+    ghost kept_by = { λ p r. IfOk r (λ o. IsOutcome p.stamp.value p.script.value.commands.items o) };
+}
+
+type Handle = PromisedHandle<Result<Outcome, AllocError>, OfScript>;
+
+/// Obeys a script as the session with this number.
+fn sit_as<J: Naming, G: Gate, R: Wait>(
+    rt: &R,
+    alloc: Global,
+    desk: &Mutex<Desk<J>>,
+    gate: &G,
+    number: u16,
+    stamp: &Stamp,
+    script: &Script,
+) -> Result<Outcome, AllocError>
+    requires { CanBeRun script.now.commands.items }
+    ensures { IfOk result (λ o. IsOutcome stamp.now script.now.commands.items o) }
+{
+    let session = Session {
+        number,
+        stamp: *stamp,
+        alloc,
+    };
+    sit(rt, desk, gate, &session, script.commands.as_slice())
+}
+
+/// Starts the thread of one script.
+fn begun<'s, E, J: Naming + Send + Sync + 's, G: Gate + Sync, R: Threads + Wait + Sync>(
+    scope: &Scope<'s, E>,
+    rt: &'s R,
+    alloc: Global,
+    desk: &'s Mutex<Desk<J>>,
+    gate: &'s G,
+    number: u16,
+    stamp: &'s Stamp,
+    script: &'s Script,
+) -> Result<Handle, RunFault>
+    requires { CanBeRun script.now.commands.items }
+    ensures { IfOk result (λ h. (h.promise.script.value ≡ script.entry.now) × (h.promise.stamp.value ≡ stamp.entry.now)) }
+{
+    let work = move || -> Result<Outcome, AllocError>
+        requires { CanBeRun script.now.commands.items }
+        ensures { IfOk result (λ o. IsOutcome stamp.entry.now script.entry.now.commands.items o) }
+    { sit_as(rt, alloc, desk, gate, number, stamp, script) };
+    let promise = OfScript {
+        script: Snapshot::of(script),
+        stamp: Snapshot::of(stamp),
+    };
+    match scope.spawn_with(promise, work) {
+        Ok(handle) => Ok(handle),
+        Err(_) => Err(RunFault::NoThread),
+    }
+}
+
+/// Puts the handle of a thread behind the others.
+fn hold(handles: &mut Vec<Handle>, handle: Handle) -> Result<(), RunFault>
+    ensures items { IfOk result (λ _. handles.new.items ≡ handles.old.items ++ handle ∷ []) }
+    ensures len { IfOk result (λ _. vec_len handles.new ≡ vec_len handles.old + 1) }
+{
+    match handles.push(handle) {
+        Ok(()) => Ok(()),
+        Err(_) => Err(RunFault::NoMemory),
+    }
+}
+
+/// Starts a thread for each script, and waits for all.
+fn all_begun<'s, E, J: Naming + Send + Sync + 's, G: Gate + Sync, R: Threads + Wait + Sync>(
+    scope: &Scope<'s, E>,
+    rt: &'s R,
+    alloc: Global,
+    desk: &'s Mutex<Desk<J>>,
+    gate: &'s G,
+    scripts: &'s [Script],
+    stamp: &'s Stamp,
+) -> Result<Vec<Result<Outcome, AllocError>>, RunFault>
+    requires few { length scripts.now ≤ 8 }
+    requires can { All (λ s. CanBeRun s.commands.items) scripts.now }
+    ensures { IfOk result (λ v. (vec_len v ≡ length scripts.entry.now) × EachIfOk stamp.entry.now scripts.entry.now v.items) }
+{
+    let mut handles = Vec::new(alloc);
+    let mut number = 0u16;
+    for script in scripts {
+        number += 1;
+        let handle = begun(scope, rt, alloc, desk, gate, number, stamp, script)?;
+        hold(&mut handles, handle)?;
+    }
+    match thread::join_promised(rt, handles) {
+        Ok(done) => Ok(done),
+        Err(_) => Err(RunFault::NoMemory),
+    }
+}
+
+/// Runs each script as a session in a thread of its own, the first as session 1. All threads have ended when it returns, also where one
+/// could not be started.
+pub(crate) fn all_run<J: Naming + Send + Sync, G: Gate + Sync, R: Threads + Wait + Sync>(
+    rt: &R,
+    alloc: Global,
+    desk: &Mutex<Desk<J>>,
+    gate: &G,
+    scripts: &[Script],
+    stamp: &Stamp,
+) -> Result<Vec<Result<Outcome, AllocError>>, RunFault>
+    requires few { length scripts.now ≤ 8 }
+    requires can { All (λ s. CanBeRun s.commands.items) scripts.now }
+    ensures { IfOk result (λ v. (vec_len v ≡ length scripts.now) × EachIfOk stamp.now scripts.now v.items) }
+{
+    thread::scope(
+        thread::scope_env(),
+        rt,
+        |scope| -> Result<Vec<Result<Outcome, AllocError>>, RunFault>
+            requires { (length scripts.now ≤ 8) × All (λ s. CanBeRun s.commands.items) scripts.now }
+            ensures { IfOk result (λ v. (vec_len v ≡ length scripts.entry.now) × EachIfOk stamp.entry.now scripts.entry.now v.items) }
+        { all_begun(scope, rt, alloc, desk, gate, scripts, stamp) },
+    )
+}

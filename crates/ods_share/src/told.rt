@@ -1,0 +1,55 @@
+//! What a desk tells after each request.
+ghost use Rattle.std.specs.Prelude.{◌≡◌, length};
+
+use crate::naming::Naming;
+use ods_volume::Volume;
+use std::marker::{Model, PhantomData};
+use std::snapshot::Snapshot;
+
+/// The list of a desk as it stood after a request, accepted or refused. Contracts see the list; the value has only its length.
+#[derive(Drop)]
+pub struct Told<J: Naming> {
+    entries: u32,
+    after: Snapshot<Volume>,
+    of: PhantomData<J>,
+}
+
+impl<J: Naming> Model for Told<J> {
+    ghost use Rattle.std.specs.Prelude.{◌≡◌, List, length};
+    ghost use Rattle.ods_request.specs.declared.answers.Entry.{Entry};
+
+    ghost Value = { List Entry };
+
+    ghost view = { λ t. t.after.value.entries };
+
+    ghost invariant = { λ t. t.entries ≡ length t.after.value.entries };
+}
+
+impl<J: Naming> Told<J> {
+    /// The list of this volume.
+    pub(crate) fn of(volume: &Volume) -> Told<J>
+        ensures { result ≡ volume.now.entries }
+    {
+        Told {
+            entries: entry_count(volume),
+            after: Snapshot::of(volume),
+            of: PhantomData,
+        }
+    }
+
+    /// How many entries the list had.
+    pub fn entries(&self) -> u32
+        ensures { result ≡ length self.now }
+    {
+        self.entries
+    }
+}
+
+/// How many requests the volume accepted: no more than its limit.
+pub(crate) fn entry_count(volume: &Volume) -> u32
+    ensures { result ≡ length volume.now.entries }
+{
+    volume.is_lawful();
+    let _ = volume.limit();
+    volume.entries().len() as u32
+}

@@ -1,0 +1,5 @@
+//! Tests of desks, sessions and settlements.
+#![tactic(auto)]
+
+#[cfg(test)]
+mod tests;

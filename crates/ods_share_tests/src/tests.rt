@@ -1,0 +1,11 @@
+//! Tests of public calls, one idea a file.
+mod created;
+mod desks;
+mod engine;
+mod gates;
+mod lines;
+mod runs;
+mod scripts;
+mod seeds;
+mod sessions;
+mod settlements;
