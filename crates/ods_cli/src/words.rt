@@ -206,6 +206,7 @@ A line of a script is one command, and each is answered by OK, NO and a refusal,
   LIST id                 list a directory
   STAT id                 what a file is
   SETUSER id attributes   set a file's attributes, in hex
+  VIEW LOOK, READ, STAT   look without waiting for other sessions
 An id is number,sequence or $, the file that was last made, found or removed: CREATE A.TXT;1 3, then WRITE $ 1 48690d0a.
 
 The status is 0; 1 where the image or the header is refused; 2 for wrong words or scripts that are too large; 3 where

@@ -1,6 +1,6 @@
--- A row of handles, one more.
+-- A row of handles, one more, and a row of viewers, one less.
 use Rattle.std.proofs.Common.{◌≡◌, ◌<◌, ◌+◌, ℕ, List, [], ◌∷◌, ◌++◌, length, get_or, arith, sym, ap, ◌∙◌, subst, length-append}
-use Rattle.std.specs.Prelude.{slice_index_or, Result}
+use Rattle.std.specs.Prelude.{◌≤◌, slice_index_or, Result, Option, Some, None, option_to_list}
 use Rattle.std.specs.declared.alloc.AllocError.{AllocError}
 use Rattle.std.specs.declared.thread.PromisedHandle.{PromisedHandle}
 use Rattle.ods_share.specs.declared.threads.OfScript.{OfScript}
@@ -38,3 +38,8 @@ pub tied_snoc : (scripts : List Script) (stamp : List ℕ) (was now : List Handl
 tied_snoc scripts stamp was now h n script is len inside at promised each k d s lt =
     let here : Tied scripts stamp (length was) h = λ s'. rw len (promised.0 ∙ (at ∙ get_or_default scripts n script s' inside), promised.1) in
     rw is (each_snoc (Tied scripts stamp) was h (λ j e below s'. each j e s' (omega arith)) here k d (omega arith) s)
+
+-- one step takes one at most
+pub one_at_most : {X : Type 0} (o : Option X) → length (option_to_list o) ≤ 1
+one_at_most None = omega arith
+one_at_most (Some x) = omega arith

@@ -6,6 +6,8 @@ use Rattle.ods_base.specs.declared.file_id.Uic.{Uic}
 use Rattle.ods_base.specs.declared.file_id.FileId.{FileId}
 use Rattle.ods_request.specs.declared.requests.Request.{Request}
 use Rattle.ods_request.specs.declared.requests.Request.TheVariants as request
+use Rattle.ods_request.specs.declared.requests.Query.{Query}
+use Rattle.ods_request.specs.declared.requests.Query.TheVariants as query
 use Rattle.ods_request.specs.declared.answers.Answer.{Answer}
 use Rattle.ods_request.specs.declared.answers.Answer.TheVariants as answer
 use Rattle.ods_state.specs.Outcome.{CanBeAsked}
@@ -13,6 +15,8 @@ use Rattle.ods_share.specs.declared.script.Id.{Id}
 use Rattle.ods_share.specs.declared.script.Id.TheVariants.{Given, Last}
 use Rattle.ods_share.specs.declared.script.Ask.{Ask}
 use Rattle.ods_share.specs.declared.script.Ask.TheVariants as ask
+use Rattle.ods_share.specs.declared.script.Look.{Look}
+use Rattle.ods_share.specs.declared.script.Look.TheVariants as look
 use Rattle.ods_share.specs.declared.script.Action.{Action}
 use Rattle.ods_share.specs.declared.script.Action.TheVariants as action
 use Rattle.ods_share.specs.declared.script.Command.{Command}
@@ -41,6 +45,12 @@ request_of stamp last (ask.Write file vbn block) = option_map (λ f. request.Wri
 request_of stamp last (ask.List dir) = option_map (λ d. request.List d) (resolved last dir)
 request_of stamp last (ask.Stat file) = option_map (λ f. request.Stat f) (resolved last file)
 request_of stamp last (ask.SetUser file attributes) = option_map (λ f. request.SetUser f attributes) (resolved last file)
+
+-- the query that is meant; none where `$` stands for no file
+abbrev pub query_of : Option FileId → Look → Option Query
+query_of last (look.LookUp dir name pick) = option_map (λ d. query.LookUp d name pick) (resolved last dir)
+query_of last (look.Read file vbn) = option_map (λ f. query.Read f vbn) (resolved last file)
+query_of last (look.Stat file) = option_map (λ f. query.Stat f) (resolved last file)
 
 -- what `$` stands for after an answer: the file that was made, found or taken out
 abbrev pub last_after : Option FileId → Answer → Option FileId
@@ -73,11 +83,20 @@ Submits s nth (Some q) reply.User t = ⊥
 Submits s nth (Some q) reply.Closed t = ⊥
 Submits s nth (Some q) reply.Bad t = ⊥
 
--- One command with its reply. There is no version to view yet, so a VIEW is BAD.
+-- Where `$` stands for no file it is BAD. Else it is an answer, which `$` follows as after a request, a refusal, or Closed. It is no call.
+abbrev pub Views : Sitting → Option Query → Reply → Sitting → Type 0
+Views s None r t = (r ≡ reply.Bad) × (t ≡ s)
+Views s (Some q) (reply.Got a) t = t ≡ record { who = s.who; last = last_after s.last a.value; calls = s.calls }
+Views s (Some q) (reply.No f) t = t ≡ s
+Views s (Some q) reply.Closed t = t ≡ s
+Views s (Some q) reply.User t = ⊥
+Views s (Some q) reply.Bad t = ⊥
+
+-- One command with its reply.
 abbrev pub Tells : List ℕ → Sitting → ℕ → Action → Reply → Sitting → Type 0
 Tells stamp s nth (action.User who) r t = (r ≡ reply.User) × (t ≡ record { who = who; last = s.last; calls = s.calls })
 Tells stamp s nth (action.Submit a) r t = Submits s nth (request_of stamp s.last a) r t
-Tells stamp s nth (action.View look) r t = (r ≡ reply.Bad) × (t ≡ s)
+Tells stamp s nth (action.View l) r t = Views s (query_of s.last l) r t
 Tells stamp s nth action.Bad r t = (r ≡ reply.Bad) × (t ≡ s)
 
 -- one reply for each command, in order
@@ -109,7 +128,7 @@ EachIfOk stamp ss rs = (k : ℕ) (s : Script) (r : Result Outcome AllocError) �
 abbrev pub CanBeObeyed : Action → Type 0
 CanBeObeyed (action.User who) = Unit {0}
 CanBeObeyed (action.Submit a) = (stamp : List ℕ) (last : Option FileId) → MatchOption (request_of stamp last a) (Unit {0}) CanBeAsked
-CanBeObeyed (action.View look) = Unit {0}
+CanBeObeyed (action.View l) = Unit {0}
 CanBeObeyed action.Bad = Unit {0}
 
 -- each command of the script can be obeyed

@@ -1,9 +1,12 @@
 -- A session as its code keeps it: its seat, and the room for what comes of its script.
-use Rattle.std.specs.Prelude.{◌≡◌, ◌+◌, ◌≤◌, ◌++◌, ◌∷◌, [], ℕ, List, Option, Some, None, length, option_to_list}
+use Rattle.std.specs.Prelude.{◌≡◌, ◌+◌, ◌≤◌, ◌++◌, ◌∷◌, [], ℕ, List, Option, Some, None, Ok, Err, length, option_to_list}
 use Rattle.std.specs.List.{sum_by}
 use Rattle.std.specs.Vec.{vec_capacity}
 use Rattle.ods_base.specs.declared.file_id.Uic.{Uic}
 use Rattle.ods_request.specs.declared.requests.Request.{Request}
+use Rattle.ods_request.specs.declared.requests.Query.{Query}
+use Rattle.ods_views.specs.Viewers.{Viewed, Asked}
+use Rattle.ods_views.specs.declared.viewer.ViewFault.TheVariants.{Refused, Closed}
 use Rattle.ods_share.specs.declared.script.Action.{Action}
 use Rattle.ods_share.specs.declared.script.Action.TheVariants as action
 use Rattle.ods_share.specs.declared.script.Command.{Command}
@@ -25,6 +28,14 @@ IsReply nth who q (reply.No f) c = c ≡ None
 IsReply nth who q reply.User c = ⊥
 IsReply nth who q reply.Closed c = ⊥
 IsReply nth who q reply.Bad c = ⊥
+
+-- the answer of a viewer, or why it gives none
+abbrev pub IsView : List (List ℕ) → Viewed → Viewed → Uic → Query → Reply → Type 0
+IsView mounted before after who q (reply.Got a) = Asked mounted before after who q (Ok a.value)
+IsView mounted before after who q (reply.No f) = Asked mounted before after who q (Err (Refused f))
+IsView mounted before after who q reply.Closed = Asked mounted before after who q (Err Closed)
+IsView mounted before after who q reply.User = ⊥
+IsView mounted before after who q reply.Bad = ⊥
 
 -- One command from seat to seat: this reply, and this call behind those that there were, if there is one.
 abbrev pub TellsSeat : List ℕ → Command → Seat → Reply → Option Call → Seat → Type 0

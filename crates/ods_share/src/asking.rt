@@ -1,10 +1,10 @@
-//! Which request a command asks for, and what `$` stands for after its answer.
+//! Which request or query a command asks for, and what `$` stands for after its answer.
 ghost use Rattle.std.specs.Prelude.{◌≡◌};
-ghost use Rattle.ods_share.specs.Scripts.{resolved as id_of, request_of, last_after};
+ghost use Rattle.ods_share.specs.Scripts.{resolved as id_of, request_of, query_of, last_after};
 
-use crate::script::{Ask, Id};
+use crate::script::{Ask, Id, Look};
 use ods_base::FileId;
-use ods_request::{Answer, Request, Stamp};
+use ods_request::{Answer, Query, Request, Stamp};
 
 /// The file that is meant; none where `$` stands for none.
 fn resolved(last: Option<FileId>, id: Id) -> Option<FileId>
@@ -99,6 +99,30 @@ pub(crate) fn request_for(stamp: Stamp, last: Option<FileId>, ask: &Ask) -> Opti
                 file,
                 attributes: *attributes,
             })
+        }
+    }
+}
+
+/// The query that a view asks for; none where it uses `$`, and `$` stands for no file.
+pub(crate) fn query_for(last: Option<FileId>, look: &Look) -> Option<Query>
+    ensures { result ≡ query_of last look.now }
+{
+    match look {
+        Look::LookUp { dir, name, pick } => {
+            let dir = resolved(last, *dir)?;
+            Some(Query::LookUp {
+                dir,
+                name: *name,
+                pick: *pick,
+            })
+        }
+        Look::Read { file, vbn } => {
+            let file = resolved(last, *file)?;
+            Some(Query::Read { file, vbn: *vbn })
+        }
+        Look::Stat { file } => {
+            let file = resolved(last, *file)?;
+            Some(Query::Stat { file })
         }
     }
 }

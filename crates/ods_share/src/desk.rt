@@ -1,47 +1,55 @@
-//! The desk: a volume that is to lie under a lock, with the name of what it began with, so that something is known of it there.
-ghost use Rattle.std.specs.Prelude.{◌≡◌, ◌≢◌, ◌<◌, ◌≤◌, [], false, length, IfOk, IfErr, IsErr, OnErr, Err, Some};
+//! The desk: a volume that is to lie under a lock, with the name of what it began with, so that something is known of it there, and the
+//! writer that shows its versions.
+ghost use Rattle.std.specs.Prelude.{◌≡◌, ◌<◌, ◌≤◌, All, length, vec_len, IfOk, IfErr, IsErr, OnErr, Err, Some, None};
 ghost use Rattle.ods_request.specs.declared.refusals.Refusal.{Refusal};
 ghost use Rattle.ods_request.specs.Catalogue.{Catalogue};
 ghost use Rattle.ods_request.specs.Faults.{fault_of};
 ghost use Rattle.ods_request.specs.Lists.{Begins};
 ghost use Rattle.ods_state.specs.Version.{IsPresent, IsLawful};
 ghost use Rattle.ods_state.specs.Wants.{Lacks};
-ghost use Rattle.ods_request.specs.Table.{takes_memory};
 ghost use Rattle.ods_state.specs.Outcome.{Accepts, CanBeAsked, entry_of};
 ghost use Rattle.ods_share.specs.Desks.{IsDeskReason};
+ghost use Rattle.ods_views.specs.Viewers.{newly};
 
-use crate::naming::Naming;
-use crate::told::Told;
-use crate::viewer::Viewer;
+use crate::seating::seated;
+use crate::storing::stored;
 use ods_base::{NoMemory, Uic};
 use ods_request::{Answer, Refusal, Request};
+use ods_views::{Change, DeskWriter, Naming, Told, Viewer, added, opened, published};
 use ods_volume::Volume;
 use std::alloc::Global;
-use std::marker::{Model, PhantomData};
+use std::marker::{Brand, Model};
+use std::mem;
+use std::snapshot::Snapshot;
+use std::sync::Wait;
 
-/// A volume for several sessions, which is to lie under a lock. Contracts see the volume, which is lawful whenever the lock is free.
-/// Wherever the desk lies, its mounted image is that of its name, and its list begins with the entries of its name. It is ended by
-/// [`Desk::close`], and cannot fall.
+/// A volume for several sessions, which is to lie under a lock, with the writer that shows its versions to viewers beside the lock.
+/// Contracts see the volume, which is lawful whenever the lock is free. Wherever the desk lies, its mounted image is that of its name, its
+/// list begins with the entries of its name, and what is shown is the volume's list and blocks. It is ended by [`Desk::close`], and cannot
+/// fall.
 pub struct Desk<J: Naming> {
     volume: Volume,
-    of: PhantomData<J>,
+    writer: Option<DeskWriter<J>>,
 }
 
 impl<J: Naming> Model for Desk<J> {
+    ghost use Rattle.std.specs.Prelude.{drop, MatchOption};
     ghost use Rattle.ods_state.specs.Version.{State};
     ghost use Rattle.ods_share.specs.Desks.{IsOpened};
+    ghost use Rattle.ods_views.specs.Viewers.{IsTied};
 
     ghost Value = { State };
 
     ghost view = { λ d. d.volume };
 
-    ghost invariant = { λ d. IsOpened J.mounted J.opening d.volume };
+    ghost invariant = { λ d. IsOpened J.mounted J.opening d.volume × MatchOption d.writer ⊥ (λ w. IsTied w.desk.place w.desk.shown.value (drop w.behind w.log.items) d.volume) };
 }
 
 impl<J: Naming> Desk<J> {
-    /// The desk of this volume, for 1 to 8 places, and its viewers: none, as long as there are no versions for readers. After an error,
-    /// which is for memory, the volume comes back.
-    pub fn new(
+    /// The desk of this volume, for 1 to 8 places, and a viewer for each place, which has seen the volume's list. After an error, which is
+    /// for memory, the volume comes back.
+    pub fn new<R: Wait>(
+        rt: &R,
         alloc: Global,
         volume: Volume,
         places: usize,
@@ -51,15 +59,26 @@ impl<J: Naming> Desk<J> {
         requires mounted { volume.mounted ≡ J.mounted }
         requires opening { volume.entries ≡ J.opening }
         ensures ok { IfOk result (λ p. p.0 ≡ volume) }
-        ensures viewers { IfOk result (λ p. p.1.items ≡ []) }
+        ensures viewers { IfOk result (λ p. (vec_len p.1 ≡ places) × All (λ v. v ≡ newly volume.entries) p.1.items) }
         ensures err { IfErr result (λ e. e.0 ≡ volume) }
     {
-        let _ = places;
-        let desk = Desk {
-            volume,
-            of: PhantomData,
+        let writer = match opened::<J>(alloc, &volume, places) {
+            Ok(writer) => writer,
+            Err(_) => return Err((volume, NoMemory)),
         };
-        Ok((desk, Vec::new(alloc)))
+        match seated(alloc, writer.factory(), places) {
+            Ok(viewers) => {
+                let desk = Desk {
+                    volume,
+                    writer: Some(writer),
+                };
+                Ok((desk, viewers))
+            }
+            Err(_) => {
+                writer.take(rt);
+                Err((volume, NoMemory))
+            }
+        }
     }
 
     /// The volume as it is now.
@@ -69,10 +88,12 @@ impl<J: Naming> Desk<J> {
         &self.volume
     }
 
-    /// Makes a request of the volume, for a session, as a user, under a number of the caller's. It is answered and entered into the list,
-    /// or refused with nothing changed. The list as it stands afterwards is told in both cases.
-    pub fn submit(
+    /// Makes a request of the volume, for a session, as a user, under a number of the caller's. It is answered, entered into the list, and
+    /// the version to which it leads is shown; or it is refused with nothing changed and nothing shown. The list as it stands afterwards is
+    /// told in both cases. Any request may want memory, after its faults.
+    pub fn submit<R: Wait>(
         &mut self,
+        rt: &R,
         session: u16,
         nth: u32,
         who: Uic,
@@ -89,28 +110,81 @@ impl<J: Naming> Desk<J> {
         // What the volume lacks is never given.
         ensures lacking { (f : Refusal) → Lacks self.old.image self.old.layout request f → IsErr result.0 }
         ensures reason { IfErr result.0 (λ f. IsDeskReason self.old who request f) }
-        // LookUp, Read and Stat are never refused for want of memory.
-        ensures memory { takes_memory request ≡ false → result.0 ≢ Err Refusal.NoMemory }
         // Refused, it changes nothing.
         ensures unchanged { OnErr result.0 (self.new ≡ self.old) }
         ensures told { result.1 ≡ self.new.entries }
         // What was told before is the beginning of what is told now.
         ensures grown { Begins self.old.entries result.1 }
     {
-        let result = self.volume.request(session, nth, who, request);
+        let result = self.attempt(rt, session, nth, who, request);
         (result, Told::of(&self.volume))
     }
 
-    /// Gives the volume back. It is lawful, over the image that was mounted, and its list begins as it was at [`Desk::new`].
-    pub fn close(self) -> Volume
+    /// All that takes memory comes before the volume changes: the plan with its answer for the caller, the copy of its draft, and the
+    /// writer's room for it.
+    fn attempt<R: Wait>(
+        &mut self,
+        rt: &R,
+        session: u16,
+        nth: u32,
+        who: Uic,
+        request: Request,
+    ) -> Result<Answer, Refusal>
+        requires { CanBeAsked request }
+        ensures full { length self.old.entries ≡ self.old.limit → result ≡ Err Refusal.ListFull }
+        ensures refused { (C : Catalogue) (f : Refusal) → length self.old.entries < self.old.limit → IsPresent self.old C
+            → fault_of C who request ≡ Some f → result ≡ Err f }
+        ensures accepted { IfOk result (λ a. Accepts self.old (entry_of session nth who request a) self.new) }
+        ensures lacking { (f : Refusal) → Lacks self.old.image self.old.layout request f → IsErr result }
+        ensures reason { IfErr result (λ f. IsDeskReason self.old who request f) }
+        ensures unchanged { OnErr result (self.new ≡ self.old) }
+    {
+        let prepared = match self.volume.prepare(session, nth, who, request) {
+            Ok(prepared) => prepared,
+            Err(refusal) => return Err(refusal),
+        };
+        let Ok(draft) = prepared.changes().copy() else {
+            return Err(Refusal::NoMemory);
+        };
+        let count = self.volume.entries().len() as u64 + 1;
+        let writer = self.writer.take().unwrap();
+        let writer = match added(writer, Change { draft, count }) {
+            Ok(writer) => writer,
+            Err(writer) => {
+                put_back(&mut self.writer, writer);
+                return Err(Refusal::NoMemory);
+            }
+        };
+        let plan = Snapshot::of(&prepared);
+        let answer = stored(&mut self.volume, prepared);
+        let writer = published::<J, Brand, R>(rt, writer, plan, &self.volume);
+        put_back(&mut self.writer, writer);
+        Ok(answer)
+    }
+
+    /// Gives the volume back, and shows nothing from now on. It is lawful, over the image that was mounted, and its list begins as it was
+    /// at [`Desk::new`].
+    pub fn close<R: Wait>(self, rt: &R) -> Volume
         ensures volume { result ≡ self }
         ensures mounted { result.mounted ≡ J.mounted }
         ensures opening { Begins J.opening result.entries }
         ensures lawful { IsLawful result }
     {
-        let Desk { volume, of } = self;
-        let _ = of;
+        let Desk { volume, writer } = self;
+        let writer = writer.unwrap();
+        writer.take(rt);
         volume.is_lawful();
         volume
+    }
+}
+
+/// Puts the writer back where it was taken from.
+fn put_back<J: Naming>(place: &mut Option<DeskWriter<J>>, writer: DeskWriter<J>)
+    requires { place.old ≡ None }
+    ensures { place.new ≡ Some writer }
+{
+    match mem::replace(place, Some(writer)) {
+        None => {}
+        Some(_) => unreachable!(),
     }
 }

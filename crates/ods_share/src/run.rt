@@ -6,12 +6,11 @@ ghost use Rattle.ods_share.specs.Scripts.{CanBeRun, EachIfOk, EachOutcome};
 use crate::desk::Desk;
 use crate::faults::RunFault;
 use crate::gate::Gate;
-use crate::naming::Naming;
 use crate::outcome::Outcome;
 use crate::script::Script;
 use crate::threads::all_run;
-use crate::viewer::Viewer;
 use ods_request::Stamp;
+use ods_views::{Naming, Viewer};
 use ods_volume::Volume;
 use std::alloc::{AllocError, Global};
 use std::marker::Brand;
@@ -34,9 +33,9 @@ fn unpacked(
     Ok(outcomes)
 }
 
-/// Runs each of at most 8 scripts as a session in a thread of its own, the first as session 1, waits for all, and gives the volume back
-/// with what came of each script, in their order. Files are made with this stamp. After a fault, of memory or of threads, all threads have
-/// ended too, and the volume is given up.
+/// Runs each of at most 8 scripts as a session in a thread of its own, the first as session 1 and with the first viewer, waits for all,
+/// and gives the volume back with what came of each script, in their order. Files are made with this stamp. After a fault, of memory or of
+/// threads, all threads have ended too, and the volume is given up.
 pub fn run_sessions<J: Naming + Send + Sync, G: Gate + Sync, R: Threads + Wait + Sync>(
     rt: &R,
     alloc: Global,
@@ -47,15 +46,15 @@ pub fn run_sessions<J: Naming + Send + Sync, G: Gate + Sync, R: Threads + Wait +
     gate: &G,
 ) -> Result<(Volume, Vec<Outcome>), RunFault>
     requires few { length scripts.now ≤ 8 }
+    requires seats { length scripts.now ≤ vec_len viewers }
     requires can { All (λ s. CanBeRun s.commands.items) scripts.now }
     ensures mounted { IfOk result (λ p. p.0.mounted ≡ J.mounted) }
     ensures opening { IfOk result (λ p. Begins J.opening p.0.entries) }
     ensures outcomes { IfOk result (λ p. (vec_len p.1 ≡ length scripts.now) × EachOutcome stamp scripts.now p.1.items) }
 {
-    let _ = viewers;
     let lock = Mutex::new(desk);
-    let done = all_run(rt, alloc, &lock, gate, scripts, &stamp);
-    let volume = lock.into_inner().close();
+    let done = all_run(rt, alloc, &lock, gate, viewers, scripts, &stamp);
+    let volume = lock.into_inner().close(rt);
     match done {
         Ok(done) => match unpacked(alloc, done) {
             Ok(outcomes) => Ok((volume, outcomes)),
@@ -70,6 +69,7 @@ fn places_for(scripts: usize) -> usize
     requires { scripts ≤ 8 }
     ensures low { 1 ≤ result }
     ensures high { result ≤ 8 }
+    ensures enough { scripts ≤ result }
 {
     if scripts == 0 { 1 } else { scripts }
 }
@@ -91,7 +91,7 @@ fn run_named<J: Naming + Send + Sync, G: Gate + Sync, R: Threads + Wait + Sync>(
     ensures opening { IfOk result (λ p. Begins volume.entries p.0.entries) }
     ensures outcomes { IfOk result (λ p. (vec_len p.1 ≡ length scripts.now) × EachOutcome stamp scripts.now p.1.items) }
 {
-    match Desk::<J>::new(alloc, volume, places_for(scripts.len())) {
+    match Desk::<J>::new(rt, alloc, volume, places_for(scripts.len())) {
         Ok((desk, viewers)) => { run_sessions(rt, alloc, desk, viewers, scripts, stamp, gate) }
         Err(_) => Err(RunFault::NoMemory),
     }

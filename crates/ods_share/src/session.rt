@@ -2,16 +2,16 @@
 ghost use Rattle.std.specs.Prelude.{◌+◌, ◌≤◌, IfOk, length, option_to_list};
 ghost use Rattle.ods_state.specs.Outcome.{CanBeAsked};
 ghost use Rattle.ods_share.specs.Scripts.{CanBeObeyed, CanBeRun, IsOutcome};
-ghost use Rattle.ods_share.specs.Sittings.{room_of, IsReply, TellsSeat, TellsMore, HasRoom, KeepsRoom};
+ghost use Rattle.ods_share.specs.Sittings.{room_of, IsReply, IsView, TellsSeat, TellsMore, HasRoom, KeepsRoom};
 
-use crate::asking::{next_last, request_for};
+use crate::asking::{next_last, query_for, request_for};
 use crate::desk::Desk;
 use crate::gate::Gate;
-use crate::naming::Naming;
 use crate::outcome::{Call, Outcome, Reply, keep, roomy};
 use crate::script::{Action, Command};
 use ods_base::{FileId, Uic};
-use ods_request::{Request, Stamp};
+use ods_request::{Query, Request, Stamp};
+use ods_views::{Naming, ViewFault, Viewer};
 use std::alloc::{AllocError, Global};
 use std::sync::{Mutex, MutexGuard, Wait};
 
@@ -45,7 +45,7 @@ fn submitted<J: Naming, G: Gate, R: Wait>(
 {
     let mut guard = desk.lock(rt);
     gate.held(session.number, nth);
-    let (result, _told) = guard.submit(session.number, nth, who, *request);
+    let (result, _told) = guard.submit(rt, session.number, nth, who, *request);
     MutexGuard::unlock(guard);
     match result {
         Ok(answer) => {
@@ -63,12 +63,32 @@ fn submitted<J: Naming, G: Gate, R: Wait>(
     }
 }
 
+/// Answers a query by the session's viewer, beside the lock.
+fn viewed<J: Naming>(
+    alloc: Global,
+    viewer: &mut Viewer<J>,
+    who: Uic,
+    query: Query,
+) -> Result<Reply, AllocError>
+    ensures { IfOk result (λ r. IsView J.mounted viewer.old viewer.new who query r) }
+{
+    match viewer.ask(who, query) {
+        Ok(answer) => {
+            let answer = Box::new(alloc, answer)?;
+            Ok(Reply::Got(answer))
+        }
+        Err(ViewFault::Refused(refusal)) => Ok(Reply::No(refusal)),
+        Err(ViewFault::Closed) => Ok(Reply::Closed),
+    }
+}
+
 /// Obeys one command.
 fn obeyed<J: Naming, G: Gate, R: Wait>(
     rt: &R,
     desk: &Mutex<Desk<J>>,
     gate: &G,
     session: &Session,
+    viewer: &mut Viewer<J>,
     seat: &mut Seat,
     command: &Command,
 ) -> Result<(Reply, Option<Call>), AllocError>
@@ -99,8 +119,16 @@ fn obeyed<J: Naming, G: Gate, R: Wait>(
             }
             Ok((reply, call))
         }
-        // There is no version to view yet.
-        Action::View(_) => Ok((Reply::Bad, None)),
+        Action::View(look) => {
+            let Some(query) = query_for(seat.last, look) else {
+                return Ok((Reply::Bad, None));
+            };
+            let reply = viewed(session.alloc, viewer, seat.who, query)?;
+            if let Reply::Got(answer) = &reply {
+                seat.last = next_last(seat.last, answer);
+            }
+            Ok((reply, None))
+        }
         Action::Bad => Ok((Reply::Bad, None)),
     }
 }
@@ -111,6 +139,7 @@ fn turn<J: Naming, G: Gate, R: Wait>(
     desk: &Mutex<Desk<J>>,
     gate: &G,
     session: &Session,
+    viewer: &mut Viewer<J>,
     seat: &mut Seat,
     command: &Command,
     outcome: &mut Outcome,
@@ -122,24 +151,26 @@ fn turn<J: Naming, G: Gate, R: Wait>(
     ensures tells { IfOk result (λ _. TellsMore session.now.stamp command.now seat.old outcome.old seat.new outcome.new) }
 {
     gate.before(session.number, command.nth);
-    let (reply, call) = obeyed(rt, desk, gate, session, seat, command)?;
+    let (reply, call) = obeyed(rt, desk, gate, session, viewer, seat, command)?;
     gate.after(session.number, command.nth);
     keep(outcome, call, reply);
     Ok(())
 }
 
-/// Obeys a script, from its first command on, as user [1,1]. The lists of calls and of replies get all their room before; what may want
-/// memory afterwards is the copy of a directory's names, and the box of an answer.
+/// Obeys a script, from its first command on, as user [1,1], with a viewer of its own. The lists of calls and of replies get all their room
+/// before; what may want memory afterwards is what the desk takes, the copy of a directory's names, and the box of an answer.
 pub(crate) fn sit<J: Naming, G: Gate, R: Wait>(
     rt: &R,
     desk: &Mutex<Desk<J>>,
     gate: &G,
     session: &Session,
+    viewer: Viewer<J>,
     script: &[Command],
 ) -> Result<Outcome, AllocError>
     requires { CanBeRun script.now }
     ensures { IfOk result (λ o. IsOutcome session.now.stamp script.now o) }
 {
+    let mut viewer = viewer;
     let mut outcome = roomy(session.alloc, script)?;
     let mut seat = Seat {
         who: Uic {
@@ -149,7 +180,16 @@ pub(crate) fn sit<J: Naming, G: Gate, R: Wait>(
         last: None,
     };
     for command in script {
-        turn(rt, desk, gate, session, &mut seat, command, &mut outcome)?;
+        turn(
+            rt,
+            desk,
+            gate,
+            session,
+            &mut viewer,
+            &mut seat,
+            command,
+            &mut outcome,
+        )?;
     }
     Ok(outcome)
 }

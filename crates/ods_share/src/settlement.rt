@@ -4,9 +4,9 @@ ghost use Rattle.ods_share.specs.Settles.{call_in, calls_of, EachMatches, IsSett
 
 use crate::faults::SettleFault;
 use crate::outcome::Call;
-use crate::told::entry_count;
 use ods_base::Image;
 use ods_request::Entry;
+use ods_views::entry_count;
 use ods_volume::Volume;
 use std::alloc::{AllocError, Global};
 

@@ -1,15 +1,15 @@
-//! The threads of a run: one for each script, all joined.
+//! The threads of a run: one for each script, with a viewer, all joined.
 ghost use Rattle.std.specs.Prelude.{◌≡◌, ◌+◌, ◌≤◌, ◌++◌, ◌∷◌, [], All, length, vec_len, IfOk};
 ghost use Rattle.ods_share.specs.Scripts.{CanBeRun, IsOutcome, EachIfOk};
 
 use crate::desk::Desk;
 use crate::faults::RunFault;
 use crate::gate::Gate;
-use crate::naming::Naming;
 use crate::outcome::Outcome;
 use crate::script::Script;
 use crate::session::{Session, sit};
 use ods_request::Stamp;
+use ods_views::{Naming, Viewer};
 use std::alloc::{AllocError, Global};
 use std::snapshot::Snapshot;
 use std::sync::{Mutex, Wait};
@@ -32,13 +32,14 @@ impl Promise<Result<Outcome, AllocError>> for OfScript {
 
 type Handle = PromisedHandle<Result<Outcome, AllocError>, OfScript>;
 
-/// Obeys a script as the session with this number.
+/// Obeys a script as the session with this number and viewer.
 fn sit_as<J: Naming, G: Gate, R: Wait>(
     rt: &R,
     alloc: Global,
     desk: &Mutex<Desk<J>>,
     gate: &G,
     number: u16,
+    viewer: Viewer<J>,
     stamp: &Stamp,
     script: &Script,
 ) -> Result<Outcome, AllocError>
@@ -50,7 +51,7 @@ fn sit_as<J: Naming, G: Gate, R: Wait>(
         stamp: *stamp,
         alloc,
     };
-    sit(rt, desk, gate, &session, script.commands.as_slice())
+    sit(rt, desk, gate, &session, viewer, script.commands.as_slice())
 }
 
 /// Starts the thread of one script.
@@ -61,6 +62,7 @@ fn begun<'s, E, J: Naming + Send + Sync + 's, G: Gate + Sync, R: Threads + Wait 
     desk: &'s Mutex<Desk<J>>,
     gate: &'s G,
     number: u16,
+    viewer: Viewer<J>,
     stamp: &'s Stamp,
     script: &'s Script,
 ) -> Result<Handle, RunFault>
@@ -70,7 +72,7 @@ fn begun<'s, E, J: Naming + Send + Sync + 's, G: Gate + Sync, R: Threads + Wait 
     let work = move || -> Result<Outcome, AllocError>
         requires { CanBeRun script.now.commands.items }
         ensures { IfOk result (λ o. IsOutcome stamp.entry.now script.entry.now.commands.items o) }
-    { sit_as(rt, alloc, desk, gate, number, stamp, script) };
+    { sit_as(rt, alloc, desk, gate, number, viewer, stamp, script) };
     let promise = OfScript {
         script: Snapshot::of(script),
         stamp: Snapshot::of(stamp),
@@ -92,25 +94,29 @@ fn hold(handles: &mut Vec<Handle>, handle: Handle) -> Result<(), RunFault>
     }
 }
 
-/// Starts a thread for each script, and waits for all.
+/// Starts a thread for each script, with the next viewer, and waits for all.
 fn all_begun<'s, E, J: Naming + Send + Sync + 's, G: Gate + Sync, R: Threads + Wait + Sync>(
     scope: &Scope<'s, E>,
     rt: &'s R,
     alloc: Global,
     desk: &'s Mutex<Desk<J>>,
     gate: &'s G,
+    viewers: Vec<Viewer<J>>,
     scripts: &'s [Script],
     stamp: &'s Stamp,
 ) -> Result<Vec<Result<Outcome, AllocError>>, RunFault>
     requires few { length scripts.now ≤ 8 }
+    requires seats { length scripts.now ≤ vec_len viewers }
     requires can { All (λ s. CanBeRun s.commands.items) scripts.now }
     ensures { IfOk result (λ v. (vec_len v ≡ length scripts.entry.now) × EachIfOk stamp.entry.now scripts.entry.now v.items) }
 {
     let mut handles = Vec::new(alloc);
     let mut number = 0u16;
+    let mut seats = viewers.into_iter();
     for script in scripts {
         number += 1;
-        let handle = begun(scope, rt, alloc, desk, gate, number, stamp, script)?;
+        let viewer = seats.next().unwrap();
+        let handle = begun(scope, rt, alloc, desk, gate, number, viewer, stamp, script)?;
         hold(&mut handles, handle)?;
     }
     match thread::join_promised(rt, handles) {
@@ -119,17 +125,19 @@ fn all_begun<'s, E, J: Naming + Send + Sync + 's, G: Gate + Sync, R: Threads + W
     }
 }
 
-/// Runs each script as a session in a thread of its own, the first as session 1. All threads have ended when it returns, also where one
-/// could not be started.
+/// Runs each script as a session in a thread of its own, the first as session 1, with the first viewer. All threads have ended when it
+/// returns, also where one could not be started.
 pub(crate) fn all_run<J: Naming + Send + Sync, G: Gate + Sync, R: Threads + Wait + Sync>(
     rt: &R,
     alloc: Global,
     desk: &Mutex<Desk<J>>,
     gate: &G,
+    viewers: Vec<Viewer<J>>,
     scripts: &[Script],
     stamp: &Stamp,
 ) -> Result<Vec<Result<Outcome, AllocError>>, RunFault>
     requires few { length scripts.now ≤ 8 }
+    requires seats { length scripts.now ≤ vec_len viewers }
     requires can { All (λ s. CanBeRun s.commands.items) scripts.now }
     ensures { IfOk result (λ v. (vec_len v ≡ length scripts.now) × EachIfOk stamp.now scripts.now v.items) }
 {
@@ -137,8 +145,8 @@ pub(crate) fn all_run<J: Naming + Send + Sync, G: Gate + Sync, R: Threads + Wait
         thread::scope_env(),
         rt,
         |scope| -> Result<Vec<Result<Outcome, AllocError>>, RunFault>
-            requires { (length scripts.now ≤ 8) × All (λ s. CanBeRun s.commands.items) scripts.now }
+            requires { (length scripts.now ≤ 8) × (length scripts.now ≤ vec_len viewers) × All (λ s. CanBeRun s.commands.items) scripts.now }
             ensures { IfOk result (λ v. (vec_len v ≡ length scripts.entry.now) × EachIfOk stamp.entry.now scripts.entry.now v.items) }
-        { all_begun(scope, rt, alloc, desk, gate, scripts, stamp) },
+        { all_begun(scope, rt, alloc, desk, gate, viewers, scripts, stamp) },
     )
 }

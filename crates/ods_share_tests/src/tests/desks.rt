@@ -30,7 +30,7 @@ fn asks<J: Naming, R: Abort + Wait>(
     session: u16,
 ) -> Result<Vec<Call>, AllocError> {
     let mut guard = desk.lock(rt);
-    let (result, told) = guard.submit(session, 1, USER, first_block(FIRST));
+    let (result, told) = guard.submit(rt, session, 1, USER, first_block(FIRST));
     assert_eq!(rt; told.entries() as usize, guard.volume().entries().len());
     MutexGuard::unlock(guard);
     let mut calls = Vec::new(alloc);
@@ -46,21 +46,21 @@ fn asks<J: Naming, R: Abort + Wait>(
 }
 
 /// Makes two requests of session 1, and tells how long the list was after each.
-fn tells<J: Naming>(rt: &impl Abort, alloc: Global, volume: Volume) -> Result<Volume, Fail>
+fn tells<J: Naming, R: Abort + Wait>(rt: &R, alloc: Global, volume: Volume) -> Result<Volume, Fail>
     requires mounted { volume.mounted ≡ J.mounted }
     requires opening { volume.entries ≡ J.opening }
 {
-    match Desk::<J>::new(alloc, volume, 1) {
+    match Desk::<J>::new(rt, alloc, volume, 1) {
         Ok((mut desk, viewers)) => {
-            assert_eq!(rt; viewers.len(), 0);
-            let (result, told) = desk.submit(1, 1, USER, first_block(FIRST));
+            assert_eq!(rt; viewers.len(), 1);
+            let (result, told) = desk.submit(rt, 1, 1, USER, first_block(FIRST));
             assert!(rt; matches!(result, Ok(Answer::Bytes(_))));
             assert_eq!(rt; told.entries(), 1);
-            let (result, told) = desk.submit(1, 2, USER, first_block(NONE));
+            let (result, told) = desk.submit(rt, 1, 2, USER, first_block(NONE));
             assert!(rt; matches!(result, Err(Refusal::NoSuchFile)));
             assert_eq!(rt; told.entries(), 1);
             assert_eq!(rt; desk.volume().entries().len(), 1);
-            Ok(desk.close())
+            Ok(desk.close(rt))
         }
         Err(_) => Err("memory for a desk".into()),
     }
@@ -70,7 +70,7 @@ fn tells<J: Naming>(rt: &impl Abort, alloc: Global, volume: Volume) -> Result<Vo
 fn desk_tells_how_long_its_list_is(rt: HostRuntime) -> Result<(), Fail> {
     let alloc = rt.alloc();
     let volume = volume_of(&rt, alloc, two_files(alloc)?, 4_096)?;
-    let volume = tells::<Brand>(&rt, alloc, volume)?;
+    let volume = tells::<Brand, _>(&rt, alloc, volume)?;
     assert_eq!(rt; volume.entries().len(), 1);
     Ok(())
 }
@@ -80,7 +80,7 @@ fn swap_in<J: Naming, R: Wait>(rt: &R, desk: &Mutex<Desk<J>>, other: Desk<J>) {
     let mut guard = desk.lock(rt);
     let taken = mem::replace(&mut *guard, other);
     MutexGuard::unlock(guard);
-    taken.close();
+    taken.close(rt);
 }
 
 /// Sessions 1 and 2 make a request each, and in between another lawful volume of the same image is put under the lock.
@@ -95,18 +95,18 @@ fn swapped<J: Naming, R: Abort + Wait>(
     requires other_mounted { other.mounted ≡ J.mounted }
     requires other_opening { other.entries ≡ J.opening }
 {
-    let Ok((desk, _)) = Desk::<J>::new(alloc, volume, 2) else {
+    let Ok((desk, _)) = Desk::<J>::new(rt, alloc, volume, 2) else {
         return Err("memory for a desk".into());
     };
     let lock = Mutex::new(desk);
-    let Ok((other, _)) = Desk::<J>::new(alloc, other, 2) else {
-        lock.into_inner().close();
+    let Ok((other, _)) = Desk::<J>::new(rt, alloc, other, 2) else {
+        lock.into_inner().close(rt);
         return Err("memory for a desk".into());
     };
     let first = asks(rt, alloc, &lock, 1);
     swap_in(rt, &lock, other);
     let second = asks(rt, alloc, &lock, 2);
-    let volume = lock.into_inner().close();
+    let volume = lock.into_inner().close(rt);
     let mut calls = Vec::new(alloc);
     calls.push(first?)?;
     calls.push(second?)?;

@@ -28,11 +28,11 @@ const COMMANDS: u32 = 500;
 
 /// Numbers that look random, from a seed.
 #[derive(Drop)]
-struct Dice(u64);
+pub struct Dice(pub u64);
 
 impl Dice {
     /// The next number, below `sides`.
-    fn roll(&mut self, sides: u64) -> u64
+    pub fn roll(&mut self, sides: u64) -> u64
         requires { 0 < sides }
         ensures { result < sides }
     {
@@ -42,7 +42,7 @@ impl Dice {
     }
 }
 
-fn any_file(dice: &mut Dice) -> FileId {
+pub fn any_file(dice: &mut Dice) -> FileId {
     match dice.roll(5) {
         0 => FIRST,
         1 => SECOND,
@@ -55,7 +55,7 @@ fn any_file(dice: &mut Dice) -> FileId {
     }
 }
 
-fn any_name(dice: &mut Dice) -> Name {
+pub fn any_name(dice: &mut Dice) -> Name {
     match dice.roll(4) {
         0 => bitmap(),
         1 => corimg(),
@@ -81,7 +81,7 @@ fn any_block(dice: &mut Dice) -> Block {
 }
 
 /// A command of any kind. Names are seldom removed, since none is entered.
-fn any_action(alloc: Global, dice: &mut Dice) -> Result<Action, Fail>
+pub fn any_action(alloc: Global, dice: &mut Dice) -> Result<Action, Fail>
     ensures { IfOk result CanBeObeyed }
 {
     Ok(match dice.roll(20) {

@@ -18,7 +18,7 @@ use std::test::Fail;
 
 /// A reply without its answer.
 #[derive(Clone, Copy, PartialEq, Eq, Debug)]
-enum Short {
+pub enum Short {
     User,
     Got,
     No(Refusal),
@@ -37,7 +37,7 @@ fn in_short(reply: &Reply) -> Short {
 }
 
 /// The replies of an outcome.
-fn replied(rt: &impl Abort, outcome: &Outcome, wanted: &[Short]) {
+pub fn replied(rt: &impl Abort, outcome: &Outcome, wanted: &[Short]) {
     assert_eq!(rt; outcome.replies.len(), wanted.len());
     for (reply, wanted) in outcome.replies.iter().zip(wanted.iter()) {
         assert_eq!(rt; in_short(reply), *wanted);
@@ -75,7 +75,7 @@ fn two_sessions_are_served(rt: HostRuntime) -> Result<(), Fail> {
 }
 
 /// One script alone.
-fn alone(alloc: Global, script: Script) -> Result<Vec<Script>, Fail>
+pub fn alone(alloc: Global, script: Script) -> Result<Vec<Script>, Fail>
     requires { CanBeRun script.commands.items }
     ensures { IfOk result (λ v. All (λ s. CanBeRun s.commands.items) v.items) }
 {
@@ -84,7 +84,7 @@ fn alone(alloc: Global, script: Script) -> Result<Vec<Script>, Fail>
     Ok(scripts)
 }
 
-/// Six lines: `$` before it stands for a file, a user with few rights, what he may not and may do, and `$` twice.
+/// Six lines: `$` before it stands for a file, a user with few rights, what he may not and may do, and `$` twice, once in a view.
 fn first_lines(alloc: Global) -> Result<Script, Fail>
     ensures { IfOk result (λ s. CanBeRun s.commands.items) }
 {
@@ -130,7 +130,7 @@ fn commands_that_are_no_requests(rt: HostRuntime) -> Result<(), Fail> {
             Short::No(Refusal::Denied),
             Short::Got,
             Short::No(Refusal::NoSuchBlock),
-            Short::Bad,
+            Short::Got,
             Short::Bad,
             Short::User,
             Short::Got,

@@ -144,7 +144,7 @@ fn runs_that_cannot_be(rt: HostRuntime) -> Result<(), Fail> {
 }
 
 /// The help names each word, each command and each status.
-const HELP: [&str; 20] = [
+const HELP: [&str; 21] = [
     "[IMAGE]",
     "--limit <N>",
     "--stamp <S>",
@@ -163,6 +163,7 @@ const HELP: [&str; 20] = [
     "LIST ",
     "STAT ",
     "SETUSER ",
+    "VIEW ",
     "status",
     "standard input",
 ];

@@ -1,5 +1,5 @@
 use Rattle.std.proofs.Common.{arith}
-use Rattle.ods_share.proofs.Handles.{Handle, one_longer, tied_snoc}
+use Rattle.ods_share.proofs.Handles.{Handle, one_at_most, one_longer, tied_snoc}
 use Rattle.ods_share.proofs.threads.all_begun.Goals as goal
 
 pub loop-script-preserved : goal.loop-script-preserved
@@ -14,4 +14,5 @@ loop-script-preserved g c =
       λ k d s lt.
           tied_snoc c.args.scripts.now c.args.stamp.now c.loop-script.handles.items c.hold.new.handles.items h c.loop-script.script-index c.script-item.result
           items inv.2 (omega arith) c.script-item.is c.in_ok-handle.ensures (λ j e t below. inv.3 j e t (omega arith)) k d s (omega arith),
+      (let few = one_at_most c.next.result in omega (arith, few, c.next.ensures.len, inv.4)),
     )

@@ -26,8 +26,8 @@ impl<J: Naming> Model for Told<J> {
 }
 
 impl<J: Naming> Told<J> {
-    /// The list of this volume.
-    pub(crate) fn of(volume: &Volume) -> Told<J>
+    /// The list of this volume. A desk makes it, for its callers.
+    pub fn of(volume: &Volume) -> Told<J>
         ensures { result ≡ volume.now.entries }
     {
         Told {
@@ -46,7 +46,7 @@ impl<J: Naming> Told<J> {
 }
 
 /// How many requests the volume accepted: no more than its limit.
-pub(crate) fn entry_count(volume: &Volume) -> u32
+pub fn entry_count(volume: &Volume) -> u32
     ensures { result ≡ length volume.now.entries }
 {
     volume.is_lawful();

@@ -1,0 +1,10 @@
+-- The number and the name of each fault of this crate, as they are printed.
+use Rattle.std.specs.Prelude.{ℕ, List, codes}
+use Rattle.ods_request.specs.Refusals.{refusal_row}
+use Rattle.ods_views.specs.declared.viewer.ViewFault.{ViewFault}
+use Rattle.ods_views.specs.declared.viewer.ViewFault.TheVariants as view
+
+-- of a query that a viewer does not answer
+abbrev pub view_row : ViewFault → ℕ × List ℕ
+view_row (view.Refused refusal) = refusal_row refusal
+view_row view.Closed = (61, codes "Closed")

@@ -1,0 +1,132 @@
+//! Who looks beside the lock.
+ghost use Rattle.std.specs.Prelude.{◌≡◌, max, length, MatchResult};
+ghost use Rattle.left_right.specs.Sides.{view};
+ghost use Rattle.ods_request.specs.Lists.{Begins};
+ghost use Rattle.ods_views.specs.Versions.{LookedFrom};
+ghost use Rattle.ods_views.specs.Viewers.{Asked, IsShown, newly, seen_by};
+ghost use Rattle.ods_views.specs.Refusals.{view_row};
+ghost use Rattle.ods_mount.specs.Sound.{IsSoundBy};
+
+use crate::laws::answers_by_the_list;
+use crate::naming::Naming;
+use crate::rule::{Asking, Lists, Looks, View};
+use crate::told::Told;
+use crate::version::Version;
+use left_right::reader::{Reader, Reading};
+use ods_base::{Coded, Row, Uic};
+use ods_look::look;
+use ods_request::{Answer, Query, Refusal};
+use std::marker::{Brand, Model};
+use thiserror::Error;
+
+pub type DeskReader<J> = Reader<Version, View, Lists<J>>;
+
+/// Why a viewer does not answer a query.
+#[derive(Clone, Copy, PartialEq, Eq, Debug, Error)]
+pub enum ViewFault {
+    /// The first fault of the query, by the list that the viewer then has.
+    #[error("{0}")]
+    Refused(Refusal),
+    /// There is no version to look at any more, or none with so many entries as the viewer was told of.
+    #[error("Closed")]
+    Closed,
+}
+
+impl Coded for ViewFault {
+    fn row(&self) -> Row {
+        match self {
+            ViewFault::Refused(refusal) => refusal.row(),
+            ViewFault::Closed => Row(61, "Closed"),
+        }
+    }
+
+    ghost row_of = { view_row };
+}
+
+/// Looks at the volume of a desk with this name, beside the lock. Contracts see the entries that it has seen, and of how many it was told.
+#[derive(Drop)]
+pub struct Viewer<J: Naming> {
+    reader: Option<DeskReader<J>>,
+    least: u64,
+}
+
+impl<J: Naming> Model for Viewer<J> {
+    ghost use Rattle.std.specs.Prelude.{[], MatchOption};
+    ghost use Rattle.std.specs.Option.{option_map_or};
+    ghost use Rattle.ods_views.specs.Viewers.{Viewed, seen_by};
+
+    ghost Value = { Viewed };
+
+    ghost view = { λ v. record { seen = option_map_or (λ r. seen_by r.place) v.reader []; least = v.least } };
+
+    ghost invariant = { λ v. MatchOption v.reader ⊥ (λ _. Unit {0}) };
+}
+
+impl<J: Naming> Viewer<J> {
+    /// The viewer at a reader's place, which was told of so many entries. A desk makes it.
+    pub fn over(reader: DeskReader<J>, least: u64) -> Viewer<J>
+        ensures { result ≡ record { seen = seen_by reader.place; least = least } }
+    {
+        Viewer {
+            reader: Some(reader),
+            least,
+        }
+    }
+
+    /// From now on it answers from no fewer entries than it was told of: there are so many in the list that it then has seen.
+    pub fn learn(&mut self, told: Told<J>)
+        ensures { self.new ≡ record self.old { least = max self.old.least (length told) } }
+    {
+        self.least = self.least.max(u64::from(told.entries()));
+    }
+
+    /// Answers from the version that is published now. It waits for nobody and takes no memory.
+    pub fn ask(&mut self, who: Uic, query: Query) -> Result<Answer, ViewFault>
+        ensures later { Begins self.old.seen self.new.seen }
+        ensures least { self.new.least ≡ self.old.least }
+        ensures answer { Asked J.mounted self.old self.new who query result }
+    {
+        let least = self.least;
+        let reader = self.reader.take().unwrap();
+        match entered::<J, Brand>(reader, least) {
+            Ok(reading) => {
+                let version = reading.get();
+                if version.count < least {
+                    self.reader = Some(reading.leave());
+                    return Err(ViewFault::Closed);
+                }
+                let found = shown(version, who, query);
+                self.reader = Some(reading.leave());
+                found
+            }
+            Err(reader) => {
+                self.reader = Some(reader);
+                Err(ViewFault::Closed)
+            }
+        }
+    }
+}
+
+/// What a version answers.
+fn shown(version: &Version, who: Uic, query: Query) -> Result<Answer, ViewFault>
+    requires { IsSoundBy version.now.image version.now.layout }
+    ensures { IsShown version.now who query result }
+{
+    answers_by_the_list();
+    match look(&version.image, &version.layout, who, query) {
+        Ok(answer) => Ok(answer),
+        Err(refusal) => Err(ViewFault::Refused(refusal)),
+    }
+}
+
+/// Takes the version that is published. Its list is learnt only where it has so many entries.
+fn entered<J: Naming, N: Asking>(
+    reader: DeskReader<J>,
+    least: u64,
+) -> Result<Reading<Version, View, Lists<J>>, DeskReader<J>>
+    requires { least ≡ N.least }
+    ensures { MatchResult result (λ r. LookedFrom least J.mounted (view reader.place) r.part.value r.part.value (view r.place)) (λ r. view r.place ≡ view reader.place) }
+{
+    let _ = least;
+    reader.enter_as::<Looks<J, N>>()
+}

@@ -1,0 +1,82 @@
+//! The writer of a desk: how it begins, gets a change and shows it.
+ghost use Rattle.std.specs.Prelude.{◌≡◌, ◌<◌, ◌≤◌, ◌++◌, ◌∷◌, [], drop, fold, length, IfOk, MatchResult};
+ghost use Rattle.ods_views.specs.Versions.{led_on};
+ghost use Rattle.ods_views.specs.Viewers.{IsTied, seen_by};
+
+use crate::naming::Naming;
+use crate::rule::{Adding, Adds, Lists, View};
+use crate::version::{Change, Version};
+use left_right::writer::Writer;
+use ods_volume::{Prepared, Volume};
+use std::alloc::{AllocError, Global};
+use std::snapshot::Snapshot;
+use std::sync::Wait;
+
+/// The writer of a desk with this name.
+pub type DeskWriter<J> = Writer<Version, Change, View, Lists<J>>;
+
+/// The writer over two copies of the volume's blocks.
+pub fn opened<J: Naming>(
+    alloc: Global,
+    volume: &Volume,
+    places: usize,
+) -> Result<DeskWriter<J>, AllocError>
+    requires places { (0 < places) × (places ≤ 8) }
+    requires named { (volume.now.mounted ≡ J.mounted) × (volume.now.entries ≡ J.opening) }
+    ensures { IfOk result (λ w. IsTied w.desk.place w.desk.shown.value (drop w.behind w.log.items) volume.now) }
+{
+    let count = volume.entries().len() as u64;
+    let first = volume.image().copy()?;
+    let second = volume.image().copy()?;
+    let one = volume.layout().copy()?;
+    let two = volume.layout().copy()?;
+    Writer::new(
+        alloc,
+        Version {
+            image: first,
+            layout: one,
+            count,
+        },
+        Version {
+            image: second,
+            layout: two,
+            count,
+        },
+        places,
+    )
+}
+
+/// The writer with this change pending, or as it was where there is no memory.
+pub fn added<J: Naming>(
+    writer: DeskWriter<J>,
+    change: Change,
+) -> Result<DeskWriter<J>, DeskWriter<J>>
+    requires { drop writer.behind writer.log.items ≡ [] }
+    ensures { MatchResult result (λ w. (w.desk ≡ writer.desk) × (drop w.behind w.log.items ≡ change ∷ [])) (λ w. (w.desk ≡ writer.desk) × (drop w.behind w.log.items ≡ [])) }
+{
+    let mut writer = writer;
+    match writer.append(change) {
+        Ok(()) => Ok(writer),
+        Err(_) => Err(writer),
+    }
+}
+
+/// Shows the pending change, which leads to the blocks of this volume, whose last entry this plan has.
+pub fn published<J: Naming, N: Adding, R: Wait>(
+    rt: &R,
+    writer: DeskWriter<J>,
+    plan: Snapshot<Prepared>,
+    volume: &Volume,
+) -> DeskWriter<J>
+    requires named { plan.value.entry ≡ N.entry }
+    requires volume { (volume.now.mounted ≡ J.mounted) × (volume.now.entries ≡ seen_by writer.desk.place ++ plan.value.entry ∷ []) }
+    requires before { length (seen_by writer.desk.place) ≡ writer.desk.shown.value.count }
+    requires pending { let next = fold led_on writer.desk.shown.value (drop writer.behind writer.log.items) in (next.count ≡ length volume.now.entries) × (next.image ≡ volume.now.image) × (next.layout ≡ volume.now.layout) }
+    ensures { IsTied result.desk.place result.desk.shown.value (drop result.behind result.log.items) volume.now }
+{
+    let _ = plan;
+    let _ = volume.image();
+    let (writer, done) = writer.publish_as::<Adds<N>, R>(rt);
+    let _ = done;
+    writer
+}
