@@ -7,7 +7,7 @@ mod out_file;
 mod served;
 
 use headers::print_header;
-use ods_cli::{ServeFault, WRONG_WORDS, WordsFault, parse_words};
+use ods_cli::{Run, ServeFault, WRONG_WORDS, WordsFault, parse_words, run_for};
 use served::{ServedFault, serve_bare, serve_words};
 use std::process::ExitCode;
 use std::rt::{Env, Files};
@@ -39,16 +39,11 @@ fn run<R: Env + Files + Input + AllocGlobal + Print + Eprint + Threads + Wait + 
         Err(_) => return Err(ServeFault::NoMemory),
     };
     match parse_words(rt.alloc(), words.as_slice()) {
-        Ok(found) => match found.header {
-            Some(number) => print_header(rt, found.image, number),
-            None => answered(
-                rt,
-                if words.is_empty() {
-                    serve_bare(rt, &found)
-                } else {
-                    serve_words(rt, &found)
-                },
-            ),
+        Ok(found) => match run_for(&found) {
+            Run::SampleHeader(number) => print_header(rt, None, number),
+            Run::ImageHeader(path, number) => print_header(rt, Some(path), number),
+            Run::Input => answered(rt, serve_bare(rt, &found)),
+            Run::Scripts => answered(rt, serve_words(rt, &found)),
         },
         Err(WordsFault::Help(text)) => match print!(rt; "{text}") {
             Ok(()) => Ok(ExitCode::SUCCESS),

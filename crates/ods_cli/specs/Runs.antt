@@ -1,5 +1,7 @@
 -- What the words of the command line may ask for.
-use Rattle.std.specs.Prelude.{ℕ, ◌≤◌}
+use Rattle.std.specs.Prelude.{ℕ, ◌≤◌, Unit}
+use Rattle.ods_cli.specs.declared.runs.Run.{Run}
+use Rattle.ods_cli.specs.declared.runs.Run.TheVariants.{SampleHeader, ImageHeader, Input, Scripts}
 
 -- the headers that a run can print: 1 to 16
 abbrev pub IsHeaderNumber : ℕ → Type 0
@@ -8,3 +10,10 @@ IsHeaderNumber n = (1 ≤ n) × (n ≤ 16)
 -- how many requests a run can accept at most: 1 to 65,536
 abbrev pub IsLimit : ℕ → Type 0
 IsLimit n = (1 ≤ n) × (n ≤ 65536)
+
+-- a run that prints a header asks for one that can be printed
+abbrev pub AsksForOne : Run → Type 0
+AsksForOne (SampleHeader number) = IsHeaderNumber number
+AsksForOne (ImageHeader path number) = IsHeaderNumber number
+AsksForOne Input = Unit {0}
+AsksForOne Scripts = Unit {0}

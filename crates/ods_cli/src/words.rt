@@ -1,5 +1,5 @@
 //! The words of the command line: `f11 [IMAGE] [--limit N] [--stamp S] [--out FILE] [--header N] [SCRIPT..]`.
-ghost use Rattle.std.specs.Prelude.{◌≤◌, IfOk, IfSome, vec_len};
+ghost use Rattle.std.specs.Prelude.{◌≡◌, ◌==◌, ◌≤◌, IfOk, IfSome, length, vec_len};
 ghost use Rattle.ods_cli.specs.Runs.{IsHeaderNumber, IsLimit};
 
 use clap::error::ErrorKind;
@@ -32,6 +32,8 @@ pub struct Words<'a> {
     pub out: Option<&'a str>,
     /// The paths of at most 8 scripts.
     pub scripts: Vec<&'a str>,
+    /// There is no word at all.
+    pub is_bare: bool,
 }
 
 /// Why the words ask for nothing.
@@ -55,18 +57,24 @@ pub fn parse_words<'a, S: AsStr>(alloc: Global, words: &'a [S]) -> Result<Words<
     ensures header { IfOk result (λ words. IfSome words.header IsHeaderNumber) }
     ensures limit { IfOk result (λ words. IsLimit words.limit) }
     ensures scripts { IfOk result (λ words. vec_len words.scripts ≤ 8) }
+    ensures bare { IfOk result (λ found. found.is_bare ≡ (length words.now == 0)) }
 {
     match matches(alloc, words) {
-        Ok(matches) => found_words(alloc, &matches),
+        Ok(matches) => found_words(alloc, &matches, words.is_empty()),
         Err(error) => Err(told(alloc, &error)?),
     }
 }
 
 /// What the words ask for, by what clap found in them.
-fn found_words<'a>(alloc: Global, matches: &ArgMatches<'a>) -> Result<Words<'a>, WordsFault>
+fn found_words<'a>(
+    alloc: Global,
+    matches: &ArgMatches<'a>,
+    is_bare: bool,
+) -> Result<Words<'a>, WordsFault>
     ensures header { IfOk result (λ words. IfSome words.header IsHeaderNumber) }
     ensures limit { IfOk result (λ words. IsLimit words.limit) }
     ensures scripts { IfOk result (λ words. vec_len words.scripts ≤ 8) }
+    ensures bare { IfOk result (λ words. words.is_bare ≡ is_bare) }
 {
     let scripts = script_paths(alloc, matches)?;
     let given = matches.get_str("stamp").unwrap_or(STAMP);
@@ -83,6 +91,7 @@ fn found_words<'a>(alloc: Global, matches: &ArgMatches<'a>) -> Result<Words<'a>,
         stamp,
         out: matches.get_str("out"),
         scripts,
+        is_bare,
     })
 }
 

@@ -1,5 +1,5 @@
 //! The words of the command line, and the texts of help and of wrong words.
-use ods_cli::{Words, WordsFault, parse_words};
+use ods_cli::{Run, Words, WordsFault, parse_words, run_for};
 use ods_request::Stamp;
 use std::alloc::Global;
 use std::test::Fail;
@@ -20,13 +20,13 @@ fn asked<'a>(
         stamp: Stamp::parse(STAMP.as_bytes()).ok_or("a stamp")?,
         out: None,
         scripts: Vec::new(alloc),
+        is_bare: false,
     })
 }
 
 #[test]
 fn words_that_are_right(rt: HostRuntime) -> Result<(), Fail> {
     for (words, image, header) in [
-        ([].as_slice(), None, None),
         (["a.dsk"].as_slice(), Some("a.dsk"), None),
         (["--header", "1"].as_slice(), None, Some(1)),
         (["--header=16"].as_slice(), None, Some(16)),
@@ -45,6 +45,24 @@ fn words_that_are_right(rt: HostRuntime) -> Result<(), Fail> {
         let found = parse_words(rt.alloc(), words).ok().ok_or("wrong words")?;
         let wanted = asked(rt.alloc(), image, header)?;
         assert!(rt; found == wanted, "{words:?}");
+    }
+    Ok(())
+}
+
+#[test]
+fn runs_that_words_ask_for(rt: HostRuntime) -> Result<(), Fail> {
+    for (words, run) in [
+        ([].as_slice(), Run::Input),
+        (["--header", "16"].as_slice(), Run::SampleHeader(16)),
+        (
+            ["--header", "2", "a.dsk"].as_slice(),
+            Run::ImageHeader("a.dsk", 2),
+        ),
+        (["a.dsk"].as_slice(), Run::Scripts),
+        (["--limit", "1"].as_slice(), Run::Scripts),
+    ] {
+        let found = parse_words(rt.alloc(), words).ok().ok_or("wrong words")?;
+        assert!(rt; run_for(&found) == run, "{words:?}");
     }
     Ok(())
 }
