@@ -1,5 +1,5 @@
 -- What the words of the command line may ask for.
-use Rattle.std.specs.Prelude.{ℕ, ◌≤◌, Unit}
+use Rattle.std.specs.Prelude.{ℕ, ◌≤◌}
 use Rattle.ods_cli.specs.declared.runs.Run.{Run}
 use Rattle.ods_cli.specs.declared.runs.Run.TheVariants.{SampleHeader, ImageHeader, Input, Scripts}
 
