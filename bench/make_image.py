@@ -28,6 +28,7 @@ def parse_words():
     parser.add_argument("--most-files", type=int, default=12_000, help="H.FMAX, headers that the index file has")
     parser.add_argument("--scattered", type=int, default=100, help="files in pieces of one or two blocks")
     parser.add_argument("--pieces", type=int, default=150, help="pieces of a scattered file")
+    parser.add_argument("--packed", action="store_true", help="leave no free blocks between the pieces of files")
     parser.add_argument("--tree", help="also puts the plain files into this folder, for another file system")
     return parser.parse_args()
 
@@ -192,7 +193,7 @@ class Volume:
             for i, size in enumerate(split(left, count - words.scattered))
         ]
         pieces = sum(map(len, plain))
-        gap = (words.blocks - self.space.next - blocks) // max(1, pieces)
+        gap = 0 if words.packed else (words.blocks - self.space.next - blocks) // max(1, pieces)
         return [
             File(first + i, f"F{first + i:05d}", "DAT", [self.space.take(size, gap) for size in sizes])
             for i, sizes in enumerate(plain)

@@ -111,6 +111,12 @@ onto /dev/full good.dsk --header 1
 onto /dev/full empty.dsk
 onto /dev/full --help
 
+echo '# replies that fail: no image is written'
+echo 'CREATE A.TXT 1' >create
+into_closed_pipe good.dsk create --out new.dsk
+onto /dev/full good.dsk create --out new.dsk
+[ ! -e new.dsk ] && echo 'no new.dsk'
+
 echo '# no memory for the image: 256 MiB, where 128 may be used'
 dd if=/dev/zero of=large.dsk bs=1 count=0 seek=268435456 2>/dev/null
 (ulimit -v 131072 && apart large.dsk)

@@ -55,10 +55,17 @@ fn run<R: Env + Files + Input + AllocGlobal + Print + Eprint + Threads + Wait + 
 }
 
 /// How a run ends that was to serve scripts.
-fn answered(rt: &impl Eprint, answer: Result<(), ServedFault>) -> Result<ExitCode, ServeFault> {
+fn answered(rt: &impl Eprint, answer: Result<(), ServedFault<'_>>) -> Result<ExitCode, ServeFault> {
     match answer {
         Ok(()) => Ok(ExitCode::SUCCESS),
-        Err(ServedFault::TooLarge) => Ok(wrong(rt, "error: a script has more than 1048576 bytes")),
+        Err(ServedFault::TooLarge(Some(path))) => {
+            let _ = eprintln!(rt; "error: script '{path}' has more than 1048576 bytes");
+            Ok(ExitCode::from(WRONG_WORDS))
+        }
+        Err(ServedFault::TooLarge(None)) => Ok(wrong(
+            rt,
+            "error: the script on standard input has more than 1048576 bytes",
+        )),
         Err(ServedFault::Fault(fault)) => Err(fault),
     }
 }

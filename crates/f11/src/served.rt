@@ -15,31 +15,24 @@ use std::{fs, io};
 
 /// Why scripts are not served to the end.
 #[derive(Clone, Copy)]
-pub enum ServedFault {
-    /// A script has too many bytes.
-    TooLarge,
+pub enum ServedFault<'a> {
+    /// The script at this path has too many bytes; with no path, the one on standard input.
+    TooLarge(Option<&'a str>),
     Fault(ServeFault),
 }
 
-impl From<ServeFault> for ServedFault {
-    fn from(fault: ServeFault) -> ServedFault {
-        ServedFault::Fault(fault)
-    }
-}
-
-impl From<AllocError> for ServedFault {
-    fn from(_error: AllocError) -> ServedFault {
+impl<'a> From<AllocError> for ServedFault<'a> {
+    fn from(_error: AllocError) -> ServedFault<'a> {
         ServedFault::Fault(ServeFault::NoMemory)
     }
 }
 
-impl From<ScriptFault> for ServedFault {
-    fn from(fault: ScriptFault) -> ServedFault {
-        match fault {
-            ScriptFault::Read => ServedFault::Fault(ServeFault::Read),
-            ScriptFault::TooLarge => ServedFault::TooLarge,
-            ScriptFault::NoMemory => ServedFault::Fault(ServeFault::NoMemory),
-        }
+/// Why the script at this path, or on standard input, is not read.
+fn script_fault<'a>(path: Option<&'a str>, fault: ScriptFault) -> ServedFault<'a> {
+    match fault {
+        ScriptFault::Read => ServedFault::Fault(ServeFault::Read),
+        ScriptFault::TooLarge => ServedFault::TooLarge(path),
+        ScriptFault::NoMemory => ServedFault::Fault(ServeFault::NoMemory),
     }
 }
 
@@ -56,22 +49,25 @@ impl Gate for Open {
 }
 
 /// Serves one script from standard input.
-pub fn serve_bare<R: Files + Input + AllocGlobal + Print + Threads + Wait + Sync>(
+pub fn serve_bare<'a, R: Files + Input + AllocGlobal + Print + Threads + Wait + Sync>(
     rt: &R,
-    words: &Words<'_>,
-) -> Result<(), ServedFault>
+    words: &Words<'a>,
+) -> Result<(), ServedFault<'a>>
     requires { IsLimit words.now.limit }
 {
     let mut scripts = Vec::new(rt.alloc());
-    add_script(&mut scripts, read_script(rt.alloc(), &mut rt.reader())?)?;
+    match read_script(rt.alloc(), &mut rt.reader()) {
+        Ok(script) => add_script(&mut scripts, script)?,
+        Err(fault) => return Err(script_fault(None, fault)),
+    }
     serve_scripts(rt, words, scripts.as_slice())
 }
 
 /// Serves the scripts that the words name.
-pub fn serve_words<R: Files + AllocGlobal + Print + Threads + Wait + Sync>(
+pub fn serve_words<'a, R: Files + AllocGlobal + Print + Threads + Wait + Sync>(
     rt: &R,
-    words: &Words<'_>,
-) -> Result<(), ServedFault>
+    words: &Words<'a>,
+) -> Result<(), ServedFault<'a>>
     requires limit { IsLimit words.now.limit }
     requires few { vec_len words.now.scripts ≤ 8 }
 {
@@ -80,18 +76,31 @@ pub fn serve_words<R: Files + AllocGlobal + Print + Threads + Wait + Sync>(
 }
 
 /// The scripts at these paths.
-fn script_files<R: Files + AllocGlobal>(rt: &R, paths: &[&str]) -> Result<Vec<Script>, ServedFault>
+fn script_files<'a, R: Files + AllocGlobal>(
+    rt: &R,
+    paths: &[&'a str],
+) -> Result<Vec<Script>, ServedFault<'a>>
     ensures count { IfOk result (λ scripts. vec_len scripts ≤ length paths.now) }
     ensures can { IfOk result (λ scripts. All (λ s. CanBeRun s.commands.items) scripts.items) }
 {
     let mut scripts = Vec::new(rt.alloc());
     for path in paths {
-        match fs::open(rt, *path) {
-            Ok(mut file) => add_script(&mut scripts, read_script(rt.alloc(), &mut file)?)?,
-            Err(_) => return Err(ServedFault::Fault(ServeFault::Read)),
-        }
+        add_script(&mut scripts, script_file(rt, *path)?)?;
     }
     Ok(scripts)
+}
+
+/// The script at this path.
+fn script_file<'a, R: Files + AllocGlobal>(rt: &R, path: &'a str) -> Result<Script, ServedFault<'a>>
+    ensures { IfOk result (λ s. CanBeRun s.commands.items) }
+{
+    match fs::open(rt, path) {
+        Ok(mut file) => match read_script(rt.alloc(), &mut file) {
+            Ok(script) => Ok(script),
+            Err(fault) => Err(script_fault(Some(path), fault)),
+        },
+        Err(_) => Err(ServedFault::Fault(ServeFault::Read)),
+    }
 }
 
 /// Puts a script behind the others.
@@ -108,11 +117,11 @@ fn add_script(scripts: &mut Vec<Script>, script: Script) -> Result<(), AllocErro
 }
 
 /// Serves the scripts on the image that the words name, or on the sample volume of 40 blocks.
-fn serve_scripts<R: Files + AllocGlobal + Print + Threads + Wait + Sync>(
+fn serve_scripts<'a, R: Files + AllocGlobal + Print + Threads + Wait + Sync>(
     rt: &R,
-    words: &Words<'_>,
+    words: &Words<'a>,
     scripts: &[Script],
-) -> Result<(), ServedFault>
+) -> Result<(), ServedFault<'a>>
     requires limit { IsLimit words.now.limit }
     requires few { length scripts.now ≤ 8 }
     requires can { All (λ s. CanBeRun s.commands.items) scripts.now }
@@ -130,12 +139,12 @@ fn serve_scripts<R: Files + AllocGlobal + Print + Threads + Wait + Sync>(
 }
 
 /// Serves the scripts on the image that a reader gives.
-fn serve_image<I: Read, R: Files + AllocGlobal + Print + Threads + Wait + Sync>(
+fn serve_image<'a, I: Read, R: Files + AllocGlobal + Print + Threads + Wait + Sync>(
     rt: &R,
-    words: &Words<'_>,
+    words: &Words<'a>,
     image: &mut I,
     scripts: &[Script],
-) -> Result<(), ServedFault>
+) -> Result<(), ServedFault<'a>>
     requires limit { IsLimit words.now.limit }
     requires few { length scripts.now ≤ 8 }
     requires can { All (λ s. CanBeRun s.commands.items) scripts.now }

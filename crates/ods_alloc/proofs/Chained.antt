@@ -124,30 +124,35 @@ module _ (I C : List (List ℕ)) (L : VolumeLayout) (n : ℕ) (others all : List
   pub last_valid : IsValidHeader (header_at I L (last_of n others)) (last_of n others)
   last_valid = valid_by (last_of n others) (length others) last_link
 
--- The header that is found as the last one of a chain that can grow.
+-- What is known of the last header of a chain that can grow.
 pub record IsLastFound (I : List (List ℕ)) (L : VolumeLayout) (n : ℕ) (others numbers : List ℕ) (last : ℕ) : Type 0 where
-  pub is : last ≡ last_of n others
   pub first : IsValidHeader (header_at I L n) n
   pub valid : IsValidHeader (header_at I L last) last
   pub new : Contains numbers last → ⊥
   pub segment : segment_of (header_at I L last) ≡ length others
 
 pub last_found : (I : List (List ℕ)) (L : VolumeLayout) (n : ℕ) (others all blocks numbers : List ℕ) (last : ℕ) → IsWellPlaced L → IsChain (with_in_use I L.home n) L n others all → CanExtend I L n others blocks numbers
-    → ((C : List (List ℕ)) (os bs : List ℕ) → ((m : ℕ) → header_at C L m ≡ header_at I L m) → length os < 256 → IsChain C L n os bs → last ≡ last_of n os) → IsLastFound I L n others numbers last
-last_found I L n others all blocks numbers last places chain grows find =
+    → last ≡ last_of n others → IsLastFound I L n others numbers last
+last_found I L n others all blocks numbers last places chain grows is =
     let C : List (List ℕ) = with_in_use I L.home n in
-    let few = grows.segments in
     let low = grows.file in
     let high : 2 ≤ n = omega arith in
     let same = same_header I C L n others all places high refl chain in
-    let is = find C others all same (omega arith) chain in
     let link = last_link I C L n others all places high refl chain in
     let P : ℕ → Type 0 = λ x. IsValidHeader (header_at I L x) x in
     let Q : ℕ → Type 0 = λ x. Contains numbers x in
     record {
-      is = is;
       first = first_valid I C L n others all places high refl chain;
       valid = subst P (sym is) (last_valid I C L n others all places high refl chain);
       new = λ among. not_new I C L n others all places high refl chain numbers grows.free grows.new (last_of n others) (length others) link (subst Q is among);
       segment = ap (λ x. segment_of (header_at I L x)) is ∙ ap segment_of (sym (same (last_of n others))) ∙ link.segment;
     }
+
+-- a walk finds the last header of a chain that can grow
+pub last_walked : (I : List (List ℕ)) (L : VolumeLayout) (n : ℕ) (others all blocks numbers : List ℕ) (last : ℕ) → IsWellPlaced L → IsChain (with_in_use I L.home n) L n others all → CanExtend I L n others blocks numbers
+    → ((C : List (List ℕ)) (os bs : List ℕ) → ((m : ℕ) → header_at C L m ≡ header_at I L m) → length os < 256 → IsChain C L n os bs → last ≡ last_of n os) → last ≡ last_of n others
+last_walked I L n others all blocks numbers last places chain grows find =
+    let few = grows.segments in
+    let low = grows.file in
+    let high : 2 ≤ n = omega arith in
+    find (with_in_use I L.home n) others all (same_header I (with_in_use I L.home n) L n others all places high refl chain) (omega arith) chain

@@ -1,5 +1,5 @@
 -- Headers deleted one after another, and then the bits of their numbers and of blocks.
-use Rattle.std.proofs.Common.{◌≡◌, ◌≢◌, ℕ, ◌+◌, ◌/◌, ◌%◌, ◌<◌, true, false, cond, not, ◌&&◌, ◌||◌, IsTrue, List, [], ◌∷◌, ◌++◌, length, get_or, slice_index, Option, Some, None, refl, sym, ap, ◌∙◌, subst, arith, inl, inr}
+use Rattle.std.proofs.Common.{◌≡◌, ◌≢◌, ℕ, ◌+◌, ◌/◌, ◌%◌, ◌<◌, true, false, not, ◌&&◌, ◌||◌, IsTrue, List, [], ◌∷◌, ◌++◌, length, get_or, slice_index, Option, Some, None, refl, sym, ap, ◌∙◌, subst, arith, inl, inr}
 use Rattle.std.specs.Option.{option_map_or}
 use Rattle.std.specs.List.{Contains}
 use Rattle.std.proofs.lemmas.Bool.{cases_eq, ltb-true}
@@ -12,7 +12,7 @@ use Rattle.ods_space.specs.Free.{is_covered, storage_bit}
 use Rattle.ods_space.specs.Draft.{Changes, applied, seen_at}
 use Rattle.ods_space.proofs.Drafts.{block_at-applied}
 use Rattle.ods_header.specs.Writing.{deleted}
-use Rattle.ods_alloc.specs.Extend.{IsWellPlaced, IsIndexBitmap, IsStorageBitmap, IsHeaderPlace, GivesBack, is_one_of}
+use Rattle.ods_alloc.specs.Extend.{ChangesOnly, GivesBack, GivesBits, IsBookkeeping, IsWellPlaced, IsIndexBitmap, IsStorageBitmap, IsHeaderPlace, is_one_of}
 use Rattle.ods_alloc.specs.Marks.{MarksBlocks, MarksNumbers, Deletes}
 use Rattle.ods_alloc.proofs.OneBit.{size_put, put_same, put_other}
 use Rattle.ods_alloc.proofs.ManyBits.{numbers_marked, cond_or, cond_and}
@@ -53,46 +53,71 @@ one_deleted I old d e L xs x lbn b c inside found read makes is before =
           ap (λ J. block_at J at) now ∙ put_other I d lbn c at other ∙ before.others at (λ p. away (p.0, Contains-append_left xs (x ∷ []) p.0 p.1, p.2));
     }
 
-module _ (I J K M : List (List ℕ)) (L : VolumeLayout) (blocks numbers : List ℕ) (places : IsWellPlaced L)
-    (headers : Deletes I L numbers J) (free_numbers : MarksNumbers J L numbers false K) (free_blocks : MarksBlocks K L blocks true M) where
-  -- a block that no bit of these steps changes
+-- The bits of numbers and of blocks marked as free.
+module _ (J K M : List (List ℕ)) (L : VolumeLayout) (blocks numbers : List ℕ) (places : IsWellPlaced L)
+    (free_numbers : MarksNumbers J L numbers false K) (free_blocks : MarksBlocks K L blocks true M) where
+  storage_stays : (x : ℕ) → IsTrue (is_covered L x) → storage_bit K L x ≡ storage_bit J L x
+  storage_stays x covered =
+      let lbn : ℕ = slice_index L.bitmap (1 + x / 4096) in
+      let stands : IsStorageBitmap L lbn = stands_in_storage L x (ltb-true (1 + x / 4096) (length L.bitmap) covered) in
+      ap (λ b. has_bit b (x % 4096)) (free_numbers.others lbn (λ p. bitmaps_apart L lbn places p stands))
+
+  index_behind : (n : ℕ) → is_in_use M L.home n ≡ is_in_use K L.home n
+  index_behind n = same_in_use M K L (λ lbn index. free_blocks.others lbn (λ p. bitmaps_apart L lbn places index p)) n
+
+  given_number : (n : ℕ) → is_in_use M L.home n ≡ (is_in_use J L.home n && not (is_one_of numbers n))
+  given_number n = elim (cases_covered L n) [
+    | inl covered ↦ index_behind n ∙ numbers_marked J K L numbers false free_numbers n covered ∙ cond_and (is_one_of numbers n) (is_in_use J L.home n)
+    | inr past ↦ never_in_use M L n past ∙ ap (λ t. t && not (is_one_of numbers n)) (sym (never_in_use J L n past))
+  ]
+
+  pub gives_bits : GivesBits J L blocks numbers M
+  gives_bits = record {
+    storage = λ x covered. free_blocks.bits x covered ∙ cond_or (is_one_of blocks x) (storage_bit K L x) ∙ ap (λ t. t || is_one_of blocks x) (storage_stays x covered);
+    index_bits = given_number;
+  }
+
+  pub only_bits : ChangesOnly J L [] M
+  only_bits = record {
+    size = free_blocks.size ∙ free_numbers.size;
+    others = λ lbn away. free_blocks.others lbn (λ p. away (inr (inl p))) ∙ free_numbers.others lbn (λ p. away (inl p));
+  }
+
+-- Headers are deleted, and then bits are marked as free: so all is given back.
+module _ (I J M : List (List ℕ)) (L : VolumeLayout) (blocks numbers : List ℕ) (places : IsWellPlaced L)
+    (headers : Deletes I L numbers J) (bits : GivesBits J L blocks numbers M) (only : ChangesOnly J L [] M) where
+  -- a block that no bit changes
   kept_behind : (lbn : ℕ) → (IsIndexBitmap L lbn → ⊥) → (IsStorageBitmap L lbn → ⊥) → block_at M lbn ≡ block_at J lbn
-  kept_behind lbn a b = free_blocks.others lbn b ∙ free_numbers.others lbn a
+  kept_behind lbn a b = only.others lbn away
+    where
+      away : IsBookkeeping L [] lbn → ⊥
+      away (inl p) = a p
+      away (inr (inl p)) = b p
+      away (inr (inr p)) = let within = p.1.1 in absurd (omega arith)
 
   header_deleted : (n : ℕ) → Contains numbers n → (place : Option ℕ) → place_of L n ≡ place → option_map_or (block_at M) place [] ≡ deleted (option_map_or (block_at I) place [])
   header_deleted n among None found = refl
   header_deleted n among (Some lbn) found =
       kept_behind lbn (place_not_index L n lbn places found) (place_not_storage L n lbn places found) ∙ headers.headers n lbn among found
 
-  storage_stays : (x : ℕ) → IsTrue (is_covered L x) → storage_bit K L x ≡ storage_bit I L x
-  storage_stays x covered =
+  storage_before : (x : ℕ) → IsTrue (is_covered L x) → storage_bit J L x ≡ storage_bit I L x
+  storage_before x covered =
       let lbn : ℕ = slice_index L.bitmap (1 + x / 4096) in
       let stands : IsStorageBitmap L lbn = stands_in_storage L x (ltb-true (1 + x / 4096) (length L.bitmap) covered) in
-      ap (λ b. has_bit b (x % 4096)) (free_numbers.others lbn (λ p. bitmaps_apart L lbn places p stands) ∙ headers.others lbn (λ p. place_not_storage L p.0 lbn places p.2 stands))
+      ap (λ b. has_bit b (x % 4096)) (headers.others lbn (λ p. place_not_storage L p.0 lbn places p.2 stands))
 
   index_before : (n : ℕ) → is_in_use J L.home n ≡ is_in_use I L.home n
   index_before n = same_in_use J I L (λ lbn index. headers.others lbn (λ p. place_not_index L p.0 lbn places p.2 index)) n
-
-  index_behind : (n : ℕ) → is_in_use M L.home n ≡ is_in_use K L.home n
-  index_behind n = same_in_use M K L (λ lbn index. free_blocks.others lbn (λ p. bitmaps_apart L lbn places index p)) n
-
-  given_number : (n : ℕ) → is_in_use M L.home n ≡ (is_in_use I L.home n && not (is_one_of numbers n))
-  given_number n = elim (cases_covered L n) [
-    | inl covered ↦
-        index_behind n ∙ numbers_marked J K L numbers false free_numbers n covered ∙ ap (λ t. cond (is_one_of numbers n) false t) (index_before n)
-        ∙ cond_and (is_one_of numbers n) (is_in_use I L.home n)
-    | inr past ↦ never_in_use M L n past ∙ ap (λ t. t && not (is_one_of numbers n)) (sym (never_in_use I L n past))
-  ]
 
   pub gives_back : GivesBack I L blocks numbers M
   gives_back = record {
     headers = λ k d within. header_deleted (get_or numbers k d) (Contains-get_or numbers k d within) (place_of L (get_or numbers k d)) refl;
     bits = record {
-      storage = λ x covered. free_blocks.bits x covered ∙ cond_or (is_one_of blocks x) (storage_bit K L x) ∙ ap (λ t. t || is_one_of blocks x) (storage_stays x covered);
-      index_bits = given_number;
+      storage = λ x covered. bits.storage x covered ∙ ap (λ t. t || is_one_of blocks x) (storage_before x covered);
+      index_bits = λ n. bits.index_bits n ∙ ap (λ t. t && not (is_one_of numbers n)) (index_before n);
     };
     only = record {
-      size = free_blocks.size ∙ free_numbers.size ∙ headers.size;
+      size = only.size ∙ headers.size;
       others = λ lbn away. kept_behind lbn (λ p. away (inl p)) (λ p. away (inr (inl p))) ∙ headers.others lbn (λ p. away (inr (inr p)));
     };
   }

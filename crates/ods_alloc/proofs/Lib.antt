@@ -13,3 +13,5 @@ pub mod Extending
 pub mod WordBits
 pub mod Scans
 pub mod FreeTests
+pub mod Counted
+pub mod Recounted

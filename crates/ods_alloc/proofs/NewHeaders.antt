@@ -59,13 +59,13 @@ header_put_other I d L m lbn c away = by (place_of L m) refl
     by None e = refl
     by (Some p) e = put_other I d lbn c p (λ same. away (e ∙ ap Some same))
 
-pub none_made : (I : List (List ℕ)) (L : VolumeLayout) (f : List ℕ) (segment : ℕ) (numbers : List ℕ) (runs : List Run) → MakesHeaders I L f segment numbers runs 0 I
-none_made I L f segment numbers runs = record { size = refl; made = λ i below. absurd (omega arith); others = λ lbn away. refl }
+pub none_made : (I K : List (List ℕ)) (L : VolumeLayout) (f : List ℕ) (segment : ℕ) (numbers : List ℕ) (runs : List Run) → MakesHeaders I K L f segment numbers runs 0 K
+none_made I K L f segment numbers runs = record { size = refl; made = λ i below. absurd (omega arith); others = λ lbn away. refl }
 
-pub one_made : (I : List (List ℕ)) (B : List (List ℕ)) (d e : Changes) (L : VolumeLayout) (f : List ℕ) (segment : ℕ) (numbers : List ℕ) (runs : List Run) (k lbn : ℕ) (c : List ℕ) → IsWellPlaced L → IsStrictlyIncreasing numbers
+pub one_made : (I B K : List (List ℕ)) (d e : Changes) (L : VolumeLayout) (f : List ℕ) (segment : ℕ) (numbers : List ℕ) (runs : List Run) (k lbn : ℕ) (c : List ℕ) → IsWellPlaced L → IsStrictlyIncreasing numbers
     → k < length numbers → lbn < length I → place_of L (get_or numbers k 0) ≡ Some lbn → e ≡ (lbn, c) ∷ d → IsMade B L f (segment + k) (get_or numbers k 0) (take 102 (drop (102 * k) runs)) (drop (k + 1) numbers) c
-    → MakesHeaders B L f segment numbers runs k (applied I d) → MakesHeaders B L f segment numbers runs (k + 1) (applied I e)
-one_made I B d e L f segment numbers runs k lbn c places rises within inside found is made before =
+    → MakesHeaders B K L f segment numbers runs k (applied I d) → MakesHeaders B K L f segment numbers runs (k + 1) (applied I e)
+one_made I B K d e L f segment numbers runs k lbn c places rises within inside found is made before =
     let now : applied I e ≡ applied I ((lbn, c) ∷ d) = ap (applied I) is in
     let x : ℕ = get_or numbers k 0 in
     let Made : ℕ → List ℕ → Type 0 = λ i b. IsMade B L f (segment + i) (get_or numbers i 0) (take 102 (drop (102 * i) runs)) (drop (i + 1) numbers) b in

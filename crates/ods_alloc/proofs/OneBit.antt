@@ -1,5 +1,7 @@
 -- One bit of the block at an LBN.
-use Rattle.std.proofs.Common.{◌≡◌, ◌≢◌, ℕ, ◌<◌, Bool, cond, nat_eq, List, [], ◌∷◌, length, set, sym, ap, ◌∙◌, arith}
+use Rattle.std.proofs.Common.{◌≡◌, ◌≢◌, ◌⊎◌, ℕ, ◌<◌, refl, inl, inr, Bool, true, false, not, cond, nat_eq, List, [], ◌∷◌, length, set, sym, ap, ◌∙◌, arith}
+use mathlib.Core.Bool.{beq}
+use Rattle.std.proofs.lemmas.Bool.{cases_eq, eq-eqb, ne_eqb}
 use Rattle.std.proofs.lemmas.List.{get_or-set_same, get_or-set_other}
 use Rattle.ods_base.specs.Block.{has_bit}
 use Rattle.ods_base.specs.Bits.{HasBit}
@@ -22,6 +24,22 @@ put_same I d lbn b inside =
 
 pub put_other : (I : List (List ℕ)) (d : Changes) (lbn : ℕ) (b : List ℕ) (k : ℕ) → k ≢ lbn → block_at (applied I ((lbn, b) ∷ d)) k ≡ block_at (applied I d) k
 put_other I d lbn b k other = ap (λ J. block_at J k) (applied_put I d lbn b) ∙ get_or-set_other (applied I d) lbn k b [] other
+
+pub no_other : (a b : Bool) → not (beq a b) ≡ false → a ≡ b
+no_other true true e = refl
+no_other true false e = absurd (cc)
+no_other false true e = absurd (cc)
+no_other false false e = refl
+
+-- a bit that stands so already
+pub stands_so : (I : List (List ℕ)) (d : Changes) (lbn i : ℕ) (value : Bool) (b : List ℕ) → lbn < length I → b ≡ seen_at I d lbn → has_bit b i ≡ value → PutsBit (applied I d) lbn i value (applied I d)
+stands_so I d lbn i value b inside old so =
+    let now : block_at (applied I d) lbn ≡ b = block_at-applied I d lbn inside ∙ sym old in
+    record { size = refl; bit = λ j. ap (λ l. has_bit l j) now ∙ same j (cases_eq j i) ∙ ap (λ l. cond (nat_eq j i) value (has_bit l j)) (sym now); others = λ k other. refl }
+  where
+    same : (j : ℕ) → (j ≡ i) ⊎ (j ≢ i) → has_bit b j ≡ cond (nat_eq j i) value (has_bit b j)
+    same j (inl e) = ap (has_bit b) e ∙ so ∙ sym (ap (λ t. cond t value (has_bit b j)) (eq-eqb j i e))
+    same j (inr n) = sym (ap (λ t. cond t value (has_bit b j)) (ne_eqb j i n))
 
 -- one bit more in a draft
 pub puts_bit : (I : List (List ℕ)) (d e : Changes) (lbn i : ℕ) (value : Bool) (b c : List ℕ) → lbn < length I → b ≡ seen_at I d lbn → HasBit b i value c → applied I e ≡ applied I ((lbn, c) ∷ d) → PutsBit (applied I d) lbn i value (applied I e)

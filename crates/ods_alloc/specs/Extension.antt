@@ -29,11 +29,11 @@ pub record IsMade (I : List (List ℕ)) (L : VolumeLayout) (f : List ℕ) (segme
   pub next_number : next_number_of b ≡ first_number behind
   pub next_sequence : next_sequence_of b ≡ first_sequence I L behind
 
--- J is I with the first `count` of these extension headers made: each takes the next 102 of the runs, and the first has this segment
-pub record MakesHeaders (I : List (List ℕ)) (L : VolumeLayout) (f : List ℕ) (segment : ℕ) (numbers : List ℕ) (runs : List Run) (count : ℕ) (J : List (List ℕ)) : Type 0 where
-  pub size : length J ≡ length I
+-- J is K with the first `count` of these extension headers made, for a chain in I: each takes the next 102 of the runs, and the first has this segment
+pub record MakesHeaders (I K : List (List ℕ)) (L : VolumeLayout) (f : List ℕ) (segment : ℕ) (numbers : List ℕ) (runs : List Run) (count : ℕ) (J : List (List ℕ)) : Type 0 where
+  pub size : length J ≡ length K
   pub made : (i : ℕ) → i < count → IsMade I L f (segment + i) (slice_index numbers i) (take 102 (drop (102 * i) runs)) (drop (i + 1) numbers) (header_at J L (slice_index numbers i))
-  pub others : (lbn : ℕ) → ¬ IsHeaderPlace L numbers lbn → block_at J lbn ≡ block_at I lbn
+  pub others : (lbn : ℕ) → ¬ IsHeaderPlace L numbers lbn → block_at J lbn ≡ block_at K lbn
 
 -- J is I with the chain of file n, whose last header is z, grown by these headers: z has as many of the runs as have room and names the first of them, and each of them takes the next 102
 pub record WritesHeaders (I : List (List ℕ)) (L : VolumeLayout) (n z : ℕ) (numbers : List ℕ) (runs : List Run) (J : List (List ℕ)) : Type 0 where

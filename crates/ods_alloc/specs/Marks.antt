@@ -1,5 +1,5 @@
 -- Bits of bitmaps that are set or cleared, and headers that are deleted.
-use Rattle.std.specs.Prelude.{◌≡◌, ◌≢◌, ℕ, ◌+◌, ◌-◌, ◌*◌, ◌/◌, ◌%◌, ◌<◌, ◌≤◌, Bool, ◌==◌, if◌then◌else◌, List, length, slice_index, Option, Some, None, IsTrue}
+use Rattle.std.specs.Prelude.{◌≡◌, ◌≢◌, ℕ, ◌+◌, ◌-◌, ◌*◌, ◌/◌, ◌%◌, ◌<◌, ◌≤◌, Bool, if◌then◌else◌, List, length, slice_index, Option, Some, None, IsTrue}
 use Rattle.std.specs.List.{All, Contains}
 use Rattle.ods_base.specs.Block.{has_bit}
 use Rattle.ods_base.specs.Bits.{HasBit}

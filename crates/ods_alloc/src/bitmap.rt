@@ -1,14 +1,14 @@
 //! The bits of both bitmaps, set and cleared in a draft. Each bitmap finds the bit of what it covers; they share the rest.
 ghost use Rattle.std.specs.Prelude.{◌≡◌, ◌^◌, ◌<◌, ◌≤◌, length, IfSome, IsTrue, OnOk};
-ghost use Rattle.ods_space.specs.Draft.{applied};
-ghost use Rattle.ods_space.specs.Free.{is_covered};
+ghost use Rattle.ods_space.specs.{Draft.applied, Free.is_covered};
 ghost use Rattle.ods_alloc.specs.Marks.{HasPlaces, Puts, IsBitOf, IsIndexed, MarksBlocks, MarksNumbers, block_bit as block_bit_of, number_bit as number_bit_of};
 
-use ods_base::{Image, with_bit};
+use ods_base::{Image, bit, with_bit};
 use ods_space::{Draft, Layout};
 use std::alloc::AllocError;
 
-/// Sets or clears a bit that a bitmap has: a block of it, and a bit of that.
+/// Sets or clears a bit that a bitmap has: a block of it, and a bit of that. Where the bit stands so already, nothing
+/// changes.
 fn put_bit(
     image: &Image,
     found: Option<(u32, u32)>,
@@ -19,9 +19,11 @@ fn put_bit(
     ensures { OnOk result (Puts (applied image.now draft.old) found value (applied image.now draft.new)) }
 {
     if let Some((lbn, i)) = found {
-        let changed = with_bit(&draft.block(image, lbn), i, value);
-        // Many bits of one block are one change.
-        draft.renew(lbn, changed)?;
+        let block = draft.block(image, lbn);
+        if bit(&block, i) != value {
+            // Many bits of one block are one change.
+            draft.renew(lbn, with_bit(&block, i, value))?;
+        }
     }
     Ok(())
 }

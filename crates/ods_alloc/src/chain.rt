@@ -3,11 +3,8 @@ ghost use Rattle.std.specs.Prelude.{◌≡◌, ◌+◌, ◌*◌, ◌<◌, ◌≤
 ghost use Rattle.std.specs.List.{All};
 ghost use Rattle.std.specs.List.Sorted.{IsStrictlyIncreasing};
 ghost use Rattle.ods_header.specs.Header.{IsRun, header_of, sequence_of};
-ghost use Rattle.ods_space.specs.Layout.{header_at};
-ghost use Rattle.ods_space.specs.Free.{is_free_number};
-ghost use Rattle.ods_space.specs.Draft.{applied};
-ghost use Rattle.ods_alloc.specs.Extension.{MakesHeaders, first_number, first_sequence};
-ghost use Rattle.ods_alloc.specs.Marks.{HasPlaces};
+ghost use Rattle.ods_space.specs.{Layout.header_at, Free.is_free_number, Draft.applied};
+ghost use Rattle.ods_alloc.specs.{Extension.MakesHeaders, Extension.first_number, Extension.first_sequence, Marks.HasPlaces};
 
 use crate::drafted::drafted_header;
 use ods_base::{FileId, Image};
@@ -32,8 +29,7 @@ pub(crate) fn write_extensions(
     requires rising { IsStrictlyIncreasing numbers.now }
     requires segments { segment + length numbers.now ≤ 255 }
     requires runs { All IsRun runs.now }
-    requires same { draft.old ≡ old.now }
-    ensures { OnOk result ((f : List ℕ) → header_of f ≡ first.now → MakesHeaders (applied image.now old.now) layout.now f (segment + 1) numbers.now runs.now (length numbers.now) (applied image.now draft.new)) }
+    ensures { OnOk result ((f : List ℕ) → header_of f ≡ first.now → MakesHeaders (applied image.now old.now) (applied image.now draft.old) layout.now f (segment + 1) numbers.now runs.now (length numbers.now) (applied image.now draft.new)) }
 {
     for (i, number) in numbers.iter().enumerate() {
         if let Some(lbn) = layout.place(*number) {

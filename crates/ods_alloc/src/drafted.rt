@@ -1,8 +1,7 @@
 //! Headers, read through a draft.
 ghost use Rattle.std.specs.Prelude.{◌≡◌, length, None, IfSome, IfNone};
 ghost use Rattle.ods_base.specs.Block.{IsBlock};
-ghost use Rattle.ods_space.specs.Layout.{header_at, place_of};
-ghost use Rattle.ods_space.specs.Draft.{applied};
+ghost use Rattle.ods_space.specs.{Layout.header_at, Layout.place_of, Draft.applied};
 ghost use Rattle.ods_alloc.specs.Marks.{HasPlaces};
 
 use ods_base::{Block, Image};

@@ -10,8 +10,11 @@ use thiserror::Error;
 #[derive(Clone, Copy, Debug, PartialEq, Eq, Error)]
 #[error("{}", self.name())]
 pub enum SpaceFault {
+    /// Fewer blocks are free than are wanted.
     VolumeFull,
+    /// Fewer file numbers are free than are wanted.
     HeadersFull,
+    /// The chain would have more than 256 headers.
     ChainFull,
     NoMemory,
 }

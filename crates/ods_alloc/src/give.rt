@@ -1,9 +1,7 @@
 //! Blocks and headers that are given back.
-ghost use Rattle.std.specs.Prelude.{◌≡◌, length, OnOk, OnErr};
-ghost use Rattle.ods_space.specs.Files.{IsLayoutOf};
-ghost use Rattle.ods_space.specs.Draft.{applied};
-ghost use Rattle.ods_alloc.specs.Extend.{IsWellPlaced, GivesBack};
-ghost use Rattle.ods_alloc.specs.Marks.{HasPlaces, Deletes};
+ghost use Rattle.std.specs.Prelude.{◌≡◌, length, [], OnOk, OnErr};
+ghost use Rattle.ods_space.specs.{Files.IsLayoutOf, Draft.applied};
+ghost use Rattle.ods_alloc.specs.{Extend.ChangesOnly, Extend.GivesBack, Extend.GivesBits, Extend.IsWellPlaced, Marks.HasPlaces, Marks.Deletes};
 
 use crate::bitmap::{mark_blocks, mark_numbers};
 use ods_base::Image;
@@ -28,9 +26,26 @@ pub fn give_back(
 {
     let mut changed = draft.copy()?;
     delete_headers(image, layout, numbers, draft, &mut changed)?;
-    mark_numbers(image, layout, numbers, false, &mut changed)?;
-    mark_blocks(image, layout, blocks, true, &mut changed)?;
+    mark_free(image, layout, blocks, numbers, &mut changed)?;
     *draft = changed;
+    Ok(())
+}
+
+/// Marks blocks and numbers as free in both bitmaps, as far as these cover them, in a draft; nothing else changes.
+/// After an `Err` the draft may have some of these changes: it is for a caller who then drops it.
+pub fn mark_free(
+    image: &Image,
+    layout: &Layout,
+    blocks: &[u32],
+    numbers: &[u16],
+    draft: &mut Draft,
+) -> Result<(), AllocError>
+    requires places { HasPlaces (length image.now) layout.now }
+    ensures bits { OnOk result (GivesBits (applied image.now draft.old) layout.now blocks.now numbers.now (applied image.now draft.new)) }
+    ensures only { OnOk result (ChangesOnly (applied image.now draft.old) layout.now [] (applied image.now draft.new)) }
+{
+    mark_numbers(image, layout, numbers, false, draft)?;
+    mark_blocks(image, layout, blocks, true, draft)?;
     Ok(())
 }
 

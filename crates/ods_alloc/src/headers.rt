@@ -4,11 +4,8 @@ ghost use Rattle.std.specs.List.{All, Contains};
 ghost use Rattle.std.specs.List.Sorted.{IsStrictlyIncreasing};
 ghost use Rattle.ods_base.specs.Block.{IsBlock};
 ghost use Rattle.ods_header.specs.Header.{IsRun, IsValidHeader, segment_of};
-ghost use Rattle.ods_space.specs.Layout.{header_at};
-ghost use Rattle.ods_space.specs.Free.{is_free_number};
-ghost use Rattle.ods_space.specs.Draft.{applied};
-ghost use Rattle.ods_alloc.specs.Extension.{WritesHeaders};
-ghost use Rattle.ods_alloc.specs.Marks.{HasPlaces};
+ghost use Rattle.ods_space.specs.{Layout.header_at, Free.is_free_number, Draft.applied};
+ghost use Rattle.ods_alloc.specs.{Extension.WritesHeaders, Marks.HasPlaces};
 
 use crate::chain::{first_id, piece, write_extensions};
 use crate::drafted::drafted_header;
@@ -18,7 +15,8 @@ use ods_space::{Draft, Layout};
 use std::alloc::AllocError;
 
 /// Writes the headers of file `number` whose chain grows by these runs: as many as have room stand in its last
-/// header, and the others in new headers. What stood there is read through the old draft.
+/// header, and the others in new headers. What stood there is read through the old draft: the last header, and the first
+/// where new ones are made.
 pub(crate) fn write_headers(
     image: &Image,
     layout: &Layout,
@@ -40,17 +38,30 @@ pub(crate) fn write_headers(
     requires same { draft.old ≡ old.now }
     ensures { OnOk result (WritesHeaders (applied image.now old.now) layout.now number last numbers.now runs.now (applied image.now draft.new)) }
 {
+    let block = header_block(image, layout, last, old);
+    let next = first_id(image, layout, old, numbers);
+    let Some(lbn) = layout.place(last) else {
+        return Ok(());
+    };
+    // Where the newest change of the draft is of this header, both are one.
+    draft.renew(lbn, grown_last(&block, last, runs, next))?;
+    if numbers.is_empty() {
+        return Ok(());
+    }
     let Ok(first) = read_header(&header_block(image, layout, number, old), number) else {
         return Ok(());
     };
-    let block = header_block(image, layout, last, old);
     let rest = piece(runs, room(&block), runs.len());
-    let segment = segment(&block);
-    write_extensions(image, layout, &first, segment, numbers, rest, old, draft)?;
-    let next = first_id(image, layout, old, numbers);
-    if let Some(lbn) = layout.place(last) {
-        draft.set(lbn, grown_last(&block, last, runs, next))?;
-    }
+    write_extensions(
+        image,
+        layout,
+        &first,
+        segment(&block),
+        numbers,
+        rest,
+        old,
+        draft,
+    )?;
     Ok(())
 }
 

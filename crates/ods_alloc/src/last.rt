@@ -1,11 +1,8 @@
 //! The last header of a chain.
 ghost use Rattle.std.specs.Prelude.{◌≡◌, ◌<◌, ◌≤◌, ℕ, List, length};
 ghost use Rattle.ods_header.specs.Header.{IsValidHeader, next_number_of};
-ghost use Rattle.ods_space.specs.Layout.{header_at};
-ghost use Rattle.ods_space.specs.Chain.{IsChain};
-ghost use Rattle.ods_space.specs.Draft.{applied};
-ghost use Rattle.ods_alloc.specs.Extend.{last_of};
-ghost use Rattle.ods_alloc.specs.Marks.{HasPlaces};
+ghost use Rattle.ods_space.specs.{Layout.header_at, Chain.IsChain, Draft.applied};
+ghost use Rattle.ods_alloc.specs.{Extend.last_of, Marks.HasPlaces};
 
 use crate::drafted::drafted_header;
 use ods_base::Image;

@@ -4,6 +4,8 @@
 
 mod bitmap;
 mod chain;
+mod counting;
+mod counts;
 mod drafted;
 mod extend;
 mod fault;
@@ -16,10 +18,11 @@ mod numbers;
 mod runs;
 mod words;
 
-pub use extend::extend_chain;
+pub use counts::FreeCounts;
+pub use extend::{extend_chain, extend_from};
 pub use fault::SpaceFault;
 pub use free::{free_count, pick_blocks};
-pub use give::give_back;
+pub use give::{give_back, mark_free};
 pub use last::last_header;
 pub use laws::chain_grows;
 pub use numbers::{is_number_free, number_count, pick_numbers};

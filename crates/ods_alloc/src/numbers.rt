@@ -1,12 +1,10 @@
 //! Free file numbers: tested, counted and picked for new headers. Numbers in use are passed over 64 at a time.
 ghost use Rattle.std.specs.Prelude.{◌≡◌, ◌≤◌, true, length, take, IfOk, IfErr, IfSome, IfNone};
-ghost use Rattle.ods_space.specs.Files.{IsLayoutOf};
-ghost use Rattle.ods_space.specs.Free.{is_free_number, free_numbers};
-ghost use Rattle.ods_alloc.specs.Scan.{IsNext, NoneIsNext, NonePasses, is_clear};
-ghost use Rattle.ods_alloc.specs.Faults.{IsShort};
+ghost use Rattle.ods_space.specs.{Files.IsLayoutOf, Free.is_free_number, Free.free_numbers};
+ghost use Rattle.ods_alloc.specs.{Scan.IsNext, Scan.NoneIsNext, Scan.NonePasses, Scan.is_clear, Faults.IsShort, Counts.ShowsNone, Counts.clear_in, Counts.counts_of};
 
-use crate::SpaceFault;
-use crate::words::{first_in, used_word};
+use crate::words::{first_in, has_none, used_word};
+use crate::{FreeCounts, SpaceFault};
 use ods_base::Image;
 use ods_header::Home;
 use ods_space::{Layout, in_use, last_number, sequence};
@@ -30,7 +28,7 @@ pub fn number_count(image: &Image, layout: &Layout) -> u32
 {
     let mut count = 0;
     let mut from = 1;
-    while let Some(number) = next_free_number(image, layout, from) {
+    while let Some(number) = next_free_number(image, layout, &[], from) {
         count += 1;
         from = number as u32 + 1;
     }
@@ -38,25 +36,28 @@ pub fn number_count(image: &Image, layout: &Layout) -> u32
 }
 
 /// The least free number from `from` on.
-fn next_free_number(image: &Image, layout: &Layout, from: u32) -> Option<u16>
-    requires { IsLayoutOf image.now layout.now }
+fn next_free_number(image: &Image, layout: &Layout, counts: &[u32], from: u32) -> Option<u16>
+    requires layout { IsLayoutOf image.now layout.now }
+    requires counts { ShowsNone counts.now (clear_in image.now layout.now.home) }
     ensures some { IfSome result (IsNext (is_free_number image.now layout.now) from) }
     ensures none { IfNone result (NoneIsNext (is_free_number image.now layout.now) from) }
 {
     let last = last_number(layout) as u32;
     let home = layout.home();
-    let mut at = skip_used(image, &home, from.max(6), last);
+    let mut at = skip_used(image, &home, counts, from.max(6), last);
     while at <= last {
         if is_number_free(image, layout, at as u16) {
             return Some(at as u16);
         }
-        at = skip_used(image, &home, at + 1, last);
+        at = skip_used(image, &home, counts, at + 1, last);
     }
     None
 }
 
-/// The least number from `from` on whose index bit is clear, or one behind `last`.
-fn skip_used(image: &Image, home: &Home, from: u32, last: u32) -> u32
+/// The least number from `from` on whose index bit is clear, or one behind `last`. Where a block of the bitmap has no clear bit, by the
+/// counts, it is passed over whole.
+fn skip_used(image: &Image, home: &Home, counts: &[u32], from: u32, last: u32) -> u32
+    requires counts { ShowsNone counts.now (clear_in image.now home.now) }
     requires some { 1 ≤ from }
     requires few { last ≤ 65535 }
     ensures above { from ≤ result }
@@ -65,10 +66,14 @@ fn skip_used(image: &Image, home: &Home, from: u32, last: u32) -> u32
 {
     let mut at = from;
     while at <= last {
-        if let Some(bit) = first_in(!used_word(image, home, (at - 1) / 64), at - 1) {
-            return bit + 1;
+        if has_none(counts, (at - 1) / 4096) {
+            at = 4096 * ((at - 1) / 4096 + 1) + 1;
+        } else {
+            if let Some(bit) = first_in(!used_word(image, home, (at - 1) / 64), at - 1) {
+                return bit + 1;
+            }
+            at = 64 * ((at - 1) / 64 + 1) + 1;
         }
-        at = 64 * ((at - 1) / 64 + 1) + 1;
     }
     at
 }
@@ -78,16 +83,18 @@ pub fn pick_numbers(
     alloc: Global,
     image: &Image,
     layout: &Layout,
+    counts: &FreeCounts,
     count: u32,
 ) -> Result<Vec<u16>, SpaceFault>
-    requires { IsLayoutOf image.now layout.now }
+    requires layout { IsLayoutOf image.now layout.now }
+    requires counts { counts.now ≡ counts_of image.now layout.now }
     ensures ok { IfOk result (λ numbers. (numbers.items ≡ take count (free_numbers image.now layout.now)) × (count ≤ length (free_numbers image.now layout.now))) }
     ensures err { IfErr result (IsShort SpaceFault.HeadersFull (length (free_numbers image.now layout.now)) count) }
 {
     let mut numbers = Vec::new(alloc);
     let mut from = 1;
     for _k in 0..count {
-        let Some(number) = next_free_number(image, layout, from) else {
+        let Some(number) = next_free_number(image, layout, counts.numbers(), from) else {
             return Err(SpaceFault::HeadersFull);
         };
         numbers.push(number)?;

@@ -1,9 +1,8 @@
 //! Both bitmaps, read 64 bits at a time, and the first bit of such a word that is set.
-ghost use Rattle.std.specs.Prelude.{◌≡◌, ℕ, ◌+◌, ◌*◌, ◌/◌, ◌^◌, ◌<◌, ◌≤◌, ◌&&◌, ◌==◌, Bool, nat_lt, IfSome, IfNone};
+ghost use Rattle.std.specs.Prelude.{◌≡◌, ℕ, ◌+◌, ◌*◌, ◌/◌, ◌^◌, ◌<◌, ◌≤◌, ◌&&◌, ◌==◌, Bool, true, nat_lt, slice_get, Some, IfSome, IfNone};
 ghost use Rattle.std.specs.Int.{bit_at};
 ghost use Rattle.ods_base.specs.Bits.{IsWordOf};
-ghost use Rattle.ods_space.specs.Layout.{is_in_use};
-ghost use Rattle.ods_space.specs.Free.{is_free_block};
+ghost use Rattle.ods_space.specs.{Layout.is_in_use, Free.is_free_block};
 ghost use Rattle.ods_alloc.specs.Scan.{IsNext, NonePasses};
 
 use ods_base::{Image, bit_word};
@@ -11,7 +10,7 @@ use ods_header::Home;
 use ods_space::Layout;
 
 /// The lowest `count` bits of a word.
-fn low_bits(word: u64, count: u32) -> u64
+pub(crate) fn low_bits(word: u64, count: u32) -> u64
     ensures { (i : ℕ) → i < 64 → (bit_at result i == 1) ≡ (nat_lt i count && (bit_at word i == 1)) }
 {
     if count < 64 {
@@ -61,5 +60,15 @@ pub(crate) fn first_in(word: u64, at: u32) -> Option<u32>
         None
     } else {
         Some(at + rest.trailing_zeros())
+    }
+}
+
+/// Whether a list of counts has a 0 for block `k` of a bitmap.
+pub(crate) fn has_none(counts: &[u32], k: u32) -> bool
+    ensures { result ≡ true → slice_get counts.now k ≡ Some 0 }
+{
+    match counts.get(k as usize) {
+        Some(count) => *count == 0,
+        None => false,
     }
 }

@@ -1,7 +1,6 @@
 //! Single bits of a block, counted from the low end of each byte, and 64 of them at once.
 ghost use Rattle.std.specs.Prelude.{◌≡◌, ◌+◌, ◌*◌, ◌<◌};
-ghost use Rattle.ods_base.specs.Block.{IsBlock, has_bit};
-ghost use Rattle.ods_base.specs.Bits.{HasBit, IsWordOf};
+ghost use Rattle.ods_base.specs.{Block.IsBlock, Block.has_bit, Bits.HasBit, Bits.IsWordOf};
 
 use crate::Block;
 

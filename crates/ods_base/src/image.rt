@@ -1,7 +1,6 @@
 //! Images: the blocks of a volume, in order.
 ghost use Rattle.std.specs.Prelude.{◌≡◌, ◌<◌, ◌==◌, length, slice_set, IfOk, IfErr};
-ghost use Rattle.ods_base.specs.Block.{IsBlock};
-ghost use Rattle.ods_base.specs.Image.{IsImage, IsNoImage, block_at, image_bytes};
+ghost use Rattle.ods_base.specs.{Block.IsBlock, Image.IsImage, Image.IsNoImage, Image.block_at, Image.image_bytes};
 
 use crate::read::store_whole_blocks;
 use crate::{Block, ImageError};

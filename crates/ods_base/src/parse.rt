@@ -2,9 +2,7 @@
 ghost use Rattle.std.specs.Prelude.{◌≡◌, ◌<◌, ◌≤◌, ℕ, List, length, IfOk, IsOkAnd};
 ghost use Rattle.std.specs.Fmt.{decimal};
 ghost use Rattle.std.specs.List.{All};
-ghost use Rattle.ods_base.specs.Name.{RadName, Spells, IsVersionText, rad50_char, rad50_codes};
-ghost use Rattle.ods_base.specs.NameParts.{FallsInto, IsPart, IsPlace};
-ghost use Rattle.ods_base.specs.declared.name.Pick.{Pick};
+ghost use Rattle.ods_base.specs.{Name.RadName, Name.Spells, Name.IsVersionText, Name.rad50_char, Name.rad50_codes, NameParts.FallsInto, NameParts.IsPart, NameParts.IsPlace, declared.name.Pick.Pick};
 
 use crate::{Name, NameFault, Pick};
 use std::str;

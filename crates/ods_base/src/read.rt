@@ -2,8 +2,7 @@
 ghost use Rattle.std.specs.Prelude.{◌≡◌, ◌+◌, ◌*◌, ◌/◌, ◌%◌, ◌<◌, ◌≤◌, ◌++◌, ℕ, List, [], length, take, drop, vec_len, IfOk, IfErr, OnOk, MatchResult};
 ghost use Rattle.std.specs.List.{All};
 ghost use Rattle.std.specs.Io.KnownBytes.{Consumes, IsAtEnd, Keeps};
-ghost use Rattle.ods_base.specs.Block.{IsBlock};
-ghost use Rattle.ods_base.specs.Image.{IsImage, IsNoReading, ReadsBehind, image_bytes};
+ghost use Rattle.ods_base.specs.{Block.IsBlock, Image.IsImage, Image.IsNoReading, Image.ReadsBehind, Image.image_bytes};
 
 use crate::image::MAX_BYTES;
 use crate::{Block, Image, ImageError};

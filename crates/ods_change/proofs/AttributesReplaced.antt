@@ -8,7 +8,8 @@ use Rattle.ods_base.specs.declared.file_id.FileId.{FileId}
 use Rattle.ods_header.specs.Attributes.{IsWithAttributes, KeepsOtherFields, with_attributes}
 use Rattle.ods_header.specs.Header.{IsValidHeader, attributes_of, header_of, sequence_of, is_directory_header}
 use Rattle.ods_header.specs.declared.header.Header.{Header}
-use Rattle.ods_header.proofs.AttributesSet.{ident_ext_is}
+use Rattle.ods_header.proofs.AttributesSet.{attributes_are_other}
+use Rattle.ods_header.proofs.OtherFront.{IsOtherWithin, ident_ext_kept}
 use Rattle.ods_space.specs.Layout.{VolumeLayout, header_at, place_of}
 use Rattle.ods_space.specs.Files.{HasBlocks, IsFile}
 use Rattle.ods_directory.specs.Names.{IsDirectory}
@@ -24,7 +25,7 @@ use Rattle.ods_state.specs.Moves.{NothingMoves}
 use Rattle.ods_state.proofs.HeaderChange as change
 use Rattle.ods_state.proofs.HeaderShown.{header_is_shown}
 use Rattle.ods_state.proofs.OneHeader.{header_here}
-use Rattle.ods_state.proofs.OtherAttributes.{links_back, links_to}
+use Rattle.ods_state.proofs.OtherFront.{links_back, links_to}
 use Rattle.ods_look.proofs.FileBodies.{SaysDirectory}
 
 -- the first header of a file has a place
@@ -58,11 +59,14 @@ module _ {I : List (List ℕ)} {L : VolumeLayout} {id : FileId} {x : ℕ} {old n
   kept : header_of b ≡ with_attributes (header_of old) new
   kept = (h.fields n h.valid).1
 
+  other : IsOtherWithin old b 14 46
+  other = attributes_are_other old new b h.changed
+
   to : SameLinks (header_at I L n) b n
-  to = subst (λ d. SameLinks d b n) (sym h.was) (links_to old new b n h.valid h.fields)
+  to = subst (λ d. SameLinks d b n) (sym h.was) (links_to other n h.valid)
 
   back : SameLinks b (header_at I L n) n
-  back = subst (λ d. SameLinks b d n) (sym h.was) (links_back old new b n h.valid h.fields)
+  back = subst (λ d. SameLinks b d n) (sym h.was) (links_back other n h.valid)
 
   header_is : header_at J L n ≡ b
   header_is = header_here I L S n x b h.place
@@ -76,7 +80,7 @@ module _ {I : List (List ℕ)} {L : VolumeLayout} {id : FileId} {x : ℕ} {old n
 
   -- the file is a directory as before
   pub kind_stays : is_directory_header n b ≡ is_directory_header n old
-  kind_stays = ap (λ e. (nat_eq n 4) || (nat_lt 5 n && nat_eq e 6778)) (ident_ext_is old new b h.changed h.valid.header.layout)
+  kind_stays = ap (λ e. (nat_eq n 4) || (nat_lt 5 n && nat_eq e 6778)) (ident_ext_kept other h.valid.header.layout)
 
   pub blocks_stay : {blocks : List ℕ} → HasBlocks I L n blocks → HasBlocks J L n blocks
   blocks_stay {blocks = blocks} = change.has_blocks I L S n x b h.place to back n blocks
@@ -107,12 +111,12 @@ module _ {I : List (List ℕ)} {L : VolumeLayout} {id : FileId} {x : ℕ} {old n
   -- the catalogue is the one with that body in the file
   pub body_shown : {C : Catalogue} → ShowsBy I L C → {lbns : List ℕ} → HasBlocks I L n lbns → n ≢ 1 → (cs : List (List ℕ)) (body : Body) → body_of n b (contents_of I lbns) ≡ body
       → ShowsBy J L (put C id (with_body (file_of n old cs) body))
-  body_shown {C = C} shown {lbns = lbns} held other cs body is = header_is_shown I L S id x b h.place to back (ap sequence_of h.was ∙ h.sequence) C (with_body (file_of n old cs) body) shown here
+  body_shown {C = C} shown {lbns = lbns} held apart cs body is = header_is_shown I L S id x b h.place to back (ap sequence_of h.was ∙ h.sequence) C (with_body (file_of n old cs) body) shown here
     where
       here : IsFileIn J L id (with_body (file_of n old cs) body)
       here = record {
         blocks = lbns;
         held = blocks_stay held;
         sequence = ap sequence_of header_is ∙ ap (λ (g : Header). g.file.sequence) kept ∙ h.sequence;
-        shown = (λ i. file_of n (header_is i) (change.contents_stay I L S n x b h.place n lbns held other i)) ∙ file_is cs (contents_of I lbns) body is;
+        shown = (λ i. file_of n (header_is i) (change.contents_stay I L S n x b h.place n lbns held apart i)) ∙ file_is cs (contents_of I lbns) body is;
       }

@@ -6,10 +6,10 @@ use Rattle.ods_base.specs.declared.file_id.FileId.{FileId}
 use Rattle.ods_base.specs.declared.file_id.Uic.{Uic}
 use Rattle.ods_header.specs.Header.{sequence_of}
 use Rattle.ods_space.specs.Layout.{VolumeLayout, header_at}
-use Rattle.ods_space.specs.Draft.{Changes, applied}
 use Rattle.ods_space.specs.Files.{HasBlocks, IsWhole}
-use Rattle.ods_space.proofs.Drafts.{applied_none}
-use Rattle.ods_alloc.specs.Extend.{GivesBack, IsBookkeeping}
+use Rattle.ods_alloc.specs.Extend.{ChangesOnly, GivesBack, GivesBits, IsBookkeeping, IsWellPlaced}
+use Rattle.ods_alloc.specs.Marks.{Deletes}
+use Rattle.ods_alloc.proofs.Giving.{gives_back}
 use Rattle.ods_mount.specs.Faults.{contents_of}
 use Rattle.ods_mount.specs.Sound.{IsSoundBy}
 use Rattle.ods_request.specs.declared.answers.Answer.TheVariants.{Done}
@@ -40,12 +40,12 @@ unfolding file_of
 names_seen {I = I} id header whole d k is e =
     ap (λ c. not (len (names_of (body_of id.number c (contents_of I whole.0))) == 0)) (sym header) ∙ sym is ∙ e
 
--- what is given back in a new draft
-pub given_newly : (I J : List (List ℕ)) (L : VolumeLayout) (d : Changes) (blocks numbers bs ns : List ℕ) → d ≡ [] → blocks ≡ bs → numbers ≡ ns
-    → GivesBack (applied I d) L blocks numbers J → GivesBack I L bs ns J
-given_newly I J L d blocks numbers bs ns new same are =
-    let first : applied I d ≡ I = ap (applied I) new ∙ sym (applied_none I) in
-    subst (λ K. GivesBack K L blocks numbers J → GivesBack I L bs ns J) (sym first) (subst (λ l. GivesBack I L blocks numbers J → GivesBack I L l ns J) same (subst (λ l. GivesBack I L blocks numbers J → GivesBack I L blocks l J) are (λ given. given)))
+-- what is given back where the headers that were noted are deleted, and then the bits are marked of what was noted
+pub given_along : (I J M : List (List ℕ)) (L : VolumeLayout) (noted blocks numbers bs ns : List ℕ) → IsWellPlaced L → Deletes I L noted J → blocks ≡ bs → numbers ≡ noted → noted ≡ ns
+    → GivesBits J L blocks numbers M → ChangesOnly J L [] M → GivesBack I L bs ns M
+given_along I J M L noted blocks numbers bs ns places headers same are noted_all bits only =
+    subst (λ l. GivesBack I L l ns M) same (subst (λ l. GivesBack I L blocks l M) (are ∙ noted_all)
+    (gives_back I J M L blocks numbers places (subst (λ l. Deletes I L l J) (sym are) headers) bits only))
 
 module _ {I : List (List ℕ)} {L : VolumeLayout} (S : IsSoundBy I L) {id : FileId} (is : IsFileId I L id) (high : 5 < id.number)
     (J : List (List ℕ)) (given : (others blocks : List ℕ) → IsWhole I L id.number others blocks → GivesBack I L blocks (id.number ∷ others) J) where

@@ -4,6 +4,7 @@ use Rattle.std.specs.Prelude.{slice_get, slice_set, unwrap_or}
 use Rattle.std.specs.Option.{option_map}
 use Rattle.std.proofs.lemmas.Option.{slice_get-map, get_or_from_slice_get}
 use Rattle.std.proofs.lemmas.List.{length-set, length-map}
+use Rattle.ods_header.proofs.DirectoryHeaders.{is_apart}
 use Rattle.ods_base.specs.Block.{with_bytes}
 use Rattle.ods_base.specs.Image.{block_at}
 use Rattle.ods_base.specs.Names.{NameMap}
@@ -27,7 +28,7 @@ use Rattle.ods_state.proofs.OneBlock.{own_contents}
 use Rattle.ods_look.specs.declared.opening.OpenDirectory.{OpenDirectory}
 use Rattle.ods_look.specs.Opening.{IsOpenDirectory, file_shown}
 use Rattle.ods_look.proofs.BlockPlaces.{blocks_are_one}
-use Rattle.ods_look.proofs.FileBodies.{directory_body, is_apart, other_contents}
+use Rattle.ods_look.proofs.FileBodies.{directory_body, other_contents}
 use Rattle.ods_change.proofs.Marks.{directory_before}
 
 -- an entry before the mark lies in one of the blocks, and in that one alone

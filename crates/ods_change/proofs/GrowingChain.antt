@@ -1,12 +1,12 @@
 -- The chain of a file of a sound volume before it grows, computed along its headers.
-use Rattle.std.proofs.Common.{◌≡◌, ℕ, refl, ap, sym, ◌∙◌, List, ◌∷◌, drop}
+use Rattle.std.proofs.Common.{◌≡◌, ℕ, refl, List, ◌∷◌, drop}
 use Rattle.ods_base.specs.Image.{IsImage}
 use Rattle.ods_space.specs.Layout.{VolumeLayout}
 use Rattle.ods_space.specs.Files.{HasBlocks}
 use Rattle.ods_space.specs.Chain.{headers_of, named_by, numbers_of}
-use Rattle.ods_space.proofs.Wholes.{chain_seen}
 use Rattle.ods_mount.specs.Sound.{IsSoundBy}
 use Rattle.ods_state.specs.Wants.{HasHeaders}
+use Rattle.ods_change.proofs.ReadyToGrow.{walked_as}
 
 -- the headers behind the first, and the blocks
 pub headers_behind : List (List ℕ) → VolumeLayout → ℕ → List ℕ
@@ -23,6 +23,4 @@ has_headers h = (h.others, refl, h.whole)
 pub chain_before : (I : List (List ℕ)) (L : VolumeLayout) (n : ℕ) (headers old : List ℕ) → IsImage I → IsSoundBy I L → HasHeaders I L n headers old
     → (headers_behind I L n ≡ drop 1 headers) × (blocks_before I L n ≡ old)
 unfolding headers_of headers_behind blocks_before
-chain_before I L n headers old image S has =
-    let seen = chain_seen I L n has.0 old image S.layout has.2.chain in
-    (ap (drop 1) (seen.numbers ∙ sym has.1), ap named_by seen.headers ∙ sym seen.named)
+chain_before I L n headers old image S has = walked_as I L n headers old image S.layout has

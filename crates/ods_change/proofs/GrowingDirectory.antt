@@ -3,6 +3,7 @@ use Rattle.std.proofs.Common.{◌≡◌, ◌≢◌, ℕ, ◌+◌, ◌*◌, ◌�
 use Rattle.std.specs.Prelude.{◌⊎◌, MatchOption, slice_set, unwrap_or, nat_le}
 use Rattle.std.proofs.lemmas.List.{length-append, length-map, length-take, map-append}
 use Rattle.std.specs.List.{Contains}
+use Rattle.ods_header.proofs.DirectoryHeaders.{above_maps}
 use Rattle.ods_base.specs.Block.{with_bytes, zeros}
 use Rattle.ods_base.specs.Image.{IsImage, block_at}
 use Rattle.ods_base.specs.Name.{RadName}
@@ -40,12 +41,13 @@ use Rattle.ods_state.proofs.GrownSound.{grown_sound}
 use Rattle.ods_state.specs.Growth.{IsGrowth, IsReady, IsTaking}
 use Rattle.ods_state.proofs.GrowthChain.{ready_chain}
 use Rattle.ods_state.proofs.GrowthMade.{grows as grows_to, made as headers_made, filled as blocks_filled}
-use Rattle.ods_state.proofs.GrowthReady.{ready_layout, well_placed}
+use Rattle.ods_state.proofs.Bookkeeping.{well_placed}
+use Rattle.ods_state.proofs.GrowthReady.{ready_layout}
 use Rattle.ods_state.proofs.GrowthTakes.{can_extend, is_enough}
 use Rattle.ods_state.proofs.Served.{carried_is_step, refused_for_memory}
 use Rattle.ods_state.proofs.Wanted.{may_take, none_lacks}
 use Rattle.ods_look.specs.Opening.{file_shown}
-use Rattle.ods_look.proofs.FileBodies.{SaysDirectory, directory_body, header_says}
+use Rattle.ods_look.proofs.FileBodies.{directory_body}
 use Rattle.ods_change.specs.declared.entering.NewEntry.{NewEntry}
 use Rattle.ods_change.specs.Entering.{IsNewEntry, IsTakenFor}
 use Rattle.ods_change.proofs.AttributesReplaced.{HasOtherAttributes}
@@ -130,11 +132,7 @@ module _ {I : List (List ℕ)} {L : VolumeLayout} (S : IsSoundBy I L) {who : Uic
 
   -- there is what the directory takes
   pub taking : (numbers : List ℕ) → numbers ≡ taken_numbers I L headers 1 → lack_of I L headers 1 ≡ None → IsTaking I L n headers old 1 numbers
-  taking numbers are enough = record { above = above (header_says n (header_at I L n) e.own.is.kind); before = inl (e.own.file.0, wants.0); all = ap (λ l. headers ++ l) are; enough = enough }
-    where
-      above : SaysDirectory n (header_at I L n) → 3 ≤ n
-      above (inl four) = omega (arith, four)
-      above (inr p) = let high = p.0 in omega arith
+  taking numbers are enough = record { above = above_maps n (header_at I L n) e.own.is.kind; before = inl (e.own.file.0, wants.0); all = ap (λ l. headers ++ l) are; enough = enough }
 
   -- what it lacks, of so many headers and that room in the last, or want of memory, is why the Enter is refused
   pub refused : (f : Refusal) (count room : ℕ) → ((hs : List ℕ) → HasHeaders I L n hs old → (count ≡ length hs) × (room ≡ room_in I L hs))
@@ -183,7 +181,7 @@ module _ {I : List (List ℕ)} {L : VolumeLayout} (S : IsSoundBy I L) {who : Uic
     t = taking numbers d.fresh d.enough
 
     ready : IsReady I K L n headers 1
-    ready = is_ready S b e.own.is.held.file.valid place taken w fields others
+    ready = is_ready S b e.own.is.held.file.valid place taken w others
 
     -- the chain can grow
     pub chain_ready : IsImage I → {M : List (List ℕ)} {ns bs blocks : List ℕ} → K ≡ M → ns ≡ others → bs ≡ old → blocks ≡ taken_blocks I L 1
@@ -215,7 +213,7 @@ module _ {I : List (List ℕ)} {L : VolumeLayout} (S : IsSoundBy I L) {who : Uic
       contents_then : contents_of J all ≡ now
       contents_then =
           ap (λ t. contents_of J (old ++ t)) taken ∙ map-append (block_at J) old (x ∷ [])
-          ∙ (λ i. (own_contents S g ∙ sym e.own.is.contents) i ++ (filled ∙ block_ready S b e.own.is.held.file.valid place taken w fields) i ∷ [])
+          ∙ (λ i. (own_contents S g ∙ sym e.own.is.contents) i ++ (filled ∙ block_ready S b e.own.is.held.file.valid place taken w) i ∷ [])
           ∙ sym (written_behind new.opened.blocks new.slot new.bytes grows behind.0)
 
       long_then : length all ≡ count
@@ -227,7 +225,7 @@ module _ {I : List (List ℕ)} {L : VolumeLayout} (S : IsSoundBy I L) {who : Uic
       -- the header in K, and what it says in J
       same : SaysTheSame c (header_at J L n)
       same =
-          let ready : header_at K L n ≡ c = header_ready S b e.own.is.held.file.valid place taken w fields in
+          let ready : header_at K L n ≡ c = header_ready S b e.own.is.held.file.valid place taken w in
           subst (λ d. SaysTheSame d (header_at J L n)) ready
           (says_the_same (header_at K L n) (header_at J L n) n (subst (λ d. IsValidHeader d n) (sym ready) (fields n e.own.is.held.file.valid).0) (ext.sizes 0 0 (omega arith)) (ext.stays 0 0 (omega arith)))
 

@@ -2,8 +2,7 @@ pub mod ChainEnds
 pub mod NewBodies
 pub mod TakenNumbers
 pub mod CreatingFile
-pub mod Idents
-pub mod NewDrafts
+pub mod FirstWritten
 pub mod NewHeaders
 pub mod TakingBlocks
 pub mod Writing

@@ -1,36 +1,34 @@
 -- A file of a sound volume that grows: what it takes, what is written before its chain grows, and what the blocks are then.
-use Rattle.std.proofs.Common.{◌≡◌, ◌≢◌, ℕ, ◌<◌, List, [], ◌∷◌, ◌++◌, length, drop, get_or, Some, refl, sym, ap, ◌∙◌, subst, inl, inr, arith}
+use Rattle.std.proofs.Common.{◌≡◌, ℕ, ◌<◌, List, [], ◌∷◌, ◌++◌, drop, get_or, Some, sym, ap, ◌∙◌, subst, inl, arith}
 use Rattle.std.specs.Prelude.{slice_set}
 use Rattle.std.specs.List.{Contains}
-use Rattle.std.specs.Option.{option_map_or}
-use Rattle.std.proofs.lemmas.Bool.{cases_lt}
-use Rattle.std.proofs.lemmas.List.{get_or_past, get_or-set_other, get_or-set_same, length-set}
 use Rattle.std.proofs.lemmas.List.Elements.{Contains-get_or}
-use Rattle.ods_base.specs.Block.{word, zeros}
+use Rattle.ods_base.specs.Block.{zeros}
 use Rattle.ods_base.specs.Image.{IsImage, block_at}
 use Rattle.ods_header.specs.Contiguous.{IsWithoutContiguous, KeepsAllButContiguous}
 use Rattle.ods_header.specs.Header.{IsValidHeader}
+use Rattle.ods_header.proofs.AllButOne.{one_is_other}
 use Rattle.ods_header.proofs.KeptFields.{SaysTheSame, says_the_same}
 use Rattle.ods_space.specs.Chain.{IsChain, headers_of, named_by, numbers_of}
 use Rattle.ods_space.specs.Files.{IsLayoutOf}
 use Rattle.ods_space.specs.Layout.{VolumeLayout, header_at, place_of}
 use Rattle.ods_space.specs.Draft.{Changes, applied}
-use Rattle.ods_space.proofs.Drafts.{applied-applied, applied_none, applied_set}
+use Rattle.ods_space.proofs.Drafts.{applied_none, applied_over}
 use Rattle.ods_space.proofs.Wholes.{chain_seen}
 use Rattle.ods_alloc.specs.Extend.{CanExtend, Extends, with_in_use}
-use Rattle.ods_alloc.proofs.FreeTests.{free_inside}
 use Rattle.ods_mount.specs.Sound.{IsSoundBy}
 use Rattle.ods_state.specs.Wants.{HasHeaders, taken_blocks}
-use Rattle.ods_state.specs.Growth.{IsFirstFor, IsKeptFirst, IsReady, IsTaking, all_headers}
+use Rattle.ods_state.specs.Growth.{IsFirstFor, IsReady, IsTaking, all_headers}
+use Rattle.ods_state.proofs.OtherFront.{kept_first}
 use Rattle.ods_state.proofs.GrowthChain.{ready_chain}
 use Rattle.ods_state.proofs.GrowthMade.{filled, first_fields, first_valid, grows, made}
-use Rattle.ods_state.proofs.GrowthReady.{ready_layout, taken_not_bookkeeping}
+use Rattle.ods_state.proofs.GrowthReady.{ready_layout}
 use Rattle.ods_state.proofs.GrowthTakes.{can_extend}
-use Rattle.ods_state.proofs.Taken.{taken_block_is_free}
 use Rattle.ods_change.specs.declared.taking.Taken.{Taken}
 use Rattle.ods_change.specs.Extending.{IsGrownBy, IsWanted}
 use Rattle.ods_change.specs.Taking.{IsZeroed}
-use Rattle.ods_change.proofs.FirstKept.{kept_first, says_grown}
+use Rattle.ods_change.proofs.FirstKept.{says_grown}
+use Rattle.ods_change.proofs.FirstWritten.{IsWritten, header_written, is_ready as first_ready, taken_inside, taken_written}
 
 -- the file takes what it wants
 pub is_taking : (I : List (List ℕ)) (L : VolumeLayout) (n : ℕ) (headers old : List ℕ) (count : ℕ) (t : Taken) → 5 < n → IsWanted I L n headers old count t → IsTaking I L n headers old count t.numbers.items
@@ -40,16 +38,6 @@ is_taking I L n headers old count t high w = record {
   all = ap (λ h. all_headers n h t.numbers.items) w.has.1 ∙ ap (λ h. h ++ t.numbers.items) (sym w.has.1) ∙ ap (λ l. headers ++ l) w.numbers;
   enough = w.enough;
 }
-
--- a header that is valid stands in the image
-pub stands : (I : List (List ℕ)) (L : VolumeLayout) (n x : ℕ) → place_of L n ≡ Some x → IsValidHeader (header_at I L n) n → x < length I
-stands I L n x place valid = elim (cases_lt x (length I)) [
-  | inl inside ↦ inside
-  | inr past ↦
-      let none : header_at I L n ≡ [] = ap (λ o. option_map_or (block_at I) o []) place ∙ get_or_past I x [] past in
-      let level : 0 ≡ 257 = ap (λ b. word b 3) (sym none) ∙ valid.header.level in
-      absurd (omega (arith, level))
-]
 
 -- What is written: the taken blocks become zeros, Z, and then c is written for the first header, which stands at x.
 module _ (I Z K : List (List ℕ)) (L : VolumeLayout) (S : IsSoundBy I L) (n x : ℕ) (c : List ℕ) (place : place_of L n ≡ Some x)
@@ -62,27 +50,14 @@ module _ (I Z K : List (List ℕ)) (L : VolumeLayout) (S : IsSoundBy I L) (n x :
   zeroed_taken : IsZeroed I (taken_blocks I L count) Z
   zeroed_taken = subst (λ bs. IsZeroed I bs Z) w.blocks zeroed
 
-  header_is : header_at K L n ≡ c
-  header_is =
-      let inside = stands I L n x place valid in
-      let long = zeroed.long in
-      ap (λ o. option_map_or (block_at K) o []) place ∙ ap (λ J. block_at J x) set ∙ get_or-set_same Z x c [] (omega (arith, inside, long))
-
-  pub kept : IsKeptFirst (header_at I L n) (header_at K L n) n
-  kept = subst (λ d. IsKeptFirst (header_at I L n) d n) (sym header_is) (kept_first (header_at I L n) c n valid changed fields)
-
-  elsewhere : (y : ℕ) → x ≢ y → block_at K y ≡ block_at Z y
-  elsewhere y other = ap (λ J. block_at J y) set ∙ get_or-set_other Z x y c [] (λ e. other (sym e))
+  written : IsWritten I Z K L n x count c
+  written = record { sound = S; place = place; long = zeroed_taken.long; elsewhere = zeroed_taken.elsewhere; is = set }
 
   pub taking : IsTaking I L n headers old count t.numbers.items
   taking = is_taking I L n headers old count t high w
 
   pub is_ready : IsReady I K L n headers count
-  is_ready = record {
-    long = ap length set ∙ length-set Z x c ∙ zeroed.long;
-    first = subst (λ hs. IsFirstFor hs (header_at I L n) (header_at K L n) n) (sym w.has.1) kept;
-    elsewhere = λ y apart out. elsewhere y (λ e. apart (place ∙ ap Some e)) ∙ zeroed_taken.elsewhere y out;
-  }
+  is_ready = first_ready written headers (subst (λ hs. IsFirstFor hs (header_at I L n) c n) (sym w.has.1) (kept_first (one_is_other (header_at I L n) c changed) n valid))
 
   abbrev numbers : List ℕ
   numbers = t.numbers.items
@@ -108,20 +83,14 @@ module _ (I Z K : List (List ℕ)) (L : VolumeLayout) (S : IsSoundBy I L) (n x :
         (first_fields I K J L S n headers old count numbers taking is_ready e)
 
     zeros_now : (y : ℕ) → Contains (taken_blocks I L count) y → block_at J y ≡ zeros
-    zeros_now y own = filled I K J L S n headers old count numbers taking is_ready e y own ∙ elsewhere y apart ∙ zeroed_taken.zero y own inside
-      where
-        apart : x ≢ y
-        apart same = taken_not_bookkeeping I L S count y (n ∷ []) own (inr (inr (n, (0, omega arith, refl), place ∙ ap Some same)))
-
-        inside : y < length I
-        inside = free_inside I L y (taken_block_is_free I L count y own)
+    zeros_now y own = filled I K J L S n headers old count numbers taking is_ready e y own ∙ taken_written written y own ∙ zeroed_taken.zero y own (taken_inside I L count y own)
 
     pub is_grown_by : IsGrownBy I L n headers old count numbers J
     is_grown_by = record {
       grown = grows I K J L S n headers old count numbers taking is_ready e;
       made = made I K J L S n headers old count numbers taking is_ready e;
       zeroed = λ k d below. zeros_now (get_or (taken_blocks I L count) k d) (Contains-get_or (taken_blocks I L count) k d below);
-      first = says_grown (header_at I L n) c n valid changed fields (header_at J L n) (subst (λ d. SaysTheSame d (header_at J L n)) header_is says);
+      first = says_grown (header_at I L n) c n valid changed fields (header_at J L n) (subst (λ d. SaysTheSame d (header_at J L n)) (header_written written) says);
     }
 
   -- the same, where the chain that grew is said in other words
@@ -133,7 +102,7 @@ module _ (I Z K : List (List ℕ)) (L : VolumeLayout) (S : IsSoundBy I L) (n x :
 
 -- one block is set in a draft
 pub set_is : (I : List (List ℕ)) (d e : Changes) (x : ℕ) (c : List ℕ) → e ≡ (x, c) ∷ d → applied I e ≡ slice_set (applied I d) x c
-set_is I d e x c is = ap (applied I) is ∙ sym (applied_set (applied I d) x c ∙ applied-applied I ((x, c) ∷ []) d)
+set_is I d e x c is = ap (applied I) is ∙ applied_over I d x c
 
 -- the first changes of a draft
 pub zeroed_first : (I Z : List (List ℕ)) (d : Changes) (blocks bs : List ℕ) → d ≡ [] → blocks ≡ bs → IsZeroed (applied I d) blocks Z → IsZeroed I bs Z

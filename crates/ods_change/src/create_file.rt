@@ -1,25 +1,19 @@
 //! A Create: its check, the first header of the new file, and the draft that makes it.
-ghost use Rattle.std.specs.Prelude.{◌≡◌, ◌+◌, ◌/◌, ◌%◌, ◌<◌, [], IfOk, MatchResult, length};
+ghost use Rattle.std.specs.Prelude.{◌≡◌, ◌+◌, ◌<◌, [], IfOk, MatchResult, length};
+ghost use Rattle.ods_alloc.specs.Counts.{counts_of};
 ghost use Rattle.ods_header.specs.Header.{sequence_of};
 ghost use Rattle.ods_mount.specs.Sound.{IsSoundBy};
-ghost use Rattle.ods_request.specs.Steps.{new_ident};
-ghost use Rattle.ods_request.specs.declared.answers.Answer.TheVariants.{Created};
-ghost use Rattle.ods_request.specs.declared.requests.Request.TheVariants.{Create};
-ghost use Rattle.ods_space.specs.Draft.{applied};
-ghost use Rattle.ods_space.specs.Layout.{header_at};
-ghost use Rattle.ods_state.specs.Growth.{IsNewFirst, IsTaking};
-ghost use Rattle.ods_state.specs.Moves.{new_attributes};
-ghost use Rattle.ods_state.specs.Outcome.{CanBeAsked};
-ghost use Rattle.ods_state.specs.Served.{IsStepOf, IsRefusalOf};
-ghost use Rattle.ods_state.specs.Wants.{taken_blocks};
+ghost use Rattle.ods_request.specs.{declared.answers.Answer.TheVariants.Created, declared.requests.Request.TheVariants.Create};
+ghost use Rattle.ods_space.specs.{Draft.applied, Layout.header_at};
+ghost use Rattle.ods_state.specs.{Growth.IsNewFirst, Growth.IsTaking, Moves.new_attributes, Outcome.CanBeAsked, Served.IsStepOf, Served.IsRefusalOf, Wants.taken_blocks};
 ghost use Rattle.ods_change.specs.Creating.{IsMadeFile, IsNewHeaderFor, new_id};
 
 use crate::taking::{take, zero_blocks};
-use ods_alloc::extend_chain;
+use ods_alloc::{FreeCounts, extend_from};
 use ods_base::{Block, FileId, Image, Name, Uic};
 use ods_directory::with_mark;
 use ods_header::first_block;
-use ods_request::{Refusal, Stamp};
+use ods_request::{Refusal, Stamp, new_ident};
 use ods_space::{Draft, Layout, sequence};
 use std::alloc::{AllocError, Global};
 
@@ -31,6 +25,7 @@ pub fn create(
     alloc: Global,
     image: &Image,
     layout: &Layout,
+    counts: &FreeCounts,
     who: Uic,
     name: Name,
     version: u16,
@@ -38,6 +33,7 @@ pub fn create(
     stamp: Stamp,
 ) -> Result<(Draft, FileId), Refusal>
     requires sound { IsSoundBy image.now layout.now }
+    requires counts { counts.now ≡ counts_of image.now layout.now }
     requires asked { CanBeAsked (Create name version count stamp) }
     ensures { MatchResult result
         (λ r. IsStepOf image.now layout.now who (Create name version count stamp) (Created r.1) (applied image.now r.0) layout.now)
@@ -47,7 +43,7 @@ pub fn create(
         return Err(Refusal::BadCount);
     }
     // A new header has room for 204 words of pointers.
-    let taken = match take(alloc, image, layout, 0, 204, count) {
+    let taken = match take(alloc, image, layout, counts, 0, 204, count) {
         Ok(taken) => taken,
         Err(refusal) => return Err(refusal),
     };
@@ -99,7 +95,10 @@ fn new_file(
     zero_blocks(alloc, blocks, &mut draft)?;
     let first = layout.place(number).unwrap();
     draft.set(first, header)?;
-    extend_chain(alloc, image, layout, number, blocks, others, &mut draft)?;
+    // The first header is the last that the chain has.
+    extend_from(
+        alloc, image, layout, number, number, blocks, others, &mut draft,
+    )?;
     Ok(draft)
 }
 
@@ -133,76 +132,4 @@ fn new_attributes(name: &Name, count: u32) -> [u8; 32]
     attributes[0] = 1;
     attributes[2] = 16;
     with_mark(attributes, 0, count)
-}
-
-/// The ident area of a new file: its name, type and version, revision 1, and the stamp as its dates of revision and
-/// creation.
-fn new_ident(name: &Name, version: u16, stamp: &Stamp) -> [u8; 46]
-    ensures { result ≡ new_ident name.now version stamp.now }
-{
-    let [first, second, third] = name.words();
-    let ext = name.ext();
-    let [a, b, c, d, e, f, g, h, i, j, k, l, m] = *stamp.text();
-    [
-        low(first),
-        high(first),
-        low(second),
-        high(second),
-        low(third),
-        high(third),
-        low(ext),
-        high(ext),
-        low(version),
-        high(version),
-        1,
-        0,
-        a,
-        b,
-        c,
-        d,
-        e,
-        f,
-        g,
-        h,
-        i,
-        j,
-        k,
-        l,
-        m,
-        a,
-        b,
-        c,
-        d,
-        e,
-        f,
-        g,
-        h,
-        i,
-        j,
-        k,
-        l,
-        m,
-        0,
-        0,
-        0,
-        0,
-        0,
-        0,
-        0,
-        0,
-    ]
-}
-
-/// The low byte of a word.
-fn low(word: u16) -> u8
-    ensures { result ≡ word % 256 }
-{
-    (word % 256) as u8
-}
-
-/// The high byte of a word.
-fn high(word: u16) -> u8
-    ensures { result ≡ word / 256 }
-{
-    (word / 256) as u8
 }

@@ -1,26 +1,17 @@
 //! A Delete: its checks, and the draft that gives back what the file has.
-ghost use Rattle.std.specs.Prelude.{◌≡◌, ◌==◌, ◌<◌, ◌∷◌, ℕ, List, not, IfOk, IfErr, MatchResult, None};
+ghost use Rattle.std.specs.Prelude.{◌≡◌, ◌==◌, ◌<◌, [], ◌∷◌, ℕ, List, not, IfOk, IfErr, MatchResult, None};
 ghost use Rattle.std.specs.FinMap.{len};
-ghost use Rattle.ods_space.specs.Draft.{applied};
-ghost use Rattle.ods_space.specs.Layout.{header_at};
-ghost use Rattle.ods_space.specs.Chain.{IsChain};
-ghost use Rattle.ods_space.specs.Files.{IsFile, HasBlocks, IsLayoutOf, IsWhole};
-ghost use Rattle.ods_alloc.specs.Extend.{GivesBack};
-ghost use Rattle.ods_mount.specs.Faults.{contents_of};
-ghost use Rattle.ods_mount.specs.Sound.{IsSoundBy};
-ghost use Rattle.ods_request.specs.declared.answers.Answer.TheVariants.{Done};
-ghost use Rattle.ods_request.specs.declared.requests.Request.TheVariants.{Delete};
-ghost use Rattle.ods_request.specs.Catalogue.{Catalogue, names_of};
-ghost use Rattle.ods_request.specs.Faults.{fault_of};
+ghost use Rattle.ods_space.specs.{Draft.applied, Layout.header_at, Chain.IsChain, Files.IsFile, Files.HasBlocks, Files.IsLayoutOf, Files.IsWhole};
+ghost use Rattle.ods_alloc.specs.{Extend.GivesBack, Extend.IsWellPlaced, Marks.Deletes};
+ghost use Rattle.ods_mount.specs.{Faults.contents_of, Sound.IsSoundBy};
+ghost use Rattle.ods_request.specs.{declared.answers.Answer.TheVariants.Done, declared.requests.Request.TheVariants.Delete, Catalogue.Catalogue, Catalogue.names_of, Faults.fault_of};
 ghost use Rattle.ods_look.specs.Opening.{IsFileId};
-ghost use Rattle.ods_state.specs.Change.{IsFaultBy};
-ghost use Rattle.ods_state.specs.Contents.{ShowsBy, body_of};
-ghost use Rattle.ods_state.specs.Served.{IsStepOf, IsRefusalOf};
+ghost use Rattle.ods_state.specs.{Change.IsFaultBy, Contents.ShowsBy, Contents.body_of, Served.IsStepOf, Served.IsRefusalOf};
 
-use ods_alloc::give_back;
+use ods_alloc::mark_free;
 use ods_base::{Block, FileId, Image, Uic};
 use ods_directory::has_names;
-use ods_header::is_directory;
+use ods_header::{deleted_header, is_directory};
 use ods_look::opening::{directory_at, is_granted, named_header};
 use ods_request::{Refusal, Right};
 use ods_space::{ChainHeaders, Draft, Layout, push_header};
@@ -92,7 +83,8 @@ fn is_used_directory(image: &Image, layout: &Layout, number: u16, first: &Block)
     has_names(&directory.blocks, directory.mark)
 }
 
-/// The draft that gives back the blocks and the headers of the file with this first header.
+/// The draft that gives back the blocks and the headers of the file with this first header: the headers are deleted
+/// along its chain, and then the bits of both bitmaps are marked.
 fn without_file(
     alloc: Global,
     image: &Image,
@@ -106,9 +98,9 @@ fn without_file(
     ensures { IfOk result (λ draft. (others blocks : List ℕ) → IsWhole image.now layout.now number others blocks
         → GivesBack image.now layout.now blocks (number ∷ others) (applied image.now draft)) }
 {
-    let held = held_by(alloc, image, layout, number, first)?;
     let mut draft = Draft::new(alloc);
-    give_back(image, layout, &held.lbns, &held.numbers, &mut draft)?;
+    let held = delete_chain(alloc, image, layout, number, first, &mut draft)?;
+    mark_free(image, layout, &held.lbns, &held.numbers, &mut draft)?;
     Ok(draft)
 }
 
@@ -119,28 +111,36 @@ struct Held {
     numbers: Vec<u16>,
 }
 
-/// What the file with this first header has: its chain is walked once.
-fn held_by(
+/// Deletes the headers of the file with this first header, in a new draft, and notes what the file has: its chain is
+/// walked once.
+fn delete_chain(
     alloc: Global,
     image: &Image,
     layout: &Layout,
     number: u16,
     first: &Block,
+    draft: &mut Draft,
 ) -> Result<Held, AllocError>
     requires layout { IsLayoutOf image.now layout.now }
+    requires places { IsWellPlaced layout.now }
     requires chain { (others : List ℕ) × (blocks : List ℕ) × IsChain image.now layout.now number others blocks }
     requires first { first.now ≡ header_at image.now layout.now number }
-    ensures { IfOk result (λ held. (others blocks : List ℕ) → IsChain image.now layout.now number others blocks
+    requires new { draft.old ≡ [] }
+    ensures held { IfOk result (λ held. (others blocks : List ℕ) → IsChain image.now layout.now number others blocks
         → (held.lbns.items ≡ blocks) × (held.numbers.items ≡ number ∷ others)) }
+    ensures deleted { IfOk result (λ held. Deletes image.now layout.now held.numbers.items (applied image.now draft.new)) }
 {
     // The blocks of an image have bytes, so a chain has at most 256 headers.
     let _ = image.len();
     let mut lbns = Vec::new(alloc);
     let mut numbers = Vec::new(alloc);
     let mut headers = ChainHeaders::from(image, layout, number, first);
-    while let Some((next, header)) = headers.next() {
+    while let Some((at, header)) = headers.next() {
+        if let Some(lbn) = layout.place(at) {
+            draft.set(lbn, deleted_header(header))?;
+        }
         push_header(&mut lbns, header)?;
-        numbers.push(next)?;
+        numbers.push(at)?;
     }
     Ok(Held { lbns, numbers })
 }

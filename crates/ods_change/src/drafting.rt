@@ -1,9 +1,7 @@
 //! What requests share: drafts of one or two blocks, and the blocks of a directory with another entry or another end mark.
 ghost use Rattle.std.specs.Prelude.{◌≡◌, ◌+◌, ◌*◌, ◌/◌, ◌%◌, ◌<◌, ◌≤◌, ◌∷◌, [], IfOk, length};
-ghost use Rattle.ods_base.specs.Block.{with_bytes};
-ghost use Rattle.ods_base.specs.Image.{block_at};
-ghost use Rattle.ods_header.specs.Attributes.{IsWithAttributes, KeepsOtherFields};
-ghost use Rattle.ods_header.specs.Header.{attributes_of};
+ghost use Rattle.ods_base.specs.{Block.with_bytes, Image.block_at};
+ghost use Rattle.ods_header.specs.{Attributes.IsWithAttributes, Attributes.KeepsOtherFields, Header.attributes_of};
 ghost use Rattle.ods_space.specs.Files.{Holds};
 ghost use Rattle.ods_directory.specs.Mark.{marked};
 ghost use Rattle.ods_mount.specs.Sound.{IsSoundBy};

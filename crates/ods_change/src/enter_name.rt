@@ -1,15 +1,15 @@
 //! An Enter: the draft that puts the entry of a name into a directory.
-ghost use Rattle.std.specs.Prelude.{MatchResult};
+ghost use Rattle.std.specs.Prelude.{◌≡◌, MatchResult};
+ghost use Rattle.ods_alloc.specs.Counts.{counts_of};
 ghost use Rattle.ods_mount.specs.Sound.{IsSoundBy};
-ghost use Rattle.ods_request.specs.declared.answers.Answer.TheVariants.{Entered};
-ghost use Rattle.ods_request.specs.declared.requests.Request.TheVariants.{Enter};
+ghost use Rattle.ods_request.specs.{declared.answers.Answer.TheVariants.Entered, declared.requests.Request.TheVariants.Enter};
 ghost use Rattle.ods_space.specs.Draft.{applied};
-ghost use Rattle.ods_state.specs.Outcome.{CanBeAsked};
-ghost use Rattle.ods_state.specs.Served.{IsStepOf, IsRefusalOf};
+ghost use Rattle.ods_state.specs.{Outcome.CanBeAsked, Served.IsStepOf, Served.IsRefusalOf};
 
 use crate::enter_behind::enter_behind;
 use crate::enter_within::enter_within;
 use crate::entering::new_entry;
+use ods_alloc::FreeCounts;
 use ods_base::{FileId, Image, Name, Uic};
 use ods_request::Refusal;
 use ods_space::{Draft, Layout};
@@ -21,6 +21,7 @@ pub fn enter(
     alloc: Global,
     image: &Image,
     layout: &Layout,
+    counts: &FreeCounts,
     who: Uic,
     dir: FileId,
     name: Name,
@@ -28,6 +29,7 @@ pub fn enter(
     file: FileId,
 ) -> Result<(Draft, u16), Refusal>
     requires sound { IsSoundBy image.now layout.now }
+    requires counts { counts.now ≡ counts_of image.now layout.now }
     requires asked { CanBeAsked (Enter dir name version file) }
     ensures { MatchResult result
         (λ r. IsStepOf image.now layout.now who (Enter dir name version file) (Entered r.1) (applied image.now r.0) layout.now)
@@ -38,7 +40,7 @@ pub fn enter(
         Err(refusal) => return Err(refusal),
     };
     let drafted = if entry.slot.grows {
-        enter_behind(alloc, image, layout, dir, &entry)
+        enter_behind(alloc, image, layout, counts, dir, &entry)
     } else {
         enter_within(alloc, image, layout, dir, &entry)
     };

@@ -2,8 +2,7 @@
 ghost use Rattle.std.specs.Prelude.{◌≡◌, MatchResult};
 ghost use Rattle.ods_mount.specs.Sound.{IsSoundBy};
 ghost use Rattle.ods_request.specs.declared.requests.Request.TheVariants.{Enter};
-ghost use Rattle.ods_state.specs.Change.{IsFaultBy};
-ghost use Rattle.ods_state.specs.Outcome.{CanBeAsked};
+ghost use Rattle.ods_state.specs.{Change.IsFaultBy, Outcome.CanBeAsked};
 ghost use Rattle.ods_change.specs.Entering.{IsNewEntry, refusal_of};
 
 use ods_base::{FileId, Image, Name, Uic};

@@ -1,18 +1,15 @@
 //! An Extend: its checks, and the draft by which the file gets blocks of zeros behind its own.
 ghost use Rattle.std.specs.Prelude.{◌≡◌, ◌<◌, ◌==◌, ◌||◌, nat_lt, ℕ, List, IfOk, IfErr, MatchResult};
+ghost use Rattle.ods_alloc.specs.{Counts.counts_of, Extend.last_of};
 ghost use Rattle.ods_header.specs.Header.{owner_of, protection_of};
-ghost use Rattle.ods_space.specs.Draft.{applied};
-ghost use Rattle.ods_space.specs.Layout.{header_at};
+ghost use Rattle.ods_space.specs.{Chain.IsChain, Draft.applied, Layout.header_at};
 ghost use Rattle.ods_mount.specs.Sound.{IsSoundBy};
-ghost use Rattle.ods_request.specs.declared.answers.Answer.TheVariants.{Extended};
-ghost use Rattle.ods_request.specs.declared.requests.Request.TheVariants.{Extend};
-ghost use Rattle.ods_request.specs.Rights.{permits};
-ghost use Rattle.ods_state.specs.Change.{IsFaultBy};
-ghost use Rattle.ods_state.specs.Served.{IsStepOf, IsRefusalOf};
+ghost use Rattle.ods_request.specs.{declared.answers.Answer.TheVariants.Extended, declared.requests.Request.TheVariants.Extend, Rights.permits};
+ghost use Rattle.ods_state.specs.{Change.IsFaultBy, Served.IsStepOf, Served.IsRefusalOf};
 ghost use Rattle.ods_change.specs.Extending.{IsExtensible, IsGrownBy, IsWanted};
 
 use crate::taking::{Taken, chain_end, take, zero_blocks};
-use ods_alloc::extend_chain;
+use ods_alloc::{FreeCounts, extend_from};
 use ods_base::{Block, FileId, Image, Uic};
 use ods_header::{is_directory, owner, protection, without_contiguous};
 use ods_look::opening::named_header;
@@ -64,19 +61,21 @@ fn may_extend(header: &Block, who: Uic) -> bool
     permits(&who, &owner(header), protection(header), Right::Extend)
 }
 
-/// The draft by which a file takes these blocks and numbers. The blocks become zeros, and the first header says no
-/// more that the file's blocks are contiguous.
+/// The draft by which a file with this last header takes these blocks and numbers. The blocks become zeros, and the first
+/// header says no more that the file's blocks are contiguous.
 fn grown(
     alloc: Global,
     image: &Image,
     layout: &Layout,
     number: u16,
     first: &Block,
+    last: u16,
     taken: &Taken,
 ) -> Result<Draft, AllocError>
     requires sound { IsSoundBy image.now layout.now }
     requires above { 5 < number }
     requires first { first.now ≡ header_at image.now layout.now number }
+    requires last { (others : List ℕ) (blocks : List ℕ) → IsChain image.now layout.now number others blocks → last ≡ last_of number others }
     requires wanted { (headers : List ℕ) × (old : List ℕ) × (count : ℕ) × IsWanted image.now layout.now number headers old count taken.now }
     ensures { IfOk result (λ draft. (headers old : List ℕ) (count : ℕ) → IsWanted image.now layout.now number headers old count taken.now
         → IsGrownBy image.now layout.now number headers old count taken.now.numbers.items (applied image.now draft)) }
@@ -87,11 +86,12 @@ fn grown(
     zero_blocks(alloc, &taken.blocks, &mut draft)?;
     let lbn = layout.place(number).unwrap();
     draft.set(lbn, without_contiguous(first))?;
-    extend_chain(
+    extend_from(
         alloc,
         image,
         layout,
         number,
+        last,
         &taken.blocks,
         &taken.numbers,
         &mut draft,
@@ -105,11 +105,13 @@ pub fn extend(
     alloc: Global,
     image: &Image,
     layout: &Layout,
+    counts: &FreeCounts,
     who: Uic,
     file: FileId,
     count: u32,
 ) -> Result<(Draft, u32), Refusal>
-    requires { IsSoundBy image.now layout.now }
+    requires sound { IsSoundBy image.now layout.now }
+    requires counts { counts.now ≡ counts_of image.now layout.now }
     ensures { MatchResult result
         (λ r. IsStepOf image.now layout.now who (Extend file count) (Extended r.1) (applied image.now r.0) layout.now)
         (IsRefusalOf image.now layout.now who (Extend file count)) }
@@ -119,11 +121,11 @@ pub fn extend(
         Err(refusal) => return Err(refusal),
     };
     let end = chain_end(image, layout, file.number, first);
-    let taken = match take(alloc, image, layout, end.headers, end.room, count) {
+    let taken = match take(alloc, image, layout, counts, end.headers, end.room, count) {
         Ok(taken) => taken,
         Err(refusal) => return Err(refusal),
     };
-    match grown(alloc, image, layout, file.number, first, &taken) {
+    match grown(alloc, image, layout, file.number, first, end.last, &taken) {
         Ok(draft) => Ok((draft, end.blocks + count)),
         Err(_) => Err(Refusal::NoMemory),
     }

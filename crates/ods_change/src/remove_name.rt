@@ -1,8 +1,7 @@
 //! A Remove: its checks, and the draft of the block with the entry.
 ghost use Rattle.std.specs.Prelude.{MatchResult};
 ghost use Rattle.ods_mount.specs.Sound.{IsSoundBy};
-ghost use Rattle.ods_request.specs.declared.answers.Answer.TheVariants.{Removed};
-ghost use Rattle.ods_request.specs.declared.requests.Request.TheVariants.{Remove};
+ghost use Rattle.ods_request.specs.{declared.answers.Answer.TheVariants.Removed, declared.requests.Request.TheVariants.Remove};
 ghost use Rattle.ods_space.specs.Draft.{applied};
 ghost use Rattle.ods_state.specs.Served.{IsStepOf, IsRefusalOf};
 

@@ -1,8 +1,7 @@
 //! A SetUser: its checks, and the draft of the first header.
 ghost use Rattle.std.specs.Prelude.{MatchResult};
 ghost use Rattle.ods_mount.specs.Sound.{IsSoundBy};
-ghost use Rattle.ods_request.specs.declared.answers.Answer.TheVariants.{Done};
-ghost use Rattle.ods_request.specs.declared.requests.Request.TheVariants.{SetUser};
+ghost use Rattle.ods_request.specs.{declared.answers.Answer.TheVariants.Done, declared.requests.Request.TheVariants.SetUser};
 ghost use Rattle.ods_space.specs.Draft.{applied};
 ghost use Rattle.ods_state.specs.Served.{IsStepOf, IsRefusalOf};
 

@@ -1,26 +1,25 @@
 //! What a file takes to grow: the lowest free blocks, and the lowest free numbers for the headers that their pointers need.
 ghost use Rattle.std.specs.Prelude.{◌≡◌, ◌+◌, ◌⊎◌, ◌<◌, ◌≤◌, ◌^◌, ℕ, List, None, Some, length, IfOk, IfErr, OnOk};
+ghost use Rattle.ods_alloc.specs.{Counts.counts_of, Extend.last_of};
 ghost use Rattle.ods_header.specs.Header.{IsLaidOut, blocks_of};
-ghost use Rattle.ods_space.specs.Chain.{chain_blocks, header_blocks};
-ghost use Rattle.ods_space.specs.Draft.{applied};
-ghost use Rattle.ods_space.specs.Files.{IsLayoutOf};
-ghost use Rattle.ods_space.specs.Layout.{header_at};
+ghost use Rattle.ods_space.specs.{Chain.IsChain, Chain.chain_blocks, Chain.header_blocks, Draft.applied, Files.IsLayoutOf, Layout.header_at};
 ghost use Rattle.ods_state.specs.Wants.{HasHeaders, lack_of, new_headers, room_in, taken_blocks, taken_numbers};
 ghost use Rattle.ods_change.specs.Taking.{IsZeroed, refusal_for};
 
-use ods_alloc::{SpaceFault, pick_blocks, pick_numbers, runs_of_blocks};
+use ods_alloc::{FreeCounts, SpaceFault, pick_blocks, pick_numbers, runs_of_blocks};
 use ods_base::{Block, Image};
 use ods_header::{pointer_at, pointer_count, room_words};
 use ods_request::Refusal;
 use ods_space::{ChainHeaders, Draft, Layout};
 use std::alloc::{AllocError, Global};
 
-/// Where the chain of a file ends: how many headers it has, how many blocks they map, and the room in words for
-/// pointers in the last of them.
+/// Where the chain of a file ends: how many headers it has, how many blocks they map, the number of the last of them, and
+/// its room in words for pointers.
 #[derive(Clone, Copy)]
 pub(crate) struct ChainEnd {
     pub headers: u32,
     pub blocks: u32,
+    pub last: u16,
     pub room: u32,
 }
 
@@ -30,6 +29,7 @@ pub(crate) fn chain_end(image: &Image, layout: &Layout, number: u16, first: &Blo
     requires whole { (hs : List ℕ) × (blocks : List ℕ) × HasHeaders image.now layout.now number hs blocks }
     requires first { first.now ≡ header_at image.now layout.now number }
     ensures end { (hs blocks : List ℕ) → HasHeaders image.now layout.now number hs blocks → (result.headers ≡ length hs) × (result.blocks ≡ length blocks) × (result.room ≡ room_in image.now layout.now hs) }
+    ensures last { (others blocks : List ℕ) → IsChain image.now layout.now number others blocks → result.last ≡ last_of number others }
     ensures few { result.headers ≤ 256 }
     ensures small { result.blocks ≤ chain_blocks }
 {
@@ -37,16 +37,19 @@ pub(crate) fn chain_end(image: &Image, layout: &Layout, number: u16, first: &Blo
     let _ = image.len();
     let mut count = 0;
     let mut blocks = 0;
+    let mut last = 0;
     let mut room = 0;
     let mut headers = ChainHeaders::from(image, layout, number, first);
-    while let Some((_, header)) = headers.next() {
+    while let Some((at, header)) = headers.next() {
         count += 1;
         blocks += mapped(header);
+        last = at;
         room = room_words(header) as u32;
     }
     ChainEnd {
         headers: count,
         blocks,
+        last,
         room,
     }
 }
@@ -77,17 +80,19 @@ pub(crate) fn take(
     alloc: Global,
     image: &Image,
     layout: &Layout,
+    counts: &FreeCounts,
     headers: u32,
     room: u32,
     count: u32,
 ) -> Result<Taken, Refusal>
     requires layout { IsLayoutOf image.now layout.now }
+    requires counts { counts.now ≡ counts_of image.now layout.now }
     requires few { headers ≤ 256 }
     ensures ok { IfOk result (λ t. (hs : List ℕ) → length hs ≡ headers → room_in image.now layout.now hs ≡ room
         → (t.blocks.items ≡ taken_blocks image.now layout.now count) × (t.numbers.items ≡ taken_numbers image.now layout.now hs count) × (lack_of image.now layout.now hs count ≡ None)) }
     ensures err { IfErr result (λ f. (f ≡ Refusal.NoMemory) ⊎ ((hs : List ℕ) → length hs ≡ headers → room_in image.now layout.now hs ≡ room → lack_of image.now layout.now hs count ≡ Some f)) }
 {
-    let blocks = match pick_blocks(alloc, image, layout, count) {
+    let blocks = match pick_blocks(alloc, image, layout, counts, count) {
         Ok(blocks) => blocks,
         Err(fault) => return Err(refusal_for(fault)),
     };
@@ -96,7 +101,7 @@ pub(crate) fn take(
         Err(_) => return Err(Refusal::NoMemory),
     };
     let needed = headers_wanted(headers, room, runs.as_slice().len());
-    let numbers = match pick_numbers(alloc, image, layout, needed) {
+    let numbers = match pick_numbers(alloc, image, layout, counts, needed) {
         Ok(numbers) => numbers,
         Err(fault) => return Err(refusal_for(fault)),
     };

@@ -1,8 +1,7 @@
 //! A Write: its checks, and the draft of the block.
 ghost use Rattle.std.specs.Prelude.{MatchResult};
 ghost use Rattle.ods_mount.specs.Sound.{IsSoundBy};
-ghost use Rattle.ods_request.specs.declared.answers.Answer.TheVariants.{Done};
-ghost use Rattle.ods_request.specs.declared.requests.Request.TheVariants.{Write as WriteRequest};
+ghost use Rattle.ods_request.specs.{declared.answers.Answer.TheVariants.Done, declared.requests.Request.TheVariants.Write as WriteRequest};
 ghost use Rattle.ods_space.specs.Draft.{applied};
 ghost use Rattle.ods_state.specs.Served.{IsStepOf, IsRefusalOf};
 

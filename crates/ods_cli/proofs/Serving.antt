@@ -1,18 +1,24 @@
 -- Runs that serve scripts, from what was read to what is written.
-use Rattle.std.proofs.Common.{◌≡◌, ℕ, List, ◌++◌, length, Option, Some, None, true, false, sym, subst, inl, inr}
+use Rattle.std.proofs.Common.{◌≡◌, ◌≤◌, ◌+◌, ℕ, List, [], ◌∷◌, ◌++◌, length, Option, Some, None, true, false, refl, sym, subst, inl, inr, arith}
 use Rattle.std.specs.Prelude.{Result, Ok, Err, IfOk, IfErr, OnOk, IsOkUnless, MatchResult, is_err}
+use Rattle.std.specs.declared.vec.Vec.{Vec}
+use Rattle.std.specs.declared.alloc.Global.{Global}
 use Rattle.std.specs.Io.KnownBytes.{Appends}
 use Rattle.std.proofs.KnownBytes.{Keeps-refl}
 use Rattle.ods_base.specs.Image.{TookBytes}
 use Rattle.ods_base.specs.declared.faults.WriteFault.{WriteFault}
 use Rattle.ods_space.specs.Free.{free_blocks, free_numbers}
+use Rattle.ods_space.specs.Layout.{VolumeLayout}
+use Rattle.ods_mount.specs.Sound.{IsSoundBy}
 use Rattle.ods_state.specs.Version.{State, IsLawful}
+use Rattle.ods_state.proofs.Opening.{new_is_lawful}
 use Rattle.ods_share.specs.Scripts.{EachOutcome}
 use Rattle.ods_share.specs.Settles.{Calls, IsSettled, AreLengths}
 use Rattle.ods_share.specs.declared.outcome.Outcome.{Outcome}
 use Rattle.ods_share.specs.declared.script.Script.{Script}
 use Rattle.ods_share.specs.declared.settlement.Report.{Report}
-use Rattle.ods_script.specs.Texts.{sessions_text}
+use Rattle.ods_share.specs.declared.outcome.Reply.{Reply}
+use Rattle.ods_script.specs.Texts.{replied_text, replies_in, sessions_text}
 use Rattle.ods_cli.specs.Reply.{AreImageBytes, IsReplyFault}
 use Rattle.ods_cli.specs.Serve.{AreSound, AreRefused, EndsServe, EndsWriting, IsFaultOf, IsRefusedWith, IsServedTo, IsServingFault, IsSoundImage, IsUntouched, Wrote, calls_in, totals_text, wrote}
 use Rattle.ods_cli.specs.declared.fault.ServeFault.{ServeFault}
@@ -36,22 +42,58 @@ pub whole_text : {A : Type 0} (r : Result A WriteFault) (old new : Option (List 
 whole_text (Ok u) old new bytes text same e wrote = subst (λ (t : List ℕ). Appends old new t) same wrote
 whole_text (Err f) old new bytes text same e wrote = cc
 
+-- what is printed of the sessions is known by their replies alone
+by_replies : (k : ℕ) (ss : List Script) (os : List Outcome) → replied_text k ss (replies_in os) ≡ sessions_text k ss os
+by_replies k [] os = refl
+by_replies k (s ∷ ss) [] = refl
+by_replies k (s ∷ ss) (o ∷ os) = let rest = by_replies (k + 1) ss os in cc
+
 -- a volume whose list is settled was served so
-pub served_to : (stamp : List ℕ) (scripts : List Script) (I : List (List ℕ)) (v : State) (os : List Outcome) (lists : List Calls) (r : Report) (text : List ℕ) →
-    IsLawful v → length os ≡ length scripts → EachOutcome stamp scripts os → lists ≡ calls_in os → IsSettled I v lists → AreLengths v.entries lists r →
-    text ≡ sessions_text 1 scripts os ++ totals_text (length v.entries) (length (free_blocks v.image v.layout)) (length (free_numbers v.image v.layout)) →
+pub served_to : (stamp : List ℕ) (scripts : List Script) (v : State) (os : List Outcome) (lists : List Calls) (replies : List (Vec Reply Global)) (r : Report) (text : List ℕ) →
+    IsLawful v → 1 ≤ length scripts → length os ≡ length scripts → EachOutcome stamp scripts os → lists ≡ calls_in os → replies ≡ replies_in os →
+    IsSettled v.mounted v lists × AreLengths v.entries lists r →
+    text ≡ replied_text 1 scripts replies ++ totals_text (length v.entries) (length (free_blocks v.image v.layout)) (length (free_numbers v.image v.layout)) →
     IsServedTo stamp scripts v.mounted v.image r text
-served_to stamp scripts I v os lists r text lawful count each same settled lengths lines = record {
+served_to stamp scripts v os lists replies r text lawful some count each same alike settled lines = record {
   entries = v.entries;
   layout = v.layout;
   version = lawful.version;
   outcomes = os;
   count = count;
   each = each;
-  calls = rw same at settled.calls;
-  report = rw same at lengths;
-  lines = lines;
+  calls = rw same at settled.0.calls;
+  report = rw same at settled.1;
+  lines = rw (alike, by_replies 1 scripts os) at lines;
+  unchanged = λ none. absurd (omega (arith, some, none));
 }
+
+-- what `no script` means
+none_of : (ss : List Script) → length ss ≡ 0 → ss ≡ []
+none_of [] e = refl
+none_of (s ∷ ss) e = absurd (omega (arith, e))
+
+-- a sound image on which no script is served stays as it is
+pub unserved_to : (stamp : List ℕ) (scripts : List Script) (I : List (List ℕ)) (L : VolumeLayout) (r : Report) (text : List ℕ) →
+    length scripts ≡ 0 → IsSoundBy I L → r.entries ≡ 0 → r.of_session.items ≡ [] →
+    text ≡ totals_text 0 (length (free_blocks I L)) (length (free_numbers I L)) → IsServedTo stamp scripts I I r text
+unserved_to stamp scripts I L r text none sound entries of_session lines =
+    subst (λ (ss : List Script). IsServedTo stamp ss I I r text) (sym (none_of scripts none)) (record {
+      entries = [];
+      layout = L;
+      version = (new_is_lawful I L sound 1).version;
+      outcomes = [];
+      count = refl;
+      each = λ k s o below. absurd (omega (arith, below));
+      calls = record { sessions = λ k e below. absurd (omega (arith, below)); each = λ k d below. absurd (omega (arith, below)) };
+      report = record { all = entries; of_session = of_session };
+      lines = lines;
+      unchanged = λ _. refl;
+    })
+
+-- a report that goes out as it is has no more entries
+pub within : (r : Result Report ServeFault) (said : Report) (limit : ℕ) → IfOk r (λ x. x ≡ said) → said.entries ≤ limit → IfOk r (λ x. x.entries ≤ limit)
+within (Ok x) said limit same few = subst (λ (y : Report). y.entries ≤ limit) (sym same) few
+within (Err f) said limit same few = tt
 
 -- the image, or a fault of it, is that of the bytes
 pub of_image : {M N : Type 0} (image_of : M → List (List ℕ)) (number : N → ℕ) (line : N → List ℕ) (r : Result (Result M N) ServeFault)

@@ -7,3 +7,4 @@ pub mod CheckRun
 pub mod Runs
 pub mod Endings
 pub mod Serve
+pub mod ScriptText

@@ -1,6 +1,5 @@
 -- What is replied to a reader whose bytes are to be an image.
-use Rattle.std.specs.Prelude.{◌≡◌, ℕ, ◌+◌, ◌≤◌, ◌^◌, Bool, false, ◌⊎◌, List, [], ◌∷◌, ◌++◌, length, codes, Option}
-use Rattle.std.specs.Fmt.{decimal}
+use Rattle.std.specs.Prelude.{◌≡◌, ℕ, ◌+◌, ◌≤◌, ◌^◌, Bool, false, ◌⊎◌, List, length, Option}
 use Rattle.std.specs.Io.KnownBytes.{IsAtEnd}
 use Rattle.ods_base.specs.Image.{IsImage, IsNoReading, image_bytes}
 use Rattle.ods_base.specs.Refusals.{image_row}

@@ -34,7 +34,7 @@ totals_text entries blocks numbers = codes "list " ++ decimal entries ++ 10 ∷ 
 
 -- The image I was served: there is a list of accepted requests that leads from it to the image J. Its entries are just the calls of the
 -- scripts, each session's in the order of its script, with the answers that were replied. The report has its numbers, and the text has
--- the replies and the totals.
+-- the replies and the totals. With no script J is I.
 pub record IsServedTo (stamp : List ℕ) (scripts : List Script) (I J : List (List ℕ)) (r : Report) (text : List ℕ) : Type 0 where
   pub entries : List Entry
   pub layout : VolumeLayout
@@ -45,6 +45,7 @@ pub record IsServedTo (stamp : List ℕ) (scripts : List Script) (I J : List (Li
   pub calls : AreCalls entries (calls_in outcomes)
   pub report : AreLengths entries (calls_in outcomes) r
   pub lines : text ≡ sessions_text 1 scripts outcomes ++ totals_text (length entries) (length (free_blocks J layout)) (length (free_numbers J layout))
+  pub unchanged : length scripts ≡ 0 → J ≡ I
 
 -- the image is sound, by some layout
 abbrev pub IsSoundImage : List (List ℕ) → Type 0

@@ -3,8 +3,7 @@ ghost use Rattle.std.specs.Prelude.{◌≡◌, ◌≢◌, ℕ, List, true, false
 ghost use Rattle.std.specs.String.{string_bytes};
 ghost use Rattle.std.specs.Io.KnownBytes.{Consumes};
 ghost use Rattle.ods_space.specs.Free.{free_blocks, free_numbers};
-ghost use Rattle.ods_cli.specs.CheckReply.{IsMountReply, count_lines, fault_line};
-ghost use Rattle.ods_cli.specs.CheckRun.{EndsCheckRun};
+ghost use Rattle.ods_cli.specs.{CheckReply.IsMountReply, CheckReply.count_lines, CheckReply.fault_line, CheckRun.EndsCheckRun};
 
 use crate::ServeFault;
 use crate::question::{Question, run};

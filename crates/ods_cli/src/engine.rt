@@ -1,15 +1,13 @@
 //! The engine: an image is read and mounted, scripts are served on it by sessions, and replies and image are written.
-ghost use Rattle.std.specs.Prelude.{◌≡◌, ◌≤◌, ℕ, List, All, length, is_some, OnOk, IfErr};
+ghost use Rattle.std.specs.Prelude.{◌≡◌, ◌≤◌, ℕ, List, All, length, is_some, IfOk, OnOk, IfErr};
 ghost use Rattle.std.specs.String.{string_bytes};
 ghost use Rattle.std.specs.Io.KnownBytes.{Consumes};
-ghost use Rattle.ods_base.specs.Image.{image_bytes};
-ghost use Rattle.ods_base.specs.declared.faults.WriteFault.{WriteFault};
+ghost use Rattle.ods_base.specs.{Image.image_bytes, declared.faults.WriteFault.WriteFault};
 ghost use Rattle.ods_share.specs.Scripts.{CanBeRun};
-ghost use Rattle.ods_cli.specs.Serve.{EndsServe, EndsWriting, IsRefusedWith, GotAll, GotPart, wrote};
-ghost use Rattle.ods_cli.specs.declared.fault.ServeFault.TheVariants.{WriteOut};
+ghost use Rattle.ods_cli.specs.{Serve.EndsServe, Serve.EndsWriting, Serve.IsRefusedWith, Serve.GotAll, Serve.GotPart, Serve.wrote, declared.fault.ServeFault.TheVariants.WriteOut};
 
 use crate::ServeFault;
-use crate::sessions::{Served, serve_all};
+use crate::sessions::{Said, serve_all, unserved};
 use crate::sound::{NoImage, sound_image};
 use ods_base::{Image, write_bytes};
 use ods_request::Stamp;
@@ -30,7 +28,8 @@ pub struct Options {
 
 /// Serves at most 8 scripts on the image that a reader gives, each as a session in a thread of its own, and answers how many requests
 /// were accepted, in all and of each session. The replies and the totals are written first, and last the image as it is then, if
-/// there is a writer for it. Where the bytes are no sound image, the line of that refusal is written and nothing else.
+/// there is a writer for it. Where the bytes are no sound image, the line of that refusal is written and nothing else. With no script no
+/// image is kept but the one that was read.
 pub fn serve<I: Read, W: Write, O: Write, G: Gate + Sync, R: Threads + Wait + Sync>(
     rt: &R,
     alloc: Global,
@@ -48,12 +47,17 @@ pub fn serve<I: Read, W: Write, O: Write, G: Gate + Sync, R: Threads + Wait + Sy
     ensures ends { (bytes : List ℕ) × Consumes (I.remaining reader.old) (I.remaining reader.new) bytes
         × EndsServe options.stamp scripts.now bytes (I.remaining reader.new) (record { old = W.contents replies.old; new = W.contents replies.new })
         (wrote O.contents out.old out.new) result }
+    ensures limit { IfOk result (λ r. r.entries ≤ options.limit) }
     ensures kept { is_some out.new ≡ is_some out.old }
 {
     match sound_image(alloc, reader)? {
         Ok(mounted) => {
+            if scripts.is_empty() {
+                let said = unserved(alloc, &mounted, scripts)?;
+                return deliver(said, mounted.image(), replies, out);
+            }
             let served = serve_all(rt, alloc, mounted, scripts, options, gate)?;
-            deliver(served, replies, out)
+            deliver(served.said, served.volume.image(), replies, out)
         }
         Err(no_image) => Err(refuse(replies, &no_image)),
     }
@@ -71,19 +75,21 @@ fn refuse<W: Write>(replies: &mut W, no_image: &NoImage) -> ServeFault
 
 /// Writes the replies and the totals, and then the image, if there is a writer for it.
 fn deliver<W: Write, O: Write>(
-    served: Served,
+    said: Said,
+    image: &Image,
     replies: &mut W,
     out: &mut Option<O>,
 ) -> Result<Report, ServeFault>
-    ensures ends { EndsWriting served.report (string_bytes served.text) served.volume.image
+    ensures ends { EndsWriting said.report (string_bytes said.text) image.now
         (record { old = W.contents replies.old; new = W.contents replies.new }) (wrote O.contents out.old out.new) result }
+    ensures report { IfOk result (λ r. r ≡ said.report) }
     ensures kept { is_some out.new ≡ is_some out.old }
 {
-    if write_bytes(replies, served.text.as_bytes()).is_err() {
+    if write_bytes(replies, said.text.as_bytes()).is_err() {
         return Err(ServeFault::Write);
     }
-    write_image(served.volume.image(), out)?;
-    Ok(served.report)
+    write_image(image, out)?;
+    Ok(said.report)
 }
 
 /// Writes an image, if there is a writer for it.

@@ -2,8 +2,7 @@
 ghost use Rattle.std.specs.Prelude.{◌≡◌, ◌≤◌, ◌++◌, ℕ, List, [], ◌∷◌, true, IfOk, IsOkUnless};
 ghost use Rattle.std.specs.String.{string_bytes};
 ghost use Rattle.std.specs.Io.KnownBytes.{Consumes};
-ghost use Rattle.ods_cli.specs.HeaderReply.{IsImageReply};
-ghost use Rattle.ods_cli.specs.HeaderRun.{EndsHeaderRun};
+ghost use Rattle.ods_cli.specs.{HeaderReply.IsImageReply, HeaderRun.EndsHeaderRun};
 
 use crate::ServeFault;
 use crate::question::{Question, run};

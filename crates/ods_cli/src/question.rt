@@ -2,8 +2,7 @@
 ghost use Rattle.std.specs.Prelude.{◌≡◌, ℕ, List, IfOk, IsOkUnless, MatchResult};
 ghost use Rattle.std.specs.String.{string_bytes};
 ghost use Rattle.std.specs.Io.KnownBytes.{Consumes};
-ghost use Rattle.ods_cli.specs.Reply.{IsReply, IsReplyFault};
-ghost use Rattle.ods_cli.specs.Run.{EndsRun};
+ghost use Rattle.ods_cli.specs.{Reply.IsReply, Reply.IsReplyFault, Run.EndsRun};
 
 use crate::ServeFault;
 use crate::reply::{Reply, read_image, send};

@@ -1,7 +1,6 @@
 //! Which run the words of the command line ask for.
 ghost use Rattle.std.specs.Prelude.{◌≡◌, MatchOption, IfSome, if◌then◌else◌};
-ghost use Rattle.ods_cli.specs.Runs.{IsHeaderNumber, AsksForOne};
-ghost use Rattle.ods_cli.specs.declared.runs.Run.TheVariants.{SampleHeader, ImageHeader, Input, Scripts};
+ghost use Rattle.ods_cli.specs.{Runs.IsHeaderNumber, Runs.AsksForOne, declared.runs.Run.TheVariants.SampleHeader, declared.runs.Run.TheVariants.ImageHeader, declared.runs.Run.TheVariants.Input, declared.runs.Run.TheVariants.Scripts};
 
 use crate::Words;
 

@@ -1,28 +1,59 @@
 //! The sessions of a run on a sound image: what they make of it, and the text of what they are replied.
-ghost use Rattle.std.specs.Prelude.{◌≡◌, ◌≤◌, ◌++◌, ℕ, List, All, length, vec_len, IfOk, IfErr, OnOk};
+ghost use Rattle.std.specs.Prelude.{◌≡◌, ◌≤◌, ◌++◌, ℕ, List, [], All, length, vec_len, IfOk, IfErr, OnOk};
 ghost use Rattle.std.specs.String.{string_bytes};
 ghost use Rattle.ods_space.specs.Free.{free_blocks, free_numbers};
-ghost use Rattle.ods_share.specs.Scripts.{CanBeRun, EachOutcome};
-ghost use Rattle.ods_cli.specs.Serve.{IsServedTo, IsServingFault, totals_text, calls_in as calls_of_outcomes};
+ghost use Rattle.ods_share.specs.{Scripts.CanBeRun, Scripts.EachOutcome, Settles.AreLengths, Settles.IsSettled};
+ghost use Rattle.ods_script.specs.Texts.{replies_in};
+ghost use Rattle.ods_cli.specs.Serve.{IsServedTo, IsServingFault, totals_text, calls_in};
 
 use crate::ServeFault;
 use crate::engine::Options;
+use ods_alloc::{free_count, number_count};
 use ods_mount::Mounted;
 use ods_script::sessions_text;
-use ods_share::{Call, Gate, Outcome, Report, RunFault, Script, SettleFault, run_scripts, settle};
+use ods_share::{
+    Call, Gate, Outcome, Reply, Report, RunFault, Script, SettleFault, run_scripts, settle,
+};
 use ods_volume::Volume;
 use std::alloc::{AllocError, Global};
 use std::sync::Wait;
 use std::thread::Threads;
+
+/// What is said of a run.
+#[derive(Drop)]
+pub(crate) struct Said {
+    pub(crate) report: Report,
+    /// The replies of each session and the totals.
+    pub(crate) text: String,
+}
 
 /// What came of the scripts.
 #[derive(Drop)]
 pub(crate) struct Served {
     /// The volume after the last of its requests.
     pub(crate) volume: Volume,
-    pub(crate) report: Report,
-    /// The replies of each session and the totals.
-    pub(crate) text: String,
+    pub(crate) said: Said,
+}
+
+/// What comes of a run with no script: nothing changes, so it needs no desk, and no image but the mounted one.
+pub(crate) fn unserved(
+    alloc: Global,
+    mounted: &Mounted,
+    scripts: &[Script],
+) -> Result<Said, AllocError>
+    requires { length scripts.now ≡ 0 }
+    ensures none { IfOk result (λ s. s.report.entries ≡ 0) }
+    ensures served { (stamp : List ℕ) → IfOk result (λ s. IsServedTo stamp scripts.now mounted.now.image mounted.now.image s.report (string_bytes s.text)) }
+{
+    let mut text = String::new(alloc);
+    let blocks = free_count(mounted.image(), mounted.layout());
+    let numbers = number_count(mounted.image(), mounted.layout());
+    push_totals(&mut text, 0, blocks, numbers)?;
+    let report = Report {
+        entries: 0,
+        of_session: Vec::new(alloc),
+    };
+    Ok(Said { report, text })
 }
 
 /// Runs the scripts on a sound image, and settles the volume's list with them.
@@ -36,16 +67,18 @@ pub(crate) fn serve_all<G: Gate + Sync, R: Threads + Wait + Sync>(
 ) -> Result<Served, ServeFault>
     requires low { 1 ≤ options.limit }
     requires high { options.limit ≤ 65536 }
+    requires some { 1 ≤ length scripts.now }
     requires few { length scripts.now ≤ 8 }
     requires can { All (λ s. CanBeRun s.commands.items) scripts.now }
-    ensures ok { IfOk result (λ s. IsServedTo options.stamp scripts.now mounted.image s.volume.image s.report (string_bytes s.text)) }
+    ensures ok { IfOk result (λ s. IsServedTo options.stamp scripts.now mounted.image s.volume.image s.said.report (string_bytes s.said.text)) }
+    ensures limit { IfOk result (λ s. s.said.report.entries ≤ options.limit) }
     ensures err { IfErr result IsServingFault }
 {
     let Ok(volume) = Volume::new(alloc, mounted, options.limit) else {
         return Err(ServeFault::NoMemory);
     };
     match run_scripts(rt, alloc, volume, scripts, options.stamp, gate) {
-        Ok((volume, outcomes)) => settled(alloc, volume, scripts, outcomes),
+        Ok((volume, outcomes)) => settled(alloc, volume, scripts, outcomes, options.limit),
         Err(RunFault::NoMemory) => Err(ServeFault::NoMemory),
         Err(RunFault::NoThread) => Err(ServeFault::NoThread),
     }
@@ -57,48 +90,83 @@ fn settled(
     volume: Volume,
     scripts: &[Script],
     outcomes: Vec<Outcome>,
+    limit: u32,
 ) -> Result<Served, ServeFault>
+    requires some { 1 ≤ length scripts.now }
     requires few { length scripts.now ≤ 8 }
     requires count { vec_len outcomes ≡ length scripts.now }
     ensures ok { (stamp : List ℕ) → EachOutcome stamp scripts.now outcomes.items →
-        IfOk result (λ s. IsServedTo stamp scripts.now volume.mounted s.volume.image s.report (string_bytes s.text)) }
+        IfOk result (λ s. IsServedTo stamp scripts.now volume.mounted s.volume.image s.said.report (string_bytes s.said.text)) }
+    ensures limit { IfOk result (λ s. s.said.report.entries ≤ limit) }
     ensures err { IfErr result IsServingFault }
 {
     volume.is_lawful();
-    let mut text = sessions_text(alloc, scripts, outcomes.as_slice())?;
-    push_totals(&mut text, &volume)?;
-    let calls = calls_in(alloc, outcomes)?;
-    match settle(alloc, volume.mounted(), &volume, calls.as_slice()) {
-        Ok(report) => Ok(Served {
-            volume,
-            report,
-            text,
-        }),
+    let (calls, replies) = parted(alloc, outcomes)?;
+    let report = report_of(alloc, &volume, calls, limit)?;
+    let mut text = sessions_text(alloc, scripts, replies.as_slice())?;
+    push_totals(
+        &mut text,
+        volume.entries().len(),
+        volume.free_count(),
+        volume.number_count(),
+    )?;
+    let said = Said { report, text };
+    Ok(Served { volume, said })
+}
+
+/// The report, where the volume's list is these calls, and no longer than the limit, which no promise of a run says. The calls are let go
+/// then, so that the text of the replies can have their memory.
+fn report_of(
+    alloc: Global,
+    volume: &Volume,
+    calls: Vec<Vec<Call>>,
+    limit: u32,
+) -> Result<Report, ServeFault>
+    ensures ok { IfOk result (λ r. IsSettled volume.now.mounted volume.now calls.items × AreLengths volume.now.entries calls.items r) }
+    ensures limit { IfOk result (λ r. r.entries ≤ limit) }
+    ensures err { IfErr result IsServingFault }
+{
+    match settle(alloc, volume.mounted(), volume, calls.as_slice()) {
+        Ok(report) => {
+            if report.entries > limit {
+                return Err(ServeFault::Unmatched);
+            }
+            Ok(report)
+        }
         Err(SettleFault::Unmatched) => Err(ServeFault::Unmatched),
         Err(SettleFault::NoMemory) => Err(ServeFault::NoMemory),
     }
 }
 
-/// The calls of each session.
-fn calls_in(alloc: Global, outcomes: Vec<Outcome>) -> Result<Vec<Vec<Call>>, AllocError>
-    ensures { IfOk result (λ calls. calls.items ≡ calls_of_outcomes outcomes.items) }
+/// The calls of each session, and the replies of each.
+fn parted(
+    alloc: Global,
+    outcomes: Vec<Outcome>,
+) -> Result<(Vec<Vec<Call>>, Vec<Vec<Reply>>), AllocError>
+    ensures calls { IfOk result (λ p. p.0.items ≡ calls_in outcomes.items) }
+    ensures replies { IfOk result (λ p. p.1.items ≡ replies_in outcomes.items) }
 {
     let mut calls = Vec::with_capacity(alloc, outcomes.len())?;
+    let mut replies = Vec::with_capacity(alloc, outcomes.len())?;
     for outcome in outcomes {
         if calls.push(outcome.calls).is_err() {
             return Err(AllocError);
         }
+        if replies.push(outcome.replies).is_err() {
+            return Err(AllocError);
+        }
     }
-    Ok(calls)
+    Ok((calls, replies))
 }
 
-/// Appends the totals of a volume: how many entries its list has, and how many blocks and file numbers are free.
-fn push_totals(text: &mut String, volume: &Volume) -> Result<(), AllocError>
-    ensures { OnOk result (string_bytes text.new ≡ string_bytes text.old
-        ++ totals_text (length volume.now.entries) (length (free_blocks volume.now.image volume.now.layout)) (length (free_numbers volume.now.image volume.now.layout))) }
+/// Appends the totals: how many entries the list has, and how many blocks and file numbers are free.
+fn push_totals(
+    text: &mut String,
+    entries: usize,
+    blocks: u32,
+    numbers: u32,
+) -> Result<(), AllocError>
+    ensures { OnOk result (string_bytes text.new ≡ string_bytes text.old ++ totals_text entries blocks numbers) }
 {
-    let entries = volume.entries().len();
-    let blocks = volume.free_count();
-    let numbers = volume.number_count();
     write!(text, "list {entries}\nfree {blocks}\nnumbers {numbers}\n")
 }

@@ -2,8 +2,7 @@
 ghost use Rattle.std.specs.Prelude.{◌≡◌, ◌⊎◌, ℕ, List, MatchResult, IfOk, IfErr, IsOkUnless};
 ghost use Rattle.std.specs.String.{string_bytes};
 ghost use Rattle.std.specs.Io.KnownBytes.{Consumes};
-ghost use Rattle.ods_cli.specs.Reply.{IsReplyFault};
-ghost use Rattle.ods_cli.specs.Serve.{AreSound, AreRefused, IsSoundImage, IsFaultOf};
+ghost use Rattle.ods_cli.specs.{Reply.IsReplyFault, Serve.AreSound, Serve.AreRefused, Serve.IsSoundImage, Serve.IsFaultOf};
 
 use crate::ServeFault;
 use crate::check::faulty;

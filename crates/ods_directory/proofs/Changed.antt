@@ -4,11 +4,12 @@ use Rattle.std.proofs.lemmas.Bool.{cases_eq, cases_order}
 use Rattle.std.specs.Cmp.Lexicographic.{nat_list_cmp_total}
 use Rattle.std.specs.FinMap as names
 use Rattle.std.specs.FinMap.{get-insert, get-remove, same_map, slice_cmp-IsAntisymmetric, nat_cmp-IsAntisymmetric}
+use Rattle.ods_base.proofs.Picks.{keys_same, same_key}
 use Rattle.ods_base.specs.declared.file_id.FileId.{FileId}
 use Rattle.ods_directory.specs.Entry.{IsGoodEntry, is_used, entry_at}
 use Rattle.ods_directory.specs.Names.{IsDirectory, names_of}
 use Rattle.ods_directory.proofs.Used.{by_positions, from_positions}
-use Rattle.ods_directory.proofs.Keyed.{same_key, same_key-true, same_key-itself, same_option}
+use Rattle.ods_directory.proofs.Keyed.{same_key-itself, same_option}
 use Rattle.ods_directory.proofs.Lookups.{IsEntered, entry_of_name, name_of_entry}
 
 none_of : (o : Option FileId) → ((f : FileId) → ¬ (o ≡ Some f)) → o ≡ None
@@ -21,9 +22,6 @@ pub record IsSameBut (old new : List (List ℕ)) (mark next k : ℕ) : Type 0 wh
   pub back : (i : ℕ) → i < mark / 16 → i < next / 16
 
 module _ (old new : List (List ℕ)) (mark next k : ℕ) (same : IsSameBut old new mark next k) where
-  used_before : (i : ℕ) → i < next / 16 → i ≢ k → is_used (entry_at new i) ≡ true → is_used (entry_at old i) ≡ true
-  used_before i below apart used = ap is_used (sym (same.kept i below apart).1) ∙ used
-
   abbrev was_entered : (q : List ℕ) (f : FileId) (h : IsEntered (entry_at new) (next / 16) q f) → h.at ≢ k → IsEntered (entry_at old) (mark / 16) q f
   was_entered q f h apart =
       let e = same.kept h.at h.below apart in
@@ -73,7 +71,7 @@ module _ (old new : List (List ℕ)) (mark k : ℕ) (same : IsSameBut old new ma
       by q true e = none_of (names.get (names_of new mark) q) (λ f h.
           let there = entry_of_name new mark q f h in
           let was = was_entered old new mark mark k same q f there (other there.at there.used) in
-          other there.at there.used (alone was.at was.below was.used (was.key ∙ same_key-true q (entry_at old k).key e)))
+          other there.at there.used (alone was.at was.below was.used (was.key ∙ keys_same q (entry_at old k).key e)))
       by q false e = same_option (names.get (names_of new mark) q) (names.get (names_of old mark) q)
           (λ f h. let there = entry_of_name new mark q f h in name_of_entry old mark q f directory (was_entered old new mark mark k same q f there (other there.at there.used)))
           (λ f h.
@@ -128,7 +126,7 @@ module _ (old new : List (List ℕ)) (mark next k : ℕ) (key : List ℕ) (file 
       different q e g = let clash : true ≡ false = sym (same_key-itself q key g) ∙ e in absurd (cc)
 
       by : (q : List ℕ) (b : Bool) → same_key q key ≡ b → names.get (names_of new next) q ≡ cond b (Some file) (names.get (names_of old mark) q)
-      by q true e = name_of_entry new next q file directory_more (record { at = k; below = inside; used = used; key = here ∙ sym (same_key-true q key e); file = named })
+      by q true e = name_of_entry new next q file directory_more (record { at = k; below = inside; used = used; key = here ∙ sym (keys_same q key e); file = named })
       by q false e = same_option (names.get (names_of new next) q) (names.get (names_of old mark) q)
           (λ f h.
           let there = entry_of_name new next q f h in

@@ -1,6 +1,7 @@
 -- A pass finds the first entry of its kind.
-use Rattle.std.proofs.Common.{◌≡◌, ℕ, ◌+◌, ◌/◌, ◌<◌, Bool, true, false, cond, ◌&&◌, not, fold, Option, Some, None, is_none, refl, sym, ap, subst, arith, below_more, inl, inr, List, length}
+use Rattle.std.proofs.Common.{◌≡◌, ℕ, ◌+◌, ◌/◌, ◌<◌, Bool, true, false, cond, ◌&&◌, fold, Option, Some, None, is_none, refl, sym, ap, subst, arith, below_more, inl, inr, List, length}
 use Rattle.std.specs.List.{range_with_len}
+use Rattle.std.proofs.lemmas.Bool.{not-true, not-false}
 use Rattle.ods_directory.specs.declared.first.First.{First}
 use Rattle.ods_directory.specs.declared.first.Kind.{Kind}
 use Rattle.ods_directory.specs.declared.first.Kind.TheVariants.{Empty}
@@ -28,18 +29,10 @@ module _ (kind : Kind) (entry : ℕ → Entry) where
       let start : HasFirst 0 s = subst (HasFirst 0) (sym first) (refl, λ j below. absurd (omega arith)) in
       (subst (HasFirst m) (sym e) (fold_keeps HasFirst step s m start one_more)).1
 
-not_false : (b : Bool) → not b ≡ false → b ≡ true
-not_false true h = refl
-not_false false h = absurd (cc)
-
-not_true : (b : Bool) → not b ≡ true → b ≡ false
-not_true true h = absurd (cc)
-not_true false h = refl
-
 -- the first empty entry gives the slot
 pub slot_of_first : (blocks : List (List ℕ)) (mark : ℕ) (position : Option ℕ) → IsFirst Empty (entry_at blocks) (mark / 16) position → IsSlot blocks mark (slot_of position mark (length blocks))
-slot_of_first blocks mark None h = inr (λ k below. not_false _ (h k below), refl)
-slot_of_first blocks mark (Some k) h = inl (k, h.0, (not_true _ h.1, λ j below. not_false _ (h.2 j below)), refl)
+slot_of_first blocks mark None h = inr (λ k below. not-false _ (h k below), refl)
+slot_of_first blocks mark (Some k) h = inl (k, h.0, (not-true _ h.1, λ j below. not-false _ (h.2 j below)), refl)
 
 pub first_below : (kind : Kind) (entry : ℕ → Entry) (m : ℕ) (position : Option ℕ) → IsFirst kind entry m position → (k : ℕ) → position ≡ Some k → k < m
 first_below kind entry m None h k e = absurd (cc)

@@ -2,38 +2,24 @@
 use Rattle.std.proofs.Common.{◌≡◌, ◌≢◌, ℕ, zero, suc, ◌+◌, ◌<◌, ◌≤◌, Bool, true, false, cond, List, [], ◌∷◌, map, Option, Some, None, refl, sym, ap, ◌∙◌, subst, arith}
 use Rattle.std.specs.List.{slice_get, sum_by, Contains}
 use Rattle.std.specs.List.Sorted.{IsPermutation}
-use Rattle.std.specs.declared.cmp.Ordering.{Ordering}
-use Rattle.std.specs.declared.cmp.Ordering.TheVariants.{Less, Equal, Greater}
-use Rattle.std.specs.Ordering.{eq_by_cmp, nat_cmp, is_eq}
-use Rattle.std.specs.Cmp.Lexicographic.{slice_cmp, nat_list_cmp_total}
+use Rattle.std.specs.Ordering.{nat_cmp}
+use Rattle.std.specs.Cmp.Lexicographic.{slice_cmp}
 use Rattle.std.specs.FinMap as names
-use Rattle.std.specs.FinMap.{slice_cmp-IsAntisymmetric, nat_cmp-IsAntisymmetric}
-use Rattle.std.proofs.lemmas.Cmp.{eq_by_cmp_equiv}
 use Rattle.std.proofs.lemmas.List.Sums.{sum_by-cons}
 use Rattle.std.proofs.lemmas.List.Sorted.{sum_by-IsPermutation, Contains-permutation}
 use Rattle.std.proofs.lemmas.Option.{same_Some, slice_get_within, slice_get-get_or, get_or_from_slice_get}
 use Rattle.ods_base.specs.declared.file_id.FileId.{FileId}
+use Rattle.ods_base.proofs.Picks.{key_itself, keys_same, same_key}
 use Rattle.ods_directory.specs.Names.{HasTwoOf}
 
-tied : (r : Ordering) → is_eq r ≡ true → r ≡ Equal
-tied Less h = absurd (cc)
-tied Equal h = refl
-tied Greater h = absurd (cc)
-
-abbrev pub same_key : List ℕ → List ℕ → Bool
-same_key = eq_by_cmp (slice_cmp nat_cmp)
-
-pub same_key-true : (a b : List ℕ) → same_key a b ≡ true → a ≡ b
-same_key-true a b h = slice_cmp-IsAntisymmetric nat_cmp-IsAntisymmetric a b (tied _ h)
-
 pub same_key-itself : (a b : List ℕ) → a ≡ b → same_key a b ≡ true
-same_key-itself a b e = subst (λ x. same_key a x ≡ true) e ((eq_by_cmp_equiv nat_list_cmp_total).refl a)
+same_key-itself a b e = subst (λ x. same_key a x ≡ true) e (key_itself a)
 
 pub same_key-apart : (a b : List ℕ) → a ≢ b → same_key a b ≡ false
 same_key-apart a b apart = by (same_key a b) refl
   where
     by : (c : Bool) → same_key a b ≡ c → c ≡ false
-    by true e = absurd (apart (same_key-true a b e))
+    by true e = absurd (apart (keys_same a b e))
     by false e = refl
 
 abbrev pub find : List ℕ → List (List ℕ × FileId) → Option FileId
@@ -66,7 +52,7 @@ module _ {X : Type 0} (key : X → List ℕ) (file : X → FileId) where
   find_element (x ∷ xs) q f h = by (same_key q (key x)) refl h (find_element xs q f)
     where
       by : (b : Bool) → same_key q (key x) ≡ b → cond b (Some (file x)) (find q (pairs xs)) ≡ Some f → (find q (pairs xs) ≡ Some f → HasKey xs q f) → HasKey (x ∷ xs) q f
-      by true e g ih = record { at = 0; element = x; there = refl; key_is = sym (same_key-true q (key x) e); file_is = same_Some _ _ g }
+      by true e g ih = record { at = 0; element = x; there = refl; key_is = sym (keys_same q (key x) e); file_is = same_Some _ _ g }
       by false e g ih = let rest = ih g in record { at = suc rest.at; element = rest.element; there = rest.there; key_is = rest.key_is; file_is = rest.file_is }
 
   -- an element is found, where no two have one key
@@ -135,7 +121,7 @@ module _ {X : Type 0} (key : X → List ℕ) where
   one_counted q (x ∷ xs) h = by (same_key q (key x)) refl (subst (λ n. 1 ≤ n) (count_cons q x xs) h) (one_counted q xs)
     where
       by : (b : Bool) → same_key q (key x) ≡ b → 1 ≤ cond b 1 0 + count q xs → (1 ≤ count q xs → HasOneOf q xs) → HasOneOf q (x ∷ xs)
-      by true e g ih = record { at = 0; element = x; there = refl; same = sym (same_key-true q (key x) e) }
+      by true e g ih = record { at = 0; element = x; there = refl; same = sym (keys_same q (key x) e) }
       by false e g ih = let rest = ih (omega (arith, g)) in record { at = suc rest.at; element = rest.element; there = rest.there; same = rest.same }
 
   two_counted : (q : List ℕ) (xs : List X) → 2 ≤ count q xs → HasTwoOf key xs
@@ -145,7 +131,7 @@ module _ {X : Type 0} (key : X → List ℕ) where
       by : (b : Bool) → same_key q (key x) ≡ b → 2 ≤ cond b 1 0 + count q xs → (2 ≤ count q xs → HasTwoOf key xs) → HasTwoOf key (x ∷ xs)
       by true e g ih =
           let rest = one_counted q xs (omega (arith, g)) in
-          record { i = 0; j = suc rest.at; apart = omega arith; one = x; other = rest.element; first = refl; second = rest.there; same = sym (same_key-true q (key x) e) ∙ sym rest.same }
+          record { i = 0; j = suc rest.at; apart = omega arith; one = x; other = rest.element; first = refl; second = rest.there; same = sym (keys_same q (key x) e) ∙ sym rest.same }
       by false e g ih =
           let rest = ih (omega (arith, g)) in
           record { i = suc rest.i; j = suc rest.j; apart = omega (arith, rest.apart); one = rest.one; other = rest.other; first = rest.first; second = rest.second; same = rest.same }

@@ -1,6 +1,6 @@
 -- Where a name is entered, and that there is a block for it.
-use Rattle.std.proofs.Common.{◌≡◌, ◌≢◌, ℕ, ◌+◌, ◌*◌, ◌/◌, ◌%◌, ◌<◌, ◌≤◌, Bool, true, false, not, List, [], ◌∷◌, length, nat_le, Option, Some, None, refl, sym, ap, ◌∙◌, arith}
-use Rattle.std.proofs.lemmas.Bool.{leb-true, leb-false}
+use Rattle.std.proofs.Common.{◌≡◌, ◌≢◌, ℕ, ◌+◌, ◌*◌, ◌/◌, ◌%◌, ◌<◌, ◌≤◌, Bool, true, false, List, [], ◌∷◌, length, nat_le, Option, Some, None, refl, sym, ap, ◌∙◌, arith}
+use Rattle.std.proofs.lemmas.Bool.{leb-true, leb-false, not-true}
 use Rattle.std.proofs.lemmas.List.{get_or_append_left, get_or_push, length_push}
 use Rattle.ods_base.specs.Block.{IsBlock, zeros}
 use Rattle.ods_base.specs.Image.{block_at}
@@ -21,10 +21,6 @@ pub record IsRoom (blocks : List (List ℕ)) (mark : ℕ) (slot : Slot) (k : ℕ
   pub within : k / 32 < length (grown blocks slot)
   pub size : length (block_at (grown blocks slot) (k / 32)) ≡ 512
   pub same : (i : ℕ) → i < mark / 16 → entry_at (grown blocks slot) i ≡ entry_at blocks i
-
-not_true : (b : Bool) → not b ≡ true → b ≡ false
-not_true true h = absurd (cc)
-not_true false h = refl
 
 module _ (blocks : List (List ℕ)) (mark : ℕ) (cut : mark ≤ 512 * length blocks) where
   -- the slot at the mark
@@ -73,7 +69,7 @@ module _ (blocks : List (List ℕ)) (mark : ℕ) (cut : mark ≤ 512 * length bl
         below = h.0;
         before = λ i below apart. below;
         back = λ i below. below;
-        free = λ below. not_true _ h.1;
+        free = λ below. not-true _ h.1;
         within = omega (arith, inside);
         size = ap (λ i. length (block_at blocks i)) (sym position) ∙ (whole refl).size;
         same = λ i below. refl;

@@ -2,8 +2,7 @@
 ghost use Rattle.std.specs.Prelude.{◌≡◌, ◌==◌, ◌*◌, ◌≤◌, not, length, map, filter};
 ghost use Rattle.std.specs.List.{range_with_len};
 ghost use Rattle.std.specs.FinMap.{len};
-ghost use Rattle.ods_directory.specs.Entry.{entry_in, is_used};
-ghost use Rattle.ods_directory.specs.Names.{IsDirectory, names_of};
+ghost use Rattle.ods_directory.specs.{Entry.entry_in, Entry.is_used, Names.IsDirectory, Names.names_of};
 
 use crate::first::{Kind, first_entry};
 use crate::scan::entries_in;

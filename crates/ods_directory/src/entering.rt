@@ -2,16 +2,8 @@
 ghost use Rattle.std.specs.Prelude.{ℕ, ◌≡◌, ◌≢◌, ◌*◌, ◌/◌, ◌+◌, ◌^◌, ◌<◌, ◌≤◌, length, IfOk, IfErr};
 ghost use Rattle.std.specs.Option.{ForSome};
 ghost use Rattle.std.specs.FinMap.{insert};
-ghost use Rattle.ods_base.specs.Name.{IsName, key_of};
-ghost use Rattle.ods_base.specs.Names.{IsEntered};
-ghost use Rattle.ods_directory.specs.declared.first.Kind.TheVariants.{Empty};
-ghost use Rattle.ods_directory.specs.Entry.{entry_at, entry_bytes};
-ghost use Rattle.ods_directory.specs.Entering.{next_version, pick_of};
-ghost use Rattle.ods_directory.specs.Faults.{IsEnterFault};
-ghost use Rattle.ods_directory.specs.First.{IsFirst};
-ghost use Rattle.ods_directory.specs.Mark.{IsSlot, grown, written};
-ghost use Rattle.ods_directory.specs.Names.{IsDirectory, names_of};
-ghost use Rattle.ods_directory.specs.Search.{IsFound};
+ghost use Rattle.ods_base.specs.{Name.IsName, Name.key_of, Names.IsEntered};
+ghost use Rattle.ods_directory.specs.{declared.first.Kind.TheVariants.Empty, Entry.entry_at, Entry.entry_bytes, Entering.next_version, Entering.pick_of, Faults.IsEnterFault, First.IsFirst, Mark.IsSlot, Mark.grown, Mark.written, Names.IsDirectory, Names.names_of, Search.IsFound};
 
 use crate::entry::LAST_VERSION;
 use crate::first::{First, Kind};
@@ -61,8 +53,7 @@ struct Room {
 }
 
 impl Pass for Room {
-    ghost use Rattle.ods_directory.specs.First.{first_after};
-    ghost use Rattle.ods_directory.specs.Search.{search_after};
+    ghost use Rattle.ods_directory.specs.{First.first_after, Search.search_after};
 
     ghost after = { λ s k e. record { search = search_after s.search k e; empty = first_after s.empty k e } };
 

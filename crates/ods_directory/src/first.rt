@@ -1,7 +1,6 @@
 //! The first entry of a kind.
 ghost use Rattle.std.specs.Prelude.{◌≡◌, ◌*◌, ◌/◌, ◌<◌, ◌≤◌, length};
-ghost use Rattle.ods_directory.specs.Entry.{entry_at, entry_in};
-ghost use Rattle.ods_directory.specs.First.{IsFirst};
+ghost use Rattle.ods_directory.specs.{Entry.entry_at, Entry.entry_in, First.IsFirst};
 
 use crate::scan::{Pass, scan};
 use crate::{DirBlocks, entry};

@@ -2,8 +2,7 @@
 ghost use Rattle.std.specs.Prelude.{ℕ, ◌≡◌, ◌++◌, ◌*◌, ◌<◌, ◌≤◌, length, map, filter, IsTrue, OnOk, IfOk, MatchBool};
 ghost use Rattle.std.specs.List.{All, range_with_len};
 ghost use Rattle.std.specs.List.Sorted.{IsPermutation};
-ghost use Rattle.ods_directory.specs.Entry.{IsGoodEntry, entry_in, is_used, used_entries};
-ghost use Rattle.ods_directory.specs.Lines.{line_of, line_key, IsInOrder, HasTwinLines, HasNoTwinLines};
+ghost use Rattle.ods_directory.specs.{Entry.IsGoodEntry, Entry.entry_in, Entry.is_used, Entry.used_entries, Lines.line_of, Lines.line_key, Lines.IsInOrder, Lines.HasTwinLines, Lines.HasNoTwinLines};
 
 use crate::scan::entries_in;
 use crate::{DirBlocks, entry};

@@ -2,8 +2,7 @@
 ghost use Rattle.std.specs.Prelude.{◌≡◌, ◌*◌, ◌≤◌, length, IfOk, OnErr};
 ghost use Rattle.std.specs.List.{All};
 ghost use Rattle.ods_base.specs.Names.{lines_of};
-ghost use Rattle.ods_directory.specs.Entry.{IsGoodEntry, used_entries};
-ghost use Rattle.ods_directory.specs.Names.{IsDirectory, HasBadEntry, HasTwins, names_of};
+ghost use Rattle.ods_directory.specs.{Entry.IsGoodEntry, Entry.used_entries, Names.IsDirectory, Names.HasBadEntry, Names.HasTwins, Names.names_of};
 
 use crate::first::{Kind, first_entry};
 use crate::lines::{has_twins, read_lines, sort};

@@ -1,8 +1,7 @@
 //! Look-ups of names.
 ghost use Rattle.std.specs.Prelude.{◌≡◌, ◌*◌, ◌≤◌, length, IfOk, IfErr};
 ghost use Rattle.ods_base.specs.Names.{Finds};
-ghost use Rattle.ods_directory.specs.Faults.{IsLookUpFault};
-ghost use Rattle.ods_directory.specs.Names.{IsDirectory, names_of};
+ghost use Rattle.ods_directory.specs.{Faults.IsLookUpFault, Names.IsDirectory, Names.names_of};
 
 use crate::search::find_entry;
 use crate::{DirBlocks, DirFault};

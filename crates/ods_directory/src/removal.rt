@@ -1,12 +1,8 @@
 //! The removal of names.
 ghost use Rattle.std.specs.Prelude.{◌≡◌, ℕ, ◌*◌, ◌/◌, ◌<◌, ◌≤◌, length, replicate, IfOk, IfErr, IsTrue};
 ghost use Rattle.std.specs.FinMap.{remove};
-ghost use Rattle.ods_base.specs.Name.{key_of};
-ghost use Rattle.ods_base.specs.Names.{Finds};
-ghost use Rattle.ods_directory.specs.Entry.{entry_at, is_used};
-ghost use Rattle.ods_directory.specs.Faults.{IsLookUpFault};
-ghost use Rattle.ods_directory.specs.Mark.{written};
-ghost use Rattle.ods_directory.specs.Names.{IsDirectory, names_of};
+ghost use Rattle.ods_base.specs.{Name.key_of, Names.Finds};
+ghost use Rattle.ods_directory.specs.{Entry.entry_at, Entry.is_used, Faults.IsLookUpFault, Mark.written, Names.IsDirectory, Names.names_of};
 
 use crate::search::find_entry;
 use crate::{DirBlocks, DirFault};

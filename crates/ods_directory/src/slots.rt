@@ -1,11 +1,8 @@
 //! The slot of the next name of a directory.
 ghost use Rattle.std.specs.Prelude.{◌≡◌, ◌*◌, ◌/◌, ◌<◌, ◌≤◌, false, length};
 ghost use Rattle.std.specs.Option.{ForSome};
-ghost use Rattle.ods_base.specs.Block.{IsBlock};
-ghost use Rattle.ods_base.specs.Image.{block_at};
-ghost use Rattle.ods_directory.specs.First.{slot_of};
-ghost use Rattle.ods_directory.specs.Mark.{IsSlot};
-ghost use Rattle.ods_directory.specs.Names.{IsDirectory};
+ghost use Rattle.ods_base.specs.{Block.IsBlock, Image.block_at};
+ghost use Rattle.ods_directory.specs.{First.slot_of, Mark.IsSlot, Names.IsDirectory};
 
 use crate::first::{Kind, first_entry};
 use crate::{DirBlocks, Slot};

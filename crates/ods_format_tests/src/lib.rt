@@ -5,6 +5,7 @@
 pub mod contiguous;
 pub mod dice;
 pub mod persons;
+pub mod settings;
 #[cfg(test)]
 mod tests;
 pub mod volumes;

@@ -61,13 +61,16 @@ pub const NONE: FileId = FileId {
     sequence: 0,
 };
 
-/// The type words of `SYS`, `DIR`, `TXT` and `DAT`.
+/// The type word of `SYS`.
 pub const SYS: u16 = 31_419;
 
+/// The type word of `DIR`.
 pub const DIR: u16 = 6_778;
 
+/// The type word of `TXT`.
 pub const TXT: u16 = 32_980;
 
+/// The type word of `DAT`.
 pub const DAT: u16 = 6_460;
 
 /// INDEXF.SYS, file 1.

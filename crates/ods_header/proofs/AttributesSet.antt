@@ -1,123 +1,31 @@
 -- A header keeps what it says but for its attributes, where bytes 14 to 45 and the sum are others.
-use Rattle.std.proofs.Common.{◌≡◌, ℕ, ◌+◌, ◌-◌, ◌*◌, ◌<◌, ◌≤◌, ◌⊎◌, List, length, inl, inr, refl, sym, ap, ◌∙◌, arith}
-use Rattle.std.specs.Prelude.{slice_range}
-use Rattle.ods_base.specs.Block.{IsBlock, byte, word, with_bytes}
-use Rattle.ods_base.proofs.Blocks.{byte-with_bytes, byte-with_bytes_before, byte-with_bytes_behind}
-use Rattle.ods_header.specs.Header.{IsValidHeader, IsLaidOut, runs_of, used_words_of, most_words_of, map_word, ident_word, ident_of, ident_ext_of, segment_of}
+use Rattle.std.proofs.Common.{◌≡◌, ℕ, ◌+◌, ◌≤◌, List, length, inl, inr, sym, ◌∙◌, arith}
+use Rattle.ods_base.specs.Block.{IsBlock, with_bytes}
+use Rattle.ods_header.specs.Header.{header_of}
 use Rattle.ods_header.specs.Writing.{with_sum}
 use Rattle.ods_header.specs.Attributes.{IsWithAttributes, KeepsOtherFields}
-use Rattle.ods_header.proofs.HeaderPlaces.{same_runs}
-use Rattle.ods_header.proofs.Ranges.{range_is, same_range}
-use Rattle.ods_header.proofs.Summed.{before_sum, sum_is_right}
+use Rattle.ods_header.proofs.OtherFront.{IsOtherWithin, fields_kept, set_here, set_others, stays_valid}
+use Rattle.ods_header.proofs.Ranges.{range_is}
+use Rattle.ods_header.proofs.Summed.{sum_is_right}
 
 -- what setting the bytes and the sum makes
 pub is_with_attributes : (b new m c : List ℕ) → IsBlock b → IsBlock c → length new ≡ 32 → m ≡ with_bytes b 14 new → length m ≡ 512 → c ≡ with_sum m → IsWithAttributes b new c
-is_with_attributes b new m c block after size middle long last = record {
-  size = after.size ∙ sym block.size;
-  attributes = range_is c new 14 46 (omega arith) (let s = after.size in omega arith) (λ j below. at (14 + j) (omega arith) ∙ ap (λ l. byte l (14 + j)) middle ∙ byte-with_bytes b new 14 (14 + j) j (let s = block.size in omega arith) refl below);
-  checksum = sum_is_right m c long last;
-  others = by;
-}
-  where
-    at : (i : ℕ) → i < 510 → byte c i ≡ byte m i
-    at i below = before_sum m c i last below
+is_with_attributes b new m c block after size middle long last =
+    let fits : 14 + length new ≤ 510 = omega (arith, size) in
+    record {
+      size = after.size ∙ sym block.size;
+      attributes = range_is c new 14 46 (omega (arith, size)) (let s = after.size in omega arith) (set_here b new m c 14 block fits middle last);
+      checksum = sum_is_right m c long last;
+      others = λ i away. set_others b new m c 14 block fits middle last i (elim away [
+        | inl low ↦ inl low
+        | inr high ↦ inr (let from = high.0 in omega (arith, size, from), high.1)
+      ]);
+    }
 
-    by : (i : ℕ) → (i < 14) ⊎ ((46 ≤ i) × (i < 510)) → byte c i ≡ byte b i
-    by i (inl low) = let s = block.size in at i (omega arith) ∙ ap (λ l. byte l i) middle ∙ byte-with_bytes_before b new 14 i (omega arith) low
-    by i (inr high) = let s = block.size in let p = high.0 in let q = high.1 in at i q ∙ ap (λ l. byte l i) middle ∙ byte-with_bytes_behind b new 14 i (omega arith) (omega arith)
+pub attributes_are_other : (b new c : List ℕ) → IsWithAttributes b new c → IsOtherWithin b c 14 46
+attributes_are_other b new c w = record { low = omega arith; high = omega arith; size = w.size; system = w.others 13 (inl (omega arith)); checksum = w.checksum; others = w.others }
 
-module _ (b new c : List ℕ) (w : IsWithAttributes b new c) where
-  head : (i : ℕ) → i < 14 → byte c i ≡ byte b i
-  head i low = w.others i (inl low)
-
-  tail : (i : ℕ) → 46 ≤ i → i < 510 → byte c i ≡ byte b i
-  tail i low high = w.others i (inr (low, high))
-
-  word_head : (k : ℕ) → k < 7 → word c k ≡ word b k
-  word_head k low = λ i. head (2 * k) (omega arith) i + 256 * head (2 * k + 1) (omega arith) i
-
-  word_tail : (k : ℕ) → 23 ≤ k → k < 255 → word c k ≡ word b k
-  word_tail k low high = λ i. tail (2 * k) (omega arith) (omega arith) i + 256 * tail (2 * k + 1) (omega arith) (omega arith) i
-
-  ident_word_is : ident_word c ≡ ident_word b
-  ident_word_is = head 0 (omega arith)
-
-  map_word_is : map_word c ≡ map_word b
-  map_word_is = head 1 (omega arith)
-
-  module _ (laid : IsLaidOut b) where
-    -- a byte of the map area, and a word of it
-    map_byte : (i : ℕ) → i < 10 → byte c (2 * map_word c + i) ≡ byte b (2 * map_word b + i)
-    map_byte i small =
-        let p = laid.ident in let q = laid.map in let r = laid.low in
-        ap (λ m. byte c (2 * m + i)) map_word_is ∙ tail (2 * map_word b + i) (omega arith) (omega arith)
-
-    map_words : (k : ℕ) → k < 5 → word c (map_word c + k) ≡ word b (map_word b + k)
-    map_words k small =
-        let p = laid.ident in let q = laid.map in let r = laid.low in
-        ap (λ m. word c (m + k)) map_word_is ∙ word_tail (map_word b + k) (omega arith) (omega arith)
-
-    segment_is : segment_of c ≡ segment_of b
-    segment_is = ap (byte c) (omega arith) ∙ map_byte 0 (omega arith) ∙ ap (byte b) (omega arith)
-
-    ident_is : ident_of c ≡ ident_of b
-    ident_is =
-        let p = laid.ident in let q = laid.map in let r = laid.low in
-        ap (λ k. slice_range c (2 * k) (2 * k + 46)) ident_word_is
-        ∙ range_alike (2 * ident_word b) (2 * ident_word b + 46) (omega arith) (omega arith)
-      where
-        range_alike : (a e : ℕ) → 46 ≤ a → e < 510 → slice_range c a e ≡ slice_range b a e
-        range_alike a e low high = same_range b c a (e - a) w.size (λ j below. tail (a + j) (omega arith) (omega arith))
-
-    pub ident_ext_is : ident_ext_of c ≡ ident_ext_of b
-    ident_ext_is =
-        let p = laid.ident in let q = laid.map in let r = laid.low in
-        ap (λ k. word c (k + 3)) ident_word_is ∙ word_tail (ident_word b + 3) (omega arith) (omega arith)
-
-    used_is : used_words_of c ≡ used_words_of b
-    used_is = map_byte 8 (omega arith)
-
-    runs_are : runs_of c ≡ runs_of b
-    runs_are = same_runs b c map_word_is used_is (λ i below above. let p = laid.ident in let q = laid.map in let f = laid.fits in tail i (omega arith) (omega arith))
-
-    laid_out : IsLaidOut c
-    laid_out =
-        let o = ident_word_is in
-        let m = map_word_is in
-        let u = used_is in
-        let t : most_words_of c ≡ most_words_of b = map_byte 9 (omega arith) in
-        let p = laid.ident in let q = laid.map in let r = laid.low in let s = laid.even in let v = laid.room in let f = laid.fits in
-        record { ident = omega arith; map = omega arith; low = omega arith; even = omega arith; room = omega arith; fits = omega arith }
-
-  stays_valid : (n : ℕ) → IsValidHeader b n → IsValidHeader c n
-  stays_valid n v = record {
-    header = record {
-      checksum = w.checksum;
-      numbered = word_head 1 (omega arith) ∙ v.header.numbered;
-      level = word_head 3 (omega arith) ∙ v.header.level;
-      layout = laid_out v.header.layout;
-    };
-    format = (map_byte v.header.layout 6 (omega arith) ∙ v.format.0, map_byte v.header.layout 7 (omega arith) ∙ v.format.1);
-  }
-
-  pub keeps_fields : KeepsOtherFields b new c
-  keeps_fields n v =
-      let laid = v.header.layout in (
-        stays_valid n v,
-        λ i. record {
-          file = record { number = word_head 1 (omega arith) i; sequence = word_head 2 (omega arith) i };
-          owner = record { group = head 9 (omega arith) i; member = head 8 (omega arith) i };
-          protection = word_head 5 (omega arith) i;
-          user_char = head 12 (omega arith) i;
-          system_char = head 13 (omega arith) i;
-          attributes = w.attributes i;
-          ident = ident_is laid i;
-          segment = segment_is laid i;
-          next = record { number = map_words laid 1 (omega arith) i; sequence = map_words laid 2 (omega arith) i };
-          next_volume = map_byte laid 1 (omega arith) i;
-          ident_offset = ident_word_is i;
-          map_offset = map_word_is i;
-          most_words = map_byte laid 9 (omega arith) i;
-          pointers = record { items = runs_are laid i };
-        },
-      )
+pub keeps_fields : (b new c : List ℕ) → IsWithAttributes b new c → KeepsOtherFields b new c
+keeps_fields b new c w n v =
+    let other : IsOtherWithin b c 14 46 = attributes_are_other b new c w in
+    (stays_valid other n v, fields_kept other n v ∙ (λ i. record (header_of b) { user_char = w.others 12 (inl (omega arith)) i; attributes = w.attributes i }))

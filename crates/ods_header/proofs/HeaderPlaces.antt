@@ -79,7 +79,8 @@ run_written c m k r e lawful written =
     let size : byte c (2 * map_word c + 11 + 4 * k) + 1 ≡ r.count = omega arith in
     λ i. record { lbn = lbn i; count = size i }
 
-range_append : (a n m : ℕ) → range_with_len a (n + m) ≡ range_with_len a n ++ range_with_len (a + n) m
+-- a range in two parts
+pub range_append : (a n m : ℕ) → range_with_len a (n + m) ≡ range_with_len a n ++ range_with_len (a + n) m
 range_append a zero m =
     let none : 0 + m ≡ m = omega arith in
     let here : a ≡ a + 0 = omega arith in

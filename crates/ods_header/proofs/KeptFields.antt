@@ -1,5 +1,5 @@
 -- What is read off a header that keeps all that says what the file is: the fields before its map area stay.
-use Rattle.std.proofs.Common.{◌≡◌, ℕ, ◌+◌, ◌-◌, ◌*◌, ◌<◌, ◌≤◌, List, length, ap, ◌∙◌, arith, inl}
+use Rattle.std.proofs.Common.{◌≡◌, ℕ, ◌+◌, ◌-◌, ◌*◌, List, length, ap, ◌∙◌, arith, inl}
 use Rattle.std.specs.Prelude.{◌||◌, ◌&&◌, ◌==◌, nat_lt, slice_range}
 use Rattle.ods_base.specs.Block.{word}
 use Rattle.ods_base.specs.Name.{directory_type}

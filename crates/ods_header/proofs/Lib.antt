@@ -13,3 +13,5 @@ pub mod RunsAt
 pub mod Summed
 pub mod Written
 pub mod AllButOne
+pub mod OtherFront
+pub mod DirectoryHeaders

@@ -1,11 +1,11 @@
 -- Pointers written one after another from a place on.
-use Rattle.std.proofs.Common.{◌≡◌, ℕ, ◌+◌, ◌*◌, ◌<◌, ◌≤◌, List, length, slice_get, Some, inl, inr, refl, sym, ap, ◌∙◌, arith}
+use Rattle.std.proofs.Common.{◌≡◌, ℕ, ◌+◌, ◌*◌, ◌<◌, ◌≤◌, List, slice_get, Some, inl, inr, refl, sym, ap, ◌∙◌, arith}
 use Rattle.std.proofs.lemmas.Bool.{cases_lt}
-use Rattle.std.proofs.lemmas.Option.{same_Some, slice_get_within}
+use Rattle.std.proofs.lemmas.Option.{same_Some}
 use Rattle.ods_base.specs.Block.{IsBlock, byte, with_bytes}
 use Rattle.ods_base.proofs.Blocks.{byte-with_bytes, byte-with_bytes_before, byte-with_bytes_behind}
 use Rattle.ods_header.specs.declared.header.Run.{Run}
-use Rattle.ods_header.specs.Writing.{pointer_bytes, HasPointersAt, SameOutside}
+use Rattle.ods_header.specs.Writing.{pointer_bytes, SameOutside}
 
 -- the first n pointers are written to b, which was `old`
 pub record AreWrittenAt (old b : List ℕ) (at : ℕ) (runs : List Run) (n : ℕ) : Type 0 where
@@ -34,6 +34,3 @@ one_more_written old b at runs n r before found fits block =
       ];
       block = block;
     }
-
-pub all_written : (old b : List ℕ) (at : ℕ) (runs : List Run) (n : ℕ) → AreWrittenAt old b at runs n → length runs ≤ n → HasPointersAt b at runs
-all_written old b at runs n done all k j r is small = done.pointers k j r (let within = slice_get_within runs k r is in omega arith) is small

@@ -13,22 +13,7 @@ pub record IsWithAttributes (b new c : List ℕ) : Type 0 where
 
 -- the fields of a header, but for the attributes
 abbrev pub with_attributes : Header → List ℕ → Header
-with_attributes h new = record {
-  file = h.file;
-  owner = h.owner;
-  protection = h.protection;
-  user_char = h.user_char;
-  system_char = h.system_char;
-  attributes = new;
-  ident = h.ident;
-  segment = h.segment;
-  next = h.next;
-  next_volume = h.next_volume;
-  ident_offset = h.ident_offset;
-  map_offset = h.map_offset;
-  most_words = h.most_words;
-  pointers = h.pointers;
-}
+with_attributes h new = record h { attributes = new }
 
 -- a valid header stays one, and keeps every other field
 abbrev pub KeepsOtherFields : List ℕ → List ℕ → List ℕ → Type 0

@@ -13,22 +13,7 @@ pub record IsWithoutContiguous (b c : List ℕ) : Type 0 where
 
 -- the fields of a header, but for the user characteristics
 abbrev pub with_user_char : Header → ℕ → Header
-with_user_char h char = record {
-  file = h.file;
-  owner = h.owner;
-  protection = h.protection;
-  user_char = char;
-  system_char = h.system_char;
-  attributes = h.attributes;
-  ident = h.ident;
-  segment = h.segment;
-  next = h.next;
-  next_volume = h.next_volume;
-  ident_offset = h.ident_offset;
-  map_offset = h.map_offset;
-  most_words = h.most_words;
-  pointers = h.pointers;
-}
+with_user_char h char = record h { user_char = char }
 
 -- a valid header stays one, and keeps every other field
 abbrev pub KeepsAllButContiguous : List ℕ → List ℕ → Type 0

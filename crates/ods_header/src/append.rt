@@ -2,8 +2,7 @@
 ghost use Rattle.std.specs.Prelude.{◌≡◌, ℕ, ◌+◌, ◌*◌, ◌/◌, ◌≤◌, length};
 ghost use Rattle.std.specs.List.{All};
 ghost use Rattle.ods_base.specs.Block.{IsBlock};
-ghost use Rattle.ods_header.specs.Header.{IsLaidOut, IsRun, IsValidHeader, room_of, runs_of};
-ghost use Rattle.ods_header.specs.Pointing.{KeepsFields, IsWithRuns, IsWithNext, IsGrown, link_bytes};
+ghost use Rattle.ods_header.specs.{Header.IsLaidOut, Header.IsRun, Header.IsValidHeader, Header.room_of, Header.runs_of, Pointing.KeepsFields, Pointing.IsWithRuns, Pointing.IsWithNext, Pointing.IsGrown, Pointing.link_bytes};
 
 use crate::Run;
 use crate::map_area::{room, used_words};

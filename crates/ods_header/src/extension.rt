@@ -2,9 +2,7 @@
 ghost use Rattle.std.specs.Prelude.{◌≡◌, ◌+◌, ◌*◌, ◌≤◌, ℕ, List, length};
 ghost use Rattle.std.specs.List.{All};
 ghost use Rattle.ods_base.specs.Block.{IsBlock};
-ghost use Rattle.ods_header.specs.Header.{IsRun, IsValidHeader, header_of};
-ghost use Rattle.ods_header.specs.Writing.{AreZeros};
-ghost use Rattle.ods_header.specs.Extension.{IsExtensionOf, extension_of};
+ghost use Rattle.ods_header.specs.{Header.IsRun, Header.IsValidHeader, Header.header_of, Writing.AreZeros, Extension.IsExtensionOf, Extension.extension_of};
 
 use crate::{Header, Run, write_header};
 use arrayvec::ArrayVec;

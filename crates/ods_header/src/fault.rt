@@ -1,7 +1,6 @@
 //! Why there is no header line.
 ghost use Rattle.std.specs.Prelude.{◌≡◌};
-ghost use Rattle.ods_header.specs.declared.fault.LineFault.TheVariants.{NoMemory};
-ghost use Rattle.ods_header.specs.Refusals.{line_row};
+ghost use Rattle.ods_header.specs.{declared.fault.LineFault.TheVariants.NoMemory, Refusals.line_row};
 
 use crate::HeaderFault;
 use ods_base::{Coded, Row};

@@ -1,9 +1,7 @@
 //! First headers of new files.
 ghost use Rattle.std.specs.Prelude.{◌≡◌};
 ghost use Rattle.ods_base.specs.Block.{IsBlock};
-ghost use Rattle.ods_header.specs.First.{first_header};
-ghost use Rattle.ods_header.specs.Header.{IsValidHeader, header_of};
-ghost use Rattle.ods_header.specs.Writing.{AreZeros};
+ghost use Rattle.ods_header.specs.{First.first_header, Header.IsValidHeader, Header.header_of, Writing.AreZeros};
 
 use crate::{Header, write_header};
 use arrayvec::ArrayVec;

@@ -3,9 +3,7 @@ ghost use Rattle.std.specs.Prelude.{◌≡◌, ◌+◌, ◌≤◌, ◌++◌, IfO
 ghost use Rattle.arrayvec.specs.ArrayString.{array_string_len};
 ghost use Rattle.std.specs.String.{string_bytes};
 ghost use Rattle.std.specs.List.{flat_map};
-ghost use Rattle.ods_header.specs.Header.{IsValidHeader, header_of};
-ghost use Rattle.ods_header.specs.Line.{line_block, IsLineFault};
-ghost use Rattle.ods_header.specs.Text.{header_text, name_part, owner_text, segment_part, ident_text, run_text, octal as octal_text, octal_digits as octal_digits_text};
+ghost use Rattle.ods_header.specs.{Header.IsValidHeader, Header.header_of, Line.line_block, Line.IsLineFault, Text.header_text, Text.name_part, Text.owner_text, Text.segment_part, Text.ident_text, Text.run_text, Text.octal as octal_text, Text.octal_digits as octal_digits_text};
 
 use crate::{Header, HeaderFault, Home, LineFault, Run, read_header};
 use arrayvec::ArrayString;

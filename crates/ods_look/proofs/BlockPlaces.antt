@@ -12,13 +12,13 @@ use Rattle.ods_space.proofs.Sizes.{chain_size}
 use Rattle.ods_space.proofs.Wholes.{chain_seen}
 use Rattle.ods_mount.specs.Faults.{contents_of}
 use Rattle.ods_mount.specs.Sound.{IsSoundBy}
-use Rattle.ods_state.proofs.Frame.{chain_is_one}
+use Rattle.ods_space.proofs.Chains.{same_chain}
 use Rattle.ods_space.specs.Chain.{chain_blocks}
 use Rattle.ods_look.specs.Blocks.{blocks_in_order}
 
 module _ {I : List (List ℕ)} {L : VolumeLayout} {n : ℕ} where
   pub blocks_are_one : {xs ys : List ℕ} → HasBlocks I L n xs → HasBlocks I L n ys → xs ≡ ys
-  blocks_are_one {xs = xs} {ys = ys} h g = (chain_is_one I L.home (index_for L n) [] 0 n h.others g.others xs ys h.whole.chain g.whole.chain).1
+  blocks_are_one {xs = xs} {ys = ys} h g = (same_chain I L.home (index_for L n) [] 0 n h.others xs g.others ys h.whole.chain g.whole.chain).1
 
   -- the blocks in order are the file's
   pub in_order : IsImage I → IsSoundBy I L → IsFile I L n → HasBlocks I L n (blocks_in_order I L n)

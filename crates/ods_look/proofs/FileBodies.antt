@@ -1,8 +1,9 @@
 -- What the first header of a file says of its body: a directory, or a plain file with its blocks.
-use Rattle.std.proofs.Common.{◌≡◌, ◌≢◌, ℕ, ◌<◌, ◌≤◌, refl, ap, sym, ◌∙◌, Bool, true, false, cond, List, length, arith, inl, inr}
-use Rattle.std.specs.Prelude.{◌⊎◌, ◌==◌, ◌||◌, ◌&&◌, nat_le, nat_lt}
-use Rattle.std.proofs.lemmas.Bool.{eqb-true, ltb-true}
-use borrow.Author.Tests.{lt-leb, lt-ltb, le-ltb, ne_eqb, eq-eqb, leb-true, leb-false}
+use Rattle.std.proofs.Common.{◌≡◌, ℕ, ◌<◌, ◌≤◌, refl, ap, sym, ◌∙◌, Bool, true, false, cond, List, length, arith}
+use Rattle.std.specs.Prelude.{◌==◌, ◌||◌, ◌&&◌, nat_le, nat_lt}
+use borrow.Author.Tests.{lt-leb, le-ltb, ne_eqb, leb-true, leb-false}
+use Rattle.ods_state.proofs.Shown.{system_body}
+use Rattle.ods_header.proofs.DirectoryHeaders.{above_maps}
 use Rattle.ods_base.specs.Name.{directory_type}
 use Rattle.ods_header.specs.Header.{attributes_of, ident_ext_of, is_directory_header}
 use Rattle.ods_directory.specs.Mark.{mark_in}
@@ -11,45 +12,13 @@ use Rattle.ods_request.specs.Catalogue.{Body, System, Directory, Plain, is_direc
 use Rattle.ods_request.specs.Steps.{with_body}
 use Rattle.ods_state.specs.Contents.{file_of, body_of}
 
--- the number and the ident that make a file a directory
+-- the first header says that the file is a directory
 abbrev pub SaysDirectory : ℕ → List ℕ → Type 0
-SaysDirectory n b = (n ≡ 4) ⊎ ((5 < n) × (ident_ext_of b ≡ directory_type))
+SaysDirectory n b = is_directory_header n b ≡ true
 
-pub header_says : (n : ℕ) (b : List ℕ) → is_directory_header n b ≡ true → SaysDirectory n b
-header_says n b e = by_tests (n == 4) (nat_lt 5 n) (ident_ext_of b == directory_type) refl refl refl e
-  where
-    by_tests : (x y z : Bool) → (n == 4) ≡ x → nat_lt 5 n ≡ y → (ident_ext_of b == directory_type) ≡ z → (x || (y && z)) ≡ true → SaysDirectory n b
-    by_tests true y z ex ey ez h = inl (eqb-true n 4 ex)
-    by_tests false true true ex ey ez h = inr (ltb-true 5 n ey, eqb-true (ident_ext_of b) directory_type ez)
-    by_tests false true false ex ey ez h = absurd (cc)
-    by_tests false false z ex ey ez h = absurd (cc)
-
-or_right : (a b : Bool) → b ≡ true → (a || b) ≡ true
-or_right true b e = refl
-or_right false b e = e
-
--- and of another file neither says so
+-- or it does not
 pub no_directory : (n : ℕ) (b : List ℕ) → is_directory_header n b ≡ false → SaysDirectory n b → ⊥
-no_directory n b e says = let wrong : true ≡ false = sym (by_kind says) ∙ e in absurd (cc)
-  where
-    by_kind : SaysDirectory n b → is_directory_header n b ≡ true
-    by_kind (inl four) = ap (λ z. z || (nat_lt 5 n && (ident_ext_of b == directory_type))) (eq-eqb n 4 four)
-    by_kind (inr p) = or_right _ _ (λ i. lt-ltb 5 n p.0 i && eq-eqb (ident_ext_of b) 6778 p.1 i)
-
--- a directory is none of the files that lay out a volume
-pub is_apart : (n : ℕ) (b : List ℕ) → is_directory_header n b ≡ true → (k : ℕ) → k < 6 → k ≢ 4 → n ≢ k
-is_apart n b kind k low other e = by_kind (header_says n b kind)
-  where
-    by_kind : SaysDirectory n b → ⊥
-    by_kind (inl four) = other (sym e ∙ four)
-    by_kind (inr p) = let high : 5 < n = p.0 in absurd (omega arith)
-
-above_maps : (n : ℕ) (b : List ℕ) → is_directory_header n b ≡ true → 2 < n
-above_maps n b e = by_kind (header_says n b e)
-  where
-    by_kind : SaysDirectory n b → 2 < n
-    by_kind (inl four) = omega arith
-    by_kind (inr five) = let high : 5 < n = five.0 in omega arith
+no_directory n b e says = let wrong : true ≡ false = sym says ∙ e in absurd (cc)
 
 -- the body past the two maps
 body_by : ℕ → List ℕ → List (List ℕ) → Bool → Body
@@ -66,10 +35,6 @@ directory_body n b blocks e = past_maps n b blocks (above_maps n b e) ∙ ap (bo
 pub plain_body : (n : ℕ) (b : List ℕ) (blocks : List (List ℕ)) → 2 < n → is_directory_header n b ≡ false → body_of n b blocks ≡ Plain (attributes_of b) blocks
 unfolding body_by
 plain_body n b blocks high e = past_maps n b blocks high ∙ ap (body_by n b blocks) e
-
-pub system_body : (n : ℕ) (b : List ℕ) (blocks : List (List ℕ)) → nat_le n 2 ≡ true → body_of n b blocks ≡ System
-unfolding body_of
-system_body n b blocks low = ap (λ m. cond m System (cond (is_directory_header n b) (Directory (names_of blocks (mark_in (attributes_of b) (length blocks)))) (Plain (attributes_of b) blocks))) low
 
 -- the body is a directory as the header says; neither map is one, by its number
 pub directory_is : (n : ℕ) (b : List ℕ) (blocks : List (List ℕ)) → is_directory (body_of n b blocks) ≡ is_directory_header n b

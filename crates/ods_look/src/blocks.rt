@@ -1,10 +1,7 @@
 //! The blocks of a directory on the volume, each found by its number in the file, with no list of them.
 ghost use Rattle.std.specs.Prelude.{◌≡◌, ◌≢◌, ◌≤◌, ℕ, List, length};
-ghost use Rattle.ods_space.specs.Layout.{header_at};
-ghost use Rattle.ods_space.specs.Files.{IsFile, HasBlocks};
-ghost use Rattle.ods_mount.specs.Faults.{contents_of};
-ghost use Rattle.ods_mount.specs.Sound.{IsSoundBy};
-ghost use Rattle.ods_space.specs.Chain.{chain_blocks};
+ghost use Rattle.ods_space.specs.{Layout.header_at, Files.IsFile, Files.HasBlocks, Chain.chain_blocks};
+ghost use Rattle.ods_mount.specs.{Faults.contents_of, Sound.IsSoundBy};
 
 use ods_base::{Block, Image};
 use ods_directory::DirBlocks;
@@ -24,11 +21,8 @@ pub struct DirectoryBlocks<'a> {
 
 impl<'a> Model for DirectoryBlocks<'a> {
     ghost use Rattle.std.specs.Prelude.{◌≡◌, ◌≢◌, ◌≤◌, ℕ, List, length};
-    ghost use Rattle.ods_space.specs.Layout.{header_at};
-    ghost use Rattle.ods_space.specs.Files.{HasBlocks};
-    ghost use Rattle.ods_mount.specs.Faults.{contents_of};
-    ghost use Rattle.ods_mount.specs.Sound.{IsSoundBy};
-    ghost use Rattle.ods_space.specs.Chain.{chain_blocks};
+    ghost use Rattle.ods_space.specs.{Layout.header_at, Files.HasBlocks, Chain.chain_blocks};
+    ghost use Rattle.ods_mount.specs.{Faults.contents_of, Sound.IsSoundBy};
     ghost use Rattle.ods_look.specs.Blocks.{blocks_in_order};
 
     ghost Value = { List (List ℕ) };

@@ -1,10 +1,8 @@
 //! Looks at the names of a directory.
 ghost use Rattle.std.specs.Prelude.{MatchResult};
 ghost use Rattle.ods_mount.specs.Sound.{IsSoundBy};
-ghost use Rattle.ods_request.specs.declared.requests.Request.TheVariants.{LookUp, List as Lines};
-ghost use Rattle.ods_request.specs.declared.answers.Answer.TheVariants.{Found, Names};
-ghost use Rattle.ods_state.specs.Change.{IsAnsweredBy};
-ghost use Rattle.ods_state.specs.Served.{IsRefusalOf};
+ghost use Rattle.ods_request.specs.{declared.requests.Request.TheVariants.LookUp, declared.requests.Request.TheVariants.List as Lines, declared.answers.Answer.TheVariants.Found, declared.answers.Answer.TheVariants.Names};
+ghost use Rattle.ods_state.specs.{Change.IsAnsweredBy, Served.IsRefusalOf};
 
 use crate::opening::open_directory;
 use ods_base::{FileId, Image, Name, Pick, Uic};

@@ -1,8 +1,7 @@
 //! Opening: a file by its ID, a plain file, one of its blocks, or a directory, where the user has a right to it.
 ghost use Rattle.std.specs.Prelude.{◌≡◌, ◌≤◌, true, IfOk, IfErr, IfSome, IfNone};
 ghost use Rattle.ods_header.specs.Header.{is_directory_header, owner_of, protection_of};
-ghost use Rattle.ods_space.specs.Files.{IsFile};
-ghost use Rattle.ods_space.specs.Layout.{header_at};
+ghost use Rattle.ods_space.specs.{Files.IsFile, Layout.header_at};
 ghost use Rattle.ods_mount.specs.Sound.{IsSoundBy};
 ghost use Rattle.ods_request.specs.Rights.{permits};
 ghost use Rattle.ods_look.specs.Opening.{plain_checks, directory_checks, IsFileId, IsRefusedByChecks, IsRefusedBlock, IsOpenPlain, IsOpenBlock, IsDirectoryAt, IsOpenDirectory};

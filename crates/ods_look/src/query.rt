@@ -1,8 +1,6 @@
 //! The answers of the requests that only look and take no memory.
 ghost use Rattle.std.specs.Prelude.{MatchResult};
-ghost use Rattle.ods_state.specs.Change.{IsAnsweredBy};
-ghost use Rattle.ods_state.specs.Served.{IsRefusalOf};
-ghost use Rattle.ods_state.specs.Outcome.{request_of};
+ghost use Rattle.ods_state.specs.{Change.IsAnsweredBy, Served.IsRefusalOf, Outcome.request_of};
 ghost use Rattle.ods_mount.specs.Sound.{IsSoundBy};
 
 use crate::directory::look_up;

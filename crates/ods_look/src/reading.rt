@@ -1,9 +1,7 @@
 //! The block that a Read answers.
 ghost use Rattle.std.specs.Prelude.{MatchResult};
-ghost use Rattle.ods_request.specs.declared.requests.Request.TheVariants.{Read as ReadRequest};
-ghost use Rattle.ods_request.specs.declared.answers.Answer.TheVariants.{Bytes};
-ghost use Rattle.ods_state.specs.Change.{IsAnsweredBy};
-ghost use Rattle.ods_state.specs.Served.{IsRefusalOf};
+ghost use Rattle.ods_request.specs.{declared.requests.Request.TheVariants.Read as ReadRequest, declared.answers.Answer.TheVariants.Bytes};
+ghost use Rattle.ods_state.specs.{Change.IsAnsweredBy, Served.IsRefusalOf};
 ghost use Rattle.ods_mount.specs.Sound.{IsSoundBy};
 
 use crate::opening::open_block;

@@ -1,16 +1,10 @@
 //! What a file is.
 ghost use Rattle.std.specs.Prelude.{◌≡◌, ℕ, List, MatchResult};
 ghost use Rattle.ods_base.specs.declared.file_id.Uic.{Uic};
-ghost use Rattle.ods_space.specs.Layout.{header_at};
-ghost use Rattle.ods_space.specs.Files.{IsFile, HasBlocks};
-ghost use Rattle.ods_mount.specs.Faults.{contents_of};
-ghost use Rattle.ods_mount.specs.Sound.{IsSoundBy};
-ghost use Rattle.ods_request.specs.declared.requests.Request.TheVariants.{Stat as StatRequest};
-ghost use Rattle.ods_request.specs.declared.answers.Answer.TheVariants.{Info};
-ghost use Rattle.ods_request.specs.Steps.{kind_of};
-ghost use Rattle.ods_state.specs.Contents.{body_of};
-ghost use Rattle.ods_state.specs.Change.{IsAnsweredBy};
-ghost use Rattle.ods_state.specs.Served.{IsRefusalOf};
+ghost use Rattle.ods_space.specs.{Layout.header_at, Files.IsFile, Files.HasBlocks};
+ghost use Rattle.ods_mount.specs.{Faults.contents_of, Sound.IsSoundBy};
+ghost use Rattle.ods_request.specs.{declared.requests.Request.TheVariants.Stat as StatRequest, declared.answers.Answer.TheVariants.Info, Steps.kind_of};
+ghost use Rattle.ods_state.specs.{Contents.body_of, Change.IsAnsweredBy, Served.IsRefusalOf};
 
 use crate::opening::{directory_at, named_header};
 use ods_base::{Block, FileId, Image};

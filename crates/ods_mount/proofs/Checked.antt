@@ -12,7 +12,8 @@ use Rattle.ods_directory.specs.Names.{IsDirectory}
 use Rattle.ods_mount.specs.Faults.{IsDirectoryFile, contents_of, mark_at, CouldBeWritten}
 use Rattle.ods_mount.specs.Checks.{IsChecked}
 use Rattle.ods_mount.specs.Sound.{IsSoundBy}
-use Rattle.ods_mount.proofs.Layouts.{same_place, same_blocks}
+use Rattle.ods_space.proofs.Surveyed.{same_blocks}
+use Rattle.ods_mount.proofs.Layouts.{same_place}
 
 module _ (I : List (List ℕ)) (L : VolumeLayout) (c : IsChecked I L) where
   home_block : (lbn : ℕ) → IsHomeAt I lbn → (slice_get L.index 0 ≡ Some lbn) ⊎ (slice_get L.index 1 ≡ Some lbn)

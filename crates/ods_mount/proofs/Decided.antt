@@ -12,7 +12,8 @@ use Rattle.ods_space.specs.Chain.{most, IsSegment, Follows}
 use Rattle.ods_space.specs.Files.{AreInside, HasBlocks}
 use Rattle.ods_space.proofs.Chains.{head_of, same_chain, small_of}
 
-abbrev Decided : Type 0 → Type 0
+-- a fact that holds or does not
+abbrev pub Decided : Type 0 → Type 0
 Decided P = P ⊎ (¬ P)
 
 both : {P Q : Type 0} → Decided P → Decided Q → Decided (P × Q)
@@ -47,7 +48,7 @@ decide_valid b n = through
     (λ v. (v.header.checksum, (v.header.numbered, (v.header.level, (v.header.layout, (v.format.0, v.format.1))))))
     (both (cases_eq (word b 255) (sum_of b 255)) (both (cases_eq (number_of b) n) (both (cases_eq (word b 3) 257) (both (decide_laid_out b) (both (cases_eq (count_size_of b) 1) (cases_eq (lbn_size_of b) 3))))))
 
-decide_segment : (I : List (List ℕ)) (h : Home) (index : List ℕ) (last n k : ℕ) → Decided (IsSegment I h index last n k)
+pub decide_segment : (I : List (List ℕ)) (h : Home) (index : List ℕ) (last n k : ℕ) → Decided (IsSegment I h index last n k)
 decide_segment I h index last n k = through
     (λ p. record { first = p.0; last = p.1.0; in_use = p.1.1.0; valid = p.1.1.1.0; segment = p.1.1.1.1 })
     (λ s. (s.first, (s.last, (s.in_use, (s.valid, s.segment)))))

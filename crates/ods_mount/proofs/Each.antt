@@ -4,7 +4,7 @@ use Rattle.std.proofs.lemmas.Bool.{cases_lt}
 use Rattle.std.proofs.lemmas.Option.{slice_get_within}
 use Rattle.ods_space.specs.Layout.{VolumeLayout}
 use Rattle.ods_space.specs.Files.{HasBlocks, Holds}
-use Rattle.ods_mount.proofs.Layouts.{same_blocks}
+use Rattle.ods_space.proofs.Surveyed.{same_blocks}
 
 -- P of each of the first i numbers, with its place
 abbrev pub EachBefore : (ℕ → ℕ → Type 0) → List ℕ → ℕ → Type 0

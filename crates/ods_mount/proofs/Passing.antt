@@ -10,12 +10,12 @@ use Rattle.ods_space.specs.Chain.{chain_blocks, headers_of, named_by}
 use Rattle.ods_space.specs.Files.{HasBlocks, Holds, IsLayoutOf}
 use Rattle.ods_space.specs.Free.{is_free_block}
 use Rattle.ods_space.proofs.Onward.{named_all, named_few}
-use Rattle.ods_space.proofs.Parts.{block_of_run, contains_at, part_at, split_at}
-use Rattle.ods_space.proofs.Surveys.{first_blocks}
+use Rattle.ods_space.proofs.Parts.{contains_at, part_at, split_at}
+use Rattle.ods_space.proofs.Surveys.{first_blocks, slice_get-run_blocks}
 use Rattle.ods_mount.specs.Tables.{has, IsWith, IsNoted, IsTable}
 use Rattle.ods_mount.specs.Checks.{HoldsFrom, IsPassed, IsFixed, IsHeldTwice, NoneIsFree, NoneIsPlace}
 use Rattle.ods_mount.proofs.Each.{each_next, each_of, holds_at, held_at}
-use Rattle.ods_mount.proofs.Layouts.{same_blocks}
+use Rattle.ods_space.proofs.Surveyed.{same_blocks}
 use Rattle.ods_mount.proofs.Sets.{noted_first, noted_more, noted_there}
 use Rattle.ods_mount.proofs.Soundness.{all_at}
 use Rattle.ods_mount.proofs.Holders.{held_twice, table_held}
@@ -42,7 +42,7 @@ holds_all I L n blocks has j b at =
 
 -- block j of a run
 pub holds_run : (I : List (List ℕ)) (L : VolumeLayout) (n first : ℕ) (r : Run) (j : ℕ) → HoldsFrom I L n first (run_blocks r) → j < r.count → Holds I L n (first + j + 1) (r.lbn + j)
-holds_run I L n first r j all within = all j (r.lbn + j) (block_of_run r j within)
+holds_run I L n first r j all within = all j (r.lbn + j) (slice_get-run_blocks r j within)
 
 -- All headers of file n but these, which are still to come, name the first so many blocks.
 pub record IsAlong (I : List (List ℕ)) (L : VolumeLayout) (n first : ℕ) (rest : List (ℕ × List ℕ)) : Type 0 where

@@ -1,20 +1,11 @@
 -- Sets of numbers, one bit each, and how numbers are noted in one.
-use Rattle.std.proofs.Common.{◌≡◌, ◌≢◌, ℕ, zero, suc, ◌+◌, ◌*◌, ◌/◌, ◌%◌, ◌^◌, ◌<◌, ◌⊎◌, Bool, true, false, nat_eq, List, length, replicate, slice_get, Some, inl, inr, refl, sym, ap, ◌∙◌, subst, arith}
+use Rattle.std.proofs.Common.{◌≡◌, ◌≢◌, ℕ, ◌+◌, ◌*◌, ◌/◌, ◌%◌, ◌^◌, ◌<◌, ◌⊎◌, Bool, true, false, nat_eq, List, length, slice_get, Some, inl, inr, refl, sym, ap, ◌∙◌, subst, arith}
 use Rattle.std.specs.Prelude.{bit_or, slice_index, slice_set}
 use Rattle.std.specs.Int.{bit_at, w64}
 use Rattle.std.proofs.lemmas.Bool.{cases_lt, cases_eq}
 use Rattle.std.proofs.lemmas.List.{get_or-set_same, get_or-set_other}
-use Rattle.std.proofs.lemmas.Nat.Bits.{bit_at-zero, bit_at_set_same, bit_at_set_other}
+use Rattle.std.proofs.lemmas.Nat.Bits.{bit_at_set_same, bit_at_set_other}
 use Rattle.ods_mount.specs.Tables.{has, IsWith, IsNoted, IsThere}
-
--- words of zeros are the empty set
-pub none_of_zeros : (k b : ℕ) → has (replicate k 0) b ≡ false
-none_of_zeros k b = ap (λ w. nat_eq (bit_at w (b % 64)) 1) (zero_at k (b / 64)) ∙ ap (λ x. nat_eq x 1) (bit_at-zero (b % 64))
-  where
-    zero_at : (k i : ℕ) → slice_index (replicate k 0) i ≡ 0
-    zero_at zero i = refl
-    zero_at (suc k) zero = refl
-    zero_at (suc k) (suc i) = zero_at k i
 
 -- a bit that is set puts its number into the set
 pub set_bit : (words : List ℕ) (b : ℕ) → b / 64 < length words → IsWith (slice_set words (b / 64) (bit_or (slice_index words (b / 64)) (1 * 2 ^ (b % 64) % 2 ^ 64))) words b

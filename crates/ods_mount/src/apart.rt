@@ -1,8 +1,7 @@
 //! Headers that two files share.
 ghost use Rattle.std.specs.Prelude.{◌≡◌, ℕ, ◌+◌, ◌*◌, ◌≤◌, List, length, OnOk, IfErr};
 ghost use Rattle.ods_space.specs.Files.{HasBlocks, IsLayoutOf};
-ghost use Rattle.ods_mount.specs.Checks.{IsFault, HasHeader};
-ghost use Rattle.ods_mount.specs.Tables.{IsTable};
+ghost use Rattle.ods_mount.specs.{Checks.IsFault, Checks.HasHeader, Tables.IsTable};
 
 use crate::MountFault;
 use crate::set::NumberSet;

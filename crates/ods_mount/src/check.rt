@@ -1,8 +1,6 @@
 //! The whole check of an image.
 ghost use Rattle.std.specs.Prelude.{◌≡◌, ◌≢◌, IfOk, IfErr};
-ghost use Rattle.ods_mount.specs.Faults.{FaultIsTrue, IsSound};
-ghost use Rattle.ods_mount.specs.Checks.{IsChecked};
-ghost use Rattle.ods_mount.specs.Sound.{IsSoundBy};
+ghost use Rattle.ods_mount.specs.{Faults.FaultIsTrue, Faults.IsSound, Checks.IsChecked, Sound.IsSoundBy};
 
 use crate::file::check_files;
 use crate::formats::check_formats;

@@ -1,11 +1,9 @@
 //! The check of a file that is a directory.
 ghost use Rattle.std.specs.Prelude.{◌≡◌, List, ℕ, MatchBool, OnOk, IfOk, IfErr};
 ghost use Rattle.ods_header.specs.Header.{attributes_of};
-ghost use Rattle.ods_space.specs.Layout.{header_at};
-ghost use Rattle.ods_space.specs.Files.{IsFile, HasBlocks, IsLayoutOf};
+ghost use Rattle.ods_space.specs.{Layout.header_at, Files.IsFile, Files.HasBlocks, Files.IsLayoutOf};
 ghost use Rattle.ods_directory.specs.Names.{IsDirectory};
-ghost use Rattle.ods_mount.specs.Faults.{IsTrueOf, IsDirectoryFile, contents_of, mark_at};
-ghost use Rattle.ods_mount.specs.Checks.{IsFault};
+ghost use Rattle.ods_mount.specs.{Faults.IsTrueOf, Faults.IsDirectoryFile, Faults.contents_of, Faults.mark_at, Checks.IsFault};
 
 use crate::MountFault;
 use crate::blocks::FileBlocks;

@@ -2,8 +2,7 @@
 ghost use Rattle.std.specs.Prelude.{◌≡◌, ℕ, ◌+◌, ◌*◌, ◌≤◌, ◌<◌, List, length, OnOk, IfOk, IfErr};
 ghost use Rattle.ods_header.specs.Home.{IsHomeAt};
 ghost use Rattle.ods_space.specs.Files.{IsFile, HasBlocks, Holds, IsLayoutOf};
-ghost use Rattle.ods_mount.specs.Checks.{IsFault, IsCheckedFile, HasHeader};
-ghost use Rattle.ods_mount.specs.Tables.{IsTable};
+ghost use Rattle.ods_mount.specs.{Checks.IsFault, Checks.IsCheckedFile, Checks.HasHeader, Tables.IsTable};
 
 use crate::MountFault;
 use crate::apart::check_apart;

@@ -1,11 +1,8 @@
 //! The blocks of a file, where its headers name them: each is checked, and noted in the table of what files hold.
 ghost use Rattle.std.specs.Prelude.{◌≡◌, ℕ, ◌+◌, ◌*◌, ◌^◌, ◌<◌, ◌≤◌, List, length, OnOk, IfOk, IfErr};
-ghost use Rattle.ods_header.specs.Header.{IsLaidOut, IsRun, run_blocks, blocks_of};
-ghost use Rattle.ods_header.specs.Home.{IsHomeAt};
-ghost use Rattle.ods_space.specs.Chain.{header_blocks, chain_blocks};
-ghost use Rattle.ods_space.specs.Files.{HasBlocks, Holds, IsLayoutOf};
-ghost use Rattle.ods_mount.specs.Checks.{IsFault, IsPassed, HoldsFrom, NoneIsFree, NoneIsPlace};
-ghost use Rattle.ods_mount.specs.Tables.{IsTable};
+ghost use Rattle.ods_header.specs.{Header.IsLaidOut, Header.IsRun, Header.run_blocks, Header.blocks_of, Home.IsHomeAt};
+ghost use Rattle.ods_space.specs.{Chain.header_blocks, Chain.chain_blocks, Files.HasBlocks, Files.Holds, Files.IsLayoutOf};
+ghost use Rattle.ods_mount.specs.{Checks.IsFault, Checks.IsPassed, Checks.HoldsFrom, Checks.NoneIsFree, Checks.NoneIsPlace, Tables.IsTable};
 
 use crate::MountFault;
 use crate::held_twice::double_use;

@@ -2,8 +2,7 @@
 ghost use Rattle.std.specs.Prelude.{◌≡◌, ◌≤◌, MatchBool, OnOk, IfErr};
 ghost use Rattle.ods_header.specs.Header.{IsHeader, IsFormat1};
 ghost use Rattle.ods_space.specs.Layout.{header_at};
-ghost use Rattle.ods_mount.specs.Faults.{IsTrueOf};
-ghost use Rattle.ods_mount.specs.Checks.{AreFormat1};
+ghost use Rattle.ods_mount.specs.{Faults.IsTrueOf, Checks.AreFormat1};
 
 use crate::MountFault;
 use ods_base::Image;

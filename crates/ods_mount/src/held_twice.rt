@@ -2,10 +2,8 @@
 ghost use Rattle.std.specs.Prelude.{◌≡◌, ℕ, List, MatchBool};
 ghost use Rattle.std.specs.List.{Contains};
 ghost use Rattle.ods_header.specs.Header.{IsLaidOut, blocks_of};
-ghost use Rattle.ods_space.specs.Chain.{headers_of, named_by};
-ghost use Rattle.ods_space.specs.Files.{HasBlocks, Holds, IsLayoutOf};
-ghost use Rattle.ods_mount.specs.Faults.{IsTrueOf};
-ghost use Rattle.ods_mount.specs.Checks.{IsHeldTwice};
+ghost use Rattle.ods_space.specs.{Chain.headers_of, Chain.named_by, Files.HasBlocks, Files.Holds, Files.IsLayoutOf};
+ghost use Rattle.ods_mount.specs.{Faults.IsTrueOf, Checks.IsHeldTwice};
 
 use crate::MountFault;
 use ods_base::{Block, Image};

@@ -1,8 +1,7 @@
 //! What INDEXF.SYS maps: the index bitmap, headers 1 to 16 and the home block.
 ghost use Rattle.std.specs.Prelude.{◌≡◌, ◌≢◌, Some, slice_get, MatchBool, OnOk, IfErr};
 ghost use Rattle.ods_header.specs.Home.{IsHomeAt};
-ghost use Rattle.ods_mount.specs.Faults.{IsTrueOf};
-ghost use Rattle.ods_mount.specs.Checks.{IsWellIndexed, IsBadlyIndexed, NoPlaceIsFree};
+ghost use Rattle.ods_mount.specs.{Faults.IsTrueOf, Checks.IsWellIndexed, Checks.IsBadlyIndexed, Checks.NoPlaceIsFree};
 
 use crate::MountFault;
 use crate::places::check_free_places;

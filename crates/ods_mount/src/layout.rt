@@ -2,8 +2,7 @@
 ghost use Rattle.std.specs.Prelude.{◌≡◌, ◌≢◌, IfOk, IfErr};
 ghost use Rattle.ods_header.specs.Home.{IsHomeAt};
 ghost use Rattle.ods_space.specs.Files.{IsLayoutOf};
-ghost use Rattle.ods_mount.specs.Faults.{FaultIsTrue};
-ghost use Rattle.ods_mount.specs.Checks.{mount_fault_of};
+ghost use Rattle.ods_mount.specs.{Faults.FaultIsTrue, Checks.mount_fault_of};
 
 use crate::MountFault;
 use ods_base::Image;

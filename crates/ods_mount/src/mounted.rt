@@ -25,8 +25,7 @@ impl Model for Mounted {
 }
 
 impl Mounted {
-    ghost use Rattle.ods_mount.specs.Checks.{IsChecked};
-    ghost use Rattle.ods_mount.specs.Faults.{IsSound};
+    ghost use Rattle.ods_mount.specs.{Checks.IsChecked, Faults.IsSound};
 
     /// An image that passed each check, with its layout.
     pub(crate) fn new(image: Image, layout: Layout) -> Mounted

@@ -2,8 +2,7 @@
 ghost use Rattle.std.specs.Prelude.{◌≡◌, ◌↔◌, ◌<◌, ℕ, IsTrue, MatchBool, OnOk, IfErr};
 ghost use Rattle.ods_header.specs.Home.{IsHomeAt, IsHomePlace};
 ghost use Rattle.ods_space.specs.Free.{is_free_block};
-ghost use Rattle.ods_mount.specs.Faults.{IsTrueOf};
-ghost use Rattle.ods_mount.specs.Checks.{NoPlaceIsFree, IsFixed};
+ghost use Rattle.ods_mount.specs.{Faults.IsTrueOf, Checks.NoPlaceIsFree, Checks.IsFixed};
 
 use crate::MountFault;
 use ods_base::Image;

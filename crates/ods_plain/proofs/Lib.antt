@@ -1,5 +1,4 @@
 pub mod Changes
-pub mod Idents
 pub mod LineLists
 pub mod Moves
 pub mod NoNames

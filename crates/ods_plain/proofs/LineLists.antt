@@ -1,6 +1,6 @@
 -- Lists of lines, and the names that they are.
-use Rattle.std.proofs.Common.{◌++◌, filter, ◌&&◌, not, ◌≡◌, ℕ, suc, ◌+◌, ◌<◌, Bool, true, false, cond, List, [], ◌∷◌, map, length, drop, get_or, nat_eq, Option, Some, None, refl, sym, ap, subst, ◌∙◌, arith, drop-cons, add-one}
-use Rattle.std.specs.Prelude.{T, is_some}
+use Rattle.std.proofs.Common.{◌++◌, filter, ◌&&◌, not, ◌≡◌, ℕ, suc, ◌+◌, ◌<◌, Bool, true, false, cond, List, [], ◌∷◌, map, length, drop, get_or, nat_eq, Some, None, refl, sym, ap, subst, ◌∙◌, arith, drop-cons, add-one}
+use Rattle.std.specs.Prelude.{T}
 use Rattle.std.specs.List.{list_all, insert}
 use Rattle.std.proofs.lemmas.Bool.{eqb-true}
 use Rattle.std.specs.declared.cmp.Ordering.{Ordering}
@@ -12,16 +12,13 @@ use Rattle.std.specs.FinMap as names
 use Rattle.std.specs.FinMap.{slice_cmp-IsAntisymmetric, nat_cmp-IsAntisymmetric, find, put, is_sorted}
 use Rattle.std.specs.FinMap.Entries.{by_order, where_key, find-where_key, is_sorted-where_key}
 use lib.Pointwise.{pointwise, bytes_decides}
+use Rattle.ods_request.proofs.FrameLaws.{is_none_some}
+use Rattle.ods_base.proofs.Picks.{key_itself, keys_same}
 use Rattle.ods_base.specs.declared.file_id.FileId.{FileId}
 use Rattle.ods_base.specs.declared.listed.Listed.{Listed}
 use Rattle.ods_base.specs.Name.{RadName, key_of}
 use Rattle.ods_base.specs.Names.{name_of, version_of, versions_of, is_of, lines_of}
 use Rattle.ods_plain.specs.Lines.{entry_of, entries_of, names_in, is_named, AreLines, versions_in, gap_for}
-
-tied : (r : Ordering) → is_eq r ≡ true → r ≡ Equal
-tied Less h = absurd (cc)
-tied Equal h = refl
-tied Greater h = absurd (cc)
 
 pub both_ways : (a b : Bool) → (a ≡ true → b ≡ true) → (b ≡ true → a ≡ true) → a ≡ b
 both_ways true true f g = refl
@@ -33,16 +30,10 @@ both_ways false false f g = refl
 abbrev pub key_cmp : List ℕ → List ℕ → Ordering
 key_cmp = slice_cmp nat_cmp
 
-pub keys_equal : (a b : List ℕ) → eq_by_cmp key_cmp a b ≡ true → a ≡ b
-keys_equal a b h = slice_cmp-IsAntisymmetric nat_cmp-IsAntisymmetric a b (tied _ h)
-
-pub key_itself : (a : List ℕ) → eq_by_cmp key_cmp a a ≡ true
-key_itself a = (eq_by_cmp_equiv nat_list_cmp_total).refl a
-
 -- to tie is to be equal, number by number
 pub same_key : (a b : List ℕ) → eq_by_cmp key_cmp a b ≡ pointwise nat_eq b a
 same_key a b = both_ways _ _
-    (λ h. (bytes_decides b a).1 (sym (keys_equal a b h)))
+    (λ h. (bytes_decides b a).1 (sym (keys_same a b h)))
     (λ h. subst (λ k. eq_by_cmp key_cmp a k ≡ true) (sym ((bytes_decides b a).0 h)) (key_itself a))
 
 -- the lines that are left at a place
@@ -105,10 +96,6 @@ all-insert p (y ∷ ls) (suc at) x h all = by (p y) (all-insert p ls at x h) all
     by true rest g = rest g
     by false rest g = absurd (cc)
 
-none_there : {A : Type 0} (o : Option A) → is_some o ≡ false → o ≡ None
-none_there None h = refl
-none_there (Some x) h = absurd (cc)
-
 -- a line was put in
 pub record IsInserted (ls new : List Listed) (k : List ℕ) (file : FileId) : Type 0 where
   pub lines : AreLines new
@@ -118,7 +105,7 @@ pub inserted : (ls : List Listed) (k : List ℕ) (file : FileId) (line : Listed)
     → names.contains_key (names_in ls) k ≡ false → IsInserted ls (insert ls (gap_for k ls) line) k file
 inserted ls k file line a is named absent =
     let new = insert ls (gap_for k ls) line in
-    let none : find key_cmp k (entries_of ls) ≡ None = sym (get-names_in ls k a) ∙ none_there (names.get (names_in ls) k) absent in
+    let none : find key_cmp k (entries_of ls) ≡ None = sym (get-names_in ls k a) ∙ is_none_some (names.get (names_in ls) k) absent in
     let same : names.entries (names.insert (names_in ls) k file) ≡ entries_of new =
     names.entries-insert nat_list_cmp_total (names_in ls) k file ∙ ap (put key_cmp k file) (entries-names_in ls a) ∙ put-in_gap k file line is ls none in
     let lines : AreLines new = record {
@@ -160,7 +147,7 @@ pub record IsRemoved (ls new : List Listed) (k : List ℕ) : Type 0 where
   pub lines : AreLines new
   pub names : names_in new ≡ names.remove (names_in ls) k
 
-turned : {A : Type 0} (b : Bool) (x y : A) → cond (not b) x y ≡ cond b y x
+pub turned : {A : Type 0} (b : Bool) (x y : A) → cond (not b) x y ≡ cond b y x
 turned true x y = refl
 turned false x y = refl
 

@@ -10,6 +10,7 @@ use Rattle.std.specs.List.{list_any}
 use Rattle.std.specs.declared.cmp.Ordering.{Ordering}
 use Rattle.std.specs.declared.cmp.Ordering.TheVariants.{Less, Equal, Greater}
 use Rattle.std.specs.Cmp.{eq_by_cmp_equiv}
+use Rattle.ods_plain.proofs.LineLists.{both_ways, turned}
 use Rattle.ods_base.specs.declared.file_id.FileId.{FileId}
 use Rattle.ods_request.specs.Catalogue.{Catalogue, File, file_cmp}
 use Rattle.ods_request.specs.Equal.{same_id}
@@ -21,12 +22,6 @@ use Rattle.ods_plain.specs.Rows.{catalogue_in, place_of}
 
 abbrev Rows : Type 0
 Rows = List (FileId × File)
-
-both_ways : (a b : Bool) → (a ≡ true → b ≡ true) → (b ≡ true → a ≡ true) → a ≡ b
-both_ways true true f g = refl
-both_ways true false f g = sym (f refl)
-both_ways false true f g = g refl
-both_ways false false f g = refl
 
 -- the two tests of IDs agree
 pub same_test : (a b : FileId) → same_id a b ≡ is_id b a
@@ -127,10 +122,6 @@ stands rows id f there =
     not_past : find file_cmp id rows ≡ Some f → (place_of id rows < length rows) ⊎ (length rows ≤ place_of id rows) → place_of id rows < length rows
     not_past found (inl h) = h
     not_past found (inr h) = absurd (let clash : None ≡ Some f = sym (find-none id rows h) ∙ found in cc)
-
-turned : {A : Type 0} (b : Bool) (x y : A) → cond (not b) x y ≡ cond b y x
-turned true x y = refl
-turned false x y = refl
 
 pub same_id-is_id : (a b : FileId) → same_id a b ≡ is_id a b
 same_id-is_id a b = same_test a b ∙ (eq_by_cmp_equiv file_cmp-total).symm b a

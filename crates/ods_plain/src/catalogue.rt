@@ -2,8 +2,7 @@
 ghost use Rattle.std.specs.Prelude.{◌≡◌, ◌≢◌, true, None, Some, MatchOption, IsTrue, IfOk, OnOk, OnErr};
 ghost use Rattle.std.specs.FinMap as finite;
 ghost use Rattle.std.specs.FinSet as set;
-ghost use Rattle.ods_request.specs.Faults.{IsAllowed};
-ghost use Rattle.ods_request.specs.Steps.{after, answer_of, created, file_at, is_new, new_file as file_made};
+ghost use Rattle.ods_request.specs.{Faults.IsAllowed, Steps.after, Steps.answer_of, Steps.created, Steps.file_at, Steps.is_new, Steps.new_file as file_made};
 ghost use Rattle.ods_plain.specs.Files.{body_of, file_of, may_have};
 
 use crate::files::File;
@@ -25,8 +24,7 @@ pub struct Catalogue {
 
 impl Model for Catalogue {
     ghost use Rattle.ods_request.specs.Catalogue.{Catalogue};
-    ghost use Rattle.ods_plain.specs.Codes.{coded_catalogue};
-    ghost use Rattle.ods_plain.specs.Rows.{catalogue_in};
+    ghost use Rattle.ods_plain.specs.{Codes.coded_catalogue, Rows.catalogue_in};
 
     ghost Value = { Catalogue };
 

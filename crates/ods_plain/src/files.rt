@@ -1,11 +1,8 @@
 //! Files, and what a request asks of one.
 ghost use Rattle.std.specs.Prelude.{◌≡◌, ◌==◌, ◌<◌, ◌+◌, ◌-◌, [], length, slice_index_or, unwrap_or, false, None, IsTrue, IfOk, OnOk, OnErr};
 ghost use Rattle.std.specs.FinMap as finite;
-ghost use Rattle.ods_base.specs.Name.{key_of};
-ghost use Rattle.ods_base.specs.Names.{picked_version, last_version, entered_version, lines_of};
-ghost use Rattle.ods_request.specs.Catalogue.{Directory, Plain, is_directory, names_of, blocks_of};
-ghost use Rattle.ods_request.specs.Faults.{is_denied, lacks_block};
-ghost use Rattle.ods_request.specs.Steps.{with_body, grown, written, kind_of, no_id};
+ghost use Rattle.ods_base.specs.{Name.key_of, Names.picked_version, Names.last_version, Names.entered_version, Names.lines_of};
+ghost use Rattle.ods_request.specs.{Catalogue.Directory, Catalogue.Plain, Catalogue.is_directory, Catalogue.names_of, Catalogue.blocks_of, Faults.is_denied, Faults.lacks_block, Steps.with_body, Steps.grown, Steps.written, Steps.kind_of, Steps.no_id};
 
 use crate::names::Names;
 use ods_base::{Block, FileId, Listed, Name, Pick, Uic};

@@ -1,84 +1,13 @@
 //! New files.
-ghost use Rattle.std.specs.Prelude.{◌≡◌, ◌/◌, ◌%◌, IfOk};
+ghost use Rattle.std.specs.Prelude.{◌≡◌, IfOk};
 ghost use Rattle.ods_request.specs.Steps.{new_ident, new_body};
 ghost use Rattle.ods_plain.specs.Files.{body_of, file_of};
 
 use crate::files::{Body, File};
 use crate::names::Names;
 use ods_base::{Block, Name, Uic};
-use ods_request::Stamp;
+use ods_request::{Stamp, new_ident};
 use std::alloc::{AllocError, Global};
-
-/// The low byte of a word.
-fn low(word: u16) -> u8
-    ensures { result ≡ word % 256 }
-{
-    (word % 256) as u8
-}
-
-/// The high byte of a word.
-fn high(word: u16) -> u8
-    ensures { result ≡ word / 256 }
-{
-    (word / 256) as u8
-}
-
-/// The ident area of a new file: its name, type and version, revision 1, and the stamp as its dates of revision and creation.
-fn ident(name: &Name, version: u16, stamp: &Stamp) -> [u8; 46]
-    ensures { result ≡ new_ident name.now version stamp.now }
-{
-    let [first, second, third] = name.words();
-    let ext = name.ext();
-    let [a, b, c, d, e, f, g, h, i, j, k, l, m] = *stamp.text();
-    [
-        low(first),
-        high(first),
-        low(second),
-        high(second),
-        low(third),
-        high(third),
-        low(ext),
-        high(ext),
-        low(version),
-        high(version),
-        1,
-        0,
-        a,
-        b,
-        c,
-        d,
-        e,
-        f,
-        g,
-        h,
-        i,
-        j,
-        k,
-        l,
-        m,
-        a,
-        b,
-        c,
-        d,
-        e,
-        f,
-        g,
-        h,
-        i,
-        j,
-        k,
-        l,
-        m,
-        0,
-        0,
-        0,
-        0,
-        0,
-        0,
-        0,
-        0,
-    ]
-}
 
 /// The type of a directory, DIR.
 const DIRECTORY_TYPE: u16 = 6778;
@@ -115,7 +44,7 @@ pub(crate) fn new_file(
         protection,
         user_char: 0,
         system_char: 0,
-        ident: ident(name, version, stamp),
+        ident: new_ident(name, version, stamp),
         body: body(alloc, name, blocks)?,
     })
 }

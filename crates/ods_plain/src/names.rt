@@ -5,8 +5,7 @@ ghost use Rattle.std.specs.Ordering.{nat_cmp};
 ghost use Rattle.std.specs.Cmp.Lexicographic.{slice_cmp};
 ghost use Rattle.std.specs.FinMap as finite;
 ghost use lib.Pointwise.{pointwise};
-ghost use Rattle.ods_base.specs.Name.{key_of};
-ghost use Rattle.ods_base.specs.Names.{is_of, highest_of, lowest_of, picked_version, last_version, lines_of};
+ghost use Rattle.ods_base.specs.{Name.key_of, Names.is_of, Names.highest_of, Names.lowest_of, Names.picked_version, Names.last_version, Names.lines_of};
 ghost use Rattle.ods_plain.specs.Lines.{entries_of, versions_in, higher_of, lower_of, gap_for};
 
 use ods_base::{FileId, Listed, Name, Pick};
@@ -21,8 +20,7 @@ pub struct Names {
 
 impl Model for Names {
     ghost use Rattle.ods_base.specs.Names.{NameMap};
-    ghost use Rattle.ods_plain.specs.Codes.{coded_names};
-    ghost use Rattle.ods_plain.specs.Lines.{names_in, AreLines};
+    ghost use Rattle.ods_plain.specs.{Codes.coded_names, Lines.names_in, Lines.AreLines};
 
     ghost Value = { NameMap };
 

@@ -3,10 +3,7 @@ ghost use Rattle.std.specs.Prelude.{◌≡◌, ◌==◌, ◌≤◌, ◌+◌, len
 ghost use Rattle.std.specs.List.{filter, list_any};
 ghost use Rattle.std.specs.FinMap as finite;
 ghost use Rattle.ods_base.specs.Name.{key_of};
-ghost use Rattle.ods_request.specs.Catalogue.{Directory, Plain, is_directory, names_of, blocks_of};
-ghost use Rattle.ods_request.specs.Equal.{same_id};
-ghost use Rattle.ods_request.specs.Faults.{is_reserved, lacks_block};
-ghost use Rattle.ods_request.specs.Steps.{with_body, grown, written};
+ghost use Rattle.ods_request.specs.{Catalogue.Directory, Catalogue.Plain, Catalogue.is_directory, Catalogue.names_of, Catalogue.blocks_of, Equal.same_id, Faults.is_reserved, Faults.lacks_block, Steps.with_body, Steps.grown, Steps.written};
 ghost use Rattle.ods_plain.specs.Rows.{place_of};
 
 use crate::files::File;
@@ -26,8 +23,7 @@ impl Model for Row {
     ghost use Rattle.std.specs.Coded.{coded×};
     ghost use Rattle.ods_base.specs.declared.file_id.FileId.{FileId};
     ghost use Rattle.ods_request.specs.Catalogue.{File};
-    ghost use Rattle.ods_plain.specs.Codes.{coded_id, coded_file};
-    ghost use Rattle.ods_plain.specs.Files.{body_of, file_of, may_have};
+    ghost use Rattle.ods_plain.specs.{Codes.coded_id, Codes.coded_file, Files.body_of, Files.file_of, Files.may_have};
 
     ghost Value = { FileId × File };
 

@@ -1,7 +1,6 @@
 //! Steps of a catalogue: a request, its answer, and what it leaves.
 ghost use Rattle.std.specs.Prelude.{◌≡◌, None, Some, IfOk, OnErr, IfErr};
-ghost use Rattle.ods_request.specs.Faults.{fault_of};
-ghost use Rattle.ods_request.specs.Steps.{step as step_of};
+ghost use Rattle.ods_request.specs.{Faults.fault_of, Steps.step as step_of};
 ghost use Rattle.ods_plain.specs.declared.steps.StepError.TheVariants.{NoMemory};
 
 use crate::catalogue::Catalogue;

@@ -2,13 +2,12 @@
 use Rattle.std.proofs.Common.{◌≡◌, refl, sym, ap, ◌∙◌, Bool, true, false, cond, List, [], ◌∷◌, Option, Some, None, is_some, arith}
 use Rattle.std.specs.Prelude.{◌&&◌, ◌||◌, not, ◌==◌}
 use Rattle.std.specs.List.{list_any}
-use Rattle.std.specs.declared.cmp.Ordering.{Ordering}
-use Rattle.std.specs.declared.cmp.Ordering.TheVariants.{Less, Equal, Greater}
-use Rattle.std.specs.Ordering.{eq_by_cmp, is_eq}
+use Rattle.std.specs.Ordering.{eq_by_cmp}
 use Rattle.std.specs.Cmp.{eq_by_cmp_equiv}
-use Rattle.std.proofs.lemmas.Bool.{eq-eqb}
+use Rattle.std.proofs.lemmas.Bool.{eq-eqb, not-true, or_left, or_right}
 use Rattle.std.specs.FinMap as map
 use Rattle.std.specs.FinSet as set
+use Rattle.ods_base.proofs.Picks.{tied}
 use Rattle.ods_base.specs.declared.file_id.Uic.{Uic}
 use Rattle.ods_base.specs.declared.file_id.FileId.{FileId}
 use Rattle.ods_request.specs.declared.requests.Request.{Request}
@@ -19,11 +18,6 @@ use Rattle.ods_request.specs.Steps.{step, change, after, answer_of, create, crea
 use Rattle.ods_request.specs.Laws.{creates, changed_file, OtherFilesStay, CreatedIsNew, DefaultStays, PastIsKept}
 use Rattle.ods_request.proofs.Orders.{file_cmp-total, file_cmp-antisymmetric}
 use Rattle.ods_request.proofs.StepLaws.{given, taken, changed, determined, past_after}
-
-tied : (r : Ordering) → is_eq r ≡ true → r ≡ Equal
-tied Less h = absurd (cc)
-tied Equal h = refl
-tied Greater h = absurd (cc)
 
 -- the order of IDs as a test of equality
 abbrev pub is_id : FileId → FileId → Bool
@@ -108,23 +102,15 @@ default_kept C D who r a e = by_kind C D who r a (D.default ≡ C.default) e
     (λ m _. ap (λ (E : Catalogue). E.default) m.is)
     (λ _ _ is. ap (λ (E : Catalogue). E.default) is ∙ after-default C r)
 
-or_kept : (a b : Bool) → b ≡ true → (a || b) ≡ true
-or_kept true b h = refl
-or_kept false b h = h
-
 pub past_kept : PastIsKept
 past_kept C D who r a id e h = by_kind C D who r a (set.contains D.past id ≡ true) e
-    (λ m _. ap (λ (E : Catalogue). set.contains E.past id) m.is ∙ set.contains-insert file_cmp-total C.past m.id id ∙ or_kept _ _ h)
+    (λ m _. ap (λ (E : Catalogue). set.contains E.past id) m.is ∙ set.contains-insert file_cmp-total C.past m.id id ∙ or_right _ _ h)
     (λ _ _ is. ap (λ (E : Catalogue). set.contains E.past id) is ∙ ap (λ p. set.contains p id) (past_after C r) ∙ h)
 
 -- a request that is no Create is not answered by a new file
 answer-makes_none : (C : Catalogue) (r : Request) → creates r ≡ false → created_id (answer_of C r) ≡ None
 unfolding answer_of
 answer-makes_none C r h = grind arith
-
-not_true : (b : Bool) → not b ≡ true → b ≡ false
-not_true true h = absurd (cc)
-not_true false h = refl
 
 both : (a b : Bool) → (a && b) ≡ true → (a ≡ true) × (b ≡ true)
 both true b h = (refl, h)
@@ -144,7 +130,7 @@ no_key id (k ∷ keys) h = let n = neither (k.number == id.number) _ h in
     by true e other rest = absurd (let same : (k.number == id.number) ≡ true = eq-eqb k.number id.number (ap (λ (f : FileId). f.number) (sym (is_id-equal id k e))) in let clash : true ≡ false = sym same ∙ other in cc)
     by false e other rest = rest
 
-is_none_some : {A : Type 0} (o : Option A) → is_some o ≡ false → o ≡ None
+pub is_none_some : {A : Type 0} (o : Option A) → is_some o ≡ false → o ≡ None
 is_none_some None h = refl
 is_none_some (Some x) h = absurd (cc)
 
@@ -153,11 +139,7 @@ pub new_is_free : (C : Catalogue) (id : FileId) → is_new C id ≡ true → (ma
 new_is_free C id h =
     let p = both (not (set.contains C.past id)) _ h in
     let q = both (not (is_used C id.number)) _ p.1 in
-    (is_none_some (map.get C.files id) (map.contains_key-keys C.files id ∙ no_key id (map.keys C.files) (not_true _ q.0)), not_true _ p.0)
-
-or_itself : (a b : Bool) → a ≡ true → (a || b) ≡ true
-or_itself true b h = refl
-or_itself false b h = absurd (cc)
+    (is_none_some (map.get C.files id) (map.contains_key-keys C.files id ∙ no_key id (map.keys C.files) (not-true _ q.0)), not-true _ p.0)
 
 pub created_new : CreatedIsNew
 created_new C D who r a id e h = by_kind C D who r a ((map.get C.files id ≡ None) × (set.contains C.past id ≡ false) × (set.contains D.past id ≡ true)) e
@@ -166,7 +148,7 @@ created_new C D who r a id e h = by_kind C D who r a ((map.get C.files id ≡ No
     let free = new_is_free C m.id m.new in (
       ap (map.get C.files) (sym is) ∙ free.0,
       ap (set.contains C.past) (sym is) ∙ free.1,
-      ap (λ (E : Catalogue). set.contains E.past id) m.is ∙ set.contains-insert file_cmp-total C.past m.id id ∙ or_itself (is_id id m.id) _ (ap (is_id id) is ∙ is_id-itself id),
+      ap (λ (E : Catalogue). set.contains E.past id) m.is ∙ set.contains-insert file_cmp-total C.past m.id id ∙ or_left (is_id id m.id) _ (ap (is_id id) is ∙ is_id-itself id),
     ))
     (λ other is _. absurd (let clash : None ≡ Some id = sym (ap created_id is ∙ answer-makes_none C r other) ∙ h in cc))
   where

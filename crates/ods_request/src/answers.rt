@@ -56,8 +56,7 @@ impl Listing {
 
 impl PartialEq for Listing {
     ghost use lib.Pointwise.{pointwise};
-    ghost use Rattle.ods_request.specs.Equal.{same_line};
-    ghost use Rattle.ods_request.specs.Same.{lines_partial_equivalence};
+    ghost use Rattle.ods_request.specs.{Equal.same_line, Same.lines_partial_equivalence};
 
     ghost eq = { pointwise same_line };
 

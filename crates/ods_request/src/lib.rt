@@ -2,6 +2,7 @@
 #![tactic(auto)]
 
 mod answers;
+mod idents;
 mod laws;
 mod refusals;
 mod requests;
@@ -9,6 +10,7 @@ mod rights;
 mod stamps;
 
 pub use answers::{Answer, Entry, Kind, Listing, Stat};
+pub use idents::new_ident;
 pub use laws::{
     answer_is_determined, answer_is_step, answers_agree, created_is_new, default_stays,
     entered_is_found, looking_changes_nothing, other_files_stay, past_is_kept, refused_has_no_step,

@@ -1,7 +1,9 @@
 -- What is printed of a session: a line for each command, as its reply says.
-use Rattle.std.specs.Prelude.{ℕ, ◌+◌, ◌-◌, ◌==◌, take, List, [], ◌∷◌, ◌++◌, length, codes}
+use Rattle.std.specs.Prelude.{ℕ, ◌+◌, ◌-◌, ◌==◌, take, map, List, [], ◌∷◌, ◌++◌, length, codes}
 use Rattle.std.specs.List.{flat_map, suffix_len}
 use Rattle.std.specs.Fmt.{decimal}
+use Rattle.std.specs.declared.vec.Vec.{Vec}
+use Rattle.std.specs.declared.alloc.Global.{Global}
 use Rattle.hex.specs.Hex.{encode_lower}
 use Rattle.ods_base.specs.Name.{RadName, name_version_text}
 use Rattle.ods_base.specs.declared.file_id.FileId.{FileId}
@@ -118,11 +120,21 @@ replies_text (c ∷ cs) [] = []
 replies_text (c ∷ cs) (r ∷ rs) = reply_text c r ++ replies_text cs rs
 
 -- session k, and its replies
-abbrev pub session_text : ℕ → Script → Outcome → List ℕ
-session_text k s o = codes "session " ++ decimal k ++ 10 ∷ replies_text s.commands.items o.replies.items
+abbrev pub session_text : ℕ → Script → List Reply → List ℕ
+session_text k s rs = codes "session " ++ decimal k ++ 10 ∷ replies_text s.commands.items rs
 
 -- the sessions from session k on, in order
 abbrev pub sessions_text : ℕ → List Script → List Outcome → List ℕ
 sessions_text k [] os = []
 sessions_text k (s ∷ ss) [] = []
-sessions_text k (s ∷ ss) (o ∷ os) = session_text k s o ++ sessions_text (k + 1) ss os
+sessions_text k (s ∷ ss) (o ∷ os) = session_text k s o.replies.items ++ sessions_text (k + 1) ss os
+
+-- the list of replies of each session
+abbrev pub replies_in : List Outcome → List (Vec Reply Global)
+replies_in os = map (λ (o : Outcome). o.replies) os
+
+-- the sessions from session k on, by their replies alone
+abbrev pub replied_text : ℕ → List Script → List (Vec Reply Global) → List ℕ
+replied_text k [] lists = []
+replied_text k (s ∷ ss) [] = []
+replied_text k (s ∷ ss) (rs ∷ lists) = session_text k s rs.items ++ replied_text (k + 1) ss lists

@@ -1,11 +1,11 @@
 //! Replies as they are printed: a line for each command, and the lines of all sessions.
 ghost use Rattle.std.specs.Prelude.{◌≡◌, ◌++◌, ◌<◌, ◌≤◌, ◌+◌, ◌^◌, OnOk, IfOk, length};
 ghost use Rattle.std.specs.String.{string_bytes};
-ghost use Rattle.ods_script.specs.Texts.{refusal_line, asked_name as name_asked, looked_name as name_looked, spoken_name as name_spoken, no_name as name_of_blanks, reply_text, replies_text, session_text, sessions_text as text_of_sessions};
+ghost use Rattle.ods_script.specs.Texts.{refusal_line, asked_name as name_asked, looked_name as name_looked, spoken_name as name_spoken, no_name as name_of_blanks, reply_text, replies_text, session_text, replied_text};
 
 use crate::answered::push_answer;
 use ods_base::{Coded, Name};
-use ods_share::{Action, Ask, Command, Look, Outcome, Reply, Script};
+use ods_share::{Action, Ask, Command, Look, Reply, Script};
 use std::alloc::{AllocError, Global};
 
 /// The name of blanks, for what speaks of no name.
@@ -109,27 +109,28 @@ fn push_replies(
     Ok(())
 }
 
-/// What is printed of the sessions of these scripts: for each, in order, the line `session k`, with k from 1, and its replies.
+/// What is printed of the sessions of these scripts, by the replies to each: for each, in order, the line `session k`, with k from 1, and
+/// its replies.
 pub fn sessions_text(
     alloc: Global,
     scripts: &[Script],
-    outcomes: &[Outcome],
+    replies: &[Vec<Reply>],
 ) -> Result<String, AllocError>
     requires { length scripts.now ≤ 8 }
-    ensures { IfOk result (λ text. string_bytes text ≡ text_of_sessions 1 scripts.now outcomes.now) }
+    ensures { IfOk result (λ text. string_bytes text ≡ replied_text 1 scripts.now replies.now) }
 {
     let mut text = String::new(alloc);
     let mut number: u16 = 1;
     let mut scripts = scripts;
-    let mut outcomes = outcomes;
+    let mut replies = replies;
     while let Some((script, later)) = scripts.split_first() {
-        let Some((outcome, others)) = outcomes.split_first() else {
+        let Some((list, others)) = replies.split_first() else {
             return Ok(text);
         };
-        push_session(alloc, &mut text, number, script, outcome)?;
+        push_session(alloc, &mut text, number, script, list.as_slice())?;
         number += 1;
         scripts = later;
-        outcomes = others;
+        replies = others;
     }
     Ok(text)
 }
@@ -140,15 +141,10 @@ fn push_session(
     text: &mut String,
     number: u16,
     script: &Script,
-    outcome: &Outcome,
+    replies: &[Reply],
 ) -> Result<(), AllocError>
-    ensures { OnOk result (string_bytes text.new ≡ string_bytes text.old ++ session_text number script.now outcome.now) }
+    ensures { OnOk result (string_bytes text.new ≡ string_bytes text.old ++ session_text number script.now replies.now) }
 {
     write!(text, "session {number}\n")?;
-    push_replies(
-        alloc,
-        text,
-        script.commands.as_slice(),
-        outcome.replies.as_slice(),
-    )
+    push_replies(alloc, text, script.commands.as_slice(), replies)
 }

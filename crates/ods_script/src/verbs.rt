@@ -1,7 +1,6 @@
 //! What the words behind each verb mean.
 ghost use Rattle.std.specs.Prelude.{◌≡◌};
-ghost use Rattle.ods_script.specs.Spelling.{IsTheOne};
-ghost use Rattle.ods_script.specs.Commands.{Behind, Viewed};
+ghost use Rattle.ods_script.specs.{Spelling.IsTheOne, Commands.Behind, Commands.Viewed};
 ghost use Rattle.ods_script.specs.declared.spoken.Verb.TheVariants as verb;
 
 use crate::names::{GivenName, NewName, WantedName};

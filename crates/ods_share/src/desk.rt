@@ -1,13 +1,8 @@
 //! The desk: a volume that is to lie under a lock, with the name of what it began with, so that something is known of it there, and the
 //! writer that shows its versions.
 ghost use Rattle.std.specs.Prelude.{◌≡◌, ◌<◌, ◌≤◌, All, length, vec_len, IfOk, IfErr, IsErr, OnErr, Err, Some, None};
-ghost use Rattle.ods_request.specs.declared.refusals.Refusal.{Refusal};
-ghost use Rattle.ods_request.specs.Catalogue.{Catalogue};
-ghost use Rattle.ods_request.specs.Faults.{fault_of};
-ghost use Rattle.ods_request.specs.Lists.{Begins};
-ghost use Rattle.ods_state.specs.Version.{IsPresent, IsLawful};
-ghost use Rattle.ods_state.specs.Wants.{Lacks};
-ghost use Rattle.ods_state.specs.Outcome.{Accepts, CanBeAsked, entry_of};
+ghost use Rattle.ods_request.specs.{declared.refusals.Refusal.Refusal, Catalogue.Catalogue, Faults.fault_of, Lists.Begins};
+ghost use Rattle.ods_state.specs.{Version.IsPresent, Version.IsLawful, Wants.Lacks, Outcome.Accepts, Outcome.CanBeAsked, Outcome.entry_of};
 ghost use Rattle.ods_share.specs.Desks.{IsDeskReason};
 ghost use Rattle.ods_views.specs.Viewers.{newly};
 

@@ -26,9 +26,13 @@ pub enum Reply {
 /// An accepted request of a session: the command's number, the user in force, the request as it was made, and its answer.
 #[derive(Drop, PartialEq, Eq, Debug)]
 pub struct Call {
+    /// The number of the command in its script.
     pub nth: u32,
+    /// The user in force.
     pub who: Uic,
+    /// The request, as `$` and the stamp made it.
     pub request: Request,
+    /// What the desk answered.
     pub answer: Answer,
 }
 

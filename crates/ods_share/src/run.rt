@@ -74,7 +74,7 @@ fn places_for(scripts: usize) -> usize
     if scripts == 0 { 1 } else { scripts }
 }
 
-/// Opens a desk with this name, and runs the scripts at it.
+/// Opens a desk with this name, and runs the scripts at it. It is apart from [`run_scripts`] since a name is picked at a call alone.
 fn run_named<J: Naming + Send + Sync, G: Gate + Sync, R: Threads + Wait + Sync>(
     rt: &R,
     alloc: Global,

@@ -1,8 +1,7 @@
 //! One session: its script is obeyed command by command.
 ghost use Rattle.std.specs.Prelude.{◌+◌, ◌≤◌, IfOk, length, option_to_list};
 ghost use Rattle.ods_state.specs.Outcome.{CanBeAsked};
-ghost use Rattle.ods_share.specs.Scripts.{CanBeObeyed, CanBeRun, IsOutcome};
-ghost use Rattle.ods_share.specs.Sittings.{room_of, IsReply, IsView, TellsSeat, TellsMore, HasRoom, KeepsRoom};
+ghost use Rattle.ods_share.specs.{Scripts.CanBeObeyed, Scripts.CanBeRun, Scripts.IsOutcome, Sittings.room_of, Sittings.IsReply, Sittings.IsView, Sittings.TellsSeat, Sittings.TellsMore, Sittings.HasRoom, Sittings.KeepsRoom};
 
 use crate::asking::{next_last, query_for, request_for};
 use crate::desk::Desk;

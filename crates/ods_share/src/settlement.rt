@@ -13,7 +13,9 @@ use std::alloc::{AllocError, Global};
 /// How many entries a settled list has, in all, and of each session in order.
 #[derive(Drop, PartialEq, Eq, Debug)]
 pub struct Report {
+    /// In all.
     pub entries: u32,
+    /// Of each session, the first one first.
     pub of_session: Vec<u32>,
 }
 

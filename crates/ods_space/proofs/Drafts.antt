@@ -1,6 +1,6 @@
 -- What is looked up in a draft, and what an image becomes, with one change more.
 use Rattle.std.proofs.Common.{◌≡◌, ◌≢◌, ℕ, zero, suc, ◌+◌, ◌-◌, ◌<◌, ◌≤◌, Bool, true, false, cond, nat_eq, List, [], ◌∷◌, ◌++◌, map, length, set, get_or, take, Option, Some, None, refl, sym, ap, ◌∙◌, arith, inl, inr}
-use Rattle.std.specs.Prelude.{unwrap_or}
+use Rattle.std.specs.Prelude.{unwrap_or, is_some}
 use Rattle.std.specs.List.{range_with_len}
 use Rattle.std.proofs.lemmas.Bool.{cases_lt, cases_eq, eqb-true, eqb-false}
 use Rattle.std.proofs.lemmas.List.{append-nil, take_more, length-set, get_or-set_same, get_or-set_other, set_past}
@@ -64,6 +64,10 @@ applied_set I lbn b = applied_is I (set I lbn b) ((lbn, b) ∷ []) (length-set I
     by : (k : ℕ) → k < length I → (t : Bool) → nat_eq lbn k ≡ t → get_or (set I lbn b) k [] ≡ unwrap_or (cond t (Some b) None) (get_or I k [])
     by k inside true e = let same : lbn ≡ k = eqb-true lbn k e in ap (λ n. get_or (set I n b) k []) same ∙ get_or-set_same I k b [] inside
     by k inside false e = get_or-set_other I lbn k b [] (λ same. eqb-false lbn k e (sym same))
+
+-- and over older changes
+pub applied_over : (I : List (List ℕ)) (d : Changes) (lbn : ℕ) (b : List ℕ) → applied I ((lbn, b) ∷ d) ≡ set (applied I d) lbn b
+applied_over I d lbn b = sym (applied-applied I ((lbn, b) ∷ []) d) ∙ sym (applied_set (applied I d) lbn b)
 
 -- a block past the end
 pub applied_past : (I : List (List ℕ)) (lbn : ℕ) (b : List ℕ) → length I ≤ lbn → I ≡ applied I ((lbn, b) ∷ [])
@@ -173,6 +177,19 @@ module _ (cs : List Change) (k lbn : ℕ) (c : Change) (some : 0 < k) (within : 
 
   pub passed_over : None ≡ change_at (changed c []) lbn → change_at (changes_of cs) lbn ≡ change_at (changes_of (take (k - 1) cs)) lbn
   passed_over none = looked ∙ ap (λ o. or_older o (change_at (changes_of (take (k - 1) cs)) lbn)) (sym none)
+
+  -- a block that change k is of is changed
+  pub touched : is_some (change_at (changed c []) lbn) ≡ true → is_some (change_at (changes_of cs) lbn) ≡ true
+  touched some = ap is_some looked ∙ by (change_at (changed c []) lbn) some
+    where
+      by : (o : Option (List ℕ)) → is_some o ≡ true → is_some (or_older o (change_at (changes_of (take (k - 1) cs)) lbn)) ≡ true
+      by None e = absurd (cc)
+      by (Some b) e = refl
+
+-- what is not there
+pub none_since : (o : Option (List ℕ)) → is_some o ≡ false → None ≡ o
+none_since None e = refl
+none_since (Some b) e = absurd (cc)
 
 -- the changes of a list whose last one sets a block, and of the list with another block set there
 record EndsIn (d : Changes) (cs : List Change) (k lbn : ℕ) (old new : List ℕ) : Type 0 where

@@ -9,7 +9,8 @@ use Rattle.ods_space.specs.Chain.{Follows}
 use Rattle.ods_space.specs.Growth.{one_more, begun, index_after, PlacesStay}
 use Rattle.ods_space.proofs.Surveys.{slice_get-append_left}
 
-still_there : (xs ys : List ℕ) (i x : ℕ) → slice_get xs i ≡ Some x → slice_get (xs ++ ys) i ≡ Some x
+-- what is at a place of a list is there after more is appended
+pub still_there : (xs ys : List ℕ) (i x : ℕ) → slice_get xs i ≡ Some x → slice_get (xs ++ ys) i ≡ Some x
 still_there xs ys i x found = slice_get-append_left xs ys i (slice_get_within xs i x found) ∙ found
 
 -- a header's place by the front of a list is its place by the whole

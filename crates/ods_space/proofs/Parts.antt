@@ -1,37 +1,24 @@
 -- Parts of lists: what a list of headers or of runs names, seen at one of them.
-use Rattle.std.proofs.Common.{◌≡◌, ℕ, suc, ◌+◌, ◌-◌, ◌<◌, ◌≤◌, List, [], ◌∷◌, ◌++◌, length, take, drop, slice_get, Some, inl, inr, sym, ap, ◌∙◌, subst, arith}
+use Rattle.std.proofs.Common.{◌≡◌, ℕ, ◌+◌, ◌-◌, ◌<◌, ◌≤◌, List, ◌∷◌, ◌++◌, length, take, drop, slice_get, Some, inl, inr, sym, ap, ◌∙◌, subst, arith}
 use Rattle.std.specs.List.{Contains, flat_map}
 use Rattle.std.proofs.lemmas.List.{drop_more, take-append-drop}
 use Rattle.std.proofs.lemmas.List.Concat.{flat_map-append}
 use Rattle.std.proofs.lemmas.List.Elements.{Contains-append_cases}
 use Rattle.std.proofs.lemmas.List.FromFn.{length-range_with_len, get_or-range_with_len}
-use Rattle.std.proofs.lemmas.Option.{slice_get-get_or, slice_get_within, get_or_from_slice_get}
+use Rattle.std.proofs.lemmas.Option.{slice_get_within, get_or_from_slice_get}
 use Rattle.ods_header.specs.declared.header.Run.{Run}
 use Rattle.ods_header.specs.Header.{run_blocks, runs_of, blocks_of}
-use Rattle.ods_space.proofs.Surveys.{slice_get-append_left, first_blocks, first_blocks_more}
-
--- an element of the second list
-slice_get-behind : (xs ys : List ℕ) (i : ℕ) → slice_get (xs ++ ys) (length xs + i) ≡ slice_get ys i
-slice_get-behind [] ys i = let e : 0 + i ≡ i = omega arith in ap (slice_get ys) e
-slice_get-behind (x ∷ xs) ys i =
-    let e : suc (length xs) + i ≡ suc (length xs + i) = omega arith in
-    ap (slice_get (x ∷ (xs ++ ys))) e ∙ slice_get-behind xs ys i
+use Rattle.ods_space.proofs.Surveys.{slice_get-append_left, first_blocks, first_blocks_more, slice_get-append_right, slice_get-run_blocks}
 
 -- an element of a part
 pub part_at : (whole front xs rest : List ℕ) (j b : ℕ) → whole ≡ front ++ (xs ++ rest) → slice_get xs j ≡ Some b → slice_get whole (length front + j) ≡ Some b
 part_at whole front xs rest j b parts at =
     let within = slice_get_within xs j b at in
-    ap (λ l. slice_get l (length front + j)) parts ∙ slice_get-behind front (xs ++ rest) j ∙ slice_get-append_left xs rest j within ∙ at
+    ap (λ l. slice_get l (length front + j)) parts ∙ slice_get-append_right front (xs ++ rest) j ∙ slice_get-append_left xs rest j within ∙ at
 
 -- a list has the elements that it has at a place
 pub contains_at : (xs : List ℕ) (i x : ℕ) → slice_get xs i ≡ Some x → Contains xs x
 contains_at xs i x at = (i, slice_get_within xs i x at, get_or_from_slice_get xs i x x at)
-
--- block j of a run
-pub block_of_run : (r : Run) (j : ℕ) → j < r.count → slice_get (run_blocks r) j ≡ Some (r.lbn + j)
-block_of_run r j within =
-    let size = length-range_with_len r.lbn r.count in
-    slice_get-get_or (run_blocks r) j 0 (omega arith) ∙ ap Some (get_or-range_with_len r.lbn r.count j 0 within)
 
 -- what a list of parts makes is what those before a part make, that part, and the rest
 pub split_at : {A : Type 0} (f : A → List ℕ) (xs : List A) (i : ℕ) (x : A) → slice_get xs i ≡ Some x → (rest : List ℕ) × (flat_map f xs ≡ flat_map f (take i xs) ++ (f x ++ rest))
@@ -46,7 +33,7 @@ pub named_in_run : (b : List ℕ) (k lbn : ℕ) (r : Run) → slice_get (runs_of
 named_in_run b k lbn r is low high =
     let j : ℕ = lbn - r.lbn in
     let e : r.lbn + j ≡ lbn = omega arith in
-    let at : slice_get (run_blocks r) j ≡ Some lbn = block_of_run r j (omega arith) ∙ ap Some e in
+    let at : slice_get (run_blocks r) j ≡ Some lbn = slice_get-run_blocks r j (omega arith) ∙ ap Some e in
     let parts = split_at run_blocks (runs_of b) k r is in
     contains_at (blocks_of b) (length (first_blocks b k) + j) lbn (part_at (blocks_of b) (first_blocks b k) (run_blocks r) parts.0 j lbn parts.1 at)
 

@@ -2,7 +2,7 @@
 use Rattle.std.proofs.Common.{◌≡◌, ℕ, zero, suc, ◌+◌, ◌-◌, ◌*◌, ◌<◌, ◌≤◌, ◌⊎◌, List, [], ◌∷◌, ◌++◌, length, take, get_or, Option, Some, None, refl, sym, ap, ◌∙◌, arith, inl, inr, subst}
 use Rattle.std.specs.Prelude.{slice_get}
 use Rattle.std.specs.List.{All, flat_map, range_with_len}
-use Rattle.std.proofs.lemmas.List.{append_assoc, append-nil, map-id, length-append, take_more, take_all, flat_map_more}
+use Rattle.std.proofs.lemmas.List.{append_assoc, map-id, length-append, take_more, take_all, flat_map_more}
 use Rattle.std.proofs.lemmas.List.Elements.{All-append, Contains-append_left, Contains-append_right}
 use Rattle.std.proofs.lemmas.List.FromFn.{length-range_with_len, get_or-range_with_len, map-range_with_len_more}
 use Rattle.std.proofs.lemmas.Option.{slice_get-get_or, slice_get_past, slice_get_within, get_or_from_slice_get}
@@ -17,7 +17,8 @@ slice_get-append_left [] ys i within = absurd (omega arith)
 slice_get-append_left (x ∷ xs) ys zero within = refl
 slice_get-append_left (x ∷ xs) ys (suc i) within = slice_get-append_left xs ys i (omega arith)
 
-slice_get-append_right : (xs ys : List ℕ) (i : ℕ) → slice_get (xs ++ ys) (length xs + i) ≡ slice_get ys i
+-- an element of the second list
+pub slice_get-append_right : (xs ys : List ℕ) (i : ℕ) → slice_get (xs ++ ys) (length xs + i) ≡ slice_get ys i
 slice_get-append_right [] ys i = let e : 0 + i ≡ i = omega arith in ap (slice_get ys) e
 slice_get-append_right (x ∷ xs) ys i =
     let e : suc (length xs) + i ≡ suc (length xs + i) = omega arith in
@@ -26,7 +27,8 @@ slice_get-append_right (x ∷ xs) ys i =
 length-run_blocks : (r : Run) → length (run_blocks r) ≡ r.count
 length-run_blocks r = length-range_with_len r.lbn r.count
 
-slice_get-run_blocks : (r : Run) (i : ℕ) → i < r.count → slice_get (run_blocks r) i ≡ Some (r.lbn + i)
+-- block i of a run
+pub slice_get-run_blocks : (r : Run) (i : ℕ) → i < r.count → slice_get (run_blocks r) i ≡ Some (r.lbn + i)
 slice_get-run_blocks r i within =
     slice_get-get_or (run_blocks r) i 0 (let size = length-run_blocks r in omega arith) ∙ ap Some (get_or-range_with_len r.lbn r.count i 0 within)
 
@@ -94,9 +96,6 @@ first_blocks_all b k all = ap (flat_map run_blocks) (take_all k (runs_of b) all)
 pub record IsPassed (len wanted : ℕ) (s t : Survey) (b : List ℕ) (k : ℕ) : Type 0 where
   pub noted : (blocks : List ℕ) → IsSurveyOf len wanted s blocks → IsSurveyOf len wanted t (blocks ++ first_blocks b k)
   pub count : t.count ≤ s.count + 256 * k
-
-pub none_passed : (len wanted : ℕ) (s : Survey) (b : List ℕ) → IsPassed len wanted s s b 0
-none_passed len wanted s b = record { noted = λ blocks is. subst (IsSurveyOf len wanted s) (sym (append-nil blocks)) is; count = omega arith }
 
 pub one_more_passed : (len wanted : ℕ) (s t u : Survey) (b : List ℕ) (k : ℕ) (r : Run) → IsPassed len wanted s t b k → slice_get (runs_of b) k ≡ Some r
     → ((blocks : List ℕ) → IsSurveyOf len wanted t blocks → IsSurveyOf len wanted u (blocks ++ run_blocks r)) → u.count ≤ t.count + 256 → IsPassed len wanted s u b (k + 1)

@@ -95,13 +95,6 @@ few_more I h index start Has k b image w =
 
 -- The same for a walk that computed the index and the greatest number at hand.
 module _ (I : List (List ℕ)) (h : Home) (index : Option (List ℕ)) (start at_hand : ℕ) (by : List ℕ) where
-  pub walk_first : (b : List ℕ) → by ≡ known index [] → at_hand ≡ most h index [] → IsSegment I h by at_hand start 0 → b ≡ header_by I h by start → IsReached I h index start [] 0 start b
-  walk_first b by_is most_is segment block =
-      let P : List ℕ → Type 0 = λ x. IsSegment I h x at_hand start 0 × (b ≡ header_by I h x start) in
-      let Q : ℕ → Type 0 = λ x. IsSegment I h (known index []) x start 0 in
-      let both = subst P by_is (segment, block) in
-      reached_first I h index start b (subst Q most_is both.0) both.1
-
   pub walk_none : by ≡ known index [] → at_hand ≡ most h index [] → ¬ IsSegment I h by at_hand start 0 → (blocks : List ℕ) → ¬ Leads I h index start blocks
   walk_none by_is most_is none =
       let P : List ℕ → Type 0 = λ x. ¬ IsSegment I h x at_hand start 0 in

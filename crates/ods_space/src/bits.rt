@@ -1,7 +1,6 @@
 //! The bits of blocks and numbers.
 ghost use Rattle.std.specs.Prelude.{◌≡◌};
-ghost use Rattle.ods_space.specs.Layout.{is_in_use};
-ghost use Rattle.ods_space.specs.Free.{is_free_block};
+ghost use Rattle.ods_space.specs.{Layout.is_in_use, Free.is_free_block};
 
 use crate::Layout;
 use ods_base::{Image, bit};

@@ -2,8 +2,7 @@
 ghost use Rattle.std.specs.Prelude.{◌≡◌, ◌++◌, IfOk, IfErr, OnOk};
 ghost use Rattle.std.specs.Option.{option_map};
 ghost use Rattle.ods_header.specs.Header.{IsLaidOut, IsRun, run_blocks, blocks_of};
-ghost use Rattle.ods_space.specs.Chain.{known as known_of, most as most_of};
-ghost use Rattle.ods_space.specs.Walk.{Leads, IsDeadEnd};
+ghost use Rattle.ods_space.specs.{Chain.known as known_of, Chain.most as most_of, Walk.Leads, Walk.IsDeadEnd};
 
 use crate::ChainFault;
 use crate::walk::{Notes, walk};

@@ -13,12 +13,10 @@ enum Change {
 }
 
 impl Change {
-    ghost use Rattle.std.specs.Prelude.{◌≡◌, true, [], IfSome};
+    ghost use Rattle.std.specs.Prelude.{◌≡◌, true, [], IfSome, is_some};
     ghost use Rattle.ods_base.specs.Block.{IsBlock};
-    ghost use Rattle.ods_space.specs.Draft.{change_at, applied};
-    ghost use Rattle.ods_space.specs.Changes.{changed};
+    ghost use Rattle.ods_space.specs.{Draft.change_at, Draft.applied, Changes.changed, declared.draft.Change.TheVariants.Set};
     ghost use Rattle.std.specs.Prelude.{ℕ, List};
-    ghost use Rattle.ods_space.specs.declared.draft.Change.TheVariants.{Set};
 
     /// Whether this change sets the block at this LBN.
     fn sets(&self, lbn: u32) -> bool
@@ -27,6 +25,16 @@ impl Change {
         match self {
             Change::Set(at, _) => *at == lbn,
             Change::Zero(_) => false,
+        }
+    }
+
+    /// Whether this change is of the block at this LBN.
+    fn touches(&self, lbn: u32) -> bool
+        ensures { result ≡ is_some (change_at (changed self.now []) lbn) }
+    {
+        match self {
+            Change::Set(at, _) => *at == lbn,
+            Change::Zero(run) => run.lbn <= lbn && lbn - run.lbn < run.count as u32,
         }
     }
 
@@ -83,9 +91,9 @@ impl Model for Draft {
 }
 
 impl Draft {
-    ghost use Rattle.std.specs.Prelude.{◌≡◌, ◌<◌, ◌∷◌, ℕ, List, [], length, IfOk, OnOk, OnErr};
+    ghost use Rattle.std.specs.Prelude.{◌≡◌, ◌<◌, ◌∷◌, ℕ, List, [], length, is_some, IfOk, OnOk, OnErr};
     ghost use Rattle.ods_base.specs.Block.{IsBlock};
-    ghost use Rattle.ods_space.specs.Draft.{seen_at, applied, zeroed};
+    ghost use Rattle.ods_space.specs.Draft.{change_at, seen_at, applied, zeroed};
 
     /// A draft without a change.
     pub fn new(alloc: Global) -> Draft
@@ -108,6 +116,18 @@ impl Draft {
             }
         }
         *image.block(lbn)
+    }
+
+    /// Whether a block changes.
+    pub fn changes(&self, lbn: u32) -> bool
+        ensures { result ≡ is_some (change_at self.now lbn) }
+    {
+        for k in (0..self.changes.len()).rev() {
+            if self.changes[k].touches(lbn) {
+                return true;
+            }
+        }
+        false
     }
 
     /// One block changes. After an `Err` the draft is as it was.

@@ -9,8 +9,10 @@ use thiserror::Error;
 /// Why the chain of a file is not whole.
 #[derive(Clone, Copy, Debug, PartialEq, Eq, Error)]
 pub enum ChainFault {
+    /// A header of the chain does not go on as it says.
     #[error("BadChain")]
     BadChain,
+    /// A pointer names this block, which the image lacks.
     #[error("OutsideVolume {0}")]
     OutsideVolume(u32),
     #[error("NoMemory")]

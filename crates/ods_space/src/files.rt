@@ -3,11 +3,7 @@ ghost use Rattle.std.specs.Prelude.{◌≡◌, ◌≢◌, ◌^◌, ◌≤◌, �
 ghost use Rattle.std.specs.Option.{option_map};
 ghost use Rattle.std.specs.List.{Contains};
 ghost use Rattle.ods_header.specs.Header.{header_of};
-ghost use Rattle.ods_space.specs.Layout.{header_at};
-ghost use Rattle.ods_space.specs.Chain.{IsChain, chain_blocks, index_for as index_of};
-ghost use Rattle.ods_space.specs.Files.{IsFile, HasBlocks, Holds, IsLayoutOf, AreInside};
-ghost use Rattle.ods_space.specs.Faults.{IsChainFault};
-ghost use Rattle.ods_space.specs.Walk.{IsSurveyOf};
+ghost use Rattle.ods_space.specs.{Layout.header_at, Chain.IsChain, Chain.chain_blocks, Chain.index_for as index_of, Files.IsFile, Files.HasBlocks, Files.Holds, Files.IsLayoutOf, Files.AreInside, Faults.IsChainFault, Walk.IsSurveyOf};
 
 use crate::bits::in_use;
 use crate::collect::collect;

@@ -33,8 +33,7 @@ impl Model for Layout {
 impl Layout {
     ghost use Rattle.std.specs.Prelude.{IfOk, IfErr};
     ghost use Rattle.ods_header.specs.Home.{IsHomeOf};
-    ghost use Rattle.ods_space.specs.Files.{IsLayoutOf};
-    ghost use Rattle.ods_space.specs.Faults.{IsLayoutFault};
+    ghost use Rattle.ods_space.specs.{Files.IsLayoutOf, Faults.IsLayoutFault};
 
     /// The home block's fields with the blocks of INDEXF.SYS and BITMAP.SYS.
     pub fn read(alloc: Global, image: &Image, home: Home) -> Result<Layout, LayoutFault>

@@ -1,10 +1,7 @@
 //! The blocks of INDEXF.SYS and BITMAP.SYS, by which all else is found.
 ghost use Rattle.std.specs.Prelude.{◌≡◌, ◌+◌, ◌≤◌, ◌^◌, List, [], Some, IfOk, IfErr};
 ghost use Rattle.ods_header.specs.Home.{IsHomeOf};
-ghost use Rattle.ods_space.specs.Chain.{IsIndex};
-ghost use Rattle.ods_space.specs.Files.{IsFile, AreInside};
-ghost use Rattle.ods_space.specs.Faults.{IsLayoutFault, layout_with};
-ghost use Rattle.ods_space.specs.Walk.{Leads, layout_fault_of};
+ghost use Rattle.ods_space.specs.{Chain.IsIndex, Files.IsFile, Files.AreInside, Faults.IsLayoutFault, Faults.layout_with, Walk.Leads, Walk.layout_fault_of};
 
 use crate::collect::{collect, most};
 use crate::files::outside;

@@ -1,9 +1,7 @@
 //! One walk along a chain of which nothing is known: each header is checked before it is noted.
 ghost use Rattle.std.specs.Prelude.{◌≡◌, ◌+◌, ◌<◌, ◌≤◌, [], ℕ, List, IfSome, IfNone, IfOk, MatchBool};
 ghost use Rattle.ods_header.specs.Header.{map_word, next_number_of};
-ghost use Rattle.ods_space.specs.Layout.{header_by};
-ghost use Rattle.ods_space.specs.Chain.{IsSegment, Follows};
-ghost use Rattle.ods_space.specs.Walk.{IsLink};
+ghost use Rattle.ods_space.specs.{Layout.header_by, Chain.IsSegment, Chain.Follows, Walk.IsLink};
 
 use crate::bits::is_used;
 use crate::headers::block_by;

@@ -1,8 +1,6 @@
 //! Chains that are known to be whole, as each file's of a sound image is: no header is checked again.
 ghost use Rattle.std.specs.Prelude.{◌≡◌, ◌≢◌, ℕ, List, length, IfSome, IfNone};
-ghost use Rattle.ods_space.specs.Layout.{header_at};
-ghost use Rattle.ods_space.specs.Chain.{IsChain};
-ghost use Rattle.ods_space.specs.Files.{HasBlocks, Holds, IsLayoutOf};
+ghost use Rattle.ods_space.specs.{Layout.header_at, Chain.IsChain, Files.HasBlocks, Files.Holds, Files.IsLayoutOf};
 
 use crate::Layout;
 use crate::headers::header_block;
@@ -26,8 +24,7 @@ pub struct ChainHeaders<'a> {
 
 impl<'a> Model for ChainHeaders<'a> {
     ghost use Rattle.std.specs.Prelude.{◌≡◌, ◌≢◌, ℕ, List};
-    ghost use Rattle.ods_space.specs.Layout.{header_at};
-    ghost use Rattle.ods_space.specs.Chain.{headers_along, AreValid};
+    ghost use Rattle.ods_space.specs.{Layout.header_at, Chain.headers_along, Chain.AreValid};
 
     ghost Value = { List (ℕ × List ℕ) };
 
@@ -40,9 +37,7 @@ impl<'a> Model for ChainHeaders<'a> {
 impl<'a> ChainHeaders<'a> {
     ghost use Rattle.std.specs.Prelude.{◌≡◌, [], ◌∷◌, ℕ, List, IfSome, IfNone};
     ghost use Rattle.ods_header.specs.Header.{IsValidHeader};
-    ghost use Rattle.ods_space.specs.Layout.{header_at};
-    ghost use Rattle.ods_space.specs.Chain.{IsChain, headers_of};
-    ghost use Rattle.ods_space.specs.Files.{IsLayoutOf};
+    ghost use Rattle.ods_space.specs.{Layout.header_at, Chain.IsChain, Chain.headers_of, Files.IsLayoutOf};
 
     /// The headers of the chain of this file.
     pub fn of(image: &'a Image, layout: &'a Layout, number: u16) -> ChainHeaders<'a>

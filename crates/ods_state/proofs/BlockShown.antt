@@ -2,6 +2,7 @@
 -- This serves each change of a directory's names.
 use Rattle.std.proofs.Common.{◌≡◌, ◌≢◌, ℕ, ◌-◌, ◌≤◌, refl, ap, sym, ◌∙◌, subst, List, [], inl, inr}
 use Rattle.std.specs.Prelude.{◌⊎◌, slice_set}
+use Rattle.std.proofs.lemmas.Bool.{cases_eq}
 use Rattle.ods_base.specs.declared.file_id.FileId.{FileId}
 use Rattle.ods_header.specs.Header.{sequence_of}
 use Rattle.ods_space.specs.Layout.{VolumeLayout, header_at}
@@ -16,8 +17,8 @@ use Rattle.ods_state.specs.Change.{disk}
 use Rattle.ods_state.specs.Contents.{file_of, IsFileIn, ShowsBy}
 use Rattle.ods_state.specs.Moves.{NothingMoves}
 use Rattle.ods_state.proofs.Data.{IsDataChange, header_stays, is_still, blocks_stay, blocks_were, sound_stays}
-use Rattle.ods_state.proofs.Frame.{chain_is_one}
-use Rattle.ods_state.proofs.OneBlock.{same_or_not, data_changes, others_contents, own_contents}
+use Rattle.ods_space.proofs.Chains.{same_chain}
+use Rattle.ods_state.proofs.OneBlock.{data_changes, others_contents, own_contents}
 use Rattle.ods_state.proofs.Shown.{IsAlike, one_is_put}
 use Rattle.ods_state.proofs.Still as still
 
@@ -49,14 +50,14 @@ module _ (I : List (List ℕ)) (L : VolumeLayout) (S : IsSoundBy I L) (id : File
 
   -- the changed image is sound, where the file is still a directory if it was one
   pub block_is_sound : (IsDirectoryFile I L id.number → IsDirectory contents_now (mark_at I L id.number h.blocks)) → IsSoundBy J L
-  block_is_sound own = sound_stays I J L S changes (λ m blocks d held. by_number m blocks d held (same_or_not m id.number))
+  block_is_sound own = sound_stays I J L S changes (λ m blocks d held. by_number m blocks d held (cases_eq m id.number))
     where
       by_number : (m : ℕ) (blocks : List ℕ) → IsDirectoryFile I L m → HasBlocks I L m blocks → (m ≡ id.number) ⊎ (m ≢ id.number) → IsDirectory (contents_of J blocks) (mark_at I L m blocks)
       by_number m blocks d held (inr ne) =
           subst (λ c. IsDirectory c (mark_at I L m blocks)) (sym (others_contents I L S id.number vbn x b h m blocks held ne)) (S.directories m blocks d held)
       by_number m blocks d held (inl e) =
           let mine : HasBlocks I L id.number blocks = subst (λ k. HasBlocks I L k blocks) e held in
-          let is : blocks ≡ h.blocks = (chain_is_one I L.home (index_for L id.number) [] 0 id.number mine.others h.file.others blocks h.blocks mine.whole.chain h.file.whole.chain).1 in
+          let is : blocks ≡ h.blocks = (same_chain I L.home (index_for L id.number) [] 0 id.number mine.others blocks h.file.others h.blocks mine.whole.chain h.file.whole.chain).1 in
           let now : IsDirectory (contents_of J h.blocks) (mark_at I L id.number h.blocks) =
           subst (λ c. IsDirectory c (mark_at I L id.number h.blocks)) (sym (own_contents I L S id.number vbn x b h)) (own (subst (λ k. IsDirectoryFile I L k) e d)) in
           subst (λ k. IsDirectory (contents_of J blocks) (mark_at I L k blocks)) (sym e) (subst (λ bs. IsDirectory (contents_of J bs) (mark_at I L id.number bs)) (sym is) now)

@@ -4,9 +4,10 @@ use Rattle.std.specs.Prelude.{◌⊎◌, slice_get}
 use Rattle.std.specs.List.{Contains}
 use Rattle.std.proofs.lemmas.Bool.{cases_eq, cases_lt}
 use Rattle.std.proofs.lemmas.Map.Made.{Contains-tail}
+use Rattle.ods_mount.proofs.Each.{holds_at}
 use Rattle.ods_space.specs.Layout.{VolumeLayout, place_of}
 use Rattle.ods_space.specs.Files.{Holds}
-use Rattle.ods_alloc.specs.Extend.{IsBookkeeping, IsHeaderPlace, IsIndexBitmap, IsStorageBitmap}
+use Rattle.ods_alloc.specs.Extend.{IsBookkeeping, IsWellPlaced, IsHeaderPlace, IsIndexBitmap, IsStorageBitmap}
 use Rattle.ods_alloc.proofs.Places.{storage_at}
 use Rattle.ods_mount.specs.Faults.{CouldBeWritten}
 use Rattle.ods_mount.specs.Sound.{IsSoundBy}
@@ -58,43 +59,36 @@ bookkeeping_or_not L numbers x = by (index_or_not L x) (contains_or_not (drop 1 
         none (inr (inl t)) = s t
         none (inr (inr k)) = h k
 
+module _ (I : List (List ℕ)) (L : VolumeLayout) (S : IsSoundBy I L) where
+  pub index_holds : (i b : ℕ) → slice_get L.index i ≡ Some b → Holds I L 1 (i + 1) b
+  index_holds i b e = holds_at I L 1 L.index i b S.layout.index e
+
+  pub bitmap_holds : (i b : ℕ) → slice_get L.bitmap i ≡ Some b → Holds I L 2 (i + 1) b
+  bitmap_holds i b e = holds_at I L 2 L.bitmap i b S.layout.bitmap e
+
+  -- on a sound volume no block of INDEXF.SYS or BITMAP.SYS stands twice
+  pub well_placed : IsWellPlaced L
+  well_placed = record {
+    index_place = S.index_place;
+    index_once = λ i j b p q. let same = (S.once 1 1 (i + 1) (j + 1) b (index_holds i b p) (index_holds j b q)).1 in omega (arith, same);
+    bitmap_once = λ i j b p q. let same = (S.once 2 2 (i + 1) (j + 1) b (bitmap_holds i b p) (bitmap_holds j b q)).1 in omega (arith, same);
+    apart = λ i j b c p q e.
+        let same = (S.once 1 2 (i + 1) (j + 1) c (index_holds i c (p ∙ ap (λ x. Some x) e)) (bitmap_holds j c q)).0 in
+        absurd (omega (arith, same));
+  }
+
 module _ {I : List (List ℕ)} {L : VolumeLayout} (S : IsSoundBy I L) where
   -- file 1 or 2 holds the block, and it is not VBN 1 or 2 of INDEXF.SYS
   abbrev pub IsHeldBySystem : ℕ → Type 0
   IsHeldBySystem x = ((v : ℕ) × Holds I L 1 v x × (3 ≤ v)) ⊎ ((v : ℕ) × Holds I L 2 v x)
 
   pub bookkeeping_held : (numbers : List ℕ) (x : ℕ) → IsBookkeeping L numbers x → IsHeldBySystem x
-  bookkeeping_held numbers x (inl at) = inl (
-    3 + (x - L.home.index_bitmap_lbn),
-    record {
-      blocks = L.index;
-      file = S.layout.index;
-      first = omega arith;
-      named = ap (slice_get L.index) less ∙ S.index_place (x - L.home.index_bitmap_lbn) below ∙ ap (λ z. Some z) is;
-    },
-    omega arith,
-  )
-    where
-      less : 3 + (x - L.home.index_bitmap_lbn) - 1 ≡ 2 + (x - L.home.index_bitmap_lbn)
-      less = omega arith
-
-      below : x - L.home.index_bitmap_lbn < L.home.index_bitmap_size + 16
-      below = let low = at.0 in let high = at.1 in omega arith
-
-      is : L.home.index_bitmap_lbn + (x - L.home.index_bitmap_lbn) ≡ x
-      is = let low = at.0 in let high = at.1 in omega arith
-  bookkeeping_held numbers x (inr (inl stands)) = inr (
-    (storage_at L x stands).0 + 1,
-    record {
-      blocks = L.bitmap;
-      file = S.layout.bitmap;
-      first = omega arith;
-      named = ap (slice_get L.bitmap) (less (storage_at L x stands).0) ∙ (storage_at L x stands).1;
-    },
-  )
-    where
-      less : (k : ℕ) → k + 1 - 1 ≡ k
-      less k = omega arith
+  bookkeeping_held numbers x (inl at) =
+      let i : ℕ = x - L.home.index_bitmap_lbn in
+      let low = at.0 in let high = at.1 in
+      let is : L.home.index_bitmap_lbn + i ≡ x = omega arith in
+      inl (2 + i + 1, index_holds I L S (2 + i) x (S.index_place i (omega arith) ∙ ap (λ z. Some z) is), omega arith)
+  bookkeeping_held numbers x (inr (inl stands)) = let at = storage_at L x stands in inr (at.0 + 1, bitmap_holds I L S at.0 x at.1)
   bookkeeping_held numbers x (inr (inr p)) =
       let some = numbered L p.0 x p.2 in
       inl (2 + L.home.index_bitmap_size + p.0, header_held I L S p.0 x p.2, omega arith)

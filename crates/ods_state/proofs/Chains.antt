@@ -1,19 +1,20 @@
 -- Where headers change, each file stays that has none of them. This serves every request: H are the headers of the one file whose chain
 -- changes, with those that it gains or gives back. Where no chain changes H is empty.
-use Rattle.std.proofs.Common.{◌≡◌, ℕ, zero, suc, get_or, ◌+◌, ◌-◌, ◌<◌, refl, ap, sym, ◌∙◌, subst, Bool, true, false, cond, List, [], ◌∷◌, ◌++◌, length, Option, Some, None, arith, inl, inr, append_assoc}
+use Rattle.std.proofs.Common.{◌≡◌, ℕ, zero, suc, get_or, ◌+◌, ◌-◌, ◌<◌, refl, ap, sym, ◌∙◌, subst, Bool, true, false, cond, List, [], ◌∷◌, ◌++◌, length, Option, Some, None, arith, inl, inr}
 use Rattle.std.specs.Prelude.{◌⊎◌, ◌==◌, nat_le, slice_get}
 use Rattle.std.specs.Option.{option_map_or}
 use Rattle.std.specs.List.{Contains}
 use Rattle.std.proofs.lemmas.Bool.{eqb-true}
+use Rattle.ods_space.proofs.Growing.{still_there}
 use Rattle.ods_base.specs.Image.{block_at}
 use Rattle.ods_header.specs.declared.home.Home.{Home}
 use Rattle.ods_header.specs.Header.{blocks_of}
 use Rattle.ods_space.specs.Layout.{VolumeLayout, place_by, header_by, last_number}
-use Rattle.ods_space.specs.Chain.{known, Follows, IsChain, index_for}
+use Rattle.ods_space.specs.Chain.{Follows, IsChain, index_for}
 use Rattle.ods_space.specs.Files.{IsFile, HasBlocks, Holds}
 use Rattle.ods_mount.specs.Sound.{IsSoundBy}
 use Rattle.ods_state.specs.Links.{SameLinks}
-use Rattle.ods_state.proofs.Frame.{chain_is_one}
+use Rattle.ods_space.proofs.Chains.{same_chain, front_begins}
 use Rattle.ods_state.proofs.Links.{LinkedAt, LinkedAlong, itself, linked_chain, linked_segment}
 
 -- each header but those of H links as it did, and has its index bit; and a file whose first header is none of H has none of them
@@ -23,19 +24,12 @@ pub record IsLinkedBut (I J : List (List ℕ)) (L : VolumeLayout) (H : ℕ → T
   pub back : (n : ℕ) → ¬ H n → LinkedAt J I L.home L.index n
   pub apart : (n : ℕ) (others blocks : List ℕ) → IsFile I L n → IsChain I L n others blocks → ¬ H n → (m : ℕ) → Contains (n ∷ others) m → ¬ H m
 
--- what is at a place of a list is there after more is appended
-kept_in : (xs ys : List ℕ) (i x : ℕ) → slice_get xs i ≡ Some x → slice_get (xs ++ ys) i ≡ Some x
-kept_in [] ys i x e = absurd (cc)
-kept_in (y ∷ xs) ys zero x e = e
-kept_in (y ∷ xs) ys (suc i) x e = kept_in xs ys i x e
+-- the first of a list is one of it, and so is each that is one of the rest
+pub first_in : (m : ℕ) (ms : List ℕ) → Contains (m ∷ ms) m
+first_in m ms = (zero, omega arith, refl)
 
--- the blocks that chain headers before these bring are a first part of all
-rest_of : (I : List (List ℕ)) (h : Home) (index : Option (List ℕ)) (front : List ℕ) (k n : ℕ) (ms all : List ℕ) → Follows I h index front k n ms all → (rest : List ℕ) × (all ≡ front ++ rest)
-rest_of I h index front k n [] all f = (blocks_of (header_by I h (known index front) n), f.2)
-rest_of I h index front k n (m ∷ ms) all f =
-    let b = header_by I h (known index front) n in
-    let r = rest_of I h index (front ++ blocks_of b) (suc k) m ms all f.4 in
-    (blocks_of b ++ r.0, r.1 ∙ append_assoc front (blocks_of b) r.0)
+pub later_in : (m : ℕ) (ms : List ℕ) (x : ℕ) → Contains ms x → Contains (m ∷ ms) x
+later_in m ms x c = (suc c.0, omega (arith, c.1), c.2)
 
 -- a place that is found by the first blocks of INDEXF.SYS stays
 same_place : (h : Home) (front rest : List ℕ) (n p : ℕ) (z l : Bool)
@@ -43,7 +37,7 @@ same_place : (h : Home) (front rest : List ℕ) (n p : ℕ) (z l : Bool)
     → cond z None (cond l (Some (h.index_bitmap_lbn + h.index_bitmap_size + n - 1)) (slice_get (front ++ rest) (1 + h.index_bitmap_size + n))) ≡ Some p
 same_place h front rest n p true l e = absurd (cc)
 same_place h front rest n p false true e = e
-same_place h front rest n p false false e = kept_in front rest (1 + h.index_bitmap_size + n) p e
+same_place h front rest n p false false e = still_there front rest (1 + h.index_bitmap_size + n) p e
 
 -- by the first blocks of INDEXF.SYS a header is not found, or is the one that all of them find
 by_front : (h : Home) (front rest : List ℕ) (n : ℕ) (o : Option ℕ) → place_by h front n ≡ o
@@ -66,30 +60,24 @@ linked_front I J h front rest n a = by_case (by_front h front rest n (place_by h
       used = a.used;
     }
 
-later : (m : ℕ) (ms : List ℕ) (x : ℕ) → Contains ms x → Contains (m ∷ ms) x
-later m ms x c = (suc c.0, omega (arith, c.1), c.2)
-
-here : (m : ℕ) (ms : List ℕ) → Contains (m ∷ ms) m
-here m ms = (zero, omega arith, refl)
-
 module _ (I J : List (List ℕ)) (L : VolumeLayout) (S : IsSoundBy I L) (H : ℕ → Type 0) (F : IsLinkedBut I J L H) where
   -- none of these headers is one of H
   abbrev AreFar : ℕ → List ℕ → Type 0
   AreFar n others = (m : ℕ) → Contains (n ∷ others) m → ¬ H m
 
   along : (front : List ℕ) (n : ℕ) (ms : List ℕ) → AreFar n ms → LinkedAlong I J L.home (Some L.index) front n ms
-  along front n [] far = F.linked n (far n (here n []))
-  along front n (m ∷ ms) far = (F.linked n (far n (here n (m ∷ ms))), along (front ++ blocks_of (header_by I L.home L.index n)) m ms (λ x c. far x (later n (m ∷ ms) x c)))
+  along front n [] far = F.linked n (far n (first_in n []))
+  along front n (m ∷ ms) far = (F.linked n (far n (first_in n (m ∷ ms))), along (front ++ blocks_of (header_by I L.home L.index n)) m ms (λ x c. far x (later_in n (m ∷ ms) x c)))
 
   -- the chain of INDEXF.SYS itself, whose headers are found by the blocks before
   along_index : (front : List ℕ) (k n : ℕ) (ms : List ℕ) → Follows I L.home None front k n ms L.index → AreFar n ms → LinkedAlong I J L.home None front n ms
   along_index front k n [] f far =
-      let r = rest_of I L.home None front k n [] L.index f in
-      linked_front I J L.home front r.0 n (subst (λ i. LinkedAt I J L.home i n) r.1 (F.linked n (far n (here n []))))
+      let r = front_begins I L.home None front k n [] L.index f in
+      linked_front I J L.home front r.0 n (subst (λ i. LinkedAt I J L.home i n) r.1 (F.linked n (far n (first_in n []))))
   along_index front k n (m ∷ ms) f far =
-      let r = rest_of I L.home None front k n (m ∷ ms) L.index f in (
-        linked_front I J L.home front r.0 n (subst (λ i. LinkedAt I J L.home i n) r.1 (F.linked n (far n (here n (m ∷ ms))))),
-        along_index (front ++ blocks_of (header_by I L.home front n)) (suc k) m ms f.4 (λ x c. far x (later n (m ∷ ms) x c)),
+      let r = front_begins I L.home None front k n (m ∷ ms) L.index f in (
+        linked_front I J L.home front r.0 n (subst (λ i. LinkedAt I J L.home i n) r.1 (F.linked n (far n (first_in n (m ∷ ms))))),
+        along_index (front ++ blocks_of (header_by I L.home front n)) (suc k) m ms f.4 (λ x c. far x (later_in n (m ∷ ms) x c)),
       )
 
   chain_by : (n : ℕ) (others blocks : List ℕ) (z : Bool) → (n == 1) ≡ z → AreFar n others
@@ -98,7 +86,7 @@ module _ (I J : List (List ℕ)) (L : VolumeLayout) (S : IsSoundBy I L) (H : ℕ
   chain_by n others blocks true e far f =
       let one : n ≡ 1 = eqb-true n 1 e in
       let at_one : Follows I L.home None [] 0 1 others blocks = subst (λ m. Follows I L.home None [] 0 m others blocks) one f in
-      let is : blocks ≡ L.index = (chain_is_one I L.home None [] 0 1 others S.layout.index.others blocks L.index at_one S.layout.index.whole.chain).1 in
+      let is : blocks ≡ L.index = (same_chain I L.home None [] 0 1 others blocks S.layout.index.others L.index at_one S.layout.index.whole.chain).1 in
       let to_index : Follows I L.home None [] 0 1 others L.index = subst (λ bs. Follows I L.home None [] 0 1 others bs) is at_one in
       subst (λ m. Follows J L.home None [] 0 m others blocks) (sym one)
       (linked_chain I J L.home None [] 0 1 others blocks (along_index [] 0 1 others to_index (subst (λ m. AreFar m others) one far)) at_one)
@@ -130,7 +118,7 @@ module _ (I J : List (List ℕ)) (L : VolumeLayout) (S : IsSoundBy I L) (H : ℕ
       let old = S.chains n (file_was n far f) in
       let chain : IsChain I L n old.1.others old.0 = old.1.whole.chain in
       let now = chain_stays n old.1.others old.0 (F.apart n old.1.others old.0 old.1.file chain far) chain in
-      let is = chain_is_one J L.home (index_for L n) [] 0 n old.1.others others old.0 blocks now c in
+      let is = same_chain J L.home (index_for L n) [] 0 n old.1.others old.0 others blocks now c in
       (subst (λ ms. IsChain I L n ms blocks) is.0 (subst (λ bs. IsChain I L n old.1.others bs) is.1 chain), subst (λ bs. HasBlocks I L n bs) is.1 old.1)
 
   pub blocks_were : (n : ℕ) (blocks : List ℕ) → ¬ H n → HasBlocks J L n blocks → HasBlocks I L n blocks

@@ -1,13 +1,11 @@
 -- A change of blocks that only hold data: no header changes, and nothing moves.
-use Rattle.std.proofs.Common.{◌≡◌, ℕ, ◌+◌, ◌<◌, refl, sym, subst, List, [], length, Option, Some, None, arith, inl}
+use Rattle.std.proofs.Common.{◌≡◌, true, ℕ, ◌+◌, refl, sym, subst, List, [], length, Option, Some, None, arith, inl}
 use Rattle.std.specs.Prelude.{◌⊎◌, slice_get}
 use Rattle.std.specs.Option.{option_map_or}
 use Rattle.ods_base.specs.Image.{block_at}
-use Rattle.ods_header.specs.Header.{ident_ext_of, attributes_of}
+use Rattle.ods_header.specs.Header.{attributes_of, is_directory_header}
 use Rattle.ods_space.specs.Layout.{VolumeLayout, place_of, header_at, is_in_use}
-use Rattle.ods_space.specs.Chain.{IsChain}
-use Rattle.ods_space.specs.Files.{HasBlocks, Holds}
-use Rattle.ods_space.specs.Free.{is_free_block, is_free_number}
+use Rattle.ods_space.specs.Files.{HasBlocks}
 use Rattle.ods_directory.specs.Mark.{mark_in}
 use Rattle.ods_directory.specs.Names.{IsDirectory}
 use Rattle.ods_mount.specs.Faults.{IsDirectoryFile, contents_of, mark_at, CouldBeWritten}
@@ -49,23 +47,8 @@ module _ (I J : List (List ℕ)) (L : VolumeLayout) (S : IsSoundBy I L) (D : IsD
   pub blocks_were : (n : ℕ) (blocks : List ℕ) → HasBlocks J L n blocks → HasBlocks I L n blocks
   blocks_were = still.had_blocks I J L S is_still
 
-  pub chain_kept : (n : ℕ) (others blocks : List ℕ) → IsChain I L n others blocks → IsChain J L n others blocks
-  chain_kept = still.chain_kept I J L S is_still
-
-  pub holds_stays : (n v x : ℕ) → Holds I L n v x → Holds J L n v x
-  holds_stays = still.still_holds I J L S is_still
-
-  pub held_before : (n v x : ℕ) → Holds J L n v x → Holds I L n v x
-  held_before = still.held I J L S is_still
-
-  pub free_stays : (lbn : ℕ) → is_free_block J L lbn ≡ is_free_block I L lbn
-  free_stays = still.free_stays I J L S is_still
-
-  pub free_number_stays : (n : ℕ) → is_free_number J L n ≡ is_free_number I L n
-  free_number_stays = still.free_number_stays I J L S is_still
-
   -- where each directory is still one, the changed image is sound
   pub sound_stays : ((n : ℕ) (blocks : List ℕ) → IsDirectoryFile I L n → HasBlocks I L n blocks → IsDirectory (contents_of J blocks) (mark_at I L n blocks)) → IsSoundBy J L
   sound_stays directories = still.is_sound I J L S is_still (λ n. inl (header_stays n)) (λ n blocks d b.
-      let was : IsDirectoryFile I L n = (still.was_file I J L S is_still n d.0, subst (λ b. (n ≡ 4) ⊎ ((5 < n) × (ident_ext_of b ≡ 6778))) (header_stays n) d.1) in
+      let was : IsDirectoryFile I L n = (still.was_file I J L S is_still n d.0, subst (λ b. is_directory_header n b ≡ true) (header_stays n) d.1) in
       subst (λ c. IsDirectory (contents_of J blocks) (mark_in (attributes_of c) (length blocks))) (sym (header_stays n)) (directories n blocks was (blocks_were n blocks b)))

@@ -1,77 +1,26 @@
 -- A sound image has a catalogue.
-use Rattle.std.proofs.Common.{◌≡◌, ◌≢◌, ℕ, zero, suc, ◌+◌, ◌*◌, ◌%◌, ◌<◌, ◌≤◌, refl, ap, sym, ◌∙◌, subst, Bool, true, false, cond, IsTrue, List, Some, None, arith, inl, inr}
-use Rattle.std.specs.Prelude.{◌⊎◌, nat_le}
+use Rattle.std.proofs.Common.{◌≡◌, ◌≢◌, ℕ, zero, suc, ◌≤◌, refl, ap, sym, ◌∙◌, subst, false, cond, List, Some, None, arith, inl, inr}
+use Rattle.std.specs.Prelude.{◌⊎◌}
 use Rattle.std.specs.FinMap as map
 use Rattle.std.specs.FinSet as set
-use borrow.Author.Tests.{leb-true, leb-false}
-use Rattle.ods_base.specs.Block.{word, sum_of}
+use Rattle.std.proofs.lemmas.Bool.{cases_eq}
+use Rattle.ods_mount.proofs.Decided.{Decided, decide_segment}
 use Rattle.ods_base.specs.declared.file_id.FileId.{FileId}
-use Rattle.ods_header.specs.Header.{sequence_of, segment_of, number_of, ident_word, map_word, used_words_of, most_words_of, count_size_of, lbn_size_of, IsLaidOut, IsValidHeader}
-use Rattle.ods_space.specs.Layout.{VolumeLayout, header_at, is_in_use, last_number}
+use Rattle.ods_header.specs.Header.{sequence_of}
+use Rattle.ods_space.specs.Layout.{VolumeLayout, header_at, last_number}
 use Rattle.ods_space.specs.Files.{IsFile}
 use Rattle.ods_mount.specs.Faults.{contents_of}
 use Rattle.ods_mount.specs.Sound.{IsSoundBy}
 use Rattle.ods_request.specs.Catalogue.{Catalogue, File, file_cmp}
 use Rattle.ods_request.proofs.Orders.{file_cmp-total}
 use Rattle.ods_state.specs.Contents.{file_of, IsFileIn, ShowsBy, IsCatalogueOf}
-use Rattle.ods_state.proofs.OneBlock.{same_or_not}
 use Rattle.ods_state.proofs.Shown.{ids, file_is_one}
 use Rattle.std.specs.Ordering.{eq_by_cmp, is_eq}
 use Rattle.std.proofs.lemmas.Cmp.{tied_itself}
 
--- a fact that holds or does not
-abbrev pub Decided : Type 0 → Type 0
-Decided P = P ⊎ (¬ P)
-
-both : (P Q : Type 0) → Decided P → Decided Q → Decided (P × Q)
-both P Q (inl p) (inl q) = inl (p, q)
-both P Q (inl p) (inr q) = inr (λ r. q r.1)
-both P Q (inr p) d = inr (λ r. p r.0)
-
-alike : (P Q : Type 0) → (P → Q) → (Q → P) → Decided P → Decided Q
-alike P Q to back (inl p) = inl (to p)
-alike P Q to back (inr p) = inr (λ q. p (back q))
-
-le_by : (a b : ℕ) (t : Bool) → nat_le a b ≡ t → Decided (a ≤ b)
-le_by a b true e = inl (leb-true a b e)
-le_by a b false e = inr (λ h. let g : b < a = leb-false a b e in absurd (omega arith))
-
-le : (a b : ℕ) → Decided (a ≤ b)
-le a b = le_by a b (nat_le a b) refl
-
-is_true : (t : Bool) → Decided (IsTrue t)
-is_true true = inl refl
-is_true false = inr (λ e. absurd (cc))
-
-laid_out : (b : List ℕ) → Decided (IsLaidOut b)
-laid_out b = alike _ (IsLaidOut b)
-    (λ p. record { ident = p.0; map = p.1.0; low = p.1.1.0; even = p.1.1.1.0; room = p.1.1.1.1.0; fits = p.1.1.1.1.1 })
-    (λ r. (r.ident, (r.map, (r.low, (r.even, (r.room, r.fits))))))
-    (both (23 ≤ ident_word b) _ (le 23 (ident_word b))
-    (both (ident_word b + 23 ≤ map_word b) _ (le (ident_word b + 23) (map_word b))
-    (both (map_word b ≤ 250) _ (le (map_word b) 250)
-    (both (used_words_of b % 2 ≡ 0) _ (same_or_not (used_words_of b % 2) 0)
-    (both (used_words_of b ≤ most_words_of b) (2 * map_word b + 10 + 2 * used_words_of b ≤ 510) (le (used_words_of b) (most_words_of b)) (le (2 * map_word b + 10 + 2 * used_words_of b) 510))))))
-
-valid_header : (b : List ℕ) (n : ℕ) → Decided (IsValidHeader b n)
-valid_header b n = alike _ (IsValidHeader b n)
-    (λ p. record { header = record { checksum = p.0; numbered = p.1.0; level = p.1.1.0; layout = p.1.1.1.0 }; format = (p.1.1.1.1.0, p.1.1.1.1.1) })
-    (λ r. (r.header.checksum, (r.header.numbered, (r.header.level, (r.header.layout, (r.format.0, r.format.1))))))
-    (both (word b 255 ≡ sum_of b 255) _ (same_or_not (word b 255) (sum_of b 255))
-    (both (number_of b ≡ n) _ (same_or_not (number_of b) n)
-    (both (word b 3 ≡ 257) _ (same_or_not (word b 3) 257)
-    (both (IsLaidOut b) _ (laid_out b)
-    (both (count_size_of b ≡ 1) (lbn_size_of b ≡ 3) (same_or_not (count_size_of b) 1) (same_or_not (lbn_size_of b) 3))))))
-
 module _ (I : List (List ℕ)) (L : VolumeLayout) (S : IsSoundBy I L) where
   a_file : (n : ℕ) → Decided (IsFile I L n)
-  a_file n = alike _ (IsFile I L n)
-      (λ p. record { first = p.0; last = p.1.0; in_use = p.1.1.0; valid = p.1.1.1.0; segment = p.1.1.1.1 })
-      (λ r. (r.first, (r.last, (r.in_use, (r.valid, r.segment)))))
-      (both (1 ≤ n) _ (le 1 n)
-      (both (n ≤ last_number L) _ (le n (last_number L))
-      (both (IsTrue (is_in_use I L.home n)) _ (is_true (is_in_use I L.home n))
-      (both (IsValidHeader (header_at I L n) n) (segment_of (header_at I L n) ≡ 0) (valid_header (header_at I L n) n) (same_or_not (segment_of (header_at I L n)) 0)))))
+  a_file n = decide_segment I L.home L.index (last_number L) n 0
 
   abbrev id_of : ℕ → FileId
   id_of n = record { number = n; sequence = sequence_of (header_at I L n) }
@@ -116,7 +65,7 @@ module _ (I : List (List ℕ)) (L : VolumeLayout) (S : IsSoundBy I L) where
 
   added_all : (n : ℕ) (d : Decided (IsFile I L (suc n))) (m : map.FinMap file_cmp File) → ((q : FileId) (g : File) → q.number ≤ n → IsFileIn I L q g → map.get m q ≡ Some g)
       → (q : FileId) (g : File) → q.number ≤ suc n → IsFileIn I L q g → map.get (added (suc n) d m) q ≡ Some g
-  added_all n (inr none) m before q g low p = before q g (by_number (same_or_not q.number (suc n))) p
+  added_all n (inr none) m before q g low p = before q g (by_number (cases_eq q.number (suc n))) p
     where
       by_number : (q.number ≡ suc n) ⊎ (q.number ≢ suc n) → q.number ≤ n
       by_number (inl e) = absurd (none (subst (IsFile I L) e p.held.file))
@@ -131,7 +80,7 @@ module _ (I : List (List ℕ)) (L : VolumeLayout) (S : IsSoundBy I L) where
       by_id (inl is) =
           let one : the_file (suc n) f ≡ g = file_is_one I L (id_of (suc n)) (the_file (suc n) f) g (the_file_is (suc n) f) (subst (λ r. IsFileIn I L r g) is p) in
           ap (map.get (map.insert m (id_of (suc n)) (the_file (suc n) f))) is ∙ get_same m (id_of (suc n)) (the_file (suc n) f) ∙ ap Some one
-      by_id (inr apart) = get_else m (id_of (suc n)) (the_file (suc n) f) q apart.1 ∙ before q g (lower apart.0 (same_or_not q.number (suc n))) p
+      by_id (inr apart) = get_else m (id_of (suc n)) (the_file (suc n) f) q apart.1 ∙ before q g (lower apart.0 (cases_eq q.number (suc n))) p
 
   all_to : (n : ℕ) (q : FileId) (g : File) → q.number ≤ n → IsFileIn I L q g → map.get (files_to n) q ≡ Some g
   unfolding files_to

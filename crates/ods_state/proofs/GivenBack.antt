@@ -6,10 +6,11 @@ use Rattle.std.proofs.Math.Bool.{and-true, and-false, or-false, or-true}
 use Rattle.std.proofs.lemmas.Bool.{cases_lt, lt-ltb, le-leb, ne_eqb}
 use Rattle.std.proofs.lemmas.Option.{slice_get-get_or}
 use Rattle.std.proofs.lemmas.List.{get_or-set_other}
+use Rattle.ods_header.proofs.DirectoryHeaders.{above_maps}
+use Rattle.ods_mount.proofs.Each.{holds_at}
 use Rattle.ods_base.specs.Block.{byte, with_word}
 use Rattle.ods_base.specs.Image.{block_at}
-use Rattle.ods_base.specs.Name.{directory_type}
-use Rattle.ods_header.specs.Header.{IsHeader, IsFormat1, attributes_of, blocks_of, ident_ext_of, sequence_of}
+use Rattle.ods_header.specs.Header.{IsHeader, IsFormat1, attributes_of, blocks_of, is_directory_header, sequence_of}
 use Rattle.ods_header.specs.Writing.{deleted}
 use Rattle.ods_header.proofs.Summed.{before_sum}
 use Rattle.ods_space.specs.Layout.{VolumeLayout, header_at, is_in_use, last_number}
@@ -21,15 +22,14 @@ use Rattle.ods_directory.specs.Mark.{mark_in}
 use Rattle.ods_directory.specs.Names.{IsDirectory}
 use Rattle.ods_mount.specs.Faults.{IsDirectoryFile, contents_of, mark_at, CouldBeWritten}
 use Rattle.ods_mount.specs.Sound.{IsSoundBy}
-use Rattle.ods_request.specs.Catalogue.{System}
 use Rattle.ods_state.specs.Change.{disk}
-use Rattle.ods_state.specs.Contents.{body_of, file_of}
+use Rattle.ods_state.specs.Contents.{file_of}
 use Rattle.ods_state.specs.Moves.{AreGivenBack}
-use Rattle.ods_state.proofs.OnlyBookkeeping.{first_in, first_or_later, among_or_not, holds_at, only_elsewhere, only_headers, only_contents}
-use Rattle.ods_state.proofs.Chains.{IsLinkedBut, blocks_stay, blocks_were, chain_was, file_stays, file_was, holds_stays, held_before}
+use Rattle.ods_state.proofs.OnlyBookkeeping.{first_or_later, among_or_not, only_elsewhere, only_headers, only_contents}
+use Rattle.ods_state.proofs.Chains.{IsLinkedBut, blocks_stay, blocks_were, chain_was, file_stays, file_was, holds_stays, held_before, first_in}
 use Rattle.ods_state.proofs.Homes.{home_was_at, layout_stays}
 use Rattle.ods_state.proofs.Links.{linked_same}
-use Rattle.ods_state.proofs.Shown.{IsAlike}
+use Rattle.ods_state.proofs.Shown.{IsAlike, same_file}
 
 -- a deleted header keeps its sequence word
 pub deleted_sequence : (b : List ℕ) → sequence_of (deleted b) ≡ sequence_of b
@@ -40,17 +40,6 @@ deleted_sequence b = λ i. each 4 (omega arith) (omega arith) i + 256 * each 5 (
         before_sum (with_word b 1 0) (deleted b) k refl below
         ∙ get_or-set_other _ 3 k 0 0 (λ e. absurd (omega arith))
         ∙ get_or-set_other b 2 k 0 0 (λ e. absurd (omega arith))
-
--- neither map shows its contents
-unlooked : (m : ℕ) (b : List ℕ) (xs : List (List ℕ)) → nat_le m 2 ≡ true → body_of m b xs ≡ System
-unfolding body_of
-unlooked m b xs map = rw map refl
-
--- where the contents are the same, or are not looked at, so is the file
-pub same_file : (m : ℕ) (b : List ℕ) (xs ys : List (List ℕ)) → (nat_le m 2 ≡ true) ⊎ (xs ≡ ys) → file_of m b xs ≡ file_of m b ys
-unfolding file_of
-same_file m b xs ys (inr same) = ap (file_of m b) same
-same_file m b xs ys (inl map) = λ i. record (file_of m b xs) { body = (unlooked m b xs map ∙ sym (unlooked m b ys map)) i }
 
 -- each header of a chain is a segment of it
 pub segments_along : (I : List (List ℕ)) (L : VolumeLayout) (front : List ℕ) (k n : ℕ) (ms all : List ℕ) → Follows I L.home (Some L.index) front k n ms all → (m : ℕ) → Contains (n ∷ ms) m
@@ -149,7 +138,7 @@ module _ (I J : List (List ℕ)) (L : VolumeLayout) (S : IsSoundBy I L) (n : ℕ
 
   -- the file held each of its blocks
   held_of : (x : ℕ) (among : Contains blocks x) → Holds I L n (among.0 + 1) x
-  held_of x among = holds_at I L n blocks own among.0 x (slice_get-get_or blocks among.0 x among.1 ∙ ap Some among.2)
+  held_of x among = holds_at I L n blocks among.0 x own (slice_get-get_or blocks among.0 x among.1 ∙ ap Some among.2)
 
   -- what is free then
   pub free_now : (x : ℕ) → is_free_block J L x ≡ (is_free_block I L x || (is_one_of blocks x && is_covered L x))
@@ -221,18 +210,14 @@ module _ (I J : List (List ℕ)) (L : VolumeLayout) (S : IsSoundBy I L) (n : ℕ
   chain_before : (m : ℕ) (ms bs : List ℕ) → IsFile J L m → IsChain J L m ms bs → IsChain I L m ms bs
   chain_before m ms bs f c = (chain_was I J L S H frame m ms bs (not_deleted m f.in_use) f c).0
 
-  past_maps : (m : ℕ) (b : List ℕ) → (m ≡ 4) ⊎ ((5 < m) × (ident_ext_of b ≡ directory_type)) → 2 < m
-  past_maps m b (inl four) = omega arith
-  past_maps m b (inr five) = omega (arith, five.0)
-
   directory_still : (m : ℕ) (bs : List ℕ) → IsDirectoryFile J L m → HasBlocks J L m bs → IsDirectory (contents_of J bs) (mark_at J L m bs)
   directory_still m bs d b =
       let before = was_file m d.0 in
       let same : header_at J L m ≡ header_at I L m = header_far m before.0 in
-      let says : (m ≡ 4) ⊎ ((5 < m) × (ident_ext_of (header_at I L m) ≡ directory_type)) = subst (λ c. (m ≡ 4) ⊎ ((5 < m) × (ident_ext_of c ≡ directory_type))) same d.1 in
+      let says : is_directory_header m (header_at I L m) ≡ true = subst (λ c. is_directory_header m c ≡ true) same d.1 in
       let old : HasBlocks I L m bs = blocks_were I J L S H frame m bs before.0 b in
       subst (λ c. IsDirectory (contents_of J bs) (mark_in (attributes_of c) (length bs))) (sym same)
-      (subst (λ xs. IsDirectory xs (mark_at I L m bs)) (sym (contents_far m bs old (past_maps m (header_at I L m) says))) (S.directories m bs (before.1, says) old))
+      (subst (λ xs. IsDirectory xs (mark_at I L m bs)) (sym (contents_far m bs old (above_maps m (header_at I L m) says))) (S.directories m bs (before.1, says) old))
 
   pub still_sound : IsSoundBy J L
   still_sound = record {

@@ -12,7 +12,7 @@ use Rattle.ods_space.specs.Layout.{VolumeLayout, header_at, is_in_use, last_numb
 use Rattle.ods_space.specs.Chain.{Follows, index_for}
 use Rattle.ods_space.specs.Files.{IsFile, HasBlocks, Holds, IsLayoutOf, IsWhole}
 use Rattle.ods_space.specs.Free.{is_covered, is_free_block, is_free_number, storage_bit}
-use Rattle.ods_space.proofs.Surveys.{slice_get-append_left}
+use Rattle.ods_space.proofs.Surveys.{slice_get-append_left, slice_get-append_right}
 use Rattle.ods_alloc.specs.Extend.{IsBookkeeping, is_one_of}
 use Rattle.ods_alloc.proofs.FreeTests.{free_inside}
 use Rattle.ods_mount.specs.Faults.{CouldBeWritten, contents_of}
@@ -20,7 +20,7 @@ use Rattle.ods_mount.specs.Sound.{IsSoundBy}
 use Rattle.ods_state.specs.Wants.{taken_blocks, taken_numbers}
 use Rattle.ods_state.proofs.Bookkeeping.{bookkeeping_or_not, bookkeeping_written, no_bookkeeping}
 use Rattle.ods_state.proofs.Chains.{IsLinkedBut, blocks_stay, blocks_were, held_before, holds_stays}
-use Rattle.ods_state.proofs.Frame.{chain_is_one, chain_starts}
+use Rattle.ods_space.proofs.Chains.{same_chain, head_of}
 use Rattle.ods_state.specs.Growth.{HadHeaders, IsGrowth, all_headers}
 use Rattle.ods_state.proofs.Homes as homes
 use Rattle.ods_state.proofs.Links.{linked_same}
@@ -54,10 +54,6 @@ in_front_or_behind (y ∷ xs) ys (suc i) x e = by (in_front_or_behind xs ys i x 
     by (inl f) = inl f
     by (inr p) = let at = p.1 in inr (p.0, omega arith, p.2)
 
-behind : (xs ys : List ℕ) (k : ℕ) → slice_get (xs ++ ys) (length xs + k) ≡ slice_get ys k
-behind [] ys k = let e : 0 + k ≡ k = omega arith in ap (slice_get ys) e
-behind (y ∷ xs) ys k = let e : length (y ∷ xs) + k ≡ suc (length xs + k) = omega arith in ap (slice_get (y ∷ xs ++ ys)) e ∙ behind xs ys k
-
 module _ {I J : List (List ℕ)} {L : VolumeLayout} {n : ℕ} {headers old : List ℕ} {count : ℕ} {numbers : List ℕ} (S : IsSoundBy I L) (g : IsGrowth I J L n headers old count numbers) where
   -- m is a header of the file
   abbrev pub IsOwn : ℕ → Type 0
@@ -82,7 +78,7 @@ module _ {I J : List (List ℕ)} {L : VolumeLayout} {n : ℕ} {headers old : Lis
       high e = let above = g.taking.above in absurd (omega arith)
 
   pub own_file : IsFile J L n
-  own_file = chain_starts J L.home (Some L.index) [] 0 n (drop 1 headers ++ numbers) (old ++ taken_blocks I L count) own_chain
+  own_file = head_of J L.home (Some L.index) [] 0 n (drop 1 headers ++ numbers) (old ++ taken_blocks I L count) own_chain
 
   -- the file has its old blocks, and behind them those that were taken
   pub own_whole : IsWhole J L n (drop 1 headers ++ numbers) (old ++ taken_blocks I L count)
@@ -148,13 +144,13 @@ module _ {I J : List (List ℕ)} {L : VolumeLayout} {n : ℕ} {headers old : Lis
 
   -- the blocks that the file has
   pub own_blocks_are : (blocks : List ℕ) → HasBlocks J L n blocks → blocks ≡ old ++ taken_blocks I L count
-  own_blocks_are blocks b = (chain_is_one J L.home (index_for L n) [] 0 n b.others (drop 1 headers ++ numbers) blocks (old ++ taken_blocks I L count) b.whole.chain g.chain).1
+  own_blocks_are blocks b = (same_chain J L.home (index_for L n) [] 0 n b.others blocks (drop 1 headers ++ numbers) (old ++ taken_blocks I L count) b.whole.chain g.chain).1
 
   -- and those that it had
   pub own_blocks_were : (blocks : List ℕ) → HasBlocks I L n blocks → blocks ≡ old
   own_blocks_were blocks b =
       let had = taken.had_blocks S g.taking b.file in
-      (chain_is_one I L.home (index_for L n) [] 0 n b.others had.others blocks old b.whole.chain had.whole.chain).1
+      (same_chain I L.home (index_for L n) [] 0 n b.others blocks had.others old b.whole.chain had.whole.chain).1
 
   -- file n holds x as block v, one of those that it took
   abbrev pub IsTakenAs : ℕ → ℕ → ℕ → Type 0
@@ -192,7 +188,7 @@ module _ {I J : List (List ℕ)} {L : VolumeLayout} {n : ℕ} {headers old : Lis
     blocks = old ++ taken_blocks I L count;
     file = own_blocks;
     first = let is = p.2 in omega arith;
-    named = let is = p.2 in let at : v - 1 ≡ length old + p.0 = omega arith in ap (slice_get (old ++ taken_blocks I L count)) at ∙ behind old (taken_blocks I L count) p.0 ∙ p.3;
+    named = let is = p.2 in let at : v - 1 ≡ length old + p.0 = omega arith in ap (slice_get (old ++ taken_blocks I L count)) at ∙ slice_get-append_right old (taken_blocks I L count) p.0 ∙ p.3;
   })
 
   -- what files hold: what they held, and what the file took

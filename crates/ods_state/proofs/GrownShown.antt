@@ -18,23 +18,14 @@ use Rattle.ods_mount.specs.Sound.{IsSoundBy}
 use Rattle.ods_request.specs.Catalogue.{Catalogue, File, file_cmp}
 use Rattle.ods_request.specs.Steps.{created, is_new, is_used, put}
 use Rattle.ods_request.proofs.Orders.{file_cmp-total}
-use Rattle.ods_state.specs.Contents.{body_of, file_of, IsFileIn, ShowsBy}
+use Rattle.ods_state.specs.Contents.{file_of, IsFileIn, ShowsBy}
 use Rattle.ods_state.specs.Version.{PastIsSpent}
 use Rattle.ods_state.specs.Wants.{taken_numbers}
 use Rattle.ods_state.proofs.Grown.{contents_stay, new_file, other_is_far, others_stay, others_were}
 use Rattle.ods_state.proofs.GrownMoves.{sequences_rise}
 use Rattle.ods_state.specs.Growth.{IsGrowth}
-use Rattle.ods_state.proofs.Shown.{ids, shows_put}
+use Rattle.ods_state.proofs.Shown.{ids, shows_put, same_file}
 use Rattle.ods_state.proofs.Taken.{first_is_one, none_empty, old_or_new, taken_number_is_free}
-
--- of INDEXF.SYS and BITMAP.SYS the contents are not shown
-index_shown : (b : List ℕ) (cs ds : List (List ℕ)) → file_of 1 b cs ≡ file_of 1 b ds
-unfolding file_of body_of
-index_shown b cs ds = refl
-
-bitmap_shown : (b : List ℕ) (cs ds : List (List ℕ)) → file_of 2 b cs ≡ file_of 2 b ds
-unfolding file_of body_of
-bitmap_shown b cs ds = refl
 
 -- an ID that is a key of the catalogue's files has a file
 key_has_file : (C : Catalogue) (k : ℕ) (id : FileId) → k < length (map.keys C.files) → get_or (map.keys C.files) k id ≡ id → (f : File) × (map.get C.files id ≡ Some f)
@@ -67,8 +58,8 @@ module _ {I J : List (List ℕ)} {L : VolumeLayout} {n : ℕ} {headers old : Lis
       b = header_at I L m
 
       by : (m ≡ 1) ⊎ (m ≢ 1) → (m ≡ 2) ⊎ (m ≢ 2) → file_of m b (contents_of J blocks) ≡ file_of m b (contents_of I blocks)
-      by (inl e) side = subst (λ k. file_of k b (contents_of J blocks) ≡ file_of k b (contents_of I blocks)) (sym e) (index_shown b (contents_of J blocks) (contents_of I blocks))
-      by (inr one) (inl e) = subst (λ k. file_of k b (contents_of J blocks) ≡ file_of k b (contents_of I blocks)) (sym e) (bitmap_shown b (contents_of J blocks) (contents_of I blocks))
+      by (inl e) side = same_file m b (contents_of J blocks) (contents_of I blocks) (inl (ap (λ k. nat_le k 2) e))
+      by (inr one) (inl e) = same_file m b (contents_of J blocks) (contents_of I blocks) (inl (ap (λ k. nat_le k 2) e))
       by (inr one) (inr two) = ap (file_of m b) (contents_stay S g m blocks one two held)
 
   other_stays : (q : FileId) (f : File) → q.number ≢ n → IsFileIn I L q f → IsFileIn J L q f
@@ -88,10 +79,6 @@ module _ {I J : List (List ℕ)} {L : VolumeLayout} {n : ℕ} {headers old : Lis
         sequence = sym (ap sequence_of (header_stays q.number ne before.file)) ∙ p.sequence;
         shown = sym (shown_stays q.number p.blocks ne before) ∙ p.shown;
       }
-
-  -- the files under other numbers are as before
-  pub others_kept : (q : FileId) (f : File) → q.number ≢ n → (IsFileIn I L q f → IsFileIn J L q f) × (IsFileIn J L q f → IsFileIn I L q f)
-  others_kept q f ne = (other_stays q f ne, other_was q f ne)
 
   -- under another ID, where the sequence number is that of the header, stands another number
   other_number : (X : List (List ℕ)) (id q : FileId) → id.number ≡ n → sequence_of (header_at X L id.number) ≡ id.sequence → q ≢ id → sequence_of (header_at X L q.number) ≡ q.sequence → q.number ≢ n
@@ -158,14 +145,7 @@ module _ {I J : List (List ℕ)} {L : VolumeLayout} {n : ℕ} {headers old : Lis
           not_used : is_used C id.number ≡ false
           not_used = used_by (is_used C id.number) refl
 
-  -- where the past stays it stays spent
-  pub grown_is_spent : (C D : Catalogue) → D.past ≡ C.past → PastIsSpent I L C → PastIsSpent J L D
-  grown_is_spent C D same past id known =
-      let before : id.sequence ≤ sequence_of (header_at I L id.number) = past id (ap (λ p. set.contains p id) (sym same) ∙ known) in
-      let risen = sequences_rise S g id.number in
-      omega arith
-
-  -- and so it does with the ID of a new file
+  -- the past stays spent with the ID of a new file
   pub created_is_spent : (id : FileId) (C : Catalogue) (f : File) → IsFileIn J L id f → PastIsSpent I L C → PastIsSpent J L (created C id f)
   created_is_spent id C f here past q known = by (ids q id)
     where

@@ -1,12 +1,13 @@
 -- A file of a sound volume grows, or is new: the volume stays sound, where the file is still a directory, or none.
-use Rattle.std.proofs.Common.{◌≡◌, ◌≢◌, ℕ, suc, ◌+◌, ◌<◌, ap, sym, ◌∙◌, subst, true, false, not, ◌&&◌, IsTrue, List, [], ◌∷◌, ◌++◌, length, drop, Some, arith, inl, inr}
+use Rattle.std.proofs.Common.{◌≡◌, ◌≢◌, ℕ, suc, ◌+◌, ap, sym, ◌∙◌, subst, true, false, not, ◌&&◌, IsTrue, List, [], ◌∷◌, ◌++◌, length, drop, Some, arith, inl, inr}
 use Rattle.std.specs.Prelude.{◌⊎◌}
 use Rattle.std.specs.List.{Contains}
 use Rattle.std.proofs.lemmas.Bool.{and_left, and_parts, and_right, cases_eq}
 use Rattle.std.proofs.lemmas.Map.Made.{Contains-tail}
-use Rattle.ods_base.specs.Name.{directory_type}
+use Rattle.ods_header.proofs.DirectoryHeaders.{above_maps}
+use Rattle.ods_space.proofs.Parts.{contains_at}
 use Rattle.ods_header.specs.declared.home.Home.{Home}
-use Rattle.ods_header.specs.Header.{IsHeader, IsFormat1, IsValidHeader, attributes_of, blocks_of, ident_ext_of}
+use Rattle.ods_header.specs.Header.{IsHeader, IsFormat1, IsValidHeader, attributes_of, blocks_of, is_directory_header}
 use Rattle.ods_space.specs.Layout.{VolumeLayout, header_at, header_by, is_in_use}
 use Rattle.ods_space.specs.Chain.{Follows, IsChain, index_for}
 use Rattle.ods_space.specs.Files.{IsFile, HasBlocks, Holds}
@@ -18,11 +19,11 @@ use Rattle.ods_mount.specs.Faults.{IsDirectoryFile, contents_of, mark_at, CouldB
 use Rattle.ods_mount.specs.Sound.{IsSoundBy}
 use Rattle.ods_state.specs.Wants.{taken_blocks}
 use Rattle.ods_state.proofs.Chains.{chain_was, file_stays, file_was}
-use Rattle.ods_state.proofs.Frame.{chain_is_one}
+use Rattle.ods_space.proofs.Chains.{same_chain}
 use Rattle.ods_state.proofs.Grown.{IsOwn, IsTakenAs, elsewhere, far_now, free_now, holds_now, is_linked, layout_stays, other_is_far, others_contents, others_stay, others_were, own_blocks, own_blocks_are, own_chain}
 use Rattle.ods_state.specs.Growth.{IsGrowth, all_headers}
 use Rattle.ods_state.proofs.Homes.{home_was_at}
-use Rattle.ods_state.proofs.Rising.{block_once, stands_in}
+use Rattle.ods_state.proofs.Rising.{block_once}
 use Rattle.ods_state.proofs.Taken.{contains_or_not, none_empty, one_of, taken_block_is_free}
 
 -- each header of a chain is valid
@@ -61,7 +62,7 @@ module _ {I J : List (List ℕ)} {L : VolumeLayout} {n : ℕ} {headers old : Lis
     where
       by : Holds I L h.0 h.1 k ⊎ IsTakenAs S g h.0 h.1 k → CouldBeWritten I L k
       by (inl held) = inr (h.0, h.1, held, h.3, h.4, h.5)
-      by (inr new) = inl (taken_block_is_free I L count k (stands_in taken new.0 k new.3))
+      by (inr new) = inl (taken_block_is_free I L count k (contains_at taken new.0 k new.3))
 
   master : IsFile J L 4
   master = by (cases_eq 4 n)
@@ -84,7 +85,7 @@ module _ {I J : List (List ℕ)} {L : VolumeLayout} {n : ℕ} {headers old : Lis
   own_header : (m : ℕ) (ms cs : List ℕ) (x : ℕ) → m ≡ n → IsChain J L m ms cs → Contains (m ∷ ms) x → IsOwn S g x
   own_header m ms cs x e c at =
       let own : IsChain J L n ms cs = subst (λ k. IsChain J L k ms cs) e c in
-      let is : ms ≡ drop 1 headers ++ numbers = (chain_is_one J L.home (index_for L n) [] 0 n ms (drop 1 headers ++ numbers) cs (old ++ taken) own g.chain).0 in
+      let is : ms ≡ drop 1 headers ++ numbers = (same_chain J L.home (index_for L n) [] 0 n ms cs (drop 1 headers ++ numbers) (old ++ taken) own g.chain).0 in
       subst (λ l. Contains l x) (λ i. e i ∷ is i) at
 
   other_header : (m : ℕ) (ms cs : List ℕ) (x : ℕ) → m ≢ n → IsFile J L m → IsChain J L m ms cs → Contains (m ∷ ms) x → ¬ IsOwn S g x
@@ -102,7 +103,7 @@ module _ {I J : List (List ℕ)} {L : VolumeLayout} {n : ℕ} {headers old : Lis
   -- a block that was taken was not held
   not_held : (m v w k x : ℕ) → Holds I L m v x → ¬ IsTakenAs S g k w x
   not_held m v w k x held new =
-      let free : is_free_block I L x ≡ true = taken_block_is_free I L count x (stands_in taken new.0 x new.3) in
+      let free : is_free_block I L x ≡ true = taken_block_is_free I L count x (contains_at taken new.0 x new.3) in
       let wrong : true ≡ false = sym free ∙ S.not_free m v x held in
       absurd (cc)
 
@@ -114,7 +115,7 @@ module _ {I J : List (List ℕ)} {L : VolumeLayout} {n : ℕ} {headers old : Lis
 
   not_free_by : (m v x : ℕ) → Holds I L m v x ⊎ IsTakenAs S g m v x → (is_free_block I L x && not (is_one_of taken x)) ≡ false
   not_free_by m v x (inl held) = and_left (is_free_block I L x) _ (S.not_free m v x held)
-  not_free_by m v x (inr new) = and_right (is_free_block I L x) _ (ap not (one_of taken x (stands_in taken new.0 x new.3)))
+  not_free_by m v x (inr new) = and_right (is_free_block I L x) _ (ap not (one_of taken x (contains_at taken new.0 x new.3)))
 
   -- the file is still a directory, or none
   abbrev pub IsStillDirectory : Type 0
@@ -129,7 +130,7 @@ module _ {I J : List (List ℕ)} {L : VolumeLayout} {n : ℕ} {headers old : Lis
   directory_by own m blocks (inr ne) d h =
       subst (λ c. IsDirectory c (mark_at J L m blocks)) (sym kept)
       (subst (λ c. IsDirectory (contents_of I blocks) (mark_in (attributes_of c) (length blocks))) (sym same)
-      (S.directories m blocks (was_file m ne d.0, subst (λ c. (m ≡ 4) ⊎ ((5 < m) × (ident_ext_of c ≡ directory_type))) same d.1) before))
+      (S.directories m blocks (was_file m ne d.0, subst (λ c. is_directory_header m c ≡ true) same d.1) before))
     where
       same : header_at J L m ≡ header_at I L m
       same = g.stays m (far_now S g m d.0 ne)
@@ -137,12 +138,8 @@ module _ {I J : List (List ℕ)} {L : VolumeLayout} {n : ℕ} {headers old : Lis
       before : HasBlocks I L m blocks
       before = others_were S g m blocks ne h
 
-      above : (m ≡ 4) ⊎ ((5 < m) × (ident_ext_of (header_at J L m) ≡ directory_type)) → 3 < m
-      above (inl four) = omega arith
-      above (inr p) = let high : 5 < m = p.0 in omega arith
-
       kept : contents_of J blocks ≡ contents_of I blocks
-      kept = let high = above d.1 in others_contents S g m blocks (λ e. absurd (omega arith)) (λ e. absurd (omega arith)) ne before
+      kept = let high = above_maps m (header_at J L m) d.1 in others_contents S g m blocks (λ e. absurd (omega arith)) (λ e. absurd (omega arith)) ne before
 
   pub grown_sound : IsStillDirectory → IsSoundBy J L
   grown_sound own = record {

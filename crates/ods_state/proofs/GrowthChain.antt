@@ -7,6 +7,7 @@ use Rattle.std.specs.List.{Contains, flat_map}
 use Rattle.std.proofs.lemmas.Bool.{and_parts, cases_eq, eq-eqb, eqb-true, ne_eqb}
 use Rattle.std.proofs.lemmas.List.{get_or-set_other, get_or-set_same, set-get_or}
 use Rattle.std.proofs.lemmas.Nat.Bits.{bit_at_or, bit_at-lt, bit_at-pow_same}
+use Rattle.ods_state.proofs.Bookkeeping.{bitmap_holds, index_holds, well_placed}
 use Rattle.ods_base.specs.Block.{byte, has_bit}
 use Rattle.ods_base.specs.Image.{IsImage, block_at}
 use Rattle.ods_header.specs.declared.home.Home.{Home}
@@ -19,7 +20,7 @@ use Rattle.ods_alloc.proofs.FreeTests.{IsFreeNumber, free_number}
 use Rattle.ods_alloc.proofs.Places.{in_use_is, place_not_index}
 use Rattle.ods_mount.specs.Sound.{IsSoundBy}
 use Rattle.ods_state.specs.Growth.{IsReady, IsTaking}
-use Rattle.ods_state.proofs.GrowthReady.{IsNewFile, IsOldFile, bitmap_holds, elsewhere, header_stays, held_stays, index_holds, index_stays, seen, used_stays, well_placed}
+use Rattle.ods_state.proofs.GrowthReady.{IsNewFile, IsOldFile, elsewhere, header_stays, held_stays, index_stays, seen, used_stays}
 use Rattle.ods_state.proofs.Links.{LinkedAt, header_is_no_data, linked_same}
 use Rattle.ods_state.proofs.OneBlock.{held_inside}
 use Rattle.ods_state.proofs.Still.{IsStill, chain_kept}

@@ -8,6 +8,8 @@ use Rattle.std.proofs.lemmas.List.{length-append, length-drop}
 use Rattle.std.proofs.lemmas.List.Elements.{All-contains, Contains-append_cases, Contains-append_right, Contains-get_or}
 use Rattle.std.proofs.lemmas.Map.Made.{Contains-tail}
 use Rattle.std.proofs.lemmas.Option.{slice_get-get_or}
+use Rattle.ods_state.proofs.Chains.{later_in}
+use Rattle.ods_state.proofs.Bookkeeping.{bitmap_holds, well_placed}
 use Rattle.ods_base.specs.Block.{byte, has_bit}
 use Rattle.ods_base.specs.Image.{block_at}
 use Rattle.ods_header.specs.Extension.{IsExtensionOf, IsMadeHeader}
@@ -25,7 +27,7 @@ use Rattle.ods_state.specs.Made.{AreMade}
 use Rattle.ods_state.specs.Wants.{taken_blocks, taken_numbers}
 use Rattle.ods_state.specs.Growth.{IsGrowth, IsReady, IsTaking, all_headers}
 use Rattle.ods_state.proofs.GrowthChain.{still}
-use Rattle.ods_state.proofs.GrowthReady.{IsNewFile, IsOldFile, bitmap_holds, header_stays, held_stays, seen, taken_not_bookkeeping, used_stays, well_placed}
+use Rattle.ods_state.proofs.GrowthReady.{IsNewFile, IsOldFile, header_stays, held_stays, seen, taken_not_bookkeeping, used_stays}
 use Rattle.ods_state.proofs.GrowthTakes.{not_the_first}
 use Rattle.ods_state.proofs.Still.{chain_kept}
 use Rattle.ods_state.proofs.Taken.{contains_or_not, later_segment, none_empty, none_of, old_in_use, one_of}
@@ -66,6 +68,11 @@ at_last : (n : ℕ) (os ns : List ℕ) (i j : ℕ) → i ≡ length os + j → s
 at_last n [] ns i j e = let same : i ≡ j = omega (arith, e) in ap (slice_get (n ∷ ns)) same
 at_last n (o ∷ os) ns zero j e = absurd (omega arith)
 at_last n (o ∷ os) ns (suc i) j e = at_last o os ns i j (omega arith)
+
+-- a list without an element
+empty : (xs : List ℕ) → length xs ≡ 0 → xs ≡ []
+empty [] none = refl
+empty (x ∷ xs) none = absurd (omega (arith, none))
 
 or_same : (u a b : Bool) → (u ≡ false → a ≡ b) → (u || a) ≡ (u || b)
 or_same true a b same = refl
@@ -154,6 +161,13 @@ module _ (I K J : List (List ℕ)) (L : VolumeLayout) (S : IsSoundBy I L) (n : �
       by (inl is) = subst (λ x. runs_of (header_at K L x) ≡ runs_of (header_at I L x)) (sym is) o.kept.pointers
       by (inr other) = ap runs_of (same_header m other)
 
+  volume_before : Old → (m : ℕ) → next_volume_of (header_at K L m) ≡ next_volume_of (header_at I L m)
+  volume_before o m = by (cases_eq m n)
+    where
+      by : (m ≡ n) ⊎ (m ≢ n) → next_volume_of (header_at K L m) ≡ next_volume_of (header_at I L m)
+      by (inl is) = subst (λ x. next_volume_of (header_at K L x) ≡ next_volume_of (header_at I L x)) (sym is) o.kept.links.next_volume
+      by (inr other) = ap next_volume_of (same_header m other)
+
   sequence_before : Old → (m : ℕ) → sequence_of (header_at K L m) ≡ sequence_of (header_at I L m)
   sequence_before o m = by (cases_eq m n)
     where
@@ -223,9 +237,6 @@ module _ (I K J : List (List ℕ)) (L : VolumeLayout) (S : IsSoundBy I L) (n : �
       wider c (inl is) = (zero, omega arith, is)
       wider c (inr other) = Contains-append_right written numbers m (Contains-tail n numbers m other c)
 
-      behind : (m : ℕ) → Contains numbers m → Contains (n ∷ numbers) m
-      behind m c = let within = c.1 in (suc c.0, omega arith, c.2)
-
       no_old : Contains (drop 1 headers) m → Old ⊎ New → ⊥
       no_old c (inl o) = both_ways (is_in_use I L.home m) unused (old_in_use S t m (later_is_one o m c))
       no_old c (inr f) = none_later f m c
@@ -233,7 +244,7 @@ module _ (I K J : List (List ℕ)) (L : VolumeLayout) (S : IsSoundBy I L) (n : �
       narrower : Contains written m ⊎ Contains numbers m → (n ≡ m) ⊎ (n ≢ m) → Contains (n ∷ numbers) m
       narrower either (inl is) = (zero, omega arith, is)
       narrower (inl c) (inr other) = absurd (no_old (Contains-tail n (drop 1 headers) m other c) which)
-      narrower (inr c) (inr other) = behind m c
+      narrower (inr c) (inr other) = later_in n numbers m c
 
       by : Contains (n ∷ numbers) m ⊎ (¬ Contains (n ∷ numbers) m) → is_one_of (n ∷ numbers) m ≡ is_one_of (all_headers n headers numbers) m
       by (inl c) = one_of (n ∷ numbers) m c ∙ sym (one_of (all_headers n headers numbers) m (wider c (cases_eq n m)))
@@ -323,6 +334,27 @@ module _ (I K J : List (List ℕ)) (L : VolumeLayout) (S : IsSoundBy I L) (n : �
       let place : i ≡ others + j = omega arith in
       e.filled j m (omega (arith, all, parts)) (sym (at_last n (drop 1 headers) numbers i j place) ∙ ap (λ l. slice_get l i) t.all ∙ at)
 
+  -- without a new header the last one names the volume that it named
+  last_names : taken_numbers I L headers count ≡ [] → (first : ℕ) (behind : List ℕ) → headers ≡ first ∷ behind → next_volume_of (header_at J L (last_of first behind)) ≡ next_volume_of (header_at I L (last_of first behind))
+  last_names nothing first behind is = by which
+    where
+      -- no number is new: the headers are as many as before
+      no_number : headers ≡ written → numbers ≡ []
+      no_number old_ones =
+          let all : length (written ++ numbers) ≡ length (headers ++ taken_numbers I L headers count) = ap length t.all in
+          let parts : length (written ++ numbers) ≡ length written + length numbers = length-append written numbers in
+          let before : length (headers ++ taken_numbers I L headers count) ≡ length headers + length (taken_numbers I L headers count) = length-append headers (taken_numbers I L headers count) in
+          let none : length (taken_numbers I L headers count) ≡ 0 = ap length nothing in
+          let same : length headers ≡ length written = ap length old_ones in
+          empty numbers (omega (arith, all, parts, before, none, same))
+
+      by : Old ⊎ New → next_volume_of (header_at J L (last_of first behind)) ≡ next_volume_of (header_at I L (last_of first behind))
+      by (inl o) =
+          let z : ℕ = last_of n (drop 1 headers) in
+          let there : z ≡ last_of first behind = ap (λ l. last_of (get_or l 0 0) (drop 1 l)) (sym o.is ∙ is) in
+          subst (λ m. next_volume_of (header_at J L m) ≡ next_volume_of (header_at I L m)) there (e.last_volume (no_number o.is) ∙ volume_before o z)
+      by (inr f) = let clash : ◌≡◌ {A = List ℕ} (first ∷ behind) [] = sym is ∙ f.none in absurd (cc)
+
   pub made : AreMade (disk I L) (disk J L) headers (taken_numbers I L headers count)
   made = record {
     stays = λ k d below. form_stays (get_or headers k d) (Contains-get_or headers k d below);
@@ -331,4 +363,5 @@ module _ (I K J : List (List ℕ)) (L : VolumeLayout) (S : IsSoundBy I L) (n : �
     form = λ k d below. let m : ℕ = get_or (taken_numbers I L headers count) k d in new_form m (Contains-get_or (taken_numbers I L headers count) k d below);
     made = extension;
     filled = full;
+    last_volume = last_names;
   }

@@ -1,5 +1,5 @@
 -- The blocks that stand ready when a chain is to grow, K, beside those of the sound volume, I: but for the first header and the taken blocks nothing differs, so the layout stays.
-use Rattle.std.proofs.Common.{◌≡◌, ◌≢◌, ℕ, zero, ◌+◌, ◌-◌, ◌<◌, refl, ap, sym, ◌∙◌, subst, Bool, true, false, List, [], ◌∷◌, ◌++◌, drop, Option, Some, None, arith, inl, inr}
+use Rattle.std.proofs.Common.{◌≡◌, ◌≢◌, ℕ, zero, ◌+◌, ◌<◌, refl, ap, sym, ◌∙◌, subst, Bool, true, false, List, [], ◌∷◌, ◌++◌, drop, Option, Some, None, arith, inl, inr}
 use Rattle.std.specs.Prelude.{◌⊎◌, slice_get}
 use Rattle.std.specs.Option.{option_map_or}
 use Rattle.std.specs.List.{Contains}
@@ -10,13 +10,13 @@ use Rattle.ods_space.specs.Layout.{VolumeLayout, place_of, header_at, is_in_use}
 use Rattle.ods_space.specs.Chain.{IsChain}
 use Rattle.ods_space.specs.Files.{IsFile, Holds, IsLayoutOf}
 use Rattle.ods_space.specs.Free.{is_free_block}
-use Rattle.ods_alloc.specs.Extend.{IsBookkeeping, IsWellPlaced}
+use Rattle.ods_alloc.specs.Extend.{IsBookkeeping}
 use Rattle.ods_alloc.specs.Extension.{first_number}
 use Rattle.ods_alloc.proofs.Places.{place_not_index}
 use Rattle.ods_mount.specs.Faults.{CouldBeWritten}
 use Rattle.ods_mount.specs.Sound.{IsSoundBy}
 use Rattle.ods_state.specs.Wants.{taken_blocks, taken_numbers}
-use Rattle.ods_state.proofs.Bookkeeping.{IsHeldBySystem, bookkeeping_held}
+use Rattle.ods_state.proofs.Bookkeeping.{IsHeldBySystem, bookkeeping_held, bitmap_holds, index_holds, well_placed}
 use Rattle.ods_state.proofs.Chains.{IsLinkedBut, blocks_stay}
 use Rattle.ods_state.specs.Growth.{HadHeaders, IsFirstFor, IsKeptFirst, IsNewFirst, IsReady, IsTaking, all_headers}
 use Rattle.ods_state.proofs.Homes as homes
@@ -55,38 +55,15 @@ seen_by I K L n (h ∷ hs) old count numbers (inl p) all first =
     })
 
 module _ (I : List (List ℕ)) (L : VolumeLayout) (S : IsSoundBy I L) where
-  pub index_holds : (i b : ℕ) → slice_get L.index i ≡ Some b → Holds I L 1 (i + 1) b
-  index_holds i b e = record { blocks = L.index; file = S.layout.index; first = omega arith; named = ap (slice_get L.index) less ∙ e }
-    where
-      less : i + 1 - 1 ≡ i
-      less = omega arith
-
-  pub bitmap_holds : (i b : ℕ) → slice_get L.bitmap i ≡ Some b → Holds I L 2 (i + 1) b
-  bitmap_holds i b e = record { blocks = L.bitmap; file = S.layout.bitmap; first = omega arith; named = ap (slice_get L.bitmap) less ∙ e }
-    where
-      less : i + 1 - 1 ≡ i
-      less = omega arith
-
-  -- on a sound volume no block of INDEXF.SYS or BITMAP.SYS stands twice
-  pub well_placed : IsWellPlaced L
-  well_placed = record {
-    index_place = S.index_place;
-    index_once = λ i j b p q. let same = (S.once 1 1 (i + 1) (j + 1) b (index_holds i b p) (index_holds j b q)).1 in omega (arith, same);
-    bitmap_once = λ i j b p q. let same = (S.once 2 2 (i + 1) (j + 1) b (bitmap_holds i b p) (bitmap_holds j b q)).1 in omega (arith, same);
-    apart = λ i j b c p q e.
-        let same = (S.once 1 2 (i + 1) (j + 1) c (index_holds i c (p ∙ ap (λ x. Some x) e)) (bitmap_holds j c q)).0 in
-        absurd (omega (arith, same));
-  }
-
   -- no file holds a block that is taken
   pub taken_not_held : (count m v x : ℕ) → Contains (taken_blocks I L count) x → ¬ Holds I L m v x
   taken_not_held count m v x c h = both_ways (is_free_block I L x) (S.not_free m v x h) (taken_block_is_free I L count x c)
 
   pub taken_not_index : (count x i : ℕ) → Contains (taken_blocks I L count) x → slice_get L.index i ≡ Some x → ⊥
-  taken_not_index count x i c e = taken_not_held count 1 (i + 1) x c (index_holds i x e)
+  taken_not_index count x i c e = taken_not_held count 1 (i + 1) x c (index_holds I L S i x e)
 
   pub taken_not_bitmap : (count x i : ℕ) → Contains (taken_blocks I L count) x → slice_get L.bitmap i ≡ Some x → ⊥
-  taken_not_bitmap count x i c e = taken_not_held count 2 (i + 1) x c (bitmap_holds i x e)
+  taken_not_bitmap count x i c e = taken_not_held count 2 (i + 1) x c (bitmap_holds I L S i x e)
 
   -- and none of them has a header or a bitmap
   pub taken_not_bookkeeping : (count x : ℕ) (numbers : List ℕ) → Contains (taken_blocks I L count) x → ¬ IsBookkeeping L numbers x

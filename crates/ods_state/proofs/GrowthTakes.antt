@@ -7,6 +7,7 @@ use Rattle.std.proofs.lemmas.Bool.{both_ways, cases_eq, ltb-false}
 use Rattle.std.proofs.lemmas.List.{length-take}
 use Rattle.std.proofs.lemmas.List.Elements.{Contains-get_or}
 use Rattle.std.proofs.lemmas.List.Kept.{AllPairs-from_increasing}
+use Rattle.ods_state.proofs.Chains.{later_in}
 use Rattle.ods_header.specs.Header.{room_of, sequence_of}
 use Rattle.ods_space.specs.Layout.{VolumeLayout, header_at, is_in_use, last_number}
 use Rattle.ods_space.specs.Free.{free_blocks, free_numbers, is_free_number}
@@ -49,33 +50,28 @@ so_many_numbers I L headers count enough = let fits = enough.numbers in omega (a
 
 module _ (I K : List (List ℕ)) (L : VolumeLayout) (S : IsSoundBy I L) (n : ℕ) (headers old : List ℕ) (count : ℕ) (numbers : List ℕ)
     (t : IsTaking I L n headers old count numbers) (r : IsReady I K L n headers count) where
-  abbrev Old : Type 0
-  Old = IsOldFile I K L n headers old count numbers
+  -- the file is there already, or it is new
+  abbrev Kind : Type 0
+  Kind = IsOldFile I K L n headers old count numbers ⊎ IsNewFile I K L n headers old count numbers
 
-  abbrev New : Type 0
-  New = IsNewFile I K L n headers old count numbers
-
-  which : Old ⊎ New
+  which : Kind
   which = seen I K L S n headers old count numbers t r
 
   -- in a new file the first of the taken numbers is below the others
-  all_rise : New → IsStrictlyIncreasing (n ∷ numbers)
+  all_rise : IsNewFile I K L n headers old count numbers → IsStrictlyIncreasing (n ∷ numbers)
   all_rise f = subst IsStrictlyIncreasing (sym f.new) (numbers_rise I L headers count)
-
-  later : (m : ℕ) → Contains numbers m → Contains (n ∷ numbers) m
-  later m c = let within = c.1 in (suc c.0, omega arith, c.2)
 
   pub number_is_taken : (m : ℕ) → Contains numbers m → Contains (taken_numbers I L headers count) m
   number_is_taken m c = by which
     where
-      by : Old ⊎ New → Contains (taken_numbers I L headers count) m
+      by : Kind → Contains (taken_numbers I L headers count) m
       by (inl o) = subst (λ l. Contains l m) o.new c
-      by (inr f) = subst (λ l. Contains l m) f.new (later m c)
+      by (inr f) = subst (λ l. Contains l m) f.new (later_in n numbers m c)
 
   pub not_the_first : (m : ℕ) → Contains numbers m → m ≢ n
   not_the_first m c e = by which
     where
-      by : Old ⊎ New → ⊥
+      by : Kind → ⊥
       by (inl o) = both_ways (is_in_use I L.home m) (new_unused S t m (number_is_taken m c)) (subst (λ x. IsTrue (is_in_use I L.home x)) (sym e) o.file.in_use)
       by (inr f) =
           let within = c.1 in
@@ -86,7 +82,7 @@ module _ (I K : List (List ℕ)) (L : VolumeLayout) (S : IsSoundBy I L) (n : ℕ
   rising : IsStrictlyIncreasing numbers
   rising = by which
     where
-      by : Old ⊎ New → IsStrictlyIncreasing numbers
+      by : Kind → IsStrictlyIncreasing numbers
       by (inl o) = subst IsStrictlyIncreasing (sym o.new) (numbers_rise I L headers count)
       by (inr f) = λ k within. AllPairs-from_increasing (n ∷ numbers) (all_rise f) (suc k) (suc (k + 1)) 0 (omega arith) (omega arith)
 
@@ -97,7 +93,7 @@ module _ (I K : List (List ℕ)) (L : VolumeLayout) (S : IsSoundBy I L) (n : ℕ
       λ i. nat_le 6 m && (nat_le m (last_number L) && (not (used i) && nat_lt (same i) 65535))
 
   -- the last header has the room that was counted on
-  same_room : Old → room_of (header_at K L (last_of n (drop 1 headers))) ≡ room_in I L headers
+  same_room : IsOldFile I K L n headers old count numbers → room_of (header_at K L (last_of n (drop 1 headers))) ≡ room_in I L headers
   same_room o = by (cases_eq (last_of n (drop 1 headers)) n) ∙ sym (ap (room_in I L) o.is)
     where
       by : (last_of n (drop 1 headers) ≡ n) ⊎ (last_of n (drop 1 headers) ≢ n) → room_of (header_at K L (last_of n (drop 1 headers))) ≡ room_of (header_at I L (last_of n (drop 1 headers)))
@@ -113,7 +109,7 @@ module _ (I K : List (List ℕ)) (L : VolumeLayout) (S : IsSoundBy I L) (n : ℕ
       many : length (taken_numbers I L headers count) ≡ new_headers headers (room_in I L headers) runs
       many = so_many_numbers I L headers count (is_enough I L headers count t.enough)
 
-      by : Old ⊎ New → length numbers ≡ headers_needed (room_of (header_at K L (last_of n (drop 1 headers))) / 2) runs
+      by : Kind → length numbers ≡ headers_needed (room_of (header_at K L (last_of n (drop 1 headers))) / 2) runs
       by (inl o) = ap length o.new ∙ many ∙ ap (λ l. new_headers l (room_in I L headers) runs) o.is ∙ ap (λ room. headers_needed (room / 2) runs) (sym (same_room o))
       by (inr f) =
           let room : room_of (header_at K L (last_of n (drop 1 headers))) ≡ 204 = ap (λ l. room_of (header_at K L (last_of n (drop 1 l)))) f.none ∙ f.made.room in
@@ -127,7 +123,7 @@ module _ (I K : List (List ℕ)) (L : VolumeLayout) (S : IsSoundBy I L) (n : ℕ
       few : length headers + length (taken_numbers I L headers count) ≤ 256
       few = let e = is_enough I L headers count t.enough in let fits = e.segments in omega (arith, so_many_numbers I L headers count e)
 
-      by : Old ⊎ New → length (drop 1 headers) + length numbers < 256
+      by : Kind → length (drop 1 headers) + length numbers < 256
       by (inl o) = omega (arith, few, ap length o.is, ap length o.new)
       by (inr f) = omega (arith, few, ap length (ap (drop 1) f.none), ap length f.new)
 

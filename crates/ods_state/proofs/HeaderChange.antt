@@ -1,11 +1,13 @@
 -- One header of a sound volume is replaced by one that links alike: nothing moves, and the volume stays sound.
 -- This serves SetUser, and each change of a directory that takes no block.
-use Rattle.std.proofs.Common.{◌≡◌, ◌≢◌, ℕ, ◌+◌, ◌-◌, ◌<◌, ◌≤◌, ap, sym, ◌∙◌, subst, List, length, Some, arith, inl, inr}
+use Rattle.std.proofs.Common.{◌≡◌, ◌≢◌, true, ℕ, ◌+◌, ◌≤◌, ap, sym, ◌∙◌, subst, List, length, Some, arith, inl, inr}
 use Rattle.std.specs.Prelude.{◌⊎◌, slice_get, slice_set}
 use Rattle.std.proofs.lemmas.List.{length-set}
+use Rattle.std.proofs.lemmas.Bool.{cases_eq}
+use Rattle.ods_header.proofs.DirectoryHeaders.{is_apart}
+use Rattle.ods_mount.proofs.Each.{holds_at}
 use Rattle.ods_base.specs.Image.{block_at}
-use Rattle.ods_base.specs.Name.{directory_type}
-use Rattle.ods_header.specs.Header.{IsFormat1, ident_ext_of, attributes_of, sequence_of}
+use Rattle.ods_header.specs.Header.{IsFormat1, is_directory_header, attributes_of, sequence_of}
 use Rattle.ods_space.specs.Layout.{VolumeLayout, place_of, header_at}
 use Rattle.ods_space.specs.Files.{HasBlocks, Holds}
 use Rattle.ods_directory.specs.Mark.{mark_in}
@@ -16,7 +18,7 @@ use Rattle.ods_state.specs.Change.{disk}
 use Rattle.ods_state.specs.Links.{SameLinks}
 use Rattle.ods_state.specs.Moves.{NothingMoves}
 use Rattle.ods_state.proofs.Links.{header_held, header_is_no_data, numbered}
-use Rattle.ods_state.proofs.OneBlock.{block_there, mapped_alike, same_or_not}
+use Rattle.ods_state.proofs.OneBlock.{block_there, mapped_alike}
 use Rattle.ods_state.proofs.OneHeader.{header_here, header_there, linked, linked_back}
 use Rattle.ods_state.proofs.Still as still
 
@@ -33,13 +35,7 @@ module _ (I : List (List ℕ)) (L : VolumeLayout) (S : IsSoundBy I L) (n x : ℕ
 
   -- the block that a file holds is another one, but for INDEXF.SYS
   file_block : (m : ℕ) (blocks : List ℕ) → HasBlocks I L m blocks → m ≢ 1 → (i y : ℕ) → slice_get blocks i ≡ Some y → y ≢ x
-  file_block m blocks file ne i y e is = ne (header_is_no_data I L S n x m (i + 1) place (subst (λ z. Holds I L m (i + 1) z) is own))
-    where
-      less : i + 1 - 1 ≡ i
-      less = omega arith
-
-      own : Holds I L m (i + 1) y
-      own = record { blocks = blocks; file = file; first = omega arith; named = ap (slice_get blocks) less ∙ e }
+  file_block m blocks file ne i y e is = ne (header_is_no_data I L S n x m (i + 1) place (subst (λ z. Holds I L m (i + 1) z) is (holds_at I L m blocks i y file e)))
 
   -- the contents of a file stay, but for those of INDEXF.SYS
   pub contents_stay : (m : ℕ) (blocks : List ℕ) → HasBlocks I L m blocks → m ≢ 1 → contents_of J blocks ≡ contents_of I blocks
@@ -59,7 +55,7 @@ module _ (I : List (List ℕ)) (L : VolumeLayout) (S : IsSoundBy I L) (n x : ℕ
       linked = linked I L S n x b place to back;
       back = linked_back I L S n x b place to back;
       bitmap = λ i y e. there y (file_block 2 L.bitmap S.layout.bitmap (λ two. absurd (omega arith)) i y e);
-      elsewhere = λ y. elsewhere_by y (same_or_not y x);
+      elsewhere = λ y. elsewhere_by y (cases_eq y x);
     }
       where
         elsewhere_by : (y : ℕ) → (y ≡ x) ⊎ (y ≢ x) → (block_at J y ≡ block_at I y) ⊎ CouldBeWritten I L y
@@ -86,29 +82,25 @@ module _ (I : List (List ℕ)) (L : VolumeLayout) (S : IsSoundBy I L) (n x : ℕ
 
     -- the file is a directory by its new header, and still one
     abbrev pub IsStillDirectory : Type 0
-    IsStillDirectory = (n ≡ 4) ⊎ ((5 < n) × (ident_ext_of b ≡ directory_type)) → (blocks : List ℕ) → HasBlocks I L n blocks
+    IsStillDirectory = is_directory_header n b ≡ true → (blocks : List ℕ) → HasBlocks I L n blocks
         → IsDirectory (contents_of I blocks) (mark_in (attributes_of b) (length blocks))
 
     directories_by : IsStillDirectory → (m : ℕ) (blocks : List ℕ) → (m ≡ n) ⊎ (m ≢ n) → IsDirectoryFile J L m → HasBlocks J L m blocks → IsDirectory (contents_of J blocks) (mark_at J L m blocks)
-    directories_by own m blocks side d h = subst (λ c. IsDirectory c (mark_at J L m blocks)) (sym (contents_stay m blocks old (no_index d.1))) (by_number side)
+    directories_by own m blocks side d h = subst (λ c. IsDirectory c (mark_at J L m blocks)) (sym (contents_stay m blocks old (is_apart m (header_at J L m) d.1 1 (omega arith) (omega arith)))) (by_number side)
       where
         old : HasBlocks I L m blocks
         old = had_blocks m blocks h
-
-        no_index : (m ≡ 4) ⊎ ((5 < m) × (ident_ext_of (header_at J L m) ≡ directory_type)) → m ≢ 1
-        no_index (inl four) e = absurd (omega arith)
-        no_index (inr p) e = let high : 5 < m = p.0 in absurd (omega arith)
 
         by_number : (m ≡ n) ⊎ (m ≢ n) → IsDirectory (contents_of I blocks) (mark_at J L m blocks)
         by_number (inl e) =
             let here : header_at J L m ≡ b = ap (header_at J L) e ∙ header_here I L S n x b place in
             subst (λ c. IsDirectory (contents_of I blocks) (mark_in (attributes_of c) (length blocks))) (sym here)
-            (own (subst (λ k. (k ≡ 4) ⊎ ((5 < k) × (ident_ext_of b ≡ directory_type))) e (subst (λ c. (m ≡ 4) ⊎ ((5 < m) × (ident_ext_of c ≡ directory_type))) here d.1))
+            (own (subst (λ k. is_directory_header k b ≡ true) e (subst (λ c. is_directory_header m c ≡ true) here d.1))
             blocks (subst (λ k. HasBlocks I L k blocks) e old))
         by_number (inr ne) =
             let same : header_at J L m ≡ header_at I L m = header_there I L S n x b place m ne in
             subst (λ c. IsDirectory (contents_of I blocks) (mark_in (attributes_of c) (length blocks))) (sym same)
-            (S.directories m blocks (still.was_file I J L S is_still m d.0, subst (λ c. (m ≡ 4) ⊎ ((5 < m) × (ident_ext_of c ≡ directory_type))) same d.1) old)
+            (S.directories m blocks (still.was_file I J L S is_still m d.0, subst (λ c. is_directory_header m c ≡ true) same d.1) old)
 
     pub header_is_sound : IsFormat1 b → IsStillDirectory → IsSoundBy J L
-    header_is_sound format own = still.is_sound I J L S is_still (λ m. format_by format m (same_or_not m n)) (λ m blocks d h. directories_by own m blocks (same_or_not m n) d h)
+    header_is_sound format own = still.is_sound I J L S is_still (λ m. format_by format m (cases_eq m n)) (λ m blocks d h. directories_by own m blocks (cases_eq m n) d h)

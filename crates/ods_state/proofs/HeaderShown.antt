@@ -1,6 +1,7 @@
 -- One header is replaced by one that links alike: the blocks show the same files, but for the header's own.
-use Rattle.std.proofs.Common.{◌≡◌, ◌≢◌, ℕ, refl, ap, sym, ◌∙◌, subst, List, Some, inl, inr}
-use Rattle.std.specs.Prelude.{◌⊎◌, slice_set}
+use Rattle.std.proofs.Common.{◌≡◌, ◌≢◌, ℕ, ap, ◌∙◌, List, Some, inl, inr}
+use Rattle.std.specs.Prelude.{◌⊎◌, slice_set, nat_le}
+use Rattle.std.proofs.lemmas.Bool.{cases_eq}
 use Rattle.ods_base.specs.declared.file_id.FileId.{FileId}
 use Rattle.ods_header.specs.Header.{sequence_of}
 use Rattle.ods_space.specs.Layout.{VolumeLayout, place_of, header_at}
@@ -9,17 +10,11 @@ use Rattle.ods_mount.specs.Faults.{contents_of}
 use Rattle.ods_mount.specs.Sound.{IsSoundBy}
 use Rattle.ods_request.specs.Catalogue.{Catalogue, File}
 use Rattle.ods_request.specs.Steps.{put}
-use Rattle.ods_state.specs.Contents.{body_of, file_of, IsFileIn, ShowsBy}
+use Rattle.ods_state.specs.Contents.{file_of, IsFileIn, ShowsBy}
 use Rattle.ods_state.specs.Links.{SameLinks}
 use Rattle.ods_state.proofs.HeaderChange.{contents_stay, has_blocks, had_blocks}
-use Rattle.ods_state.proofs.OneBlock.{same_or_not}
 use Rattle.ods_state.proofs.OneHeader.{header_here, header_there}
-use Rattle.ods_state.proofs.Shown.{IsAlike, one_is_put}
-
--- of INDEXF.SYS the contents are not shown
-index_shown : (b : List ℕ) (cs ds : List (List ℕ)) → file_of 1 b cs ≡ file_of 1 b ds
-unfolding file_of body_of
-index_shown b cs ds = refl
+use Rattle.ods_state.proofs.Shown.{IsAlike, one_is_put, same_file}
 
 module _ (I : List (List ℕ)) (L : VolumeLayout) (S : IsSoundBy I L) (id : FileId) (x : ℕ) (b : List ℕ) (place : place_of L id.number ≡ Some x)
     (to : SameLinks (header_at I L id.number) b id.number) (back : SameLinks b (header_at I L id.number) id.number) where
@@ -29,16 +24,13 @@ module _ (I : List (List ℕ)) (L : VolumeLayout) (S : IsSoundBy I L) (id : File
   -- another file shows what it did
   others_shown : (m : ℕ) → m ≢ id.number → (blocks : List ℕ) → HasBlocks I L m blocks
       → file_of m (header_at J L m) (contents_of J blocks) ≡ file_of m (header_at I L m) (contents_of I blocks)
-  others_shown m ne blocks file = by_number (same_or_not m 1)
+  others_shown m ne blocks file = by_number (cases_eq m 1)
     where
       header : header_at J L m ≡ header_at I L m
       header = header_there I L S id.number x b place m ne
 
       by_number : (m ≡ 1) ⊎ (m ≢ 1) → file_of m (header_at J L m) (contents_of J blocks) ≡ file_of m (header_at I L m) (contents_of I blocks)
-      by_number (inl e) =
-          ap (λ c. file_of m c (contents_of J blocks)) header
-          ∙ subst (λ k. file_of k (header_at I L m) (contents_of J blocks) ≡ file_of k (header_at I L m) (contents_of I blocks)) (sym e)
-          (index_shown (header_at I L m) (contents_of J blocks) (contents_of I blocks))
+      by_number (inl e) = ap (λ c. file_of m c (contents_of J blocks)) header ∙ same_file m (header_at I L m) (contents_of J blocks) (contents_of I blocks) (inl (ap (λ k. nat_le k 2) e))
       by_number (inr other) = let contents = contents_stay I L S id.number x b place m blocks file other in λ i. file_of m (header i) (contents i)
 
   other_is_alike : (m : ℕ) → m ≢ id.number → IsAlike I J L m

@@ -1,7 +1,8 @@
 -- Where blocks change that a request may write, the home block stays; and with files 1 and 2 so does the layout.
-use Rattle.std.proofs.Common.{◌≡◌, ℕ, ◌+◌, ◌-◌, ◌<◌, ◌≤◌, refl, ap, sym, ◌∙◌, subst, Bool, true, false, List, length, Some, arith, inl, inr, nat_lt}
+use Rattle.std.proofs.Common.{◌≡◌, ℕ, ◌+◌, ◌<◌, ap, sym, ◌∙◌, subst, true, false, List, length, Some, arith, inl, inr}
 use Rattle.std.specs.Prelude.{◌⊎◌, slice_get}
-use Rattle.std.proofs.lemmas.Bool.{ltb-true, ltb-false}
+use Rattle.ods_mount.proofs.Each.{holds_at}
+use Rattle.ods_mount.proofs.Layouts.{same_place}
 use Rattle.ods_base.specs.Image.{block_at}
 use Rattle.ods_header.specs.Home.{IsHome, home_of, IsHomeAt, IsHomePlace}
 use Rattle.ods_space.specs.Layout.{VolumeLayout}
@@ -9,33 +10,13 @@ use Rattle.ods_space.specs.Files.{HasBlocks, Holds, IsLayoutOf}
 use Rattle.ods_mount.specs.Faults.{CouldBeWritten}
 use Rattle.ods_mount.specs.Sound.{IsSoundBy}
 
--- an image has one home block
-ordered : (a b : ℕ) (l g : Bool) → nat_lt a b ≡ l → nat_lt b a ≡ g → (a < b) ⊎ ((b < a) ⊎ (a ≡ b))
-ordered a b true g el eg = inl (ltb-true a b el)
-ordered a b false true el eg = inr (inl (ltb-true b a eg))
-ordered a b false false el eg =
-    let p : b ≤ a = ltb-false a b el in
-    let q : a ≤ b = ltb-false b a eg in
-    inr (inr (omega arith))
-
-pub home_is_one : (I : List (List ℕ)) (a b : ℕ) → IsHomeAt I a → IsHomeAt I b → a ≡ b
-home_is_one I a b p q = by_order (ordered a b (nat_lt a b) (nat_lt b a) refl refl)
-  where
-    by_order : (a < b) ⊎ ((b < a) ⊎ (a ≡ b)) → a ≡ b
-    by_order (inl below) = absurd (q.least a p.place below p.inside p.home)
-    by_order (inr (inl above)) = absurd (p.least b q.place above q.inside q.home)
-    by_order (inr (inr e)) = e
-
 module _ (I J : List (List ℕ)) (L : VolumeLayout) (S : IsSoundBy I L) (long : length J ≡ length I) (elsewhere : (x : ℕ) → (block_at J x ≡ block_at I x) ⊎ CouldBeWritten I L x) where
   -- no request may write the first two blocks of INDEXF.SYS
   is_safe : (k lbn : ℕ) → k < 2 → slice_get L.index k ≡ Some lbn → ¬ CouldBeWritten I L lbn
   is_safe k lbn low e = by
     where
-      less : k + 1 - 1 ≡ k
-      less = omega arith
-
       own : Holds I L 1 (k + 1) lbn
-      own = record { blocks = L.index; file = S.layout.index; first = omega arith; named = ap (slice_get L.index) less ∙ e }
+      own = holds_at I L 1 L.index k lbn S.layout.index e
 
       by : ¬ CouldBeWritten I L lbn
       by (inl free) = let wrong : true ≡ false = sym free ∙ S.not_free 1 (k + 1) lbn own in absurd (cc)
@@ -69,7 +50,7 @@ module _ (I J : List (List ℕ)) (L : VolumeLayout) (S : IsSoundBy I L) (long : 
   home_was_at lbn h =
       let old = S.layout.home.0 in
       let before : IsHomeAt I old = S.layout.home.1 in
-      subst (λ n. IsHomeAt I n) (home_is_one J old lbn (home_stays_at old before) h) before
+      subst (λ n. IsHomeAt I n) (same_place J old lbn (home_stays_at old before) h) before
 
   pub layout_stays : HasBlocks J L 1 L.index → HasBlocks J L 2 L.bitmap → IsLayoutOf J L
   layout_stays index bitmap =

@@ -1,4 +1,3 @@
-pub mod Frame
 pub mod Data
 pub mod Shown
 pub mod OneBlock
@@ -13,7 +12,7 @@ pub mod Opening
 pub mod OneHeader
 pub mod HeaderChange
 pub mod HeaderShown
-pub mod OtherAttributes
+pub mod OtherFront
 pub mod BlockShown
 pub mod TwoChanges
 pub mod Served

@@ -1,32 +1,15 @@
 -- A volume has one present catalogue.
-use Rattle.std.proofs.Common.{◌≡◌, ℕ, refl, ap, sym, ◌∙◌, subst, List, [], Option, Some, None}
+use Rattle.std.proofs.Common.{◌≡◌, ℕ, refl, ap, sym, ◌∙◌, subst, List, Option, Some, None}
 use Rattle.std.specs.FinMap as map
 use Rattle.std.specs.FinSet as set
-use Rattle.ods_header.specs.Home.{home_of}
-use Rattle.ods_base.specs.Image.{block_at}
 use Rattle.ods_space.specs.Layout.{VolumeLayout}
-use Rattle.ods_space.specs.Chain.{Follows}
-use Rattle.ods_space.specs.Files.{IsLayoutOf}
 use Rattle.ods_request.specs.declared.answers.Entry.{Entry}
 use Rattle.ods_request.specs.Catalogue.{Catalogue, File}
 use Rattle.ods_request.specs.Steps.{replay}
 use Rattle.ods_request.proofs.Orders.{file_cmp-total, file_cmp-antisymmetric}
 use Rattle.ods_state.specs.Contents.{ShowsBy, Shows, IsCatalogueOf}
 use Rattle.ods_state.specs.Version.{State, IsReplay, IsPresent, IsLawful}
-use Rattle.ods_state.proofs.Frame.{chain_is_one}
-use Rattle.ods_state.proofs.Homes.{home_is_one}
-
-pub layout_is_one : (I : List (List ℕ)) (L M : VolumeLayout) → IsLayoutOf I L → IsLayoutOf I M → L ≡ M
-layout_is_one I L M p q =
-    let at : p.home.0 ≡ q.home.0 = home_is_one I p.home.0 q.home.0 p.home.1 q.home.1 in
-    let home : L.home ≡ M.home = p.home.2 ∙ ap (λ x. home_of (block_at I x)) at ∙ sym q.home.2 in
-    let chain : Follows I M.home None [] 0 1 p.index.others L.index = subst (λ h. Follows I h None [] 0 1 p.index.others L.index) home p.index.whole.chain in
-    let index : L.index ≡ M.index = (chain_is_one I M.home None [] 0 1 p.index.others q.index.others L.index M.index chain q.index.whole.chain).1 in
-    let bits : Follows I M.home (Some M.index) [] 0 2 p.bitmap.others L.bitmap =
-    subst (λ h. Follows I h (Some M.index) [] 0 2 p.bitmap.others L.bitmap) home
-    (subst (λ i. Follows I L.home (Some i) [] 0 2 p.bitmap.others L.bitmap) index p.bitmap.whole.chain) in
-    let bitmap : L.bitmap ≡ M.bitmap = (chain_is_one I M.home (Some M.index) [] 0 2 p.bitmap.others q.bitmap.others L.bitmap M.bitmap bits q.bitmap.whole.chain).1 in
-    λ i. record { home = home i; index = index i; bitmap = bitmap i }
+use Rattle.ods_mount.proofs.Layouts.{layout_is_one}
 
 options_same : (o p : Option File) → ((f : File) → o ≡ Some f → p ≡ Some f) → ((f : File) → p ≡ Some f → o ≡ Some f) → o ≡ p
 options_same None None to back = refl

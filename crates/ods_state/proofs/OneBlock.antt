@@ -1,22 +1,16 @@
 -- One block of a plain file is replaced.
-use Rattle.std.proofs.Common.{◌≡◌, ◌≢◌, ℕ, zero, suc, get_or, ◌+◌, ◌-◌, ◌<◌, refl, ap, sym, ◌∙◌, subst, true, false, List, [], ◌∷◌, length, Some, arith, inl, inr, nat_eq}
+use Rattle.std.proofs.Common.{◌≡◌, ◌≢◌, ℕ, zero, suc, get_or, ◌+◌, ◌-◌, ◌<◌, refl, ap, sym, ◌∙◌, subst, List, [], ◌∷◌, length, Some, arith, inl, inr}
 use Rattle.std.specs.Prelude.{◌⊎◌, map, slice_get, slice_set}
 use Rattle.std.proofs.lemmas.List.{get_or-set_other, get_or-set_same, length-set}
-use Rattle.std.proofs.lemmas.Option.{slice_get_within, get_or_from_slice_get}
-use Rattle.std.proofs.lemmas.Bool.Decides.{eqb_tells}
+use Rattle.std.proofs.lemmas.Option.{same_Some, slice_get_within, get_or_from_slice_get}
+use Rattle.std.proofs.lemmas.Bool.{cases_eq}
+use Rattle.ods_mount.proofs.Each.{holds_at}
 use Rattle.ods_base.specs.Image.{block_at}
 use Rattle.ods_space.specs.Layout.{VolumeLayout}
 use Rattle.ods_space.specs.Files.{HasBlocks, Holds}
 use Rattle.ods_mount.specs.Faults.{contents_of, CouldBeWritten}
 use Rattle.ods_mount.specs.Sound.{IsSoundBy}
 use Rattle.ods_state.proofs.Data.{IsDataChange}
-
-pub same_or_not : (a b : ℕ) → (a ≡ b) ⊎ (a ≢ b)
-same_or_not a b = by_test (eqb_tells a b)
-  where
-    by_test : ((nat_eq a b ≡ true) × (a ≡ b)) ⊎ ((nat_eq a b ≡ false) × (a ≢ b)) → (a ≡ b) ⊎ (a ≢ b)
-    by_test (inl p) = inl p.1
-    by_test (inr p) = inr p.1
 
 -- where two functions answer alike at each element, they map the list alike
 pub mapped_alike : {X : Type 0} (f g : ℕ → X) (xs : List ℕ) → ((i y : ℕ) → slice_get xs i ≡ Some y → g y ≡ f y) → map g xs ≡ map f xs
@@ -47,10 +41,7 @@ module _ (I : List (List ℕ)) (L : VolumeLayout) (S : IsSoundBy I L) (n vbn x :
   other_file m v y g ne e = ne (S.once m n v vbn x (subst (λ z. Holds I L m v z) e g) h).0
 
   file_block : (m : ℕ) (blocks : List ℕ) → HasBlocks I L m blocks → (i y : ℕ) → slice_get blocks i ≡ Some y → Holds I L m (i + 1) y
-  file_block m blocks file i y e = record { blocks = blocks; file = file; first = omega arith; named = ap (slice_get blocks) (sub i) ∙ e }
-    where
-      sub : (k : ℕ) → k + 1 - 1 ≡ k
-      sub k = omega arith
+  file_block m blocks file i y e = holds_at I L m blocks i y file e
 
   elsewhere_by : n ≢ 1 → n ≢ 3 → n ≢ 5 → (y : ℕ) → (y ≡ x) ⊎ (y ≢ x) → (block_at (slice_set I x b) y ≡ block_at I y) ⊎ CouldBeWritten I L y
   elsewhere_by one three five y (inl e) = inr (inr (n, vbn, subst (λ z. Holds I L n vbn z) (sym e) h, three, five, λ p. one p.0))
@@ -61,7 +52,7 @@ module _ (I : List (List ℕ)) (L : VolumeLayout) (S : IsSoundBy I L) (n vbn x :
     long = length-set I x b;
     index = λ i y e. block_there y (other_file 1 (i + 1) y (file_block 1 L.index S.layout.index i y e) (λ z. one (sym z)));
     bitmap = λ i y e. block_there y (other_file 2 (i + 1) y (file_block 2 L.bitmap S.layout.bitmap i y e) (λ z. two (sym z)));
-    elsewhere = λ y. elsewhere_by one three five y (same_or_not y x);
+    elsewhere = λ y. elsewhere_by one three five y (cases_eq y x);
   }
 
   -- the contents of another file stay
@@ -76,8 +67,5 @@ module _ (I : List (List ℕ)) (L : VolumeLayout) (S : IsSoundBy I L) (n vbn x :
       let at : i + 1 ≡ vbn = twice.1 in
       ne (omega arith)))
       (λ y e.
-      let is : y ≡ x = some_same y x (sym e ∙ h.named) in
+      let is : y ≡ x = same_Some y x (sym e ∙ h.named) in
       ap (λ z. block_at (slice_set I x b) z) is ∙ block_here)
-    where
-      some_same : (y z : ℕ) → Some y ≡ Some z → y ≡ z
-      some_same y z e = cc

@@ -2,11 +2,12 @@
 use Rattle.std.proofs.Common.{◌≡◌, ◌≢◌, ℕ, ◌+◌, ◌-◌, ◌<◌, ◌≤◌, refl, ap, sym, ◌∙◌, subst, List, [], Option, Some, None, arith, inl, inr}
 use Rattle.std.specs.Prelude.{◌⊎◌, slice_get, slice_set}
 use Rattle.std.specs.Option.{option_map_or}
+use Rattle.std.proofs.lemmas.Bool.{cases_eq}
 use Rattle.ods_base.specs.Image.{block_at}
 use Rattle.ods_space.specs.Layout.{VolumeLayout, place_of, header_at, is_in_use}
 use Rattle.ods_space.specs.Files.{Holds}
 use Rattle.ods_mount.specs.Sound.{IsSoundBy}
-use Rattle.ods_state.proofs.OneBlock.{same_or_not, block_here, block_there}
+use Rattle.ods_state.proofs.OneBlock.{block_here, block_there}
 use Rattle.ods_state.specs.Links.{SameLinks}
 use Rattle.ods_state.proofs.Links.{LinkedAt, bits_stay, header_held, linked_same, numbered, place_is_one}
 
@@ -49,14 +50,14 @@ module _ (I : List (List ℕ)) (L : VolumeLayout) (S : IsSoundBy I L) (n x : ℕ
 
   module _ (to : SameLinks (header_at I L n) b n) (back : SameLinks b (header_at I L n) n) where
     pub linked : (m : ℕ) → LinkedAt I (slice_set I x b) L.home L.index m
-    linked m = by_number (same_or_not m n)
+    linked m = by_number (cases_eq m n)
       where
         by_number : (m ≡ n) ⊎ (m ≢ n) → LinkedAt I (slice_set I x b) L.home L.index m
         by_number (inl e) = subst (LinkedAt I (slice_set I x b) L.home L.index) (sym e) (record { links = subst (λ c. SameLinks (header_at I L n) c n) (sym header_here) to; used = bits_there n })
         by_number (inr ne) = linked_same I (slice_set I x b) L.home L.index m (header_there m ne) (bits_there m)
 
     pub linked_back : (m : ℕ) → LinkedAt (slice_set I x b) I L.home L.index m
-    linked_back m = by_number (same_or_not m n)
+    linked_back m = by_number (cases_eq m n)
       where
         by_number : (m ≡ n) ⊎ (m ≢ n) → LinkedAt (slice_set I x b) I L.home L.index m
         by_number (inl e) = subst (LinkedAt (slice_set I x b) I L.home L.index) (sym e) (record { links = subst (λ c. SameLinks c (header_at I L n) n) (sym header_here) back; used = sym (bits_there n) })

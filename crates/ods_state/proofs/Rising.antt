@@ -14,9 +14,6 @@ use Rattle.ods_alloc.proofs.NewHeaders.{rising_apart}
 use Rattle.ods_state.specs.Wants.{taken_blocks, taken_count, taken_numbers}
 
 -- what stands at a place of a list is one of it, and the other way round
-pub stands_in : (xs : List ℕ) (k x : ℕ) → slice_get xs k ≡ Some x → Contains xs x
-stands_in xs k x e = (k, slice_get_within xs k x e, get_or_from_slice_get xs k x x e)
-
 pub stands_at : (xs : List ℕ) (x : ℕ) → Contains xs x → (k : ℕ) × (slice_get xs k ≡ Some x)
 stands_at xs x c = (c.0, slice_get-get_or xs c.0 x c.1 ∙ ap (λ y. Some y) c.2)
 

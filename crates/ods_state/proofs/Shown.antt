@@ -1,6 +1,6 @@
 -- The files that blocks show, where one file is changed and the others stay.
 use Rattle.std.proofs.Common.{◌≡◌, ◌≢◌, ℕ, refl, ap, sym, ◌∙◌, subst, Bool, true, false, cond, List, [], Some, inl, inr}
-use Rattle.std.specs.Prelude.{◌⊎◌}
+use Rattle.std.specs.Prelude.{◌⊎◌, nat_le}
 use Rattle.std.specs.FinMap as map
 use Rattle.std.specs.Ordering.{eq_by_cmp, is_eq}
 use Rattle.std.specs.Cmp.{Equal-is}
@@ -11,11 +11,22 @@ use Rattle.ods_space.specs.Layout.{VolumeLayout, header_at}
 use Rattle.ods_space.specs.Chain.{index_for}
 use Rattle.ods_space.specs.Files.{HasBlocks}
 use Rattle.ods_mount.specs.Faults.{contents_of}
-use Rattle.ods_request.specs.Catalogue.{Catalogue, File, file_cmp}
+use Rattle.ods_request.specs.Catalogue.{Catalogue, File, System, file_cmp}
 use Rattle.ods_request.specs.Steps.{put}
 use Rattle.ods_request.proofs.Orders.{file_cmp-total, file_cmp-antisymmetric}
-use Rattle.ods_state.specs.Contents.{file_of, IsFileIn, ShowsBy}
-use Rattle.ods_state.proofs.Frame.{chain_is_one}
+use Rattle.ods_state.specs.Contents.{body_of, file_of, IsFileIn, ShowsBy}
+use Rattle.ods_space.proofs.Chains.{same_chain}
+
+-- neither map shows its contents
+pub system_body : (m : ℕ) (b : List ℕ) (xs : List (List ℕ)) → nat_le m 2 ≡ true → body_of m b xs ≡ System
+unfolding body_of
+system_body m b xs map = rw map refl
+
+-- where the contents are the same, or are not looked at, so is the file
+pub same_file : (m : ℕ) (b : List ℕ) (xs ys : List (List ℕ)) → (nat_le m 2 ≡ true) ⊎ (xs ≡ ys) → file_of m b xs ≡ file_of m b ys
+unfolding file_of
+same_file m b xs ys (inr same) = ap (file_of m b) same
+same_file m b xs ys (inl map) = λ i. record (file_of m b xs) { body = (system_body m b xs map ∙ sym (system_body m b ys map)) i }
 
 -- two IDs are equal or not
 same_id_or_not : (p q : FileId) (b : Bool) → eq_by_cmp file_cmp p q ≡ b → (p ≡ q) ⊎ ((p ≢ q) × (eq_by_cmp file_cmp p q ≡ false))
@@ -37,7 +48,7 @@ get_other C id f q e = map.get-insert file_cmp-total C.files id f q ∙ ap (λ b
 -- the blocks show one file under an ID
 pub file_is_one : (I : List (List ℕ)) (L : VolumeLayout) (id : FileId) (f g : File) → IsFileIn I L id f → IsFileIn I L id g → f ≡ g
 file_is_one I L id f g p q =
-    let is = (chain_is_one I L.home (index_for L id.number) [] 0 id.number p.held.others q.held.others p.blocks q.blocks p.held.whole.chain q.held.whole.chain).1 in
+    let is = (same_chain I L.home (index_for L id.number) [] 0 id.number p.held.others p.blocks q.held.others q.blocks p.held.whole.chain q.held.whole.chain).1 in
     sym p.shown ∙ ap (λ bs. file_of id.number (header_at I L id.number) (contents_of I bs)) is ∙ q.shown
 
 -- Where one file is another one now, and each other ID has the files that it had, the blocks show the catalogue with that file put.

@@ -3,7 +3,7 @@ use Rattle.std.proofs.Common.{◌≡◌, ◌≢◌, ℕ, zero, suc, refl, sym, s
 use Rattle.std.specs.Prelude.{◌⊎◌, ◌==◌}
 use Rattle.std.specs.List.{Contains, range_with_len}
 use Rattle.std.proofs.lemmas.Bool.{both_ways, cases_eq, eq-eqb, ne_eqb}
-use Rattle.std.proofs.lemmas.List.Elements.{All-contains, All-take, Contains-append_cases, Contains-append_left, Contains-append_right, Contains-get_or, filter_passes}
+use Rattle.std.proofs.lemmas.List.Elements.{All-contains, All-take, Contains-append_cases, Contains-append_right, Contains-get_or, filter_passes}
 use Rattle.std.proofs.lemmas.List.Folds.{list_any_at, list_any_none}
 use Rattle.std.proofs.lemmas.Map.Made.{Contains-tail}
 use Rattle.ods_header.specs.declared.home.Home.{Home}
@@ -16,7 +16,7 @@ use Rattle.ods_alloc.specs.Extend.{is_one_of}
 use Rattle.ods_alloc.proofs.FreeTests.{free_number}
 use Rattle.ods_mount.specs.Sound.{IsSoundBy}
 use Rattle.ods_state.specs.Wants.{taken_blocks, taken_count, taken_numbers}
-use Rattle.ods_state.proofs.Frame.{chain_starts}
+use Rattle.ods_space.proofs.Chains.{head_of}
 use Rattle.ods_state.specs.Growth.{HadHeaders, IsTaking, all_headers}
 
 -- an element of a list passes its test, and anything else does not
@@ -59,7 +59,7 @@ later_segment I h index front k n (m ∷ ms) all f x c = by (later_segment I h i
   where
     by : (Contains ms x → (j : ℕ) × (segment_of (header_by I h index x) ≡ suc j)) → (m ≡ x) ⊎ (m ≢ x) → (j : ℕ) × (segment_of (header_by I h index x) ≡ suc j)
     by rest (inl e) =
-        (k, subst (λ y. segment_of (header_by I h index y) ≡ suc k) e (chain_starts I h (Some index) (front ++ blocks_of (header_by I h index n)) (suc k) m ms all f.4).segment)
+        (k, subst (λ y. segment_of (header_by I h index y) ≡ suc k) e (head_of I h (Some index) (front ++ blocks_of (header_by I h index n)) (suc k) m ms all f.4).segment)
     by rest (inr ne) = rest (Contains-tail m ms x ne c)
 
 -- what is taken was free
@@ -79,9 +79,6 @@ module _ {I : List (List ℕ)} {L : VolumeLayout} {n : ℕ} {headers old : List 
   -- all headers are the old ones and those that are taken
   pub old_or_new : (m : ℕ) → Contains (all_headers n headers numbers) m → Contains headers m ⊎ Contains (taken_numbers I L headers count) m
   old_or_new m c = Contains-append_cases headers (taken_numbers I L headers count) m (subst (λ l. Contains l m) t.all c)
-
-  pub old_is_one : (m : ℕ) → Contains headers m → Contains (all_headers n headers numbers) m
-  old_is_one m c = subst (λ l. Contains l m) (sym t.all) (Contains-append_left headers (taken_numbers I L headers count) m c)
 
   pub new_is_one : (m : ℕ) → Contains (taken_numbers I L headers count) m → Contains (all_headers n headers numbers) m
   new_is_one m c = subst (λ l. Contains l m) (sym t.all) (Contains-append_right headers (taken_numbers I L headers count) m c)

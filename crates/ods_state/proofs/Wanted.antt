@@ -8,12 +8,12 @@ use Rattle.ods_request.specs.declared.refusals.Refusal.{Refusal}
 use Rattle.ods_state.specs.Change.{disk}
 use Rattle.ods_state.specs.Moves.{AreTaken, MayTake}
 use Rattle.ods_state.specs.Wants.{HasHeaders, Lacks, Wants, lack_of}
-use Rattle.ods_state.proofs.Frame.{chain_is_one}
+use Rattle.ods_space.proofs.Chains.{same_chain}
 
 -- a file has its headers and blocks, and no others
 pub headers_are_one : (I : List (List ℕ)) (L : VolumeLayout) (n : ℕ) (hs ks bs cs : List ℕ) → HasHeaders I L n hs bs → HasHeaders I L n ks cs → (hs ≡ ks) × (bs ≡ cs)
 headers_are_one I L n hs ks bs cs p q =
-    let same = chain_is_one I L.home (index_for L n) [] 0 n p.0 q.0 bs cs p.2.chain q.2.chain in
+    let same = same_chain I L.home (index_for L n) [] 0 n p.0 bs q.0 cs p.2.chain q.2.chain in
     (p.1 ∙ ap (λ l. n ∷ l) same.0 ∙ sym q.1, same.1)
 
 pub wants_are_one : (I : List (List ℕ)) (L : VolumeLayout) (r : Request) (hs ks bs cs : List ℕ) (m n : ℕ) → Wants I L r hs bs m → Wants I L r ks cs n → (hs ≡ ks) × (bs ≡ cs) × (m ≡ n)

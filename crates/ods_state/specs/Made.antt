@@ -1,13 +1,14 @@
 -- What stands in the blocks that a request makes or changes: the headers of a file that takes blocks, its new blocks, and the entries of directories.
-use Rattle.std.specs.Prelude.{◌≡◌, ◌≢◌, ℕ, ◌+◌, ◌*◌, ◌/◌, ◌<◌, ◌≤◌, ◌==◌, List, ◌++◌, length, replicate, drop, slice_get, if◌then◌else◌, Some, IsTrue}
+use Rattle.std.specs.Prelude.{◌≡◌, ◌≢◌, ℕ, ◌+◌, ◌*◌, ◌/◌, ◌<◌, ◌≤◌, ◌==◌, List, [], ◌∷◌, ◌++◌, length, replicate, drop, slice_get, if◌then◌else◌, Some, IsTrue}
 use Rattle.std.specs.List.{All, Contains}
 use Rattle.ods_base.specs.Block.{zeros}
 use Rattle.ods_base.specs.Image.{block_at}
 use Rattle.ods_header.specs.Extension.{IsExtensionOf, IsMadeHeader}
-use Rattle.ods_header.specs.Header.{attributes_of, room_of}
+use Rattle.ods_header.specs.Header.{attributes_of, next_volume_of, room_of}
 use Rattle.ods_header.specs.Pointing.{BeginsPointers, KeepsFields, KeepsForm}
 use Rattle.ods_space.specs.Files.{HasBlocks}
 use Rattle.ods_space.specs.Layout.{Disk, header_at}
+use Rattle.ods_alloc.specs.Extend.{last_of}
 use Rattle.ods_directory.specs.declared.slot.Slot.{Slot}
 use Rattle.ods_directory.specs.Entry.{entry_at, is_used}
 use Rattle.ods_directory.specs.Mark.{IsSlot, grown, marked, written}
@@ -29,6 +30,8 @@ pub record AreMade (D E : Disk) (headers numbers : List ℕ) : Type 0 where
   pub made : (first m : ℕ) → slice_get (headers ++ numbers) 0 ≡ Some first → Contains numbers m → m ≢ first → IsExtensionOf (header_on E first) (header_on E m)
   -- a header is full before a new one follows it
   pub filled : (i m : ℕ) → length headers ≤ i + 1 → i + 1 < length (headers ++ numbers) → slice_get (headers ++ numbers) i ≡ Some m → room_of (header_on E m) / 2 ≡ 0
+  -- where no new one follows, the last one names the volume that it named
+  pub last_volume : numbers ≡ [] → (first : ℕ) (behind : List ℕ) → headers ≡ first ∷ behind → next_volume_of (header_on E (last_of first behind)) ≡ next_volume_of (header_on D (last_of first behind))
 
 -- the blocks that were taken are zeros
 abbrev pub AreZeroed : Disk → Disk → ℕ → Type 0

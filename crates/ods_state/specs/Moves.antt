@@ -1,5 +1,5 @@
 -- How the blocks that files hold, the free blocks and the free numbers move in an accepted request, and which blocks it may change.
-use Rattle.std.specs.Prelude.{◌≡◌, ◌≢◌, ◌↔◌, ℕ, ◌+◌, ◌⊎◌, not, ◌&&◌, ◌||◌, ◌==◌, nat_lt, List, [], ◌∷◌, ◌++◌, length, replicate, drop, slice_get, if◌then◌else◌, Some}
+use Rattle.std.specs.Prelude.{◌≡◌, ◌≢◌, ◌↔◌, ℕ, ◌+◌, ◌⊎◌, not, ◌&&◌, ◌||◌, ◌==◌, nat_lt, List, [], ◌∷◌, ◌++◌, length, replicate, slice_get, if◌then◌else◌, Some}
 use Rattle.std.specs.List.{Contains}
 use Rattle.ods_base.specs.Image.{block_at}
 use Rattle.ods_base.specs.Name.{RadName, directory_type, key_of}

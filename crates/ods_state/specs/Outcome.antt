@@ -1,9 +1,10 @@
 -- What a request makes of a volume, and why it is refused.
-use Rattle.std.specs.Prelude.{◌≡◌, ℕ, ◌<◌, ◌≤◌, true, [], ◌∷◌, ◌++◌, length, IsSome, MatchOption, Some}
+use Rattle.std.specs.Prelude.{◌≡◌, ℕ, ◌<◌, ◌≤◌, true, [], ◌∷◌, ◌++◌, length, IsSome, MatchOption, Option, Some}
 use Rattle.ods_base.specs.declared.file_id.Uic.{Uic}
 use Rattle.ods_space.specs.Draft.{Changes, applied}
 use Rattle.ods_request.specs.declared.requests.Request.{Request}
 use Rattle.ods_space.specs.Layout.{Disk}
+use Rattle.ods_alloc.specs.Counts.{Counts, AreCountsAfter}
 use Rattle.ods_request.specs.declared.answers.Answer.{Answer}
 use Rattle.ods_request.specs.declared.answers.Entry.{Entry}
 use Rattle.ods_request.specs.declared.refusals.Refusal.{Refusal}
@@ -37,10 +38,11 @@ pub data IsReason (v : State) (who : Uic) (r : Request) : Refusal → Type 0 whe
   lacks : (f : Refusal) → Lacks v.image v.layout r f → IsReason v who r f
   no_memory : takes_memory r ≡ true → IsReason v who r refusal.NoMemory
 
--- a request that is accepted, with its answer, and the blocks that it changes
+-- a request that is accepted, with its answer, the blocks that it changes, and the counts of the bitmaps afterwards, where they are made anew
 pub record Plan : Type 0 where
   pub entry : Entry
   pub changes : Changes
+  pub counts : Option Counts
 
 -- the volume with the plan made
 unfoldable pub carried_out : State → Plan → State
@@ -57,6 +59,7 @@ pub record IsLawfulPlan (v : State) (p : Plan) : Type 0 where
   pub room : length v.entries < v.limit
   pub accepts : Accepts v p.entry (carried_out v p)
   pub lawful : IsLawful (carried_out v p)
+  pub counted : AreCountsAfter v.image (applied v.image p.changes) v.layout p.counts
 
 -- a version that is given is 1 to 32,767
 abbrev pub IsVersionNumber : ℕ → Type 0

@@ -1,8 +1,7 @@
 //! Laws of what blocks show, over the definitions alone: each is the contract of a function with no body.
 ghost use Rattle.std.specs.Prelude.{ℕ, List};
 ghost use Rattle.ods_base.specs.declared.file_id.Uic.{Uic};
-ghost use Rattle.ods_request.specs.declared.refusals.Refusal.{Refusal};
-ghost use Rattle.ods_request.specs.declared.requests.Request.{Request};
+ghost use Rattle.ods_request.specs.{declared.refusals.Refusal.Refusal, declared.requests.Request.Request};
 ghost use Rattle.ods_space.specs.Layout.{VolumeLayout};
 ghost use Rattle.ods_state.specs.Laws.{HasCatalogue, CatalogueIsOne, MountedIsLawful, StepStaysLawful, UntouchedFilesStay, LinkedHeaderKeepsBlocks, CarriedOutIsStep, RefusalIsOne};
 

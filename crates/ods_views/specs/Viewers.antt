@@ -7,7 +7,8 @@ use Rattle.ods_base.specs.declared.file_id.Uic.{Uic}
 use Rattle.ods_request.specs.declared.answers.Answer.{Answer}
 use Rattle.ods_request.specs.declared.answers.Entry.{Entry}
 use Rattle.ods_request.specs.declared.requests.Query.{Query}
-use Rattle.ods_state.specs.Version.{State, IsVersionBy}
+use Rattle.ods_request.specs.Catalogue.{Catalogue}
+use Rattle.ods_state.specs.Version.{State, IsReplay, IsVersionBy}
 use Rattle.ods_views.specs.Versions.{AnswersBy}
 use Rattle.ods_views.specs.declared.version.Version.{Version}
 use Rattle.ods_views.specs.declared.version.Change.{Change}
@@ -44,8 +45,12 @@ IsAnsweredFrom M E who q (Err Closed) = ⊥
 abbrev pub IsShown : Version → Uic → Query → Result Answer ViewFault → Type 0
 IsShown x who q r = (M : List (List ℕ)) (E : List Entry) → IsVersionBy M E x.image x.layout → IsAnsweredFrom M E who q r
 
--- What an `ask` tells of the viewer before and after: its list has all that it was told of, and answers; closed, it stays as it was.
+-- the list leads from the mounted image to a catalogue
+abbrev pub LeadsOn : List (List ℕ) → List Entry → Type 0
+LeadsOn M E = (C : Catalogue) × IsReplay M E C
+
+-- What an `ask` tells of the viewer before and after: its list has all that it was told of, leads to a catalogue, and answers; closed, it stays as it was.
 abbrev pub Asked : List (List ℕ) → Viewed → Viewed → Uic → Query → Result Answer ViewFault → Type 0
-Asked mounted before after who q (Ok a) = (after.least ≤ length after.seen) × AnswersBy mounted after.seen who q (Ok a)
-Asked mounted before after who q (Err (Refused f)) = (after.least ≤ length after.seen) × AnswersBy mounted after.seen who q (Err f)
+Asked mounted before after who q (Ok a) = (after.least ≤ length after.seen) × LeadsOn mounted after.seen × AnswersBy mounted after.seen who q (Ok a)
+Asked mounted before after who q (Err (Refused f)) = (after.least ≤ length after.seen) × LeadsOn mounted after.seen × AnswersBy mounted after.seen who q (Err f)
 Asked mounted before after who q (Err Closed) = after ≡ before

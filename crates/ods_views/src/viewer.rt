@@ -2,9 +2,7 @@
 ghost use Rattle.std.specs.Prelude.{◌≡◌, max, length, MatchResult};
 ghost use Rattle.left_right.specs.Sides.{view};
 ghost use Rattle.ods_request.specs.Lists.{Begins};
-ghost use Rattle.ods_views.specs.Versions.{LookedFrom};
-ghost use Rattle.ods_views.specs.Viewers.{Asked, IsShown, newly, seen_by};
-ghost use Rattle.ods_views.specs.Refusals.{view_row};
+ghost use Rattle.ods_views.specs.{Versions.LookedFrom, Viewers.Asked, Viewers.IsShown, Viewers.newly, Viewers.seen_by, Refusals.view_row};
 ghost use Rattle.ods_mount.specs.Sound.{IsSoundBy};
 
 use crate::laws::answers_by_the_list;
@@ -19,6 +17,7 @@ use ods_request::{Answer, Query, Refusal};
 use std::marker::{Brand, Model};
 use thiserror::Error;
 
+/// A reader's place at the versions of a desk with this name.
 pub type DeskReader<J> = Reader<Version, View, Lists<J>>;
 
 /// Why a viewer does not answer a query.

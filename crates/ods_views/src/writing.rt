@@ -1,7 +1,6 @@
 //! The writer of a desk: how it begins, gets a change and shows it.
 ghost use Rattle.std.specs.Prelude.{◌≡◌, ◌<◌, ◌≤◌, ◌++◌, ◌∷◌, [], drop, fold, length, IfOk, MatchResult};
-ghost use Rattle.ods_views.specs.Versions.{led_on};
-ghost use Rattle.ods_views.specs.Viewers.{IsTied, seen_by};
+ghost use Rattle.ods_views.specs.{Versions.led_on, Viewers.IsTied, Viewers.seen_by};
 
 use crate::naming::Naming;
 use crate::rule::{Adding, Adds, Lists, View};

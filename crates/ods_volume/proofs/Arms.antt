@@ -1,13 +1,18 @@
 -- The arms of a match on a request.
-use Rattle.std.proofs.Common.{◌≡◌, ◌≢◌, ℕ, refl, List, Option}
+use Rattle.std.proofs.Common.{◌≡◌, ◌≢◌, ℕ, refl, sym, subst, List, Option}
 use Rattle.ods_base.specs.Name.{RadName}
 use Rattle.ods_base.specs.declared.file_id.FileId.{FileId}
+use Rattle.ods_base.specs.declared.file_id.Uic.{Uic}
 use Rattle.ods_base.specs.declared.name.Pick.{Pick}
+use Rattle.ods_request.specs.declared.answers.Answer.{Answer}
+use Rattle.ods_request.specs.declared.refusals.Refusal.{Refusal}
 use Rattle.ods_request.specs.declared.requests.Query.{Query}
 use Rattle.ods_request.specs.declared.requests.Query.TheVariants as query
 use Rattle.ods_request.specs.declared.requests.Request.{Request}
 use Rattle.ods_request.specs.declared.requests.Request.TheVariants.{Create, Extend, Delete, Enter, LookUp, Remove, Read, Write, List as Lines, Stat, SetUser}
 use Rattle.ods_request.specs.Queries.{request_of}
+use Rattle.ods_space.specs.Layout.{VolumeLayout}
+use Rattle.ods_state.specs.Served.{IsRefusalOf, IsStepOf}
 
 -- each request that is no query has an arm
 pub no_other : (r : Request) → ((q : Query) → request_of q ≢ r)
@@ -26,3 +31,12 @@ no_other (Lines dir) queries creates extends deletes enters lists writes sets re
 no_other (Write file vbn block) queries creates extends deletes enters lists writes sets removes = writes file vbn block refl
 no_other (SetUser file attributes) queries creates extends deletes enters lists writes sets removes = sets file attributes refl
 no_other (Remove dir name pick) queries creates extends deletes enters lists writes sets removes = removes dir name pick refl
+
+-- what an arm finds of its request is found of the request that was given
+pub step_as : {I : List (List ℕ)} {L : VolumeLayout} {who : Uic} {given its : Request} {a : Answer} {J : List (List ℕ)} {M : VolumeLayout}
+    → given ≡ its → IsStepOf I L who its a J M → IsStepOf I L who given a J M
+step_as {I} {L} {who} {given} {its} {a} {J} {M} is made = subst (λ r. IsStepOf I L who r a J M) (sym is) made
+
+pub refused_as : {I : List (List ℕ)} {L : VolumeLayout} (who : Uic) {given its : Request} (f : Refusal)
+    → given ≡ its → IsRefusalOf I L who its f → IsRefusalOf I L who given f
+refused_as {I} {L} who f is refused = subst (λ r. IsRefusalOf I L who r f) (sym is) refused

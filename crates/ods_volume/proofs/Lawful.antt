@@ -4,6 +4,7 @@ use Rattle.std.specs.Prelude.{IsSome}
 use Rattle.ods_base.specs.declared.file_id.Uic.{Uic}
 use Rattle.ods_space.specs.Layout.{VolumeLayout}
 use Rattle.ods_space.specs.Draft.{Changes, applied}
+use Rattle.ods_alloc.specs.Counts.{AreCountsAfter, Counts}
 use Rattle.ods_request.specs.declared.requests.Request.{Request}
 use Rattle.ods_request.specs.declared.answers.Answer.{Answer}
 use Rattle.ods_request.specs.declared.answers.Entry.{Entry}
@@ -49,11 +50,13 @@ module _ (v : State) (lawful : IsLawful v) (e : Entry) (J : List (List ℕ)) (M 
   }
 
 -- the plan of a step by which the layout stays
-pub plan_is_lawful : (v : State) → IsLawful v → (session nth : ℕ) (who : Uic) (r : Request) (a : Answer) (d : Changes) → length v.entries < v.limit
-    → IsStepOf v.image v.layout who r a (applied v.image d) v.layout → IsLawfulPlan v (record { entry = entry_of session nth who r a; changes = d })
+pub plan_is_lawful : (v : State) → IsLawful v → (session nth : ℕ) (who : Uic) (r : Request) (a : Answer) (d : Changes) (counts : Option Counts) → length v.entries < v.limit
+    → IsStepOf v.image v.layout who r a (applied v.image d) v.layout → AreCountsAfter v.image (applied v.image d) v.layout counts
+    → IsLawfulPlan v (record { entry = entry_of session nth who r a; changes = d; counts = counts })
 unfolding carried_out
-plan_is_lawful v lawful session nth who r a d room made = record {
+plan_is_lawful v lawful session nth who r a d counts room made counted = record {
   room = room;
   accepts = next_is_accepted v lawful (entry_of session nth who r a) (applied v.image d) v.layout room made;
   lawful = next_is_lawful v lawful (entry_of session nth who r a) (applied v.image d) v.layout room made;
+  counted = counted;
 }

@@ -3,3 +3,4 @@ pub mod Lawful
 pub mod Reasons
 pub mod Carried
 pub mod Arms
+pub mod Counted

@@ -1,5 +1,6 @@
--- What a volume is made of, and what it keeps beside what contracts see: the room of its list is reserved.
-use Rattle.std.specs.Prelude.{ℕ, ◌≤◌}
+-- What a volume is made of, and what it keeps beside what contracts see: the room of its list is reserved, and what the bitmaps have left is counted.
+use Rattle.std.specs.Prelude.{◌≡◌, ℕ, ◌≤◌}
+use Rattle.ods_alloc.specs.Counts.{Counts, counts_of}
 use Rattle.ods_state.specs.Version.{State, IsLawful}
 use Rattle.ods_volume.specs.declared.volume.Volume.TheInside.{Inside}
 
@@ -7,7 +8,10 @@ use Rattle.ods_volume.specs.declared.volume.Volume.TheInside.{Inside}
 abbrev pub state_of : Inside → State
 state_of v = record { mounted = v.mounted; entries = v.entries.items; image = v.image; layout = v.layout; limit = v.limit }
 
--- a volume is lawful, and its list has room for the limit without another growth
-pub record IsKept (v : State) (capacity : ℕ) : Type 0 where
+-- a volume is lawful, its limit is 1 to 65,536, its list has room for the limit without another growth, and its counts are those made anew of its blocks
+pub record IsKept (v : State) (capacity : ℕ) (counts : Counts) : Type 0 where
   pub lawful : IsLawful v
+  pub low : 1 ≤ v.limit
+  pub high : v.limit ≤ 65536
   pub reserved : v.limit ≤ capacity
+  pub counted : counts ≡ counts_of v.image v.layout

@@ -1,17 +1,22 @@
 //! Requests that are accepted: their change, and their entry in the list.
-ghost use Rattle.std.specs.Prelude.{◌≡◌, ◌≢◌, ◌<◌, false, length, IfOk, IfErr, IsErr, OnErr, Some};
-ghost use Rattle.ods_request.specs.declared.refusals.Refusal.{Refusal};
-ghost use Rattle.ods_request.specs.Catalogue.{Catalogue};
-ghost use Rattle.ods_request.specs.Faults.{fault_of};
-ghost use Rattle.ods_request.specs.Table.{takes_memory};
-ghost use Rattle.ods_state.specs.Version.{IsPresent};
-ghost use Rattle.ods_state.specs.Wants.{Lacks};
-ghost use Rattle.ods_state.specs.Outcome.{Accepts, CanBeAsked, IsReason, IsLawfulPlan, carried_out, entry_of};
+ghost use Rattle.std.specs.Prelude.{◌≡◌, ◌≢◌, ◌<◌, false, length, IfOk, IfErr, IsErr, OnErr, Some, unwrap_or};
+ghost use Rattle.ods_request.specs.{declared.refusals.Refusal.Refusal, Catalogue.Catalogue, Faults.fault_of, Table.takes_memory};
+ghost use Rattle.ods_state.specs.{Version.IsPresent, Wants.Lacks, Outcome.Accepts, Outcome.CanBeAsked, Outcome.IsReason, Outcome.IsLawfulPlan, Outcome.carried_out, Outcome.entry_of};
 
 use crate::planned::Prepared;
 use crate::volume::Volume;
+use ods_alloc::FreeCounts;
 use ods_base::Uic;
 use ods_request::{Answer, Refusal, Request};
+
+/// The new counts take the place of those that are kept; where there are none, those stay.
+fn put_counts(kept: &mut FreeCounts, new: Option<FreeCounts>)
+    ensures { kept.new ≡ unwrap_or new kept.old }
+{
+    if let Some(counts) = new {
+        *kept = counts;
+    }
+}
 
 impl Volume {
     /// Makes a change that was prepared for this volume as it is, puts its entry into the list and gives its answer. It takes
@@ -25,10 +30,12 @@ impl Volume {
             entry,
             answer,
             draft,
+            counts,
         } = prepared;
         match self.entries.push(entry) {
             Ok(()) => {
                 draft.apply(&mut self.image);
+                put_counts(&mut self.counts, counts);
                 answer
             }
             Err(_) => unreachable!(),

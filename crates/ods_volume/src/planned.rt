@@ -2,18 +2,20 @@
 ghost use Rattle.std.specs.Prelude.{◌≡◌, IfOk, OnErr};
 ghost use Rattle.ods_request.specs.Lines.{HasLines};
 
+use ods_alloc::FreeCounts;
 use ods_request::{Answer, Entry};
 use ods_space::Draft;
 use std::alloc::AllocError;
 use std::marker::Model;
 
-/// A request that is accepted, with its answer, and the blocks that it changes. The answer is there twice, once for the list
-/// and once for the caller, so that making the change takes no memory.
+/// A request that is accepted, with its answer, the blocks that it changes, and the counts of the bitmaps afterwards, where they are
+/// made anew. The answer is there twice, once for the list and once for the caller, so that making the change takes no memory.
 #[derive(Drop)]
 pub struct Prepared {
     pub(crate) entry: Entry,
     pub(crate) answer: Answer,
     pub(crate) draft: Draft,
+    pub(crate) counts: Option<FreeCounts>,
 }
 
 impl Model for Prepared {
@@ -22,15 +24,19 @@ impl Model for Prepared {
 
     ghost Value = { Plan };
 
-    ghost view = { λ p. record { entry = p.entry; changes = p.draft } };
+    ghost view = { λ p. record { entry = p.entry; changes = p.draft; counts = p.counts } };
 
     ghost invariant = { λ p. p.answer ≡ p.entry.answer };
 }
 
 impl Prepared {
-    /// The accepted request of this entry, which changes these blocks. Only the lines of a directory take memory.
-    pub(crate) fn new(entry: Entry, draft: Draft) -> Result<Prepared, AllocError>
-        ensures ok { IfOk result (λ p. (p.entry ≡ entry) × (p.changes ≡ draft)) }
+    /// The accepted request of this entry, which changes these blocks and leaves these counts. Only the lines of a directory take memory.
+    pub(crate) fn new(
+        entry: Entry,
+        draft: Draft,
+        counts: Option<FreeCounts>,
+    ) -> Result<Prepared, AllocError>
+        ensures ok { IfOk result (λ p. p ≡ record { entry = entry; changes = draft; counts = counts }) }
         ensures err { OnErr result (HasLines entry.answer) }
     {
         match entry.answer.copy() {
@@ -38,6 +44,7 @@ impl Prepared {
                 entry,
                 answer,
                 draft,
+                counts,
             }),
             Err(error) => Err(error),
         }

@@ -1,26 +1,21 @@
 //! What a request would do, with all the memory that it takes. Here alone the calls of the layers below are made that answer a
 //! request or draft its change.
-ghost use Rattle.std.specs.Prelude.{◌≡◌, ◌≢◌, ◌<◌, false, length, MatchResult, IfOk, IfErr, IsErr, Some};
+ghost use Rattle.std.specs.Prelude.{◌≡◌, ◌≢◌, ◌<◌, false, true, length, MatchResult, IfOk, IfErr, OnErr, IsErr, Some};
+ghost use Rattle.ods_alloc.specs.Counts.{AreCountsAfter, counts_of};
 ghost use Rattle.ods_space.specs.Draft.{applied};
 ghost use Rattle.ods_mount.specs.Sound.{IsSoundBy};
-ghost use Rattle.ods_request.specs.declared.refusals.Refusal.{Refusal};
-ghost use Rattle.ods_request.specs.Catalogue.{Catalogue};
-ghost use Rattle.ods_request.specs.Faults.{fault_of};
-ghost use Rattle.ods_request.specs.Queries.{request_of};
-ghost use Rattle.ods_request.specs.Table.{takes_memory};
-ghost use Rattle.ods_state.specs.Version.{IsPresent};
-ghost use Rattle.ods_state.specs.Wants.{Lacks};
-ghost use Rattle.ods_state.specs.Served.{IsStepOf, IsRefusalOf};
-ghost use Rattle.ods_state.specs.Outcome.{CanBeAsked, IsReason, IsLawfulPlan, entry_of};
+ghost use Rattle.ods_request.specs.{declared.answers.Answer.Answer, declared.refusals.Refusal.Refusal, Catalogue.Catalogue, Faults.fault_of, Queries.request_of, Table.takes_memory};
+ghost use Rattle.ods_state.specs.{Version.IsPresent, Wants.Lacks, Served.IsStepOf, Served.IsRefusalOf, Outcome.CanBeAsked, Outcome.IsReason, Outcome.IsLawfulPlan, Outcome.entry_of};
 
 use crate::planned::Prepared;
 use crate::volume::Volume;
+use ods_alloc::FreeCounts;
 use ods_base::{Image, Uic};
 use ods_change::{create, delete, enter, extend, remove, set_user, write};
 use ods_look::{list, look};
 use ods_request::{Answer, Entry, Query, Refusal, Request};
 use ods_space::{Draft, Layout};
-use std::alloc::Global;
+use std::alloc::{AllocError, Global};
 
 /// What a query is answered. It changes no block.
 fn look_only(
@@ -45,11 +40,13 @@ fn carry_out(
     alloc: Global,
     image: &Image,
     layout: &Layout,
+    counts: &FreeCounts,
     who: Uic,
     request: &Request,
 ) -> Result<(Answer, Draft), Refusal>
     requires asked { CanBeAsked request.now }
     requires sound { IsSoundBy image.now layout.now }
+    requires counts { counts.now ≡ counts_of image.now layout.now }
     ensures { MatchResult result (λ p. IsStepOf image.now layout.now who request.now p.0 (applied image.now p.1) layout.now)
         (IsRefusalOf image.now layout.now who request.now) }
 {
@@ -62,12 +59,14 @@ fn carry_out(
             version,
             blocks,
             stamp,
-        } => match create(alloc, image, layout, who, name, version, blocks, stamp) {
+        } => match create(
+            alloc, image, layout, counts, who, name, version, blocks, stamp,
+        ) {
             Ok((draft, file)) => Ok((Answer::Created(file), draft)),
             Err(refusal) => Err(refusal),
         },
         Request::Extend { file, blocks } => {
-            match extend(alloc, image, layout, who, file, blocks) {
+            match extend(alloc, image, layout, counts, who, file, blocks) {
                 Ok((draft, count)) => Ok((Answer::Extended(count), draft)),
                 Err(refusal) => Err(refusal),
             }
@@ -81,7 +80,7 @@ fn carry_out(
             name,
             version,
             file,
-        } => match enter(alloc, image, layout, who, dir, name, version, file) {
+        } => match enter(alloc, image, layout, counts, who, dir, name, version, file) {
             Ok((draft, version)) => Ok((Answer::Entered(version), draft)),
             Err(refusal) => Err(refusal),
         },
@@ -112,6 +111,26 @@ fn carry_out(
     }
 }
 
+/// The counts of the bitmaps once the draft of a request is applied; none where they stay. No memory is taken for a query.
+fn counts_after(
+    counts: &FreeCounts,
+    image: &Image,
+    layout: &Layout,
+    request: &Request,
+    draft: &Draft,
+) -> Result<Option<FreeCounts>, AllocError>
+    requires sound { IsSoundBy image.now layout.now }
+    requires counts { counts.now ≡ counts_of image.now layout.now }
+    requires made { (who : Uic) × (a : Answer) × IsStepOf image.now layout.now who request.now a (applied image.now draft.now) layout.now }
+    ensures ok { IfOk result (AreCountsAfter image.now (applied image.now draft.now) layout.now) }
+    ensures err { OnErr result (takes_memory request.now ≡ true) }
+{
+    if let Some(_query) = request.as_query() {
+        return Ok(None);
+    }
+    counts.after(image, layout, draft)
+}
+
 impl Volume {
     /// What a request would do, with all the memory that it takes: where it is given, the change itself takes none.
     pub fn prepare(
@@ -139,8 +158,25 @@ impl Volume {
             return Err(Refusal::ListFull);
         }
         let alloc = *self.entries.allocator();
-        match carry_out(alloc, &self.image, &self.layout, who, &request) {
+        match carry_out(
+            alloc,
+            &self.image,
+            &self.layout,
+            &self.counts,
+            who,
+            &request,
+        ) {
             Ok((answer, draft)) => {
+                let counts = match counts_after(
+                    &self.counts,
+                    &self.image,
+                    &self.layout,
+                    &request,
+                    &draft,
+                ) {
+                    Ok(counts) => counts,
+                    Err(_) => return Err(Refusal::NoMemory),
+                };
                 let entry = Entry {
                     session,
                     nth,
@@ -148,7 +184,7 @@ impl Volume {
                     request,
                     answer,
                 };
-                match Prepared::new(entry, draft) {
+                match Prepared::new(entry, draft, counts) {
                     Ok(prepared) => Ok(prepared),
                     Err(_) => Err(Refusal::NoMemory),
                 }

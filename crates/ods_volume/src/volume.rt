@@ -1,10 +1,12 @@
 //! The volume: how it begins, and what is shown of it.
 ghost use Rattle.std.specs.Prelude.{◌≡◌, ◌≤◌, [], length, IfOk, IfErr};
+ghost use Rattle.ods_alloc.specs.Counts.{free_counts};
 ghost use Rattle.ods_space.specs.Free.{free_blocks, free_numbers};
 ghost use Rattle.ods_mount.specs.Faults.{IsSound};
 ghost use Rattle.ods_request.specs.Catalogue.{Catalogue};
 ghost use Rattle.ods_state.specs.Version.{IsVersionBy, IsPresent, IsLawful};
 
+use ods_alloc::FreeCounts;
 use ods_base::{Image, NoMemory};
 use ods_mount::Mounted;
 use ods_request::Entry;
@@ -12,7 +14,8 @@ use ods_space::Layout;
 use std::alloc::Global;
 use std::marker::Model;
 
-/// A mounted image that changes by requests, and the list of those that were accepted.
+/// A mounted image that changes by requests, and the list of those that were accepted. What is free is counted for
+/// each block of the bitmaps, so that a request reads none of which nothing is left.
 #[derive(Drop)]
 pub struct Volume {
     pub(crate) mounted: Image,
@@ -20,6 +23,7 @@ pub struct Volume {
     pub(crate) layout: Layout,
     pub(crate) entries: Vec<Entry>,
     pub(crate) limit: u32,
+    pub(crate) counts: FreeCounts,
 }
 
 impl Model for Volume {
@@ -32,12 +36,12 @@ impl Model for Volume {
 
     ghost view = { state_of };
 
-    ghost invariant = { λ v. IsKept (state_of v) (vec_capacity v.entries) };
+    ghost invariant = { λ v. IsKept (state_of v) (vec_capacity v.entries) v.counts };
 }
 
 impl Volume {
-    /// The mounted image and an empty list, with room for as many entries as the limit. All the memory that the list takes is
-    /// taken here. After an error the mounted image comes back.
+    /// The mounted image and an empty list, with room for as many entries as the limit, and what is free counted. All the memory that
+    /// the list takes is taken here. After an error the mounted image comes back.
     pub fn new(alloc: Global, mounted: Mounted, limit: u32) -> Result<Volume, (Mounted, NoMemory)>
         requires low { 1 ≤ limit }
         requires high { limit ≤ 65536 }
@@ -52,6 +56,10 @@ impl Volume {
             Ok(entries) => entries,
             Err(_) => return Err((mounted, NoMemory)),
         };
+        let counts = match FreeCounts::of(alloc, mounted.image(), mounted.layout()) {
+            Ok(counts) => counts,
+            Err(_) => return Err((mounted, NoMemory)),
+        };
         let (image, layout) = mounted.into_parts();
         Ok(Volume {
             mounted: image,
@@ -59,6 +67,7 @@ impl Volume {
             layout,
             entries,
             limit,
+            counts,
         })
     }
 
@@ -108,7 +117,9 @@ impl Volume {
 
     /// How many entries the list may have, from 1 to 65,536.
     pub fn limit(&self) -> u32
-        ensures { result ≡ self.now.limit }
+        ensures value { result ≡ self.now.limit }
+        ensures low { 1 ≤ result }
+        ensures high { result ≤ 65536 }
     {
         self.limit
     }
@@ -117,7 +128,15 @@ impl Volume {
     pub fn free_count(&self) -> u32
         ensures { result ≡ length (free_blocks self.now.image self.now.layout) }
     {
-        ods_alloc::free_count(&self.image, &self.layout)
+        self.counts.total()
+    }
+
+    /// How many free blocks each block of the storage bitmap covers, in order; the storage control block is not counted. The counts
+    /// are kept, and equal those that are made anew of the image.
+    pub fn counts(&self) -> &[u32]
+        ensures { result.now ≡ free_counts self.now.image self.now.layout }
+    {
+        self.counts.as_slice()
     }
 
     /// How many file numbers are free.

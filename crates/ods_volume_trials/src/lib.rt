@@ -5,4 +5,4 @@ mod reader;
 #[cfg(test)]
 mod tests;
 
-pub use reader::{plain_catalogue, plain_free_blocks, plain_free_numbers, plain_id};
+pub use reader::{plain_catalogue, plain_counts, plain_free_blocks, plain_free_numbers, plain_id};

@@ -185,15 +185,34 @@ pub fn plain_catalogue(alloc: Global, image: &Image) -> Result<Catalogue, AllocE
     Ok(catalogue)
 }
 
-/// How many blocks are free: the bits that are set in the blocks of BITMAP.SYS behind the first, up to the end of the image.
-pub fn plain_free_blocks(alloc: Global, image: &Image) -> Result<u32, AllocError> {
-    let bitmap = blocks_of(alloc, image, 2)?;
-    let mut free = 0u32;
-    for lbn in 0..image.len() {
-        if let Some(block) = bitmap.get(1 + lbn as usize / 4096) {
-            let bit = lbn % 4096;
-            free = free.wrapping_add((block.byte(bit as usize / 8) >> (bit % 8) & 1) as u32);
+/// How many bits of a bitmap block are set, of as many as there are blocks left in the image.
+fn plain_count(block: &Block, left: u32) -> u32 {
+    let mut count = 0u32;
+    for bit in 0..4096u32 {
+        if bit < left {
+            count = count.wrapping_add((block.byte(bit as usize / 8) >> (bit % 8) & 1) as u32);
         }
+    }
+    count
+}
+
+/// How many blocks are free by each block of BITMAP.SYS behind the first, bit by bit; bits past the end of the image do not count.
+pub fn plain_counts(alloc: Global, image: &Image) -> Result<Vec<u32>, AllocError> {
+    let bitmap = blocks_of(alloc, image, 2)?;
+    let mut counts = Vec::new(alloc);
+    let mut left = image.len();
+    for k in 1..bitmap.len() {
+        counts.push(plain_count(&bitmap[k], left))?;
+        left = left.saturating_sub(4096);
+    }
+    Ok(counts)
+}
+
+/// How many blocks are free.
+pub fn plain_free_blocks(alloc: Global, image: &Image) -> Result<u32, AllocError> {
+    let mut free = 0u32;
+    for count in &plain_counts(alloc, image)? {
+        free = free.wrapping_add(*count);
     }
     Ok(free)
 }

@@ -1,5 +1,6 @@
 //! Tests of requests on a volume, one idea a file.
 mod ample;
+mod counted;
 mod growing;
 mod long_names;
 mod naming;

@@ -1,7 +1,9 @@
 //! The index bitmap and the storage bitmap: single bits, counts and picks.
 use super::layouts::{layout_of, scattered};
 use crate::volumes::sample_of;
-use ods_alloc::{SpaceFault, free_count, is_number_free, number_count, pick_blocks, pick_numbers};
+use ods_alloc::{
+    FreeCounts, SpaceFault, free_count, is_number_free, number_count, pick_blocks, pick_numbers,
+};
 use ods_space::{in_use, is_free};
 use std::test::Fail;
 
@@ -62,9 +64,12 @@ fn blocks_of_large_volume(rt: HostRuntime) -> Result<(), Fail> {
     ] {
         assert_eq!(rt; is_free(&image, &layout, lbn), free, "block {lbn}");
     }
-    let picked = pick_blocks(rt.alloc(), &image, &layout, 4_074)?;
+    let counts = FreeCounts::of(rt.alloc(), &image, &layout)?;
+    assert_eq!(rt; counts.as_slice(), [4_073, 104].as_slice());
+    assert_eq!(rt; counts.total(), 4_177);
+    let picked = pick_blocks(rt.alloc(), &image, &layout, &counts, 4_074)?;
     assert_eq!(rt; picked.last().copied(), Some(4_096));
-    let full = pick_blocks(rt.alloc(), &image, &layout, 4_178).err();
+    let full = pick_blocks(rt.alloc(), &image, &layout, &counts, 4_178).err();
     assert_eq!(rt; full, Some(SpaceFault::VolumeFull));
     Ok(())
 }
@@ -75,13 +80,14 @@ fn room_beside_scattered_file(rt: HostRuntime) -> Result<(), Fail> {
     let layout = layout_of(rt.alloc(), &image)?;
     assert_eq!(rt; free_count(&image, &layout), 387);
     assert_eq!(rt; number_count(&image, &layout), 9);
-    let picked = pick_blocks(rt.alloc(), &image, &layout, 2)?;
+    let counts = FreeCounts::of(rt.alloc(), &image, &layout)?;
+    let picked = pick_blocks(rt.alloc(), &image, &layout, &counts, 2)?;
     assert_eq!(rt; picked.as_slice(), [23, 25].as_slice());
-    let full = pick_blocks(rt.alloc(), &image, &layout, 388).err();
+    let full = pick_blocks(rt.alloc(), &image, &layout, &counts, 388).err();
     assert_eq!(rt; full, Some(SpaceFault::VolumeFull));
-    let numbers = pick_numbers(rt.alloc(), &image, &layout, 2)?;
+    let numbers = pick_numbers(rt.alloc(), &image, &layout, &counts, 2)?;
     assert_eq!(rt; numbers.as_slice(), [7, 9].as_slice());
-    let full = pick_numbers(rt.alloc(), &image, &layout, 10).err();
+    let full = pick_numbers(rt.alloc(), &image, &layout, &counts, 10).err();
     assert_eq!(rt; full, Some(SpaceFault::HeadersFull));
     Ok(())
 }

@@ -1,131 +1,174 @@
-//! Refused memory at a desk: it is opened, or hands the volume back; a request is answered as ever, or NoMemory with all as it was before,
-//! for viewers too. `bench/refuse_memory.sh` runs this test with each allocation refused in turn.
+//! Refused memory at a desk: it is opened, or hands the volume back as it was; a request is answered as ever, or NoMemory with the image, the
+//! list, the mounted image and what a viewer shows as before, and NoMemory only where an allocation of that call was refused.
+//! `bench/refuse_memory.sh` runs this test with each allocation refused in turn; a run meets one refusal, so what was refused is done again.
 ghost use Rattle.std.specs.Prelude.{◌≡◌};
 ghost use Rattle.ods_state.specs.Outcome.{CanBeAsked};
 
+use super::requests::{block_read, block_viewed, block_written, file_made};
 use super::runs::{stamp, volume_of};
-use ods_format_tests::persons::{FIRST, USER, a_txt, letter_a};
+use ods_base::Image;
+use ods_format_tests::persons::{FIRST, MASTER, USER, letter_a, reserved_lines};
+use ods_format_tests::settings::was_refused;
 use ods_format_tests::volumes::sample_of;
-use ods_request::{Answer, Query, Refusal, Request, Stamp};
+use ods_request::{Answer, Entry, Refusal, Request, Stamp};
 use ods_share::{Desk, Naming, ViewFault, Viewer};
 use ods_volume::Volume;
 use std::alloc::Global;
 use std::marker::Brand;
 use std::process::Abort;
+use std::rt::{Env, Files};
 use std::sync::Wait;
 use std::test::Fail;
 
-/// A Create of a file of one block.
-fn creates(stamp: Stamp) -> Request
+/// A List of the master directory.
+fn lists() -> Request
     ensures { CanBeAsked result }
 {
-    Request::Create {
-        name: a_txt(),
-        version: 1,
-        blocks: 1,
-        stamp,
-    }
+    Request::List { dir: MASTER }
 }
 
-/// A Write of its block.
-fn writes() -> Request
-    ensures { CanBeAsked result }
-{
-    Request::Write {
-        file: FIRST,
-        vbn: 1,
-        block: letter_a(),
-    }
-}
-
-/// A Read of its block.
-fn reads() -> Request
-    ensures { CanBeAsked result }
-{
-    Request::Read {
-        file: FIRST,
-        vbn: 1,
-    }
-}
-
-/// What a viewer shows of its block.
+/// What a viewer shows of the first block of that file.
 fn shown<J: Naming>(viewer: &mut Viewer<J>) -> Result<Answer, ViewFault> {
-    let query = Query::Read {
-        file: FIRST,
-        vbn: 1,
-    };
-    viewer.ask(USER, query)
+    viewer.ask(USER, block_viewed())
 }
 
-/// Makes a request whose memory may be refused: once more then, since a run meets one refusal.
-fn submitted<J: Naming, R: Abort + Wait>(
+/// What a volume is before a call whose memory may be refused.
+#[derive(Drop)]
+struct Noted {
+    image: Image,
+    mounted: Image,
+    entries: Vec<Entry>,
+}
+
+/// The volume as it is.
+fn as_it_is(alloc: Global, volume: &Volume) -> Result<Noted, Fail> {
+    let mut entries = Vec::new(alloc);
+    for entry in volume.entries() {
+        entries.push(Entry {
+            session: entry.session,
+            nth: entry.nth,
+            who: entry.who,
+            request: entry.request,
+            answer: entry.answer.copy()?,
+        })?;
+    }
+    Ok(Noted {
+        image: volume.image().copy()?,
+        mounted: volume.mounted().copy()?,
+        entries,
+    })
+}
+
+/// The volume is as it was.
+fn is_as_noted(rt: &impl Abort, volume: &Volume, noted: &Noted) {
+    assert!(rt; *volume.image() == noted.image, "the image changed");
+    assert!(rt;
+        *volume.mounted() == noted.mounted,
+        "the mounted image changed"
+    );
+    assert!(rt;
+        volume.entries() == noted.entries.as_slice(),
+        "the list changed"
+    );
+}
+
+/// Makes a request whose memory may be refused, and makes it again then.
+fn submitted<J: Naming, R: Abort + Env + Files + Wait>(
     rt: &R,
+    alloc: Global,
     desk: &mut Desk<J>,
     viewer: &mut Viewer<J>,
-    nth: u32,
     request: &Request,
-) -> Result<Answer, Refusal>
+    wanted: &Result<Answer, Refusal>,
+) -> Result<(), Fail>
     requires { CanBeAsked request.now }
 {
-    let before = shown(viewer);
-    let entries = desk.volume().entries().len();
-    let (answer, told) = desk.submit(rt, 1, nth, USER, *request);
+    let noted = as_it_is(alloc, desk.volume())?;
+    let seen = shown(viewer);
+    let before = was_refused(rt);
+    let (answer, told) = desk.submit(rt, 1, 1, USER, *request);
     assert_eq!(rt; told.entries() as usize, desk.volume().entries().len());
     if answer != Err(Refusal::NoMemory) {
-        return answer;
+        assert!(rt; answer == *wanted, "{request:?} was answered {answer:?}");
+        return Ok(());
     }
-    assert_eq!(rt; desk.volume().entries().len(), entries);
-    assert!(rt;
-        shown(viewer) == before,
-        "a viewer is shown what was refused"
-    );
-    let (answer, _) = desk.submit(rt, 1, nth, USER, *request);
-    answer
+    assert!(rt; !before && was_refused(rt), "no allocation was refused");
+    assert!(rt; wanted.is_ok(), "a refusal came behind want of memory");
+    is_as_noted(rt, desk.volume(), &noted);
+    assert!(rt; shown(viewer) == seen, "what was refused is shown");
+    let (answer, _) = desk.submit(rt, 1, 1, USER, *request);
+    assert!(rt; answer == *wanted, "{request:?} was answered {answer:?}");
+    Ok(())
 }
 
-/// The requests at a desk, and what its viewer shows at last.
-fn served<J: Naming, R: Abort + Wait>(
+/// The requests at a desk of four entries, and what its viewer shows at last.
+fn served<J: Naming, R: Abort + Env + Files + Wait>(
     rt: &R,
+    alloc: Global,
     desk: &mut Desk<J>,
     viewer: &mut Viewer<J>,
     stamp: Stamp,
-) {
-    let made = submitted(rt, desk, viewer, 1, &creates(stamp));
-    assert!(rt; made == Ok(Answer::Created(FIRST)), "{made:?}");
-    let written = submitted(rt, desk, viewer, 2, &writes());
-    assert!(rt; written == Ok(Answer::Done), "{written:?}");
-    let read = submitted(rt, desk, viewer, 3, &reads());
-    assert!(rt; read == Ok(Answer::Bytes(letter_a())), "{read:?}");
+) -> Result<(), Fail> {
+    let block = Answer::Bytes(letter_a());
+    let lines = Ok(Answer::Names(reserved_lines(alloc)?));
+    let made = Ok(Answer::Created(FIRST));
+    submitted(rt, alloc, desk, viewer, &file_made(stamp), &made)?;
+    let missing = Err(Refusal::NoSuchBlock);
+    submitted(rt, alloc, desk, viewer, &block_written(2), &missing)?;
+    submitted(
+        rt,
+        alloc,
+        desk,
+        viewer,
+        &block_written(1),
+        &Ok(Answer::Done),
+    )?;
+    submitted(rt, alloc, desk, viewer, &lists(), &lines)?;
+    submitted(rt, alloc, desk, viewer, &block_read(), &Ok(block))?;
+    let full = Err(Refusal::ListFull);
+    submitted(rt, alloc, desk, viewer, &block_read(), &full)?;
     let seen = shown(viewer);
     assert!(rt; seen == Ok(Answer::Bytes(letter_a())), "{seen:?}");
+    Ok(())
 }
 
-/// Opens a desk, and makes requests at it.
-fn opened<J: Naming, R: Abort + Wait>(rt: &R, alloc: Global, volume: Volume, stamp: Stamp) -> Volume
+/// Opens a desk, again where memory was refused, and makes requests at it.
+fn opened<J: Naming, R: Abort + Env + Files + Wait>(
+    rt: &R,
+    alloc: Global,
+    volume: Volume,
+    stamp: Stamp,
+) -> Result<Volume, Fail>
     requires mounted { volume.mounted ≡ J.mounted }
     requires opening { volume.entries ≡ J.opening }
 {
-    match Desk::<J>::new(rt, alloc, volume, 1) {
-        Ok((mut desk, mut viewers)) => {
-            if let Some(mut viewer) = viewers.pop() {
-                served(rt, &mut desk, &mut viewer, stamp);
+    let noted = as_it_is(alloc, &volume)?;
+    let before = was_refused(rt);
+    let (mut desk, mut viewers) = match Desk::<J>::new(rt, alloc, volume, 2) {
+        Ok(both) => both,
+        Err((volume, _)) => {
+            assert!(rt; !before && was_refused(rt), "no allocation was refused");
+            is_as_noted(rt, &volume, &noted);
+            match Desk::<J>::new(rt, alloc, volume, 2) {
+                Ok(both) => both,
+                Err(_) => return Err("memory for a desk".into()),
             }
-            desk.close(rt)
         }
-        Err((volume, _)) => volume,
-    }
+    };
+    let done = match viewers.pop() {
+        Some(mut viewer) => served(rt, alloc, &mut desk, &mut viewer, stamp),
+        None => Err("a viewer".into()),
+    };
+    let volume = desk.close(rt);
+    done?;
+    Ok(volume)
 }
 
 #[test]
 fn refused_memory_at_a_desk(rt: HostRuntime) -> Result<(), Fail> {
     let alloc = rt.alloc();
-    let volume = volume_of(&rt, alloc, sample_of(40).image(alloc)?, 4_096)?;
-    let stamp = stamp()?;
-    let volume = opened::<Brand, _>(&rt, alloc, volume, stamp);
-    let entries = volume.entries().len();
-    assert!(rt;
-        entries == 0 || entries == 3,
-        "the list has {entries} entries"
-    );
+    let volume = volume_of(&rt, alloc, sample_of(40).image(alloc)?, 4)?;
+    let volume = opened::<Brand, _>(&rt, alloc, volume, stamp()?)?;
+    assert_eq!(rt; volume.entries().len(), 4);
     Ok(())
 }

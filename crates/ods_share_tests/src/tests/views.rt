@@ -1,17 +1,17 @@
 //! Views: what sessions are shown beside the lock, and viewers in hand.
 ghost use Rattle.std.specs.Prelude.{◌≡◌, All, IfOk};
-ghost use Rattle.ods_state.specs.Outcome.{CanBeAsked};
 ghost use Rattle.ods_share.specs.Scripts.{CanBeObeyed, CanBeRun};
 
-use super::runs::{Open, Ran, calls_of, run_on, settles, two_files, volume_of};
+use super::requests::{block_viewed, block_written, file_made};
+use super::runs::{Open, Ran, calls_of, run_on, settles, stamp, two_files, volume_of};
 use super::scripts::{add, add_script, create, read_last, script, write, write_last};
 use super::sessions::{Short, alone, replied};
 use ods_base::Pick;
 use ods_format_tests::persons::{
-    FIRST, MASTER, NONE, USER, a_txt, corimg, letter_a, old_block, other_attributes, reserved_id,
+    FIRST, MASTER, NONE, USER, a_txt, corimg, letter_a, old_block, reserved_id,
 };
 use ods_format_tests::volumes::sample_of;
-use ods_request::{Answer, Query, Refusal, Request};
+use ods_request::{Answer, Refusal, Stamp};
 use ods_share::{Action, Desk, Gate, Id, Look, Naming, Outcome, Reply, Script, ViewFault, Viewer};
 use ods_volume::Volume;
 use std::alloc::Global;
@@ -122,38 +122,13 @@ fn dollar_follows_a_look_that_is_viewed(rt: HostRuntime) -> Result<(), Fail> {
     settles(&rt, alloc, &volume, calls.as_slice(), &[0])
 }
 
-/// A request that changes the attributes of the first file.
-fn attributes_set() -> Request
-    ensures { CanBeAsked result }
-{
-    Request::SetUser {
-        file: FIRST,
-        attributes: other_attributes(),
-    }
-}
-
-/// A request that writes the block of the first file.
-fn block_written() -> Request
-    ensures { CanBeAsked result }
-{
-    Request::Write {
-        file: FIRST,
-        vbn: 1,
-        block: letter_a(),
-    }
-}
-
 /// What a viewer that moves to a second thread shows there of the first block of the first file.
 fn asked<J: Naming + Send + Sync, R: Threads + Wait + Sync>(
     rt: &R,
     viewer: Viewer<J>,
 ) -> Result<Answer, ViewFault> {
     let mut viewer = viewer;
-    let query = Query::Read {
-        file: FIRST,
-        vbn: 1,
-    };
-    let (seen, _) = thread::join(rt, move || viewer.ask(USER, query), || ());
+    let (seen, _) = thread::join(rt, move || viewer.ask(USER, block_viewed()), || ());
     seen
 }
 
@@ -162,14 +137,15 @@ fn in_hand<J: Naming + Send + Sync, R: Abort + Threads + Wait + Sync>(
     rt: &R,
     alloc: Global,
     volume: Volume,
+    stamp: Stamp,
 ) -> Result<Volume, Fail>
     requires mounted { volume.mounted ≡ J.mounted }
     requires opening { volume.entries ≡ J.opening }
 {
     match Desk::<J>::new(rt, alloc, volume, 2) {
         Ok((mut desk, mut viewers)) => {
-            let (set, first) = desk.submit(rt, 1, 1, USER, attributes_set());
-            let (written, second) = desk.submit(rt, 1, 2, USER, block_written());
+            let (made, first) = desk.submit(rt, 1, 1, USER, file_made(stamp));
+            let (written, second) = desk.submit(rt, 1, 2, USER, block_written(1));
             let told = second.entries();
             let seen = match viewers.pop() {
                 Some(mut viewer) => {
@@ -184,7 +160,7 @@ fn in_hand<J: Naming + Send + Sync, R: Abort + Threads + Wait + Sync>(
                 Some(viewer) => asked(rt, viewer),
                 None => Ok(Answer::Done),
             };
-            assert!(rt; set == Ok(Answer::Done) && written == Ok(Answer::Done));
+            assert!(rt; made == Ok(Answer::Created(FIRST)) && written == Ok(Answer::Done));
             assert_eq!(rt; told, 2);
             assert!(rt; seen == Ok(Answer::Bytes(letter_a())));
             assert!(rt; late == Err(ViewFault::Closed));
@@ -197,8 +173,8 @@ fn in_hand<J: Naming + Send + Sync, R: Abort + Threads + Wait + Sync>(
 #[test]
 fn viewer_shows_what_it_learned(rt: HostRuntime) -> Result<(), Fail> {
     let alloc = rt.alloc();
-    let volume = volume_of(&rt, alloc, two_files(alloc)?, 4_096)?;
-    let volume = in_hand::<Brand, _>(&rt, alloc, volume)?;
+    let volume = volume_of(&rt, alloc, sample_of(40).image(alloc)?, 4_096)?;
+    let volume = in_hand::<Brand, _>(&rt, alloc, volume, stamp()?)?;
     assert_eq!(rt; volume.entries().len(), 2);
     Ok(())
 }

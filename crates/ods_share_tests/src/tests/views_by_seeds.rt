@@ -1,16 +1,16 @@
 //! Eight sessions of requests and views by seeds: each view is the answer of some beginning of the list, which is no shorter than what its
-//! session was answered and shown before.
+//! session was answered and shown before. The list settles.
 ghost use Rattle.std.specs.Prelude.{All, IfOk};
 ghost use Rattle.ods_share.specs.Scripts.{CanBeObeyed, CanBeRun};
 
-use super::runs::{Open, run_on, two_files, volume_of};
+use super::runs::{Open, calls_of, run_on, two_files, volume_of};
 use super::scripts::{add, add_script, script};
 use super::seeds::{Dice, any_action, any_file, any_name};
 use ods_base::{Pick, Uic};
 use ods_format_tests::persons::{NONE, USER};
 use ods_plain::{Catalogue, StepError};
 use ods_request::{Answer, Entry, Request};
-use ods_share::{Action, Id, Look, Outcome, Reply, Script};
+use ods_share::{Action, Id, Look, Outcome, Reply, Script, settle};
 use ods_volume::Volume;
 use ods_volume_trials::plain_catalogue;
 use std::alloc::Global;
@@ -183,6 +183,11 @@ fn views_of_eight_sessions_are_in_order(rt: HostRuntime) -> Result<(), Fail> {
             session = session.wrapping_add(1);
             is_shown_in_order(alloc, &ran.volume, session, script, outcome)?;
         }
+        let calls = calls_of(alloc, ran.outcomes)?;
+        assert!(rt;
+            settle(alloc, ran.volume.mounted(), &ran.volume, calls.as_slice()).is_ok(),
+            "seed {seed}"
+        );
     }
     Ok(())
 }

@@ -1,12 +1,14 @@
 //! Mounts and lists with ample memory succeed, at sizes that take more of it than the samples do.
 use super::changes::mounted;
-use super::check_runs::checked;
-use super::mounts::counts;
+use super::check_runs::replies;
+use super::mounts::mounts;
 use ods_base::{Block, FileId, Image, Listed, Name, set_word};
 use ods_format_tests::persons::{DIR, USER, a_txt, b_txt, indexf, old_block, reserved_id};
 use ods_format_tests::volumes::{FileHeader, Variant, added, run, sample_of};
 use ods_look::list;
+use ods_mount::Mounted;
 use std::alloc::{AllocError, Global};
+use std::process::Abort;
 use std::test::Fail;
 
 /// The directories that are added: files 6 to 45.
@@ -107,25 +109,47 @@ fn directories_are_mounted(rt: HostRuntime) -> Result<(), Fail> {
     let image = with_directories(rt.alloc())?;
     let mut bytes = Vec::with_capacity(rt.alloc(), 512 * 4_200)?;
     image.write_to(&mut bytes)?;
-    let (sound, text) = checked(rt.alloc(), &bytes)?;
-    assert!(rt;
-        sound && text.as_str() == "free 4089\nnumbers 19\n",
-        "{text}"
-    );
-    assert_eq!(rt; counts(rt.alloc(), image), Ok((4_089, 19)));
+    mounts(&rt, rt.alloc(), image, Ok((4_089, 19)));
+    replies(&rt, rt.alloc(), &bytes, true, "free 4089\nnumbers 19\n")
+}
+
+/// The directory of this number has its lines.
+fn is_listed(rt: &impl Abort, alloc: Global, volume: &Mounted, number: u16) -> Result<(), Fail> {
+    let dir = directory_id(number);
+    let lines = list(alloc, volume.image(), volume.layout(), USER, dir)?;
+    let wanted = directory_lines(alloc, number)?;
+    assert!(rt; lines.names() == wanted.as_slice(), "directory {number}");
     Ok(())
 }
 
 #[test]
 fn directories_are_listed(rt: HostRuntime) -> Result<(), Fail> {
-    let alloc = rt.alloc();
-    let volume = mounted(alloc, with_directories(alloc)?)?;
+    let volume = mounted(rt.alloc(), with_directories(rt.alloc())?)?;
     for k in 0..DIRECTORIES {
-        let number = 6 + k;
-        let dir = directory_id(number);
-        let lines = list(alloc, volume.image(), volume.layout(), USER, dir)?;
-        let wanted = directory_lines(alloc, number)?;
-        assert!(rt; lines.names() == wanted.as_slice(), "directory {number}");
+        is_listed(&rt, rt.alloc(), &volume, 6 + k)?;
     }
+    Ok(())
+}
+
+/// The image has these bytes, block by block.
+fn has_bytes(rt: &impl Abort, image: &Image, bytes: &[u8]) {
+    assert!(rt; 512 * image.len() as usize == bytes.len());
+    for lbn in 0..image.len() {
+        let at = 512 * lbn as usize;
+        assert!(rt;
+            bytes.get(at..at + 512) == Some(image.block(lbn).bytes().as_slice()),
+            "block {lbn}"
+        );
+    }
+}
+
+/// 5,000 blocks, no two of which next to one another have the same bytes.
+#[test]
+fn many_blocks_are_read(rt: HostRuntime) -> Result<(), Fail> {
+    let mut bytes = Vec::with_capacity(rt.alloc(), 512 * 5_000)?;
+    for at in 0..512 * 5_000u32 {
+        bytes.push((at % 251) as u8)?;
+    }
+    has_bytes(&rt, &Image::from_bytes(rt.alloc(), &bytes)?, &bytes);
     Ok(())
 }

@@ -1,4 +1,5 @@
 //! Changes of the sample volume with a contiguous file, seen by what the changed image reads as.
+use ods_alloc::FreeCounts;
 use ods_base::{Block, FileId, Image, Pick, word};
 use ods_change::{enter, remove, set_user, write};
 use ods_format_tests::contiguous::{WORLD, WORLD_DENIED, contiguous_file};
@@ -12,6 +13,7 @@ use ods_mount::{Mounted, mount};
 use ods_request::Refusal;
 use ods_space::Draft;
 use std::alloc::Global;
+use std::process::Abort;
 use std::test::Fail;
 
 /// The image, where it is sound.
@@ -40,15 +42,28 @@ fn written(alloc: Global, before: &Mounted) -> Result<Draft, Fail> {
     Ok(write(alloc, image, layout, USER, FIRST, 1, &letter_a())?)
 }
 
+/// The block of the contiguous file is this one.
+fn has_block(rt: &impl Abort, volume: &Mounted, wanted: &Block) -> Result<(), Fail> {
+    assert!(rt; its_block(volume)? == *wanted);
+    Ok(())
+}
+
+/// The volume that most of these tests change.
+fn volume_before(alloc: Global) -> Result<Mounted, Fail> {
+    mounted(alloc, contiguous_file(alloc, PROTECTION)?)
+}
+
+/// It with the letter A.
+fn after_write(alloc: Global) -> Result<Mounted, Fail> {
+    let before = volume_before(alloc)?;
+    let draft = written(alloc, &before)?;
+    changed(alloc, before, &draft)
+}
+
 #[test]
 fn a_block_is_written(rt: HostRuntime) -> Result<(), Fail> {
-    let alloc = rt.alloc();
-    let before = mounted(alloc, contiguous_file(alloc, PROTECTION)?)?;
-    assert_eq!(rt; its_block(&before)?, old_block());
-    let draft = written(alloc, &before)?;
-    let after = changed(alloc, before, &draft)?;
-    assert_eq!(rt; its_block(&after)?, letter_a());
-    Ok(())
+    has_block(&rt, &volume_before(rt.alloc())?, &old_block())?;
+    has_block(&rt, &after_write(rt.alloc())?, &letter_a())
 }
 
 /// The draft of setting the other attributes of the contiguous file.
@@ -58,40 +73,62 @@ fn with_attributes(alloc: Global, before: &Mounted) -> Result<Draft, Fail> {
     Ok(set_user(alloc, image, layout, USER, FIRST, attributes)?)
 }
 
+/// The volume with the other attributes.
+fn after_set_user(alloc: Global) -> Result<Mounted, Fail> {
+    let before = volume_before(alloc)?;
+    let draft = with_attributes(alloc, &before)?;
+    changed(alloc, before, &draft)
+}
+
+/// The header has H.UCHA 0o200 and H.SCHA 0, and the other attributes: 2 and zeros.
+fn has_attributes(rt: &impl Abort, header: &Block) {
+    assert!(rt; header.byte(12) == 0o200);
+    assert!(rt; header.byte(13) == 0);
+    assert!(rt; header.byte(14) == 2);
+    for i in 15..46 {
+        assert!(rt; header.byte(i) == 0, "byte {i}");
+    }
+}
+
 #[test]
 fn attributes_are_set(rt: HostRuntime) -> Result<(), Fail> {
-    let alloc = rt.alloc();
-    let before = mounted(alloc, contiguous_file(alloc, PROTECTION)?)?;
-    let draft = with_attributes(alloc, &before)?;
-    let after = changed(alloc, before, &draft)?;
-    assert_eq!(rt; its_block(&after)?, old_block());
-    let header = block_of(after.image(), 8)?;
-    assert_eq!(rt; header.byte(12), 0o200);
-    assert_eq!(rt; header.byte(13), 0);
-    assert_eq!(rt; header.byte(14), 2);
-    for i in 15..46 {
-        assert_eq!(rt; header.byte(i), 0, "byte {i}");
-    }
+    let after = after_set_user(rt.alloc())?;
+    has_block(&rt, &after, &old_block())?;
+    has_attributes(&rt, block_of(after.image(), 8)?);
     Ok(())
 }
 
-/// A user of the system changes a file that the world may not touch, and nobody else does: block 22 and header 8 are changed.
+/// A user of the system writes a block of a file that the world may not touch: block 22 is changed.
+fn system_writes(rt: &impl Abort, alloc: Global, private: &Mounted) -> Result<(), Fail> {
+    let (image, layout) = (private.image(), private.layout());
+    let block = letter_a();
+    let draft = write(alloc, image, layout, SYSTEM, FIRST, 1, &block)?;
+    assert!(rt; image.len() == 40 && draft.block(image, 22) == block);
+    Ok(())
+}
+
+/// That user sets its attributes: header 8 is changed.
+fn system_sets(rt: &impl Abort, alloc: Global, private: &Mounted) -> Result<(), Fail> {
+    let (image, layout) = (private.image(), private.layout());
+    let draft = set_user(alloc, image, layout, SYSTEM, FIRST, other_attributes())?;
+    assert!(rt; image.len() == 40 && draft.block(image, 8).byte(14) == 2);
+    Ok(())
+}
+
+/// And nobody else does.
+fn world_is_denied(rt: &impl Abort, alloc: Global, private: &Mounted) {
+    let (image, layout) = (private.image(), private.layout());
+    let refused = set_user(alloc, image, layout, WORLD, FIRST, other_attributes());
+    assert!(rt; refused.err() == Some(Refusal::Denied));
+}
+
 #[test]
 fn rights_to_change(rt: HostRuntime) -> Result<(), Fail> {
     let alloc = rt.alloc();
     let private = mounted(alloc, contiguous_file(alloc, WORLD_DENIED)?)?;
-    let (image, layout) = (private.image(), private.layout());
-    if image.len() != 40 {
-        return Err("another length".into());
-    }
-    let block = letter_a();
-    let draft = write(alloc, image, layout, SYSTEM, FIRST, 1, &block)?;
-    assert_eq!(rt; draft.block(image, 22), block);
-    let attributes = other_attributes();
-    let draft = set_user(alloc, image, layout, SYSTEM, FIRST, attributes)?;
-    assert_eq!(rt; draft.block(image, 8).byte(14), 2);
-    let refused = set_user(alloc, image, layout, WORLD, FIRST, attributes);
-    assert_eq!(rt; refused.err(), Some(Refusal::Denied));
+    system_writes(&rt, alloc, &private)?;
+    system_sets(&rt, alloc, &private)?;
+    world_is_denied(&rt, alloc, &private);
     Ok(())
 }
 
@@ -105,29 +142,40 @@ fn without_bitmap(
     Ok(remove(alloc, image, layout, USER, MASTER, bitmap(), pick)?)
 }
 
+/// The volume without that name, where the file and version that go are those.
+fn after_remove(alloc: Global, pick: Pick) -> Result<Mounted, Fail> {
+    let before = volume_before(alloc)?;
+    let removed = without_bitmap(alloc, &before, pick)?;
+    if removed.1 != reserved_id(2) || removed.2 != 1 {
+        return Err("another file or version".into());
+    }
+    changed(alloc, before, &removed.0)
+}
+
 #[test]
 fn a_name_is_removed(rt: HostRuntime) -> Result<(), Fail> {
-    let alloc = rt.alloc();
-    let before = mounted(alloc, contiguous_file(alloc, PROTECTION)?)?;
-    let removed = without_bitmap(alloc, &before, Pick::Highest)?;
-    assert_eq!(rt; (removed.1, removed.2), (reserved_id(2), 1));
-    let after = changed(alloc, before, &removed.0)?;
-    let found = look_up(
-        after.image(),
-        after.layout(),
-        USER,
-        MASTER,
-        bitmap(),
-        Pick::Highest,
-    );
-    assert_eq!(rt; found.err(), Some(Refusal::NoSuchName));
+    let after = after_remove(rt.alloc(), Pick::Highest)?;
+    let (image, layout) = (after.image(), after.layout());
+    let found = look_up(image, layout, USER, MASTER, bitmap(), Pick::Highest);
+    assert!(rt; found.err() == Some(Refusal::NoSuchName));
     Ok(())
 }
 
 /// The draft of entering C.DAT in the master directory, and its version.
 fn entered(alloc: Global, before: &Mounted) -> Result<(Draft, u16), Fail> {
     let (image, layout) = (before.image(), before.layout());
-    Ok(enter(alloc, image, layout, USER, MASTER, c_dat(), None, FIRST)?)
+    let counts = FreeCounts::of(alloc, image, layout)?;
+    Ok(enter(
+        alloc,
+        image,
+        layout,
+        &counts,
+        USER,
+        MASTER,
+        c_dat(),
+        None,
+        FIRST,
+    )?)
 }
 
 /// F.HIBK, F.EFBK and F.FFBY of the master directory, whose header is LBN 6.
@@ -140,41 +188,44 @@ fn end_of_master(image: &Image) -> Result<[u16; 5], Fail> {
     Ok(words)
 }
 
+/// The master directory ends so.
+fn ends(rt: &impl Abort, volume: &Mounted, wanted: &[u16; 5]) -> Result<(), Fail> {
+    assert!(rt; end_of_master(volume.image())? == *wanted);
+    Ok(())
+}
+
+/// The volume with C.DAT in the master directory, where its version is that.
+fn after_enter(alloc: Global, before: Mounted, version: u16) -> Result<Mounted, Fail> {
+    let found = entered(alloc, &before)?;
+    if found.1 != version {
+        return Err("another version".into());
+    }
+    changed(alloc, before, &found.0)
+}
+
 #[test]
 fn a_name_is_entered_at_the_mark(rt: HostRuntime) -> Result<(), Fail> {
     let alloc = rt.alloc();
-    let before = mounted(alloc, contiguous_file(alloc, PROTECTION)?)?;
-    let found = entered(alloc, &before)?;
-    assert_eq!(rt; found.1, 1);
-    let after = changed(alloc, before, &found.0)?;
-    assert_eq!(rt; end_of_master(after.image())?, [0, 1, 0, 1, 96]);
-    Ok(())
+    let after = after_enter(alloc, volume_before(alloc)?, 1)?;
+    ends(&rt, &after, &[0, 1, 0, 1, 96])
 }
 
 #[test]
 fn a_directory_takes_a_block(rt: HostRuntime) -> Result<(), Fail> {
-    let alloc = rt.alloc();
-    let mut volume = mounted(alloc, contiguous_file(alloc, PROTECTION)?)?;
+    let mut volume = volume_before(rt.alloc())?;
     // Five names stand there, and a block has room for 32.
     for version in 1..29u16 {
-        let found = entered(alloc, &volume)?;
-        assert_eq!(rt; found.1, version);
-        volume = changed(alloc, volume, &found.0)?;
+        volume = after_enter(rt.alloc(), volume, version)?;
     }
-    assert_eq!(rt; end_of_master(volume.image())?, [0, 2, 0, 2, 16]);
-    Ok(())
+    ends(&rt, &volume, &[0, 2, 0, 2, 16])
 }
 
 #[test]
 fn a_name_is_entered_in_an_empty_entry(rt: HostRuntime) -> Result<(), Fail> {
     let alloc = rt.alloc();
-    let before = mounted(alloc, contiguous_file(alloc, PROTECTION)?)?;
-    let removed = without_bitmap(alloc, &before, Pick::Lowest)?;
-    let middle = changed(alloc, before, &removed.0)?;
-    let found = entered(alloc, &middle)?;
-    let after = changed(alloc, middle, &found.0)?;
-    assert_eq!(rt; end_of_master(after.image())?, [0, 1, 0, 1, 80]);
+    let after = after_enter(alloc, after_remove(alloc, Pick::Lowest)?, 1)?;
+    ends(&rt, &after, &[0, 1, 0, 1, 80])?;
     // Entry 1 has the file number of C.DAT.
-    assert_eq!(rt; word(block_of(after.image(), 21)?, 8), 6);
+    assert!(rt; word(block_of(after.image(), 21)?, 8) == 6);
     Ok(())
 }

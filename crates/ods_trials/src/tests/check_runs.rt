@@ -3,6 +3,7 @@ use super::broken::Broken;
 use ods_cli::{ServeFault, check_run};
 use ods_format_tests::volumes::{Variant, sample_of};
 use std::alloc::Global;
+use std::process::Abort;
 use std::test::Fail;
 
 /// What is replied about an image, and whether it is sound.
@@ -13,6 +14,19 @@ pub fn checked(alloc: Global, bytes: &[u8]) -> Result<(bool, String), Fail> {
     Ok((sound, String::from_utf8_lossy(alloc, &replies)?))
 }
 
+/// This is replied about an image, which is found to be sound or not.
+pub fn replies(
+    rt: &impl Abort,
+    alloc: Global,
+    bytes: &[u8],
+    is_sound: bool,
+    wanted: &str,
+) -> Result<(), Fail> {
+    let (sound, text) = checked(alloc, bytes)?;
+    assert!(rt; sound == is_sound && text.as_str() == wanted, "{text}");
+    Ok(())
+}
+
 #[test]
 fn bytes_that_are_no_volume(rt: HostRuntime) -> Result<(), Fail> {
     let bytes = sample_of(40).image_bytes(rt.alloc())?;
@@ -21,39 +35,36 @@ fn bytes_that_are_no_volume(rt: HostRuntime) -> Result<(), Fail> {
         (&bytes[..0], "NO 15 NoHome\n"),
         (part, "NO 1 NotWholeBlocks\n"),
     ] {
-        let (sound, text) = checked(rt.alloc(), image)?;
-        assert!(rt; !sound && text.as_str() == reply, "{text}");
+        replies(&rt, rt.alloc(), image, false, reply)?;
     }
     for (at, byte) in [(58, 0x16), (510, 0x91)] {
         let spoiled = Variant {
             bytes: &[(1, at, byte)],
             ..sample_of(40)
         };
-        let (sound, text) = checked(rt.alloc(), &spoiled.image_bytes(rt.alloc())?)?;
-        assert!(rt; !sound && text.as_str() == "NO 15 NoHome\n", "{text}");
+        let bytes = spoiled.image_bytes(rt.alloc())?;
+        replies(&rt, rt.alloc(), &bytes, false, "NO 15 NoHome\n")?;
     }
     Ok(())
 }
 
 #[test]
-fn devices_may_fail(rt: HostRuntime) -> Result<(), Fail> {
-    let bytes = sample_of(40).image_bytes(rt.alloc())?;
+fn reader_may_fail(rt: HostRuntime) {
     let mut replies = Vec::new(rt.alloc());
-    assert_eq!(rt;
-        check_run(rt.alloc(), &mut Broken, &mut replies),
-        Err(ServeFault::Read)
-    );
+    let ended = check_run(rt.alloc(), &mut Broken, &mut replies);
+    assert!(rt; ended == Err(ServeFault::Read));
     assert!(rt; replies.is_empty());
-    assert_eq!(rt;
-        check_run(rt.alloc(), &mut bytes.as_slice(), &mut Broken),
-        Err(ServeFault::Write)
-    );
+}
+
+#[test]
+fn writer_may_fail(rt: HostRuntime) -> Result<(), Fail> {
+    let bytes = sample_of(40).image_bytes(rt.alloc())?;
+    let ended = check_run(rt.alloc(), &mut bytes.as_slice(), &mut Broken);
+    assert!(rt; ended == Err(ServeFault::Write));
     // A writer with room for 9 bytes takes the first 9.
     let mut room = [0u8; 9];
-    assert_eq!(rt;
-        check_run(rt.alloc(), &mut bytes.as_slice(), &mut room.as_mut_slice()),
-        Err(ServeFault::Write)
-    );
+    let ended = check_run(rt.alloc(), &mut bytes.as_slice(), &mut room.as_mut_slice());
+    assert!(rt; ended == Err(ServeFault::Write));
     assert!(rt; room == *b"free 18\nn");
     Ok(())
 }

@@ -2,6 +2,7 @@
 use ods_cli::{Run, Words, WordsFault, parse_words, run_for};
 use ods_request::Stamp;
 use std::alloc::Global;
+use std::process::Abort;
 use std::test::Fail;
 
 /// The stamp of new files where none is given.
@@ -92,6 +93,14 @@ fn words_of_a_served_run(rt: HostRuntime) -> Result<(), Fail> {
     Ok(())
 }
 
+/// The line about words that are wrong.
+fn wrong(alloc: Global, words: &[&str]) -> Result<String, Fail> {
+    match parse_words(alloc, words) {
+        Err(WordsFault::Wrong(line)) => Ok(line),
+        _ => Err("words that are not wrong".into()),
+    }
+}
+
 #[test]
 fn words_that_are_wrong(rt: HostRuntime) -> Result<(), Fail> {
     for (words, line) in [
@@ -132,11 +141,7 @@ fn words_that_are_wrong(rt: HostRuntime) -> Result<(), Fail> {
             "error: the argument '--header <N>' cannot be used with '--out <FILE>'",
         ),
     ] {
-        let answer = parse_words(rt.alloc(), words);
-        match &answer {
-            Err(WordsFault::Wrong(found)) => assert!(rt; found.as_str() == line, "{found}"),
-            _ => assert!(rt; false, "{words:?}"),
-        }
+        assert!(rt; wrong(rt.alloc(), words)?.as_str() == line, "{line}");
     }
     Ok(())
 }
@@ -150,13 +155,7 @@ fn runs_that_cannot_be(rt: HostRuntime) -> Result<(), Fail> {
         ["a.dsk", "--header", "1", "one"].as_slice(),
         ["a", "1", "2", "3", "4", "5", "6", "7", "8", "9"].as_slice(),
     ] {
-        let answer = parse_words(rt.alloc(), words);
-        match &answer {
-            Err(WordsFault::Wrong(found)) => {
-                assert!(rt; found.as_str().starts_with("error: "), "{found}")
-            }
-            _ => assert!(rt; false, "{words:?}"),
-        }
+        assert!(rt; wrong(rt.alloc(), words)?.as_str().starts_with("error: "));
     }
     Ok(())
 }
@@ -186,6 +185,21 @@ const HELP: [&str; 21] = [
     "standard input",
 ];
 
+/// The help that these words ask for.
+fn help(alloc: Global, words: &[&str]) -> Result<String, Fail> {
+    match parse_words(alloc, words) {
+        Err(WordsFault::Help(text)) => Ok(text),
+        _ => Err("words that ask for no help".into()),
+    }
+}
+
+/// The text has each part.
+fn has_all_parts(rt: &impl Abort, text: &str) {
+    for part in HELP {
+        assert!(rt; text.contains(part), "{part}");
+    }
+}
+
 #[test]
 fn help_names_all(rt: HostRuntime) -> Result<(), Fail> {
     for words in [
@@ -193,15 +207,7 @@ fn help_names_all(rt: HostRuntime) -> Result<(), Fail> {
         ["-h"].as_slice(),
         ["a.dsk", "--help"].as_slice(),
     ] {
-        let answer = parse_words(rt.alloc(), words);
-        match &answer {
-            Err(WordsFault::Help(text)) => {
-                for part in HELP {
-                    assert!(rt; text.as_str().contains(part), "{part}");
-                }
-            }
-            _ => assert!(rt; false, "{words:?}"),
-        }
+        has_all_parts(&rt, help(rt.alloc(), words)?.as_str());
     }
     Ok(())
 }

@@ -1,7 +1,7 @@
 //! Deletes: a file of two headers, directories with a name and without one, and what is refused.
 use super::changes::{changed, mounted};
 use ods_alloc::{free_count, number_count};
-use ods_base::{FileId, Image, Name, word};
+use ods_base::{Block, FileId, Image, Name, word};
 use ods_change::delete;
 use ods_format_tests::contiguous::{WORLD, WORLD_DENIED, contiguous_file};
 use ods_format_tests::persons::{DIR, FIRST, MASTER, PROTECTION, SECOND, USER, c_dat};
@@ -11,6 +11,7 @@ use ods_mount::Mounted;
 use ods_request::Refusal;
 use ods_space::Draft;
 use std::alloc::Global;
+use std::process::Abort;
 use std::test::Fail;
 
 /// The draft of a Delete by a user of the system.
@@ -56,36 +57,52 @@ fn directory(alloc: Global, named: u8) -> Result<Image, Fail> {
     .image(alloc)
 }
 
+/// The volume of this image without file 6,1.
+fn without_first(alloc: Global, image: Image) -> Result<Mounted, Fail> {
+    let before = mounted(alloc, image)?;
+    let draft = deleted(alloc, &before, FIRST)?;
+    changed(alloc, before, &draft)
+}
+
+/// So many blocks and numbers are free.
+fn has_free(rt: &impl Abort, volume: &Mounted, blocks: u32, numbers: u32) {
+    assert!(rt; free_count(volume.image(), volume.layout()) == blocks);
+    assert!(rt; number_count(volume.image(), volume.layout()) == numbers);
+}
+
+/// File 6,1 is not there.
+fn is_gone(rt: &impl Abort, volume: &Mounted) {
+    let left = stat(volume.image(), volume.layout(), FIRST);
+    assert!(rt; left.err() == Some(Refusal::NoSuchFile));
+}
+
+/// The header has number 0, and keeps its sequence number.
+fn is_given_back(rt: &impl Abort, header: &Block) {
+    assert!(rt; word(header, 1) == 0 && word(header, 2) == 1);
+}
+
 #[test]
 fn a_file_of_two_headers_is_deleted(rt: HostRuntime) -> Result<(), Fail> {
     let alloc = rt.alloc();
-    let before = mounted(alloc, two_headers(alloc)?)?;
-    let blocks = u64::from(free_count(before.image(), before.layout()));
-    let numbers = u64::from(number_count(before.image(), before.layout()));
-    let draft = deleted(alloc, &before, FIRST)?;
-    let after = changed(alloc, before, &draft)?;
-    let (image, layout) = (after.image(), after.layout());
-    assert_eq!(rt; u64::from(free_count(image, layout)), blocks + 2);
-    assert_eq!(rt; u64::from(number_count(image, layout)), numbers + 2);
-    assert_eq!(rt; stat(image, layout, FIRST).err(), Some(Refusal::NoSuchFile));
-    // Headers 6 and 7 have number 0, and keep their sequence number.
-    for lbn in [8, 9] {
-        let header = block_of(image, lbn)?;
-        assert_eq!(rt; (word(header, 1), word(header, 2)), (0, 1));
-    }
+    has_free(&rt, &mounted(alloc, two_headers(alloc)?)?, 16, 9);
+    let after = without_first(alloc, two_headers(alloc)?)?;
+    has_free(&rt, &after, 18, 11);
+    is_gone(&rt, &after);
+    is_given_back(&rt, block_of(after.image(), 8)?);
+    is_given_back(&rt, block_of(after.image(), 9)?);
     Ok(())
+}
+
+/// What a Delete of the directory with this entry is answered.
+fn answered(alloc: Global, named: u8) -> Result<Option<Refusal>, Fail> {
+    let used = mounted(alloc, directory(alloc, named)?)?;
+    Ok(deleted(alloc, &used, FIRST).err())
 }
 
 #[test]
 fn a_directory_is_deleted_without_names(rt: HostRuntime) -> Result<(), Fail> {
-    let alloc = rt.alloc();
-    let used = mounted(alloc, directory(alloc, 3)?)?;
-    assert_eq!(rt; deleted(alloc, &used, FIRST).err(), Some(Refusal::NotEmpty));
-    let empty = mounted(alloc, directory(alloc, 0)?)?;
-    let draft = deleted(alloc, &empty, FIRST)?;
-    let after = changed(alloc, empty, &draft)?;
-    let left = stat(after.image(), after.layout(), FIRST);
-    assert_eq!(rt; left.err(), Some(Refusal::NoSuchFile));
+    assert!(rt; answered(rt.alloc(), 3)? == Some(Refusal::NotEmpty));
+    is_gone(&rt, &without_first(rt.alloc(), directory(rt.alloc(), 0)?)?);
     Ok(())
 }
 
@@ -94,9 +111,9 @@ fn deletes_are_refused(rt: HostRuntime) -> Result<(), Fail> {
     let alloc = rt.alloc();
     let private = mounted(alloc, contiguous_file(alloc, WORLD_DENIED)?)?;
     for (file, refusal) in [(MASTER, Refusal::Reserved), (SECOND, Refusal::NoSuchFile)] {
-        assert_eq!(rt; deleted(alloc, &private, file).err(), Some(refusal));
+        assert!(rt; deleted(alloc, &private, file).err() == Some(refusal));
     }
     let refused = delete(alloc, private.image(), private.layout(), WORLD, FIRST);
-    assert_eq!(rt; refused.err(), Some(Refusal::Denied));
+    assert!(rt; refused.err() == Some(Refusal::Denied));
     Ok(())
 }

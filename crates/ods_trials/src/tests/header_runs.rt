@@ -15,8 +15,10 @@ fn replied(rt: &impl Abort, alloc: Global, image: &[u8], number: u16, found: boo
     let mut reader = image;
     let mut out = Vec::new(alloc);
     let answer = header_run(alloc, &mut reader, number, &mut out);
-    assert_eq!(rt; answer, Ok(found), "header {number}");
-    assert!(rt; out.as_slice() == reply.as_bytes(), "{reply}");
+    assert!(rt;
+        answer == Ok(found) && out.as_slice() == reply.as_bytes(),
+        "{reply}"
+    );
 }
 
 #[test]
@@ -75,28 +77,22 @@ fn refused_bytes_are_replied(rt: HostRuntime) -> Result<(), Fail> {
 }
 
 #[test]
-fn devices_may_fail(rt: HostRuntime) -> Result<(), Fail> {
-    let bytes = sample(rt.alloc(), 40)?;
+fn reader_may_fail(rt: HostRuntime) {
     let mut out = Vec::new(rt.alloc());
-    assert_eq!(rt;
-        header_run(rt.alloc(), &mut Broken, 4, &mut out),
-        Err(ServeFault::Read)
-    );
+    let ended = header_run(rt.alloc(), &mut Broken, 4, &mut out);
+    assert!(rt; ended == Err(ServeFault::Read));
     assert!(rt; out.is_empty());
-    assert_eq!(rt;
-        header_run(rt.alloc(), &mut bytes.as_slice(), 4, &mut Broken),
-        Err(ServeFault::Write)
-    );
+}
+
+#[test]
+fn writer_may_fail(rt: HostRuntime) -> Result<(), Fail> {
+    let bytes = sample(rt.alloc(), 40)?;
+    let ended = header_run(rt.alloc(), &mut bytes.as_slice(), 4, &mut Broken);
+    assert!(rt; ended == Err(ServeFault::Write));
     // A writer without room takes 0 bytes.
     let mut none: [u8; 0] = [];
-    assert_eq!(rt;
-        header_run(
-            rt.alloc(),
-            &mut bytes.as_slice(),
-            4,
-            &mut none.as_mut_slice()
-        ),
-        Err(ServeFault::Write)
-    );
+    let mut room = none.as_mut_slice();
+    let ended = header_run(rt.alloc(), &mut bytes.as_slice(), 4, &mut room);
+    assert!(rt; ended == Err(ServeFault::Write));
     Ok(())
 }

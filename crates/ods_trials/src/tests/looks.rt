@@ -8,8 +8,9 @@ use ods_format_tests::persons::{
 use ods_format_tests::volumes::sample_of;
 use ods_look::{list, look, stat};
 use ods_mount::Mounted;
-use ods_request::{Answer, Kind, Query, Refusal};
+use ods_request::{Answer, Kind, Listing, Query, Refusal};
 use std::alloc::Global;
+use std::process::Abort;
 use std::test::Fail;
 
 /// The sample volume, mounted.
@@ -45,7 +46,7 @@ fn reads(rt: HostRuntime) -> Result<(), Fail> {
         (reserved_id(3), Refusal::NoSuchBlock),
         (unknown, Refusal::NoSuchFile),
     ] {
-        assert_eq!(rt; read_of(&sample, file, 1), Err(refusal));
+        assert!(rt; read_of(&sample, file, 1) == Err(refusal), "{file:?}");
     }
     Ok(())
 }
@@ -62,65 +63,65 @@ fn names(rt: HostRuntime) -> Result<(), Fail> {
         (reserved_id(1), Pick::Highest, Err(Refusal::NotADirectory)),
     ] {
         let query = Query::LookUp { dir, name, pick };
-        assert_eq!(rt; ask(&sample, WORLD, query), wanted);
+        assert!(rt; ask(&sample, WORLD, query) == wanted, "{query:?}");
     }
     Ok(())
 }
 
+/// What a List by somebody of the world is answered.
+fn lines_of(alloc: Global, volume: &Mounted, dir: FileId) -> Result<Listing, Refusal> {
+    list(alloc, volume.image(), volume.layout(), WORLD, dir)
+}
+
 #[test]
 fn lists(rt: HostRuntime) -> Result<(), Fail> {
-    let alloc = rt.alloc();
-    let sample = sample_mounted(alloc)?;
-    let lines = list(alloc, sample.image(), sample.layout(), WORLD, MASTER)
-        .ok()
-        .ok_or("refused")?;
-    let wanted = reserved_lines(alloc)?;
-    assert_eq!(rt; lines.names(), wanted.names());
-    let plain = list(
-        alloc,
-        sample.image(),
-        sample.layout(),
-        WORLD,
-        reserved_id(3),
-    );
-    assert_eq!(rt; plain.err(), Some(Refusal::NotADirectory));
+    let sample = sample_mounted(rt.alloc())?;
+    let wanted = Ok(reserved_lines(rt.alloc())?);
+    assert!(rt; lines_of(rt.alloc(), &sample, MASTER) == wanted);
+    let plain = lines_of(rt.alloc(), &sample, reserved_id(3));
+    assert!(rt; plain == Err(Refusal::NotADirectory));
+    Ok(())
+}
+
+/// A file has this kind.
+fn has_kind(rt: &impl Abort, volume: &Mounted, file: FileId, kind: Kind) -> Result<(), Fail> {
+    let shown = stat(volume.image(), volume.layout(), file)?;
+    assert!(rt; shown.kind == kind, "{file:?} is {shown:?}");
+    Ok(())
+}
+
+/// A plain file of so many blocks, with attributes of zeros.
+fn plain(blocks: u32) -> Kind {
+    Kind::Plain {
+        blocks,
+        attributes: [0; 32],
+    }
+}
+
+/// The protection of the contiguous file is shown, and all of INDEXF.SYS.
+fn is_private(rt: &impl Abort, volume: &Mounted) -> Result<(), Fail> {
+    let shown = stat(volume.image(), volume.layout(), FIRST)?;
+    assert!(rt; shown.protection == WORLD_DENIED);
+    let index = stat(volume.image(), volume.layout(), reserved_id(1))?;
+    assert!(rt; index == index_stat());
     Ok(())
 }
 
 #[test]
 fn stats(rt: HostRuntime) -> Result<(), Fail> {
     let private = contiguous_mounted(rt.alloc(), WORLD_DENIED)?;
-    let index = stat(private.image(), private.layout(), reserved_id(1))
-        .ok()
-        .ok_or("refused")?;
-    assert_eq!(rt; index, index_stat());
-    let plain = |blocks| Kind::Plain {
-        blocks,
-        attributes: [0; 32],
-    };
-    for (file, kind) in [
-        (reserved_id(3), plain(0)),
-        (MASTER, Kind::Directory { names: 5 }),
-        (FIRST, plain(1)),
-    ] {
-        let shown = stat(private.image(), private.layout(), file)
-            .ok()
-            .ok_or("refused")?;
-        assert_eq!(rt; shown.kind, kind);
-    }
-    let shown = stat(private.image(), private.layout(), FIRST)
-        .ok()
-        .ok_or("no file")?;
-    assert_eq!(rt; shown.protection, WORLD_DENIED);
-    Ok(())
+    is_private(&rt, &private)?;
+    has_kind(&rt, &private, reserved_id(3), plain(0))?;
+    has_kind(&rt, &private, MASTER, Kind::Directory { names: 5 })?;
+    has_kind(&rt, &private, FIRST, plain(1))
 }
 
 #[test]
 fn rights_to_read(rt: HostRuntime) -> Result<(), Fail> {
     let shared = contiguous_mounted(rt.alloc(), PROTECTION)?;
     let old = Answer::Bytes(old_block());
-    assert_eq!(rt; read_of(&shared, FIRST, 1), Ok(old));
+    assert!(rt; read_of(&shared, FIRST, 1) == Ok(old));
     let private = contiguous_mounted(rt.alloc(), WORLD_DENIED)?;
-    assert_eq!(rt; read_of(&private, FIRST, 1), Err(Refusal::Denied));
+    assert!(rt; read_of(&private, FIRST, 1) == Err(Refusal::Denied));
     Ok(())
 }

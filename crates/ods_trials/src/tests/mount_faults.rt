@@ -1,6 +1,6 @@
 //! Each fault of files and directories on a volume that has no other, by the mount and by the program's check.
-use super::check_runs::checked;
-use super::mounts::counts;
+use super::check_runs::replies;
+use super::mounts::mounts;
 use MountFault::{
     BadChain, BadDirectory, BadIndex, BadMaster, BadStorageMap, DoublyUsed, DuplicateName,
     MarkedFree, OutsideVolume, UnsupportedMap,
@@ -20,11 +20,8 @@ fn refused(
     wanted: MountFault,
     reply: &str,
 ) -> Result<(), Fail> {
-    let found = counts(alloc, volume.image(alloc)?);
-    assert_eq!(rt; found, Err(wanted), "{reply}");
-    let (sound, text) = checked(alloc, &volume.image_bytes(alloc)?)?;
-    assert!(rt; !sound && text.as_str() == reply, "{text}");
-    Ok(())
+    mounts(rt, alloc, volume.image(alloc)?, Err(wanted));
+    replies(rt, alloc, &volume.image_bytes(alloc)?, false, reply)
 }
 
 /// The first header of A.TXT, file 6.

@@ -1,6 +1,6 @@
 //! Sound volumes, with what is free on them by the mount and by the program's check, and volumes whose home block or index file lies
 //! otherwise.
-use super::check_runs::checked;
+use super::check_runs::replies;
 use MountFault::{BadChain, BadIndex, NoHome};
 use ods_alloc::{free_count, number_count};
 use ods_base::{Block, Image};
@@ -23,6 +23,17 @@ pub fn counts(alloc: Global, image: Image) -> Result<(u32, u32), MountFault> {
     }
 }
 
+/// The mount of this image ends so.
+pub fn mounts(
+    rt: &impl Abort,
+    alloc: Global,
+    image: Image,
+    wanted: Result<(u32, u32), MountFault>,
+) {
+    let found = counts(alloc, image);
+    assert!(rt; found == wanted, "{found:?}");
+}
+
 /// Fails where the mount does not find so many blocks and numbers free, or the program does not print it.
 fn sound(
     rt: &impl Abort,
@@ -31,11 +42,8 @@ fn sound(
     free: (u32, u32),
     reply: &str,
 ) -> Result<(), Fail> {
-    let found = counts(alloc, volume.image(alloc)?);
-    assert_eq!(rt; found, Ok(free), "{reply}");
-    let (sound, text) = checked(alloc, &volume.image_bytes(alloc)?)?;
-    assert!(rt; sound && text.as_str() == reply, "{text}");
-    Ok(())
+    mounts(rt, alloc, volume.image(alloc)?, Ok(free));
+    replies(rt, alloc, &volume.image_bytes(alloc)?, true, reply)
 }
 
 #[test]
@@ -90,20 +98,15 @@ fn late_home(rt: HostRuntime) -> Result<(), Fail> {
     let holds_none = reserved(3, badblk()).mapping(&[]);
     let good = [run(0, 1), run(256, 1), run(2, 17)];
     let swapped = [run(0, 1), run(300, 1), run(2, 17), run(256, 1)];
+    // The home block is mapped as VBN 2.
     let image = with_late_home(rt.alloc(), &good, holds_1, false)?;
-    assert_eq!(rt;
-        counts(rt.alloc(), image),
-        Ok((489, 11)),
-        "home block mapped as VBN 2"
-    );
+    mounts(&rt, rt.alloc(), image, Ok((489, 11)));
+    // LBN 1 is free.
     let image = with_late_home(rt.alloc(), &good, holds_none, true)?;
-    assert_eq!(rt; counts(rt.alloc(), image), Err(BadIndex), "LBN 1 is free");
+    mounts(&rt, rt.alloc(), image, Err(BadIndex));
+    // The home block is mapped past the headers.
     let image = with_late_home(rt.alloc(), &swapped, holds_1, false)?;
-    assert_eq!(rt;
-        counts(rt.alloc(), image),
-        Err(BadIndex),
-        "home block mapped past the headers"
-    );
+    mounts(&rt, rt.alloc(), image, Err(BadIndex));
     Ok(())
 }
 
@@ -123,27 +126,27 @@ fn with_longer_index(alloc: Global, first: &[Run], second: &[Run]) -> Result<Ima
 #[test]
 fn longer_index(rt: HostRuntime) -> Result<(), Fail> {
     let image = with_longer_index(rt.alloc(), &[run(0, 19), run(22, 1)], &[run(23, 1)])?;
-    assert_eq!(rt; counts(rt.alloc(), image), Ok((16, 12)));
+    mounts(&rt, rt.alloc(), image, Ok((16, 12)));
+    // A header that only its own pointer places.
     let image = with_longer_index(rt.alloc(), &[run(0, 19)], &[run(22, 1)])?;
-    assert_eq!(rt;
-        counts(rt.alloc(), image),
-        Err(BadChain(1)),
-        "a header that only its own pointer places"
-    );
+    mounts(&rt, rt.alloc(), image, Err(BadChain(1)));
     Ok(())
 }
 
 #[test]
 fn no_home(rt: HostRuntime) -> Result<(), Fail> {
-    let empty = Image::from_bytes(rt.alloc(), &[])?;
-    assert_eq!(rt; counts(rt.alloc(), empty), Err(NoHome));
+    mounts(
+        &rt,
+        rt.alloc(),
+        Image::from_bytes(rt.alloc(), &[])?,
+        Err(NoHome),
+    );
     for (at, byte) in [(58, 0x14), (510, 0x91)] {
         let spoiled = Variant {
             bytes: &[(1, at, byte)],
             ..sample_of(40)
         };
-        let image = spoiled.image(rt.alloc())?;
-        assert_eq!(rt; counts(rt.alloc(), image), Err(NoHome), "byte {at}");
+        mounts(&rt, rt.alloc(), spoiled.image(rt.alloc())?, Err(NoHome));
     }
     Ok(())
 }

@@ -106,7 +106,7 @@ fn samples_have_their_bytes(rt: HostRuntime) -> Result<(), Fail> {
         assert_eq!(rt; found.len(), wanted.len());
         for i in 0..wanted.len() {
             assert!(rt; i < found.len());
-            assert_eq!(rt; found[i], wanted[i], "byte {i} of {blocks} blocks");
+            assert!(rt; found[i] == wanted[i], "byte {i} of {blocks} blocks");
         }
     }
     Ok(())

@@ -1,10 +1,11 @@
 //! Requests with ample memory are served, at sizes that take more of it than the samples do.
-use super::trial::{Trial, ask, read, start};
-use ods_base::Image;
+use super::rows::write_a;
+use super::trial::{Trial, does, has_entries, reads, shows, start};
+use ods_base::{Block, Image};
 use ods_format_tests::contiguous::{contiguous_file, contiguous_stat};
 use ods_format_tests::persons::{FIRST, PROTECTION, a_txt, letter_a, old_block};
 use ods_format_tests::volumes::{FileHeader, Variant, added, block_of, run, sample_of};
-use ods_request::{Answer, Request};
+use ods_request::Request;
 use std::alloc::Global;
 use std::process::Abort;
 use std::test::Fail;
@@ -32,50 +33,50 @@ fn two_headers(alloc: Global) -> Result<Image, Fail> {
 /// The volume is as that volume was, but for the letter A in LBN 31.
 fn only_31_is_written(rt: &impl Abort, alloc: Global, now: &Image) -> Result<(), Fail> {
     let before = two_headers(alloc)?;
-    assert_eq!(rt; now.len(), 40);
+    assert!(rt; now.len() == 40);
     for lbn in 0..40 {
         let mut wanted = *block_of(&before, lbn)?;
         if lbn == 31 {
             wanted = letter_a();
         }
-        assert!(rt; *block_of(now, lbn)? == wanted, "block {lbn}");
+        is_block(rt, block_of(now, lbn)?, &wanted, lbn);
     }
     Ok(())
+}
+
+/// The block at this LBN is the wanted one.
+fn is_block(rt: &impl Abort, found: &Block, wanted: &Block, lbn: u32) {
+    assert!(rt; *found == *wanted, "block {lbn}");
+}
+
+/// Block 4 of A.TXT is written.
+fn writes_block_4(rt: &impl Abort, alloc: Global, it: &mut Trial) -> Result<(), Fail> {
+    reads(rt, alloc, it, FIRST, 4, old_block())?;
+    does(rt, alloc, it, write_a(FIRST, 4))?;
+    reads(rt, alloc, it, FIRST, 4, letter_a())
 }
 
 #[test]
 fn block_of_a_second_header_is_written(rt: HostRuntime) -> Result<(), Fail> {
     let alloc = rt.alloc();
     let mut it = start(&rt, alloc, two_headers(alloc)?, 4)?;
-    let old = Answer::Bytes(old_block());
-    ask(&rt, alloc, &mut it, read(FIRST, 4), Ok(old))?;
-    let block = letter_a();
-    let write = Request::Write {
-        file: FIRST,
-        vbn: 4,
-        block,
-    };
-    ask(&rt, alloc, &mut it, write, Ok(Answer::Done))?;
-    let new = Answer::Bytes(block);
-    ask(&rt, alloc, &mut it, read(FIRST, 4), Ok(new))?;
+    writes_block_4(&rt, alloc, &mut it)?;
     only_31_is_written(&rt, alloc, it.volume.image())
 }
 
-/// SetUser of C.DAT with these attributes, and Stat.
-fn set_and_show(
-    rt: &impl Abort,
-    alloc: Global,
-    trial: &mut Trial,
-    attributes: [u8; 32],
-) -> Result<(), Fail> {
+/// SetUser of C.DAT with 32 bytes, each one more than the byte before, and Stat.
+fn set_and_show(rt: &impl Abort, alloc: Global, it: &mut Trial, first: u8) -> Result<(), Fail> {
+    let attributes = attributes_from(first);
     let set = Request::SetUser {
         file: FIRST,
         attributes,
     };
-    ask(rt, alloc, trial, set, Ok(Answer::Done))?;
-    let stat = Request::Stat { file: FIRST };
-    let shown = Answer::Info(contiguous_stat(attributes));
-    ask(rt, alloc, trial, stat, Ok(shown))
+    does(rt, alloc, it, set)?;
+    shows(rt, alloc, it, FIRST, contiguous_stat(attributes))?;
+    // The last byte of the attributes in the header of C.DAT.
+    let header = block_of(it.volume.image(), 8)?;
+    assert!(rt; header.byte(45) == first.wrapping_add(31));
+    Ok(())
 }
 
 /// 32 bytes, each one more than the byte before.
@@ -87,16 +88,25 @@ fn attributes_from(first: u8) -> [u8; 32] {
     attributes
 }
 
+/// All bytes, 32 at a time.
+fn set_all(rt: &impl Abort, alloc: Global, it: &mut Trial) -> Result<(), Fail> {
+    for first in [0, 32, 64, 96, 128, 160, 192, 224] {
+        set_and_show(rt, alloc, it, first)?;
+    }
+    Ok(())
+}
+
 #[test]
 fn any_attributes_are_set(rt: HostRuntime) -> Result<(), Fail> {
     let alloc = rt.alloc();
     let mut it = start(&rt, alloc, contiguous_file(alloc, PROTECTION)?, 16)?;
-    for first in [0, 32, 64, 96, 128, 160, 192, 224] {
-        set_and_show(&rt, alloc, &mut it, attributes_from(first))?;
-        // The last byte of the attributes in the header of C.DAT.
-        let header = block_of(it.volume.image(), 8)?;
-        assert_eq!(rt; header.byte(45), first.wrapping_add(31));
-    }
+    set_all(&rt, alloc, &mut it)
+}
+
+/// A block is read, and that is noted.
+fn reads_one(rt: &impl Abort, alloc: Global, it: &mut Trial) -> Result<(), Fail> {
+    reads(rt, alloc, it, FIRST, 1, old_block())?;
+    has_entries(rt, it, 1);
     Ok(())
 }
 
@@ -105,8 +115,5 @@ fn longest_list_is_made(rt: HostRuntime) -> Result<(), Fail> {
     let alloc = rt.alloc();
     let image = contiguous_file(alloc, PROTECTION)?;
     let mut it = start(&rt, alloc, image, 65_536)?;
-    let old = Answer::Bytes(old_block());
-    ask(&rt, alloc, &mut it, read(FIRST, 1), Ok(old))?;
-    assert_eq!(rt; it.volume.entries().len(), 1);
-    Ok(())
+    reads_one(&rt, alloc, &mut it)
 }

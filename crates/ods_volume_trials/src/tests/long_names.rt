@@ -73,15 +73,25 @@ fn with_a_file_that_is_gone(rt: &impl Abort, alloc: Global, trial: &mut Trial) -
 fn try_names(rt: &(impl Abort + Env), alloc: Global, image: Image, seed: u64) -> Result<(), Fail> {
     let mut trial = start(rt, alloc, image, 65_536)?;
     with_a_file_that_is_gone(rt, alloc, &mut trial)?;
+    ask_often(rt, alloc, &mut trial, seed)
+}
+
+/// Makes the random requests.
+fn ask_often(
+    rt: &(impl Abort + Env),
+    alloc: Global,
+    trial: &mut Trial,
+    seed: u64,
+) -> Result<(), Fail> {
     let mut dice = Dice::from(seed);
     for k in 0..150u32.saturating_mul(times(rt)) {
         let request = some_request(&mut dice);
-        ask_freely(rt, &mut trial, USER, request)?;
+        ask_freely(rt, trial, USER, request)?;
         if k % 10 == 0 {
-            same_catalogue(rt, alloc, &trial)?;
+            same_catalogue(rt, alloc, trial)?;
         }
     }
-    same_catalogue(rt, alloc, &trial)
+    same_catalogue(rt, alloc, trial)
 }
 
 #[test]

@@ -1,10 +1,12 @@
 //! Published sequences of Enter, LookUp, Remove and List, and of who may do what.
-use super::growing::{header_of, on_sample, totals};
+use super::growing::{header_of, on_sample};
 use super::rows::{
     Reply, a_txt, create, dat, delete, enter, id, look, made, made_stat, remove, sub_dir, write_a,
 };
-use super::trial::{Trial, ask, ask_as, read};
-use ods_base::{Block, FileId, Listed, Name, Pick, Uic};
+use super::trial::{
+    Trial, ask, ask_as, does, has_entries, has_totals, makes, read, refuses, shows,
+};
+use ods_base::{Block, FileId, Listed, Name, Pick};
 use ods_format_tests::persons::{COLLEAGUE, FIRST, MASTER, OWNER, SECOND, STRANGER, SYSTEM};
 use ods_format_tests::volumes::block_of;
 use ods_request::{Answer, Kind, Listing, Refusal, Request};
@@ -17,47 +19,87 @@ fn first_found(version: u16) -> Reply {
     Ok(Answer::Found(FIRST, version))
 }
 
+/// Enters these versions of a name, which nothing says, one after another.
+fn enters(
+    rt: &impl Abort,
+    alloc: Global,
+    it: &mut Trial,
+    dir: FileId,
+    name: Name,
+    file: FileId,
+    versions: u16,
+) -> Result<(), Fail> {
+    for version in 1..versions.saturating_add(1) {
+        let request = enter(dir, name, None, file);
+        ask(rt, alloc, it, request, Ok(Answer::Entered(version)))?;
+    }
+    Ok(())
+}
+
+/// Looks for a version of A.TXT, and finds FIRST.
+fn finds(
+    rt: &impl Abort,
+    alloc: Global,
+    it: &mut Trial,
+    pick: Pick,
+    version: u16,
+) -> Result<(), Fail> {
+    let request = look(MASTER, a_txt(), pick);
+    ask(rt, alloc, it, request, first_found(version))
+}
+
+/// A.TXT is entered three times.
+fn rises(rt: &impl Abort, alloc: Global, it: &mut Trial) -> Result<(), Fail> {
+    makes(rt, alloc, it, a_txt(), 0, FIRST)?;
+    enters(rt, alloc, it, MASTER, a_txt(), FIRST, 3)?;
+    finds(rt, alloc, it, Pick::Highest, 3)?;
+    finds(rt, alloc, it, Pick::Lowest, 1)?;
+    let fourth = look(MASTER, a_txt(), Pick::Exact(4));
+    refuses(rt, alloc, it, fourth, Refusal::NoSuchName)?;
+    has_entries(rt, it, 6);
+    Ok(())
+}
+
 #[test]
 fn versions_rise(rt: HostRuntime) -> Result<(), Fail> {
-    let alloc = rt.alloc();
-    let mut it = on_sample(&rt, alloc, 40)?;
-    ask(&rt, alloc, &mut it, create(a_txt(), 0)?, made(6, 1))?;
-    for version in 1..4 {
-        let request = enter(MASTER, a_txt(), None, FIRST);
-        let entered = Ok(Answer::Entered(version));
-        ask(&rt, alloc, &mut it, request, entered)?;
-    }
-    let highest = look(MASTER, a_txt(), Pick::Highest);
-    ask(&rt, alloc, &mut it, highest, first_found(3))?;
-    let lowest = look(MASTER, a_txt(), Pick::Lowest);
-    ask(&rt, alloc, &mut it, lowest, first_found(1))?;
-    let fourth = look(MASTER, a_txt(), Pick::Exact(4));
-    ask(&rt, alloc, &mut it, fourth, Err(Refusal::NoSuchName))?;
-    assert_eq!(rt; it.volume.entries().len(), 6);
+    let mut it = on_sample(&rt, rt.alloc(), 40)?;
+    rises(&rt, rt.alloc(), &mut it)
+}
+
+/// A.TXT is entered under its last version.
+fn rises_no_more(rt: &impl Abort, alloc: Global, it: &mut Trial) -> Result<(), Fail> {
+    makes(rt, alloc, it, a_txt(), 0, FIRST)?;
+    let last = enter(MASTER, a_txt(), Some(32_767), FIRST);
+    ask(rt, alloc, it, last, Ok(Answer::Entered(32_767)))?;
+    let next = enter(MASTER, a_txt(), None, FIRST);
+    refuses(rt, alloc, it, next, Refusal::VersionsFull)?;
+    let again = enter(MASTER, a_txt(), Some(32_767), FIRST);
+    refuses(rt, alloc, it, again, Refusal::NameTaken)?;
+    has_entries(rt, it, 2);
     Ok(())
 }
 
 #[test]
 fn last_version_is_the_last(rt: HostRuntime) -> Result<(), Fail> {
-    let alloc = rt.alloc();
-    let mut it = on_sample(&rt, alloc, 40)?;
-    ask(&rt, alloc, &mut it, create(a_txt(), 0)?, made(6, 1))?;
-    let last = enter(MASTER, a_txt(), Some(32_767), FIRST);
-    ask(&rt, alloc, &mut it, last, Ok(Answer::Entered(32_767)))?;
-    let next = enter(MASTER, a_txt(), None, FIRST);
-    ask(&rt, alloc, &mut it, next, Err(Refusal::VersionsFull))?;
-    let again = enter(MASTER, a_txt(), Some(32_767), FIRST);
-    ask(&rt, alloc, &mut it, again, Err(Refusal::NameTaken))?;
-    assert_eq!(rt; it.volume.entries().len(), 2);
-    Ok(())
+    let mut it = on_sample(&rt, rt.alloc(), 40)?;
+    rises_no_more(&rt, rt.alloc(), &mut it)
 }
 
 /// SUB.DIR of so many blocks as file 6, and X.DAT as file 7.
-fn with_sub_dir(rt: &impl Abort, alloc: Global, blocks: u32) -> Result<Trial, Fail> {
-    let mut it = on_sample(rt, alloc, 40)?;
-    ask(rt, alloc, &mut it, create(sub_dir(), blocks)?, made(6, 1))?;
-    ask(rt, alloc, &mut it, create(dat(b'X'), 0)?, made(7, 1))?;
-    Ok(it)
+fn makes_sub_dir(rt: &impl Abort, alloc: Global, it: &mut Trial, blocks: u32) -> Result<(), Fail> {
+    makes(rt, alloc, it, sub_dir(), blocks, FIRST)?;
+    makes(rt, alloc, it, dat(b'X'), 0, SECOND)
+}
+
+/// Enters X.DAT in SUB.DIR so many times.
+fn enters_x(rt: &impl Abort, alloc: Global, it: &mut Trial, versions: u16) -> Result<(), Fail> {
+    enters(rt, alloc, it, FIRST, dat(b'X'), SECOND, versions)
+}
+
+/// Removes the version 1 of X.DAT from SUB.DIR.
+fn removes_x(rt: &impl Abort, alloc: Global, it: &mut Trial, pick: Pick) -> Result<(), Fail> {
+    let request = remove(FIRST, dat(b'X'), pick);
+    ask(rt, alloc, it, request, Ok(Answer::Removed(SECOND, 1)))
 }
 
 /// 33 versions of X.DAT.
@@ -73,134 +115,139 @@ fn lines_of_x(alloc: Global) -> Result<Listing, AllocError> {
     Ok(Listing::new(lines))
 }
 
-/// F.HIBK, F.EFBK and F.FFBY of the directory whose header is this number.
-fn end_of(trial: &Trial, number: u16) -> Result<[u8; 10], Fail> {
-    let header = header_of(trial.volume.image(), number)?;
+/// F.HIBK, F.EFBK and F.FFBY of SUB.DIR.
+fn end_of(trial: &Trial) -> Result<[u8; 10], Fail> {
+    let header = header_of(trial.volume.image(), 6)?;
     let mut end = [0; 10];
     end.copy_from_slice(&header.attributes[4..14]);
     Ok(end)
 }
 
+/// SUB.DIR ends so.
+fn ends(rt: &impl Abort, trial: &Trial, wanted: &[u8; 10]) -> Result<(), Fail> {
+    assert!(rt; end_of(trial)? == *wanted, "SUB.DIR ends otherwise");
+    Ok(())
+}
+
+/// A block of the volume begins with this byte.
+fn begins(rt: &impl Abort, trial: &Trial, lbn: u32, byte: u8) -> Result<(), Fail> {
+    assert!(rt; block_of(trial.volume.image(), lbn)?.byte(0) == byte);
+    Ok(())
+}
+
+/// Behind the first entry of a block are zeros.
+fn has_one_entry(rt: &impl Abort, block: &Block) {
+    for at in 16..512 {
+        assert!(rt; block.byte(at) == 0, "byte {at}");
+    }
+}
+
+/// SUB.DIR and its lines are shown.
+fn shows_x(rt: &impl Abort, alloc: Global, it: &mut Trial) -> Result<(), Fail> {
+    let kind = Kind::Directory { names: 33 };
+    shows(rt, alloc, it, FIRST, made_stat(FIRST, &sub_dir(), kind))?;
+    let lines = Answer::Names(lines_of_x(alloc)?);
+    ask(rt, alloc, it, Request::List { dir: FIRST }, Ok(lines))
+}
+
 #[test]
 fn directory_takes_a_block(rt: HostRuntime) -> Result<(), Fail> {
-    let alloc = rt.alloc();
-    let mut it = with_sub_dir(&rt, alloc, 1)?;
-    for version in 1..34 {
-        let request = enter(FIRST, dat(b'X'), None, SECOND);
-        let entered = Ok(Answer::Entered(version));
-        ask(&rt, alloc, &mut it, request, entered)?;
-    }
-    let kind = Kind::Directory { names: 33 };
-    let shown = Answer::Info(made_stat(FIRST, &sub_dir(), kind));
-    ask(
-        &rt,
-        alloc,
-        &mut it,
-        Request::Stat { file: FIRST },
-        Ok(shown),
-    )?;
-    let lines = Answer::Names(lines_of_x(alloc)?);
-    ask(&rt, alloc, &mut it, Request::List { dir: FIRST }, Ok(lines))?;
-    assert_eq!(rt; totals(&it), (37, 16, 9));
+    let mut it = on_sample(&rt, rt.alloc(), 40)?;
+    takes_a_block(&rt, rt.alloc(), &mut it)
+}
+
+/// SUB.DIR gets one name more than a block holds.
+fn takes_a_block(rt: &impl Abort, alloc: Global, it: &mut Trial) -> Result<(), Fail> {
+    makes_sub_dir(rt, alloc, it, 1)?;
+    enters_x(rt, alloc, it, 33)?;
+    shows_x(rt, alloc, it)?;
+    has_totals(rt, it, 37, 16, 9);
     // F.HIBK 2, F.EFBK 2, F.FFBY 16: words, the high one first.
-    assert_eq!(rt; end_of(&it, 6)?, [0, 0, 2, 0, 0, 0, 2, 0, 16, 0]);
-    // Behind the entry of the new block, LBN 23, are zeros.
-    let block = block_of(it.volume.image(), 23)?;
-    assert_eq!(rt; block.byte(0), 7);
-    for at in 16..512 {
-        assert_eq!(rt; block.byte(at), 0, "byte {at}");
-    }
+    ends(rt, it, &[0, 0, 2, 0, 0, 0, 2, 0, 16, 0])?;
+    // The entry of the new block, LBN 23.
+    begins(rt, it, 23, 7)?;
+    has_one_entry(rt, block_of(it.volume.image(), 23)?);
+    Ok(())
+}
+
+/// SUB.DIR is deleted once it has no name.
+fn empties(rt: &impl Abort, alloc: Global, it: &mut Trial) -> Result<(), Fail> {
+    makes_sub_dir(rt, alloc, it, 0)?;
+    enters_x(rt, alloc, it, 1)?;
+    refuses(rt, alloc, it, delete(FIRST), Refusal::NotEmpty)?;
+    removes_x(rt, alloc, it, Pick::Highest)?;
+    // The mark stays where it was.
+    ends(rt, it, &[0, 0, 1, 0, 0, 0, 1, 0, 16, 0])?;
+    does(rt, alloc, it, delete(FIRST))?;
+    refuses(rt, alloc, it, read(FIRST, 1), Refusal::NoSuchFile)?;
+    has_totals(rt, it, 5, 18, 10);
     Ok(())
 }
 
 #[test]
 fn directory_is_deleted_when_it_is_empty(rt: HostRuntime) -> Result<(), Fail> {
-    let alloc = rt.alloc();
-    let mut it = with_sub_dir(&rt, alloc, 0)?;
-    let request = enter(FIRST, dat(b'X'), None, SECOND);
-    ask(&rt, alloc, &mut it, request, Ok(Answer::Entered(1)))?;
-    ask(&rt, alloc, &mut it, delete(FIRST), Err(Refusal::NotEmpty))?;
-    let request = remove(FIRST, dat(b'X'), Pick::Highest);
-    ask(&rt, alloc, &mut it, request, Ok(Answer::Removed(SECOND, 1)))?;
-    // The mark stays where it was.
-    assert_eq!(rt; end_of(&it, 6)?, [0, 0, 1, 0, 0, 0, 1, 0, 16, 0]);
-    ask(&rt, alloc, &mut it, delete(FIRST), Ok(Answer::Done))?;
-    let gone = Refusal::NoSuchFile;
-    ask(&rt, alloc, &mut it, read(FIRST, 1), Err(gone))?;
-    assert_eq!(rt; totals(&it), (5, 18, 10));
-    Ok(())
+    let mut it = on_sample(&rt, rt.alloc(), 40)?;
+    empties(&rt, rt.alloc(), &mut it)
+}
+
+/// A name goes where one was removed.
+fn takes_an_entry(rt: &impl Abort, alloc: Global, it: &mut Trial) -> Result<(), Fail> {
+    makes_sub_dir(rt, alloc, it, 1)?;
+    enters_x(rt, alloc, it, 3)?;
+    removes_x(rt, alloc, it, Pick::Lowest)?;
+    let before = end_of(it)?;
+    let request = enter(FIRST, a_txt(), Some(9), MASTER);
+    ask(rt, alloc, it, request, Ok(Answer::Entered(9)))?;
+    ends(rt, it, &before)?;
+    // It stands at the first entry of LBN 22.
+    begins(rt, it, 22, 4)
 }
 
 #[test]
 fn empty_entry_is_taken_before_the_mark(rt: HostRuntime) -> Result<(), Fail> {
-    let alloc = rt.alloc();
-    let mut it = with_sub_dir(&rt, alloc, 1)?;
-    for version in 1..4 {
-        let request = enter(FIRST, dat(b'X'), None, SECOND);
-        let entered = Ok(Answer::Entered(version));
-        ask(&rt, alloc, &mut it, request, entered)?;
-    }
-    let request = remove(FIRST, dat(b'X'), Pick::Lowest);
-    ask(&rt, alloc, &mut it, request, Ok(Answer::Removed(SECOND, 1)))?;
-    let before = end_of(&it, 6)?;
-    let request = enter(FIRST, a_txt(), Some(9), MASTER);
-    ask(&rt, alloc, &mut it, request, Ok(Answer::Entered(9)))?;
-    assert_eq!(rt; end_of(&it, 6)?, before);
-    // It stands at the first entry of LBN 22.
-    assert_eq!(rt; block_of(it.volume.image(), 22)?.byte(0), 4);
-    Ok(())
+    let mut it = on_sample(&rt, rt.alloc(), 40)?;
+    takes_an_entry(&rt, rt.alloc(), &mut it)
 }
 
-/// Makes a request of this user.
-fn by(
-    rt: &impl Abort,
-    alloc: Global,
-    trial: &mut Trial,
-    who: Uic,
-    request: Request,
-    wanted: Reply,
-) -> Result<(), Fail> {
-    ask_as(rt, alloc, trial, who, request, wanted)
+/// What the owner of A.TXT and a stranger may not do.
+fn denies(rt: &impl Abort, alloc: Global, it: &mut Trial) -> Result<(), Fail> {
+    ask_as(rt, alloc, it, OWNER, create(a_txt(), 1)?, made(6, 1))?;
+    let request = enter(MASTER, a_txt(), None, FIRST);
+    ask_as(rt, alloc, it, OWNER, request, Err(Refusal::Denied))?;
+    let request = write_a(FIRST, 1);
+    ask_as(rt, alloc, it, STRANGER, request, Err(Refusal::Denied))
+}
+
+/// What a stranger, a colleague and the system may do.
+fn grants(rt: &impl Abort, alloc: Global, it: &mut Trial) -> Result<(), Fail> {
+    let zeros = Ok(Answer::Bytes(Block::zeros()));
+    ask_as(rt, alloc, it, STRANGER, read(FIRST, 1), zeros)?;
+    let request = write_a(FIRST, 1);
+    ask_as(rt, alloc, it, COLLEAGUE, request, Ok(Answer::Done))?;
+    ask_as(rt, alloc, it, SYSTEM, delete(FIRST), Ok(Answer::Done))?;
+    has_totals(rt, it, 4, 18, 11);
+    Ok(())
 }
 
 #[test]
 fn rights_of_four_users(rt: HostRuntime) -> Result<(), Fail> {
-    let alloc = rt.alloc();
-    let mut it = on_sample(&rt, alloc, 40)?;
-    by(&rt, alloc, &mut it, OWNER, create(a_txt(), 1)?, made(6, 1))?;
-    let enter_it = enter(MASTER, a_txt(), None, FIRST);
-    let denied = Refusal::Denied;
-    by(&rt, alloc, &mut it, OWNER, enter_it, Err(denied))?;
-    let zeros = Answer::Bytes(Block::zeros());
-    by(&rt, alloc, &mut it, STRANGER, read(FIRST, 1), Ok(zeros))?;
-    by(
-        &rt,
-        alloc,
-        &mut it,
-        STRANGER,
-        write_a(FIRST, 1),
-        Err(denied),
-    )?;
-    let done = Answer::Done;
-    by(&rt, alloc, &mut it, COLLEAGUE, write_a(FIRST, 1), Ok(done))?;
-    by(&rt, alloc, &mut it, SYSTEM, delete(FIRST), Ok(Answer::Done))?;
-    assert_eq!(rt; totals(&it), (4, 18, 11));
-    Ok(())
+    let mut it = on_sample(&rt, rt.alloc(), 40)?;
+    denies(&rt, rt.alloc(), &mut it)?;
+    grants(&rt, rt.alloc(), &mut it)
 }
 
 /// A file that a name still names is gone, and the name stays.
+fn name_stays(rt: &impl Abort, alloc: Global, it: &mut Trial) -> Result<(), Fail> {
+    makes(rt, alloc, it, a_txt(), 0, FIRST)?;
+    enters(rt, alloc, it, MASTER, a_txt(), FIRST, 1)?;
+    does(rt, alloc, it, delete(FIRST))?;
+    finds(rt, alloc, it, Pick::Highest, 1)?;
+    let again = enter(MASTER, a_txt(), None, FIRST);
+    refuses(rt, alloc, it, again, Refusal::NoSuchFile)
+}
+
 #[test]
 fn name_outlives_its_file(rt: HostRuntime) -> Result<(), Fail> {
-    let alloc = rt.alloc();
-    let mut it = on_sample(&rt, alloc, 40)?;
-    let name: Name = a_txt();
-    let gone: FileId = id(6, 1);
-    ask(&rt, alloc, &mut it, create(name, 0)?, made(6, 1))?;
-    let entered = enter(MASTER, name, None, gone);
-    ask(&rt, alloc, &mut it, entered, Ok(Answer::Entered(1)))?;
-    ask(&rt, alloc, &mut it, delete(gone), Ok(Answer::Done))?;
-    let found = look(MASTER, name, Pick::Highest);
-    ask(&rt, alloc, &mut it, found, Ok(Answer::Found(gone, 1)))?;
-    let again = enter(MASTER, name, None, gone);
-    ask(&rt, alloc, &mut it, again, Err(Refusal::NoSuchFile))
+    let mut it = on_sample(&rt, rt.alloc(), 40)?;
+    name_stays(&rt, rt.alloc(), &mut it)
 }

@@ -7,6 +7,7 @@ use ods_look::list;
 use ods_mount::mount;
 use ods_request::{Answer, Listing, Request};
 use std::alloc::Global;
+use std::process::Abort;
 use std::test::Fail;
 
 /// The sample volume whose master directory ends at this byte (F.FFBY) of this block (F.EFBK).
@@ -28,22 +29,32 @@ fn ending_at(alloc: Global, block: u8, byte: u8) -> Result<Image, Fail> {
     .image(alloc)
 }
 
+/// The plain program, over what the reader sees, lists these lines.
+fn plain_lists(rt: &impl Abort, alloc: Global, image: &Image, wanted: Listing) -> Result<(), Fail> {
+    let mut plain = plain_catalogue(alloc, image)?;
+    let answer = plain.step(USER, &Request::List { dir: MASTER }, NONE);
+    assert!(rt; answer == Ok(Answer::Names(wanted)), "by the reader");
+    Ok(())
+}
+
+/// A sound image lists these lines.
+fn image_lists(rt: &impl Abort, alloc: Global, image: Image, wanted: &Listing) -> Result<(), Fail> {
+    let mounted = mount(alloc, image).ok().ok_or("not sound")?;
+    let lines = list(alloc, mounted.image(), mounted.layout(), USER, MASTER)?;
+    assert!(rt; lines == *wanted, "by the image");
+    Ok(())
+}
+
+/// The directory that ends in this block has these lines.
+fn both_list(rt: &impl Abort, alloc: Global, block: u8, wanted: Listing) -> Result<(), Fail> {
+    image_lists(rt, alloc, ending_at(alloc, block, 80)?, &wanted)?;
+    plain_lists(rt, alloc, &ending_at(alloc, block, 80)?, wanted)
+}
+
 /// Where F.EFBK is 0 the directory has no entry, whatever F.FFBY is.
 #[test]
 fn block_0_ends_at_once(rt: HostRuntime) -> Result<(), Fail> {
     let alloc = rt.alloc();
-    let request = Request::List { dir: MASTER };
-    for (block, wanted) in [
-        (1, reserved_lines(alloc)?),
-        (0, Listing::new(Vec::new(alloc))),
-    ] {
-        let image = ending_at(alloc, block, 80)?;
-        let mut plain = plain_catalogue(alloc, &image)?;
-        let mounted = mount(alloc, image).ok().ok_or("not sound")?;
-        let lines = list(alloc, mounted.image(), mounted.layout(), USER, MASTER)?;
-        assert!(rt; lines == wanted, "F.EFBK {block}");
-        let answer = plain.step(USER, &request, NONE);
-        assert!(rt; answer == Ok(Answer::Names(wanted)), "F.EFBK {block}");
-    }
-    Ok(())
+    both_list(&rt, alloc, 1, reserved_lines(alloc)?)?;
+    both_list(&rt, alloc, 0, Listing::new(Vec::new(alloc)))
 }

@@ -31,7 +31,7 @@ pub fn times(rt: &impl Env) -> u32 {
 }
 
 /// One of the users.
-fn some_user(dice: &mut Dice) -> Uic {
+pub fn some_user(dice: &mut Dice) -> Uic {
     match dice.roll(12) {
         0 => OWNER,
         1 => COLLEAGUE,
@@ -105,12 +105,12 @@ pub fn some_pick(dice: &mut Dice) -> Pick {
 }
 
 /// A request.
-fn some_request(dice: &mut Dice, trial: &Trial) -> Result<Request, Fail> {
+pub fn some_request(dice: &mut Dice, trial: &Trial) -> Result<Request, Fail> {
     let file = some_file(dice, trial);
     let dir = some_directory(dice, trial);
     let name = some_name(dice);
     let vbn = dice.roll(5) as u32;
-    Ok(match dice.roll(24) {
+    Ok(match dice.roll(25) {
         0 | 1 | 2 | 3 | 4 => Request::Create {
             name,
             version: some_version(dice).unwrap_or(1),
@@ -148,6 +148,7 @@ fn some_request(dice: &mut Dice, trial: &Trial) -> Result<Request, Fail> {
             file,
             attributes: [dice.roll(256) as u8; 32],
         },
+        23 => Request::List { dir },
         _ => Request::Stat { file },
     })
 }
@@ -176,28 +177,31 @@ pub fn ask_freely(
     let answer = trial.volume.request(2, trial.nth, who, request);
     match &answer {
         Err(refusal) if is_lack(*refusal) => {
-            assert!(rt; fault.is_none(), "{request:?} lacks something");
             let is_short = free < wanted(&request);
-            assert_eq!(rt; *refusal == Refusal::VolumeFull, is_short);
-            assert!(rt; is_short || numbers < 4, "{request:?} lacks a number");
+            is_so(rt, &request, &answer, fault.is_none());
+            let is_full = *refusal == Refusal::VolumeFull;
+            is_so(rt, &request, &answer, is_full == is_short);
+            is_so(rt, &request, &answer, is_short || numbers < 4);
         }
-        Err(refusal) => assert_eq!(rt; Some(*refusal), fault, "{request:?}"),
+        Err(refusal) => is_so(rt, &request, &answer, fault == Some(*refusal)),
         Ok(given) => {
             let new = match given {
                 Answer::Created(new) => *new,
                 _ => id(0, 0),
             };
             let plain = trial.plain.step(who, &request, new);
-            assert!(rt;
-                plain.is_ok_and(|one| one == *given),
-                "{request:?} was answered {given:?}"
-            );
+            is_so(rt, &request, &answer, plain.is_ok_and(|one| one == *given));
             if new.number != 0 {
                 trial.given.push(new)?;
             }
         }
     }
     Ok(())
+}
+
+/// Fails where this is not so of a request that was answered so.
+fn is_so(rt: &impl Abort, request: &Request, answer: &Result<Answer, Refusal>, holds: bool) {
+    assert!(rt; holds, "{request:?} was answered {answer:?}");
 }
 
 /// The image is sound.

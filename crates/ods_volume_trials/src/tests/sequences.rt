@@ -1,5 +1,8 @@
 //! The published sequences of requests, each answer as a value.
-use super::trial::{ask, look_for_bitmap, read, start};
+use super::rows::write_a;
+use super::trial::{
+    Trial, ask, does, has_entries, has_totals, look_for_bitmap, read, reads, refuses, shows, start,
+};
 use ods_base::{Block, FileId, Pick};
 use ods_format_tests::contiguous::{contiguous_file, contiguous_stat};
 use ods_format_tests::persons::{
@@ -8,37 +11,63 @@ use ods_format_tests::persons::{
 };
 use ods_format_tests::volumes::sample_of;
 use ods_request::{Answer, Refusal, Request};
+use std::alloc::Global;
+use std::process::Abort;
 use std::test::Fail;
 
-#[test]
-fn contiguous_file_is_read_and_written(rt: HostRuntime) -> Result<(), Fail> {
-    let alloc = rt.alloc();
-    let mut it = start(&rt, alloc, contiguous_file(alloc, PROTECTION)?, 4_096)?;
-    assert_eq!(rt; it.volume.free_count(), 17);
-    let first = read(FIRST, 1);
-    let old = Answer::Bytes(old_block());
-    ask(&rt, alloc, &mut it, first, Ok(old))?;
-    let block = letter_a();
-    let write = Request::Write {
-        file: FIRST,
-        vbn: 1,
-        block,
-    };
-    ask(&rt, alloc, &mut it, write, Ok(Answer::Done))?;
-    ask(&rt, alloc, &mut it, first, Ok(Answer::Bytes(block)))?;
+/// C.DAT is written.
+fn writes(rt: &impl Abort, alloc: Global, it: &mut Trial) -> Result<(), Fail> {
+    has_totals(rt, it, 0, 17, 10);
+    reads(rt, alloc, it, FIRST, 1, old_block())?;
+    does(rt, alloc, it, write_a(FIRST, 1))?;
+    reads(rt, alloc, it, FIRST, 1, letter_a())
+}
+
+/// Its attributes are set, and a name is looked up.
+fn sets(rt: &impl Abort, alloc: Global, it: &mut Trial) -> Result<(), Fail> {
     let attributes = other_attributes();
     let set = Request::SetUser {
         file: FIRST,
         attributes,
     };
-    ask(&rt, alloc, &mut it, set, Ok(Answer::Done))?;
-    let stat = Request::Stat { file: FIRST };
-    let shown = contiguous_stat(attributes);
-    ask(&rt, alloc, &mut it, stat, Ok(Answer::Info(shown)))?;
+    does(rt, alloc, it, set)?;
+    shows(rt, alloc, it, FIRST, contiguous_stat(attributes))?;
     let found = Answer::Found(reserved_id(2), 1);
-    ask(&rt, alloc, &mut it, look_for_bitmap(), Ok(found))?;
-    assert_eq!(rt; it.volume.entries().len(), 6);
-    assert!(rt; *it.volume.mounted() == contiguous_file(alloc, PROTECTION)?);
+    ask(rt, alloc, it, look_for_bitmap(), Ok(found))?;
+    has_entries(rt, it, 6);
+    Ok(())
+}
+
+/// The mounted image is as it was.
+fn keeps_mounted(rt: &impl Abort, alloc: Global, it: &Trial) -> Result<(), Fail> {
+    let wanted = contiguous_file(alloc, PROTECTION)?;
+    assert!(rt; *it.volume.mounted() == wanted);
+    Ok(())
+}
+
+#[test]
+fn contiguous_file_is_read_and_written(rt: HostRuntime) -> Result<(), Fail> {
+    let alloc = rt.alloc();
+    let mut it = start(&rt, alloc, contiguous_file(alloc, PROTECTION)?, 4_096)?;
+    writes(&rt, alloc, &mut it)?;
+    sets(&rt, alloc, &mut it)?;
+    keeps_mounted(&rt, alloc, &it)
+}
+
+/// INDEXF.SYS is shown.
+fn shows_index(rt: &impl Abort, alloc: Global, it: &mut Trial) -> Result<(), Fail> {
+    shows(rt, alloc, it, reserved_id(1), index_stat())
+}
+
+/// The list has room for two.
+fn fills_list(rt: &impl Abort, alloc: Global, it: &mut Trial) -> Result<(), Fail> {
+    shows_index(rt, alloc, it)?;
+    shows_index(rt, alloc, it)?;
+    let request = Request::Stat {
+        file: reserved_id(1),
+    };
+    refuses(rt, alloc, it, request, Refusal::ListFull)?;
+    has_entries(rt, it, 2);
     Ok(())
 }
 
@@ -46,11 +75,16 @@ fn contiguous_file_is_read_and_written(rt: HostRuntime) -> Result<(), Fail> {
 fn full_list_is_refused(rt: HostRuntime) -> Result<(), Fail> {
     let alloc = rt.alloc();
     let mut it = start(&rt, alloc, sample_of(40).image(alloc)?, 2)?;
-    let shown = index_stat();
-    ask(&rt, alloc, &mut it, show_index(), Ok(Answer::Info(shown)))?;
-    ask(&rt, alloc, &mut it, show_index(), Ok(Answer::Info(shown)))?;
-    ask(&rt, alloc, &mut it, show_index(), Err(Refusal::ListFull))?;
-    assert_eq!(rt; it.volume.entries().len(), 2);
+    fills_list(&rt, alloc, &mut it)
+}
+
+/// The master directory is listed.
+fn lists(rt: &impl Abort, alloc: Global, it: &mut Trial) -> Result<(), Fail> {
+    shows_index(rt, alloc, it)?;
+    let list = Request::List { dir: MASTER };
+    let lines = reserved_lines(alloc)?;
+    ask(rt, alloc, it, list, Ok(Answer::Names(lines)))?;
+    has_totals(rt, it, 2, 18, 11);
     Ok(())
 }
 
@@ -58,79 +92,62 @@ fn full_list_is_refused(rt: HostRuntime) -> Result<(), Fail> {
 fn master_directory_is_listed(rt: HostRuntime) -> Result<(), Fail> {
     let alloc = rt.alloc();
     let mut it = start(&rt, alloc, sample_of(40).image(alloc)?, 4_096)?;
-    let shown = index_stat();
-    ask(&rt, alloc, &mut it, show_index(), Ok(Answer::Info(shown)))?;
-    let list = Request::List { dir: MASTER };
-    let lines = reserved_lines(alloc)?;
-    ask(&rt, alloc, &mut it, list, Ok(Answer::Names(lines)))?;
-    assert_eq!(rt; it.volume.entries().len(), 2);
-    assert_eq!(rt; it.volume.free_count(), 18);
-    assert_eq!(rt; it.volume.number_count(), 11);
-    Ok(())
+    lists(&rt, alloc, &mut it)
+}
+
+/// What reserved files refuse.
+fn reserved_refuse(rt: &impl Abort, alloc: Global, it: &mut Trial) -> Result<(), Fail> {
+    let request = read(reserved_id(1), 1);
+    refuses(rt, alloc, it, request, Refusal::Reserved)?;
+    let write = Request::Write {
+        file: MASTER,
+        vbn: 1,
+        block: Block::zeros(),
+    };
+    refuses(rt, alloc, it, write, Refusal::Reserved)?;
+    refuses(rt, alloc, it, read(MASTER, 1), Refusal::IsDirectory)
+}
+
+/// What files refuse that are none, are no directories, or have no block.
+fn others_refuse(rt: &impl Abort, alloc: Global, it: &mut Trial) -> Result<(), Fail> {
+    let look = Request::LookUp {
+        dir: reserved_id(3),
+        name: a_txt(),
+        pick: Pick::Highest,
+    };
+    refuses(rt, alloc, it, look, Refusal::NotADirectory)?;
+    let request = read(reserved_id(3), 1);
+    refuses(rt, alloc, it, request, Refusal::NoSuchBlock)?;
+    let other = FileId {
+        number: 4,
+        sequence: 5,
+    };
+    refuses(rt, alloc, it, read(other, 1), Refusal::NoSuchFile)
 }
 
 #[test]
 fn reserved_files_are_refused(rt: HostRuntime) -> Result<(), Fail> {
     let alloc = rt.alloc();
     let mut it = start(&rt, alloc, sample_of(40).image(alloc)?, 4_096)?;
-    let running = &mut it;
-    ask(
-        &rt,
-        alloc,
-        running,
-        read(reserved_id(1), 1),
-        Err(Refusal::Reserved),
-    )?;
-    let write = Request::Write {
-        file: MASTER,
-        vbn: 1,
-        block: Block::zeros(),
-    };
-    ask(&rt, alloc, running, write, Err(Refusal::Reserved))?;
-    ask(
-        &rt,
-        alloc,
-        running,
-        read(MASTER, 1),
-        Err(Refusal::IsDirectory),
-    )?;
-    let look = Request::LookUp {
-        dir: reserved_id(3),
-        name: a_txt(),
-        pick: Pick::Highest,
-    };
-    ask(&rt, alloc, running, look, Err(Refusal::NotADirectory))?;
-    ask(
-        &rt,
-        alloc,
-        running,
-        read(reserved_id(3), 1),
-        Err(Refusal::NoSuchBlock),
-    )?;
-    let other = FileId {
-        number: 4,
-        sequence: 5,
-    };
-    ask(
-        &rt,
-        alloc,
-        running,
-        read(other, 1),
-        Err(Refusal::NoSuchFile),
-    )?;
-    assert_eq!(rt; running.volume.entries().len(), 0);
+    reserved_refuse(&rt, alloc, &mut it)?;
+    others_refuse(&rt, alloc, &mut it)?;
+    has_entries(&rt, &it, 0);
     Ok(())
+}
+
+/// BITMAP.SYS is removed, and then is not there.
+fn removes(rt: &impl Abort, alloc: Global, it: &mut Trial) -> Result<(), Fail> {
+    let removed = Answer::Removed(reserved_id(2), 1);
+    ask(rt, alloc, it, remove_bitmap(), Ok(removed))?;
+    refuses(rt, alloc, it, remove_bitmap(), Refusal::NoSuchName)?;
+    refuses(rt, alloc, it, look_for_bitmap(), Refusal::NoSuchName)
 }
 
 #[test]
 fn name_is_removed(rt: HostRuntime) -> Result<(), Fail> {
     let alloc = rt.alloc();
     let mut it = start(&rt, alloc, sample_of(40).image(alloc)?, 4)?;
-    let removed = Answer::Removed(reserved_id(2), 1);
-    ask(&rt, alloc, &mut it, remove_bitmap(), Ok(removed))?;
-    let gone = Refusal::NoSuchName;
-    ask(&rt, alloc, &mut it, remove_bitmap(), Err(gone))?;
-    ask(&rt, alloc, &mut it, look_for_bitmap(), Err(gone))
+    removes(&rt, alloc, &mut it)
 }
 
 /// A Remove of the highest version of BITMAP.SYS from the master directory.
@@ -139,12 +156,5 @@ fn remove_bitmap() -> Request {
         dir: MASTER,
         name: bitmap(),
         pick: Pick::Highest,
-    }
-}
-
-/// A Stat of INDEXF.SYS.
-fn show_index() -> Request {
-    Request::Stat {
-        file: reserved_id(1),
     }
 }

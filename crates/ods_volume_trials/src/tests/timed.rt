@@ -41,44 +41,59 @@ fn make(rt: &impl Abort, volume: &mut Volume, name: Name, blocks: u32) -> Result
     }
 }
 
+/// Makes and deletes a file again and again.
+fn make_and_delete(rt: &(impl Abort + Env), volume: &mut Volume) -> Result<(), Fail> {
+    for _k in 0..30u32.saturating_mul(times(rt)) {
+        let file = make(rt, volume, dat(b'X'), 1)?;
+        accept(rt, volume, delete(file));
+    }
+    assert!(rt; volume.free_count() == 490);
+    Ok(())
+}
+
 #[test]
 fn creates_and_deletes(rt: HostRuntime) -> Result<(), Fail> {
     let mut volume = volume_of(rt.alloc(), 512)?;
-    for _k in 0..30u32.saturating_mul(times(&rt)) {
-        let file = make(&rt, &mut volume, dat(b'X'), 1)?;
-        accept(&rt, &mut volume, delete(file));
+    make_and_delete(&rt, &mut volume)
+}
+
+/// Extends a file block by block.
+fn extend_often(rt: &(impl Abort + Env), volume: &mut Volume) -> Result<(), Fail> {
+    for _k in 0..times(rt) {
+        let file = make(rt, volume, dat(b'X'), 0)?;
+        for _block in 0..58u32 {
+            accept(rt, volume, extend(file, 1));
+        }
+        accept(rt, volume, delete(file));
     }
-    assert_eq!(rt; volume.free_count(), 490);
+    assert!(rt; volume.number_count() == 11);
     Ok(())
 }
 
 #[test]
 fn extends(rt: HostRuntime) -> Result<(), Fail> {
     let mut volume = volume_of(rt.alloc(), 4_200)?;
-    for _k in 0..times(&rt) {
-        let file = make(&rt, &mut volume, dat(b'X'), 0)?;
-        for _block in 0..58u32 {
-            accept(&rt, &mut volume, extend(file, 1));
-        }
-        accept(&rt, &mut volume, delete(file));
+    extend_often(&rt, &mut volume)
+}
+
+/// Writes blocks of a file, and reads each.
+fn read_and_write(rt: &(impl Abort + Env), volume: &mut Volume) -> Result<(), Fail> {
+    let file = make(rt, volume, dat(b'X'), 1_000)?;
+    for k in 0..30u32.saturating_mul(times(rt)) {
+        let vbn = 1 + k % 1_000;
+        let block = letter_a();
+        let request = Request::Write { file, vbn, block };
+        accept(rt, volume, request);
+        let answer = accept(rt, volume, Request::Read { file, vbn });
+        assert!(rt; answer == Answer::Bytes(block));
     }
-    assert_eq!(rt; volume.number_count(), 11);
     Ok(())
 }
 
 #[test]
 fn reads_and_writes(rt: HostRuntime) -> Result<(), Fail> {
     let mut volume = volume_of(rt.alloc(), 4_200)?;
-    let file = make(&rt, &mut volume, dat(b'X'), 1_000)?;
-    for k in 0..30u32.saturating_mul(times(&rt)) {
-        let vbn = 1 + k % 1_000;
-        let block = letter_a();
-        let request = Request::Write { file, vbn, block };
-        accept(&rt, &mut volume, request);
-        let answer = accept(&rt, &mut volume, Request::Read { file, vbn });
-        assert!(rt; answer == Answer::Bytes(block));
-    }
-    Ok(())
+    read_and_write(&rt, &mut volume)
 }
 
 /// A directory with so many versions of A.TXT: 32 of them in a block.
@@ -91,18 +106,23 @@ fn long_directory(rt: &impl Abort, volume: &mut Volume, names: u16) -> Result<Fi
     Ok(dir)
 }
 
-#[test]
-fn names_of_a_long_directory(rt: HostRuntime) -> Result<(), Fail> {
-    let times = times(&rt);
+/// Enters, looks up and removes a name behind all others.
+fn name_often(rt: &(impl Abort + Env), volume: &mut Volume) -> Result<(), Fail> {
+    let times = times(rt);
     let names = if times == 1 { 100 } else { 2_000 };
-    let mut volume = volume_of(rt.alloc(), 4_200)?;
-    let dir = long_directory(&rt, &mut volume, names)?;
-    assert_eq!(rt; dir, id(6, 1));
+    let dir = long_directory(rt, volume, names)?;
+    assert!(rt; dir == id(6, 1));
     for _k in 0..20u32.saturating_mul(times) {
         let name = letter(2, TXT);
-        accept(&rt, &mut volume, enter(dir, name, None, dir));
-        accept(&rt, &mut volume, look(dir, name, Pick::Highest));
-        accept(&rt, &mut volume, remove(dir, name, Pick::Highest));
+        accept(rt, volume, enter(dir, name, None, dir));
+        accept(rt, volume, look(dir, name, Pick::Highest));
+        accept(rt, volume, remove(dir, name, Pick::Highest));
     }
     Ok(())
+}
+
+#[test]
+fn names_of_a_long_directory(rt: HostRuntime) -> Result<(), Fail> {
+    let mut volume = volume_of(rt.alloc(), 4_200)?;
+    name_often(&rt, &mut volume)
 }

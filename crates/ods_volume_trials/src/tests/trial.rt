@@ -3,12 +3,13 @@
 ghost use Rattle.std.specs.Prelude.{◌≤◌, IsTrue};
 ghost use Rattle.ods_state.specs.Outcome.{CanBeAsked, IsVersionNumber};
 
-use crate::{plain_catalogue, plain_free_blocks, plain_free_numbers, plain_id};
-use ods_base::{FileId, Image, Pick, Uic};
+use super::rows::create;
+use crate::{plain_catalogue, plain_counts, plain_free_blocks, plain_free_numbers, plain_id};
+use ods_base::{Block, FileId, Image, Name, Pick, Uic};
 use ods_format_tests::persons::{MASTER, NONE, USER, bitmap};
 use ods_mount::mount;
 use ods_plain::{Body, Catalogue, File, StepError};
-use ods_request::{Answer, Refusal, Request};
+use ods_request::{Answer, Refusal, Request, Stat};
 use ods_volume::Volume;
 use std::alloc::Global;
 use std::process::Abort;
@@ -24,6 +25,7 @@ pub struct Trial {
 }
 
 /// A trial on this image, whose list has room for this many requests.
+/// A test hands it on by `&mut`: what owns a trial and may fail at each of many calls takes long to prove.
 pub fn start(rt: &impl Abort, alloc: Global, image: Image, limit: u32) -> Result<Trial, Fail> {
     assert!(rt; 1 <= limit && limit <= 65_536);
     let plain = plain_catalogue(alloc, &image)?;
@@ -74,22 +76,42 @@ fn same_file(alloc: Global, shown: Option<&File>, plain: Option<&File>) -> Resul
     )
 }
 
+/// Fails where this is not so of a file.
+fn is_so(rt: &impl Abort, id: FileId, holds: bool) {
+    assert!(rt; holds, "{id:?} is another file, or not there on one side");
+}
+
+/// Both catalogues have the same files with the numbers 1 to 16 of the image.
+fn same_files(
+    rt: &impl Abort,
+    alloc: Global,
+    image: &Image,
+    shown: &Catalogue,
+    plain: &Catalogue,
+) -> Result<(), Fail> {
+    for number in 1..17 {
+        let id = plain_id(image, number);
+        is_so(rt, id, same_file(alloc, shown.file(id), plain.file(id))?);
+    }
+    Ok(())
+}
+
+/// Each of these files is in both catalogues, or in none.
+fn same_presence(rt: &impl Abort, given: &[FileId], shown: &Catalogue, plain: &Catalogue) {
+    for id in given {
+        let is_there = shown.file(*id).is_some();
+        is_so(rt, *id, is_there == plain.file(*id).is_some());
+    }
+}
+
 /// The blocks of the volume show the files that the plain program has, and no others, and as much is free as the reader counts.
 pub fn same_catalogue(rt: &impl Abort, alloc: Global, trial: &Trial) -> Result<(), Fail> {
     let image = trial.volume.image();
     let shown = plain_catalogue(alloc, image)?;
-    for number in 1..17 {
-        let id = plain_id(image, number);
-        let same = same_file(alloc, shown.file(id), trial.plain.file(id))?;
-        assert!(rt; same, "{id:?} is another file");
-    }
-    for id in trial.given.as_slice() {
-        let is_there = shown.file(*id).is_some();
-        assert!(rt;
-            is_there == trial.plain.file(*id).is_some(),
-            "{id:?} is there: {is_there}"
-        );
-    }
+    same_files(rt, alloc, image, &shown, &trial.plain)?;
+    same_presence(rt, trial.given.as_slice(), &shown, &trial.plain);
+    let counts = plain_counts(alloc, image)?;
+    assert_eq!(rt; trial.volume.counts(), counts.as_slice());
     assert_eq!(rt; trial.volume.free_count(), plain_free_blocks(alloc, image)?);
     assert_eq!(rt; trial.volume.number_count(), plain_free_numbers(image));
     Ok(())
@@ -146,6 +168,39 @@ pub fn is_lack(refusal: Refusal) -> bool {
         || refusal == Refusal::ChainFull
 }
 
+/// The request was answered as wanted.
+fn is_answered(
+    rt: &impl Abort,
+    request: &Request,
+    answer: &Result<Answer, Refusal>,
+    wanted: &Result<Answer, Refusal>,
+) {
+    assert!(rt; answer == wanted, "{request:?} was answered {answer:?}");
+}
+
+/// The plain program has no fault for a request for which the volume lacks something.
+fn has_no_fault(rt: &impl Abort, plain: &Catalogue, who: Uic, request: &Request) {
+    assert!(rt;
+        plain.fault(&who, request).is_none(),
+        "{request:?} has a fault"
+    );
+}
+
+/// The plain program answers as wanted.
+fn plain_agrees(
+    rt: &impl Abort,
+    plain: &mut Catalogue,
+    who: Uic,
+    request: &Request,
+    wanted: &Result<Answer, Refusal>,
+) {
+    let answer = plain_answer(plain, who, request, wanted);
+    assert!(rt;
+        agree(&answer, wanted),
+        "{request:?} is answered {answer:?} by the plain program"
+    );
+}
+
 /// Makes a request of session 1, and compares the answer, the entries and the plain program's answer.
 pub fn ask_quickly(
     rt: &impl Abort,
@@ -158,29 +213,16 @@ pub fn ask_quickly(
     trial.nth = trial.nth.wrapping_add(1);
     let before = trial.volume.entries().len();
     let answer = trial.volume.request(1, trial.nth, who, request);
-    assert!(rt; answer == wanted, "{request:?} was answered {answer:?}");
-    let after = trial.volume.entries().len();
-    assert_eq!(rt; after, before.wrapping_add(usize::from(answer.is_ok())));
-    if let Ok(Answer::Created(id)) = &answer {
+    is_answered(rt, &request, &answer, &wanted);
+    has_entries(rt, trial, before.wrapping_add(usize::from(answer.is_ok())));
+    match &wanted {
+        Err(Refusal::ListFull) => {}
+        Err(refusal) if is_lack(*refusal) => has_no_fault(rt, &trial.plain, who, &request),
+        _ => plain_agrees(rt, &mut trial.plain, who, &request, &wanted),
+    }
+    if let Ok(Answer::Created(id)) = &wanted {
         trial.given.push(*id)?;
     }
-    if let Err(refusal) = &answer {
-        if *refusal == Refusal::ListFull {
-            return Ok(());
-        }
-        if is_lack(*refusal) {
-            assert!(rt;
-                trial.plain.fault(&who, &request).is_none(),
-                "{request:?} has a fault"
-            );
-            return Ok(());
-        }
-    }
-    let plain = plain_answer(&mut trial.plain, who, &request, &answer);
-    assert!(rt;
-        agree(&plain, &wanted),
-        "{request:?} is answered {plain:?} by the plain program"
-    );
     Ok(())
 }
 
@@ -206,6 +248,76 @@ pub fn ask(
     wanted: Result<Answer, Refusal>,
 ) -> Result<(), Fail> {
     ask_as(rt, alloc, trial, USER, request, wanted)
+}
+
+/// The list has so many entries.
+pub fn has_entries(rt: &impl Abort, trial: &Trial, wanted: usize) {
+    assert_eq!(rt; trial.volume.entries().len(), wanted);
+}
+
+/// The list has so many entries, and so many blocks and numbers are free.
+pub fn has_totals(rt: &impl Abort, trial: &Trial, entries: usize, blocks: u32, numbers: u32) {
+    has_entries(rt, trial, entries);
+    assert_eq!(rt; trial.volume.free_count(), blocks);
+    assert_eq!(rt; trial.volume.number_count(), numbers);
+}
+
+/// Makes a Create of version 1, which makes this file.
+pub fn makes(
+    rt: &impl Abort,
+    alloc: Global,
+    trial: &mut Trial,
+    name: Name,
+    blocks: u32,
+    file: FileId,
+) -> Result<(), Fail> {
+    let request = create(name, blocks)?;
+    ask(rt, alloc, trial, request, Ok(Answer::Created(file)))
+}
+
+/// Makes a request that is answered Done.
+pub fn does(
+    rt: &impl Abort,
+    alloc: Global,
+    trial: &mut Trial,
+    request: Request,
+) -> Result<(), Fail> {
+    ask(rt, alloc, trial, request, Ok(Answer::Done))
+}
+
+/// Makes a request that is refused so.
+pub fn refuses(
+    rt: &impl Abort,
+    alloc: Global,
+    trial: &mut Trial,
+    request: Request,
+    refusal: Refusal,
+) -> Result<(), Fail> {
+    ask(rt, alloc, trial, request, Err(refusal))
+}
+
+/// Reads a block, which has these bytes.
+pub fn reads(
+    rt: &impl Abort,
+    alloc: Global,
+    trial: &mut Trial,
+    file: FileId,
+    vbn: u32,
+    block: Block,
+) -> Result<(), Fail> {
+    ask(rt, alloc, trial, read(file, vbn), Ok(Answer::Bytes(block)))
+}
+
+/// Shows a file.
+pub fn shows(
+    rt: &impl Abort,
+    alloc: Global,
+    trial: &mut Trial,
+    file: FileId,
+    shown: Stat,
+) -> Result<(), Fail> {
+    let request = Request::Stat { file };
+    ask(rt, alloc, trial, request, Ok(Answer::Info(shown)))
 }
 
 /// A Read.

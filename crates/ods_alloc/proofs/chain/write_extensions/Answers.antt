@@ -16,8 +16,7 @@ use Rattle.ods_alloc.proofs.chain.write_extensions.Goals.{in-Some+in_ok-set, in_
 pub loop-i-init : goal.loop-i-init
 loop-i-init c = λ f e.
     let I = c.args.image.now in
-    let P : Changes → Type 0 = λ d. MakesHeaders (applied I c.args.old.now) c.args.layout.now f (c.args.segment + 1) c.args.numbers.now c.args.runs.now 0 (applied I d) in
-    subst P (sym c.requires.same) (none_made (applied I c.args.old.now) c.args.layout.now f (c.args.segment + 1) c.args.numbers.now c.args.runs.now)
+    none_made (applied I c.args.old.now) (applied I c.args.draft.now) c.args.layout.now f (c.args.segment + 1) c.args.numbers.now c.args.runs.now
 
 pub extension_block-block-requires-clause-few : goal.extension_block-block-requires-clause-few
 extension_block-block-requires-clause-few c = omega (arith, ap length c.piece-pointers.ensures, length-take 102 (drop (102 * c.loop-i.i) c.args.runs.now))
@@ -37,11 +36,12 @@ loop-i-preserved c = λ f e.
     let numbers = c.args.numbers.now in
     let rs = c.args.runs.now in
     let x = get_or numbers k 0 in
-    let P : Changes → Type 0 = λ d. MakesHeaders B L f (c.args.segment + 1) numbers rs (k + 1) (applied I d) in
+    let K = applied I c.args.draft.now in
+    let P : Changes → Type 0 = λ d. MakesHeaders B K L f (c.args.segment + 1) numbers rs (k + 1) (applied I d) in
     elim c.match-place.branch [
       | in-Some+in_ok-set w ↦
           let found : place_of L x ≡ Some w.in-Some.lbn = sym c.place.ensures ∙ w.in-Some.is in
-          subst P (sym w.draft-is) (one_made I B c.loop-i.draft w.set.new.self L f (c.args.segment + 1) numbers rs k w.in-Some.lbn w.extension_block-block.result c.requires.places.places c.requires.rising
+          subst P (sym w.draft-is) (one_made I B K c.loop-i.draft w.set.new.self L f (c.args.segment + 1) numbers rs k w.in-Some.lbn w.extension_block-block.result c.requires.places.places c.requires.rising
           c.loop-i-test.true (place_inside _ L x w.in-Some.lbn c.requires.places found) found w.in_ok-set.ensures.ok
           (made_block B L f w.extension_block-block.result c.args.first.now w.first_id-file.result (c.args.segment + 1) _ w.first_id-next.result rs w.piece-pointers.result.now numbers k c.loop-i-test.true
           w.extension_block-block.ensures.fields w.extension_block-block.ensures.valid (w.extension_block-block.ensures.made f e) (omega arith)
@@ -56,6 +56,6 @@ loop-i-preserved c = λ f e.
 pub returns : goal.returns
 returns c = λ f e.
     let I = c.args.image.now in
-    let P : ℕ → Type 0 = λ k. MakesHeaders (applied I c.args.old.now) c.args.layout.now f (c.args.segment + 1) c.args.numbers.now c.args.runs.now k (applied I c.loop-i.draft) in
+    let P : ℕ → Type 0 = λ k. MakesHeaders (applied I c.args.old.now) (applied I c.args.draft.now) c.args.layout.now f (c.args.segment + 1) c.args.numbers.now c.args.runs.now k (applied I c.loop-i.draft) in
     let all : c.loop-i.i ≡ length c.args.numbers.now = omega (arith, c.loop-i.auto.i-end, c.loop-i-test.false) in
     subst P all (c.loop-i.invariant f e)

@@ -1,60 +1,23 @@
-use Rattle.std.proofs.Common.{ℕ, List, sym, subst, refl, ◌∙◌, arith}
-use Rattle.std.specs.List.{All}
-use Rattle.ods_header.specs.declared.header.Run.{Run}
-use Rattle.ods_header.specs.Header.{IsRun}
 use Rattle.ods_space.specs.Draft.{applied}
-use Rattle.ods_space.proofs.Drafts.{length-applied}
-use Rattle.ods_alloc.specs.Extend.{with_in_use}
-use Rattle.ods_alloc.specs.Extension.{WritesHeaders}
 use Rattle.ods_alloc.proofs.Places.{has_places}
-use Rattle.ods_alloc.proofs.Chained.{last_found}
-use Rattle.ods_alloc.proofs.Extending.{extends}
+use Rattle.ods_alloc.proofs.Chained.{last_walked}
 use Rattle.ods_alloc.proofs.extend.extend_chain.Goals as goal
 
 pub last_header-last-requires-clause-places : goal.last_header-last-requires-clause-places
 last_header-last-requires-clause-places g c = has_places c.args.image.now c.args.draft.now c.args.layout.now c.requires.0 c.requires.1.0
 
-pub write_headers-requires-clause-places : goal.write_headers-requires-clause-places
-write_headers-requires-clause-places g c = has_places c.args.image.now c.args.draft.now c.args.layout.now c.requires.0 c.requires.1.0
-
-pub mark_numbers-requires : goal.mark_numbers-requires
-mark_numbers-requires g c = record { places = has_places c.args.image.now c.args.draft.now c.args.layout.now c.requires.0 c.requires.1.0 }
-
-pub mark_numbers-requires-2 : goal.mark_numbers-requires-2
-mark_numbers-requires-2 g c = record { places = has_places c.args.image.now c.args.draft.now c.args.layout.now c.requires.0 c.requires.1.0 }
-
-pub mark_blocks-requires : goal.mark_blocks-requires
-mark_blocks-requires g c = record { places = has_places c.args.image.now c.args.draft.now c.args.layout.now c.requires.0 c.requires.1.0 }
-
-pub write_headers-requires-clause-first : goal.write_headers-requires-clause-first
-write_headers-requires-clause-first g c = (last_found (applied c.args.image.now c.args.draft.now) c.args.layout.now c.args.number g.chain.0 g.chain.1 c.args.blocks.now c.args.numbers.now c.last_header-last.result c.requires.1.0 c.requires.1.1.0 c.requires.1.1.1 c.last_header-last.ensures).first
-
-pub write_headers-requires-clause-last : goal.write_headers-requires-clause-last
-write_headers-requires-clause-last g c = (last_found (applied c.args.image.now c.args.draft.now) c.args.layout.now c.args.number g.chain.0 g.chain.1 c.args.blocks.now c.args.numbers.now c.last_header-last.result c.requires.1.0 c.requires.1.1.0 c.requires.1.1.1 c.last_header-last.ensures).valid
-
-pub write_headers-requires-clause-apart : goal.write_headers-requires-clause-apart
-write_headers-requires-clause-apart g c = (last_found (applied c.args.image.now c.args.draft.now) c.args.layout.now c.args.number g.chain.0 g.chain.1 c.args.blocks.now c.args.numbers.now c.last_header-last.result c.requires.1.0 c.requires.1.1.0 c.requires.1.1.1 c.last_header-last.ensures).new
-
-pub write_headers-requires-clause-segments : goal.write_headers-requires-clause-segments
-write_headers-requires-clause-segments g c =
-    let last = last_found (applied c.args.image.now c.args.draft.now) c.args.layout.now c.args.number g.chain.0 g.chain.1 c.args.blocks.now c.args.numbers.now c.last_header-last.result c.requires.1.0 c.requires.1.1.0 c.requires.1.1.1 c.last_header-last.ensures in
-    omega (arith, last.segment, c.requires.1.1.1.segments)
-
-pub write_headers-requires-clause-runs : goal.write_headers-requires-clause-runs
-write_headers-requires-clause-runs g c =
-    let P : List Run → Type 0 = λ rs. All IsRun rs in
-    subst P (sym c.deref.ensures.value) (c.in_ok-runs.ensures.runs (λ k d below.
-    let inside = c.requires.1.1.1.inside k d below in
-    let size = length-applied c.args.image.now c.args.draft.now in
-    omega (arith, inside, size, c.len.ensures.image.size)))
-
-pub returns-clause-ok : goal.returns-clause-ok
-returns-clause-ok g c =
-    let image = c.args.image.now in
-    let I = applied image c.args.draft.now in
-    let L = c.args.layout.now in
-    let n = c.args.number in
-    let last = last_found (applied c.args.image.now c.args.draft.now) c.args.layout.now c.args.number g.chain.0 g.chain.1 c.args.blocks.now c.args.numbers.now c.last_header-last.result c.requires.1.0 c.requires.1.1.0 c.requires.1.1.1 c.last_header-last.ensures in
-    let P : ℕ → Type 0 = λ x. WritesHeaders I L n x c.args.numbers.now c.deref.result.now (applied image c.write_headers.new.draft) in
-    extends I (with_in_use I L.home n) (applied image c.write_headers.new.draft) (applied image c.mark_numbers.new.draft) (applied image c.mark_numbers-2.new.draft) (applied image c.mark_blocks.new.draft) L n g.chain.0 g.chain.1 c.args.blocks.now c.args.numbers.now c.deref.result.now
-    c.requires.1.0 refl c.requires.1.1.0 c.requires.1.1.1 (c.deref.ensures.value ∙ c.in_ok-runs.ensures.cut) (subst P last.is c.in_ok-write_headers.ensures) c.in_ok-mark_numbers.ensures c.in_ok-mark_numbers-2.ensures c.in_ok-mark_blocks.ensures
+pub extend_from-requires : goal.extend_from-requires
+extend_from-requires g c = (
+  c.requires.0,
+  (
+    c.requires.1.0,
+    (
+      c.requires.1.1.0,
+      (
+        c.requires.1.1.1,
+        last_walked (applied c.args.image.now c.args.draft.now) c.args.layout.now c.args.number g.chain.0 g.chain.1 c.args.blocks.now c.args.numbers.now c.last_header-last.result
+            c.requires.1.0 c.requires.1.1.0 c.requires.1.1.1 c.last_header-last.ensures,
+      ),
+    ),
+  ),
+)

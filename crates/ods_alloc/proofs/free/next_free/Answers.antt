@@ -2,6 +2,7 @@ use Rattle.std.proofs.Common.{◌+◌, ◌*◌, ◌/◌, arith, inl, inr}
 use Rattle.std.proofs.lemmas.Bool.{cases_lt}
 use Rattle.ods_space.specs.Free.{is_free_block}
 use Rattle.ods_alloc.proofs.Scans.{further, next_further}
+use Rattle.ods_alloc.proofs.Counted.{none_counted}
 use Rattle.ods_alloc.proofs.FreeTests.{free_inside, not_free_past}
 use Rattle.ods_alloc.proofs.free.next_free.Goals as goal
 
@@ -14,6 +15,13 @@ pub returns-in-Some-clause-some : goal.returns-in-Some-clause-some
 returns-in-Some-clause-some c =
     let p = is_free_block c.args.image.now c.args.layout.now in
     next_further p c.args.from c.loop-at.at c.in-Some.lbn c.loop-at.invariant.0 c.loop-at.invariant.1 (c.in-Some.ensures.some p c.free_word.ensures)
+
+pub loop-at-preserved-then-has_none : goal.loop-at-preserved-then-has_none
+loop-at-preserved-then-has_none c =
+    let p = is_free_block c.args.image.now c.args.layout.now in
+    let at = c.loop-at.at in
+    let none = c.requires (at / 4096) (c.has_none.ensures c.if-has_none.true) in
+    (omega (arith, c.loop-at.invariant.0), further p c.args.from at (4096 * (at / 4096 + 1)) c.loop-at.invariant.1 (λ k above below. none_counted p (4096 * (at / 4096)) 4096 none k (omega arith) (omega arith)))
 
 pub loop-at-preserved : goal.loop-at-preserved
 loop-at-preserved c =

@@ -1,7 +1,9 @@
-use Rattle.std.proofs.Common.{length, refl, arith}
+use Rattle.std.proofs.Common.{length, refl, ap, sym, ◌∙◌, subst, arith}
 use Rattle.ods_space.specs.Free.{is_free_block, free_blocks}
 use Rattle.ods_alloc.proofs.Scans.{none_found, one_more_found, all_found, found_first}
 use Rattle.ods_alloc.proofs.FreeTests.{free_inside}
+use Rattle.ods_alloc.specs.Counts.{ShowsNone, free_in}
+use Rattle.ods_alloc.proofs.Counted.{free_none}
 use Rattle.ods_alloc.proofs.free.pick_blocks.Goals as goal
 
 pub loop-k-init : goal.loop-k-init
@@ -23,3 +25,7 @@ pub returns-clause-ok : goal.returns-clause-ok
 unfolding free_blocks
 returns-clause-ok c =
     found_first (is_free_block c.args.image.now c.args.layout.now) 0 (length c.args.image.now) c.loop-k.blocks.items c.loop-k.from c.loop-k._k c.args.count c.loop-k.invariant (omega (arith, c.loop-k.auto._k-end, c.loop-k-test.false))
+
+pub next_free-requires : goal.next_free-requires
+next_free-requires c =
+    subst (λ l. ShowsNone l (free_in c.args.image.now c.args.layout.now)) (sym (c.as_slice.ensures ∙ ap (λ v. v.blocks) c.requires.counts)) (free_none c.args.image.now c.args.layout.now)

@@ -6,14 +6,11 @@ use Rattle.ods_alloc.proofs.give.give_back.Goals as goal
 pub delete_headers-requires-clause-places : goal.delete_headers-requires-clause-places
 delete_headers-requires-clause-places c = has_places c.args.image.now c.args.draft.now c.args.layout.now c.requires.layout c.requires.places
 
-pub mark_numbers-requires : goal.mark_numbers-requires
-mark_numbers-requires c = record { places = has_places c.args.image.now c.args.draft.now c.args.layout.now c.requires.layout c.requires.places }
-
-pub mark_blocks-requires : goal.mark_blocks-requires
-mark_blocks-requires c = record { places = has_places c.args.image.now c.args.draft.now c.args.layout.now c.requires.layout c.requires.places }
+pub mark_free-requires : goal.mark_free-requires
+mark_free-requires c = record { places = has_places c.args.image.now c.args.draft.now c.args.layout.now c.requires.layout c.requires.places }
 
 pub returns-clause-ok : goal.returns-clause-ok
 returns-clause-ok c =
     let I = c.args.image.now in
-    gives_back (applied I c.args.draft.now) (applied I c.delete_headers.new.draft) (applied I c.mark_numbers.new.draft) (applied I c.mark_blocks.new.draft) c.args.layout.now c.args.blocks.now c.args.numbers.now
-    c.requires.places c.in_ok-delete_headers.ensures c.in_ok-mark_numbers.ensures c.in_ok-mark_blocks.ensures
+    gives_back (applied I c.args.draft.now) (applied I c.delete_headers.new.draft) (applied I c.mark_free.new.draft) c.args.layout.now c.args.blocks.now c.args.numbers.now
+    c.requires.places c.in_ok-delete_headers.ensures c.in_ok-mark_free.ensures.bits c.in_ok-mark_free.ensures.only

@@ -3,6 +3,7 @@ use Rattle.std.proofs.lemmas.Bool.{cases_lt}
 use Rattle.ods_header.specs.declared.home.Home.{Home}
 use Rattle.ods_space.specs.Free.{is_free_number}
 use Rattle.ods_alloc.specs.Scan.{NonePasses, is_clear}
+use Rattle.ods_alloc.specs.Counts.{ShowsNone, clear_in}
 use Rattle.ods_alloc.proofs.Scans.{further}
 use Rattle.ods_alloc.proofs.FreeTests.{not_free_low, not_free_high, none_free}
 use Rattle.ods_alloc.proofs.numbers.next_free_number.Goals as goal
@@ -37,3 +38,12 @@ returns-clause-none c = λ k above. elim (cases_lt k c.loop-at.at) [
   | inl earlier ↦ c.loop-at.invariant.2 k above earlier
   | inr later ↦ not_free_high c.args.image.now c.args.layout.now k (omega (arith, c.loop-at-test.false, c.last_number-last.ensures))
 ]
+
+pub skip_used-at-requires-clause-counts : goal.skip_used-at-requires-clause-counts
+skip_used-at-requires-clause-counts c = subst (λ h. ShowsNone c.args.counts.now (clear_in c.args.image.now h)) (sym c.home-home.ensures) c.requires.counts
+
+pub skip_used-at-requires-in-loop-at-clause-counts : goal.skip_used-at-requires-in-loop-at-clause-counts
+skip_used-at-requires-in-loop-at-clause-counts c = subst (λ h. ShowsNone c.args.counts.now (clear_in c.args.image.now h)) (sym c.home-home.ensures) c.requires.counts
+
+pub returns-then-is_number_free-clause-some : goal.returns-then-is_number_free-clause-some
+returns-then-is_number_free-clause-some c = record { above = c.loop-at.invariant.1; passes = sym c.is_number_free.ensures ∙ c.if-is_number_free.true; least = c.loop-at.invariant.2 }

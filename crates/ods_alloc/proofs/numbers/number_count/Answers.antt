@@ -1,4 +1,5 @@
 use Rattle.std.proofs.Common.{◌++◌, ◌∷◌, [], refl, arith}
+use Rattle.std.proofs.lemmas.Option.{slice_get_within}
 use Rattle.ods_space.specs.Layout.{last_number}
 use Rattle.ods_space.specs.Free.{is_free_number, free_numbers}
 use Rattle.ods_alloc.proofs.Scans.{one_more_found, all_found}
@@ -22,3 +23,6 @@ unfolding free_numbers
 returns c =
     let found = c.loop-number.invariant in
     all_found (is_free_number c.args.image.now c.args.layout.now) 1 (last_number c.args.layout.now) found.0 c.loop-number.from c.loop-number.count found.1 c.in_default.ensures.none
+
+pub next_free_number-requires-clause-counts : goal.next_free_number-requires-clause-counts
+next_free_number-requires-clause-counts c = λ k shown. let inside = slice_get_within [] k 0 shown in absurd (omega (arith, inside))

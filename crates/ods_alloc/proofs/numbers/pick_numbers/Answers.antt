@@ -1,8 +1,10 @@
-use Rattle.std.proofs.Common.{refl, arith}
+use Rattle.std.proofs.Common.{refl, ap, sym, ◌∙◌, subst, arith}
 use Rattle.ods_space.specs.Layout.{last_number}
 use Rattle.ods_space.specs.Free.{is_free_number, free_numbers}
 use Rattle.ods_alloc.proofs.Scans.{none_found, one_more_found, all_found, found_first}
 use Rattle.ods_alloc.proofs.FreeTests.{free_number}
+use Rattle.ods_alloc.specs.Counts.{ShowsNone, clear_in}
+use Rattle.ods_alloc.proofs.Counted.{clear_none}
 use Rattle.ods_alloc.proofs.numbers.pick_numbers.Goals as goal
 
 pub loop-k-init : goal.loop-k-init
@@ -24,3 +26,7 @@ pub returns-clause-ok : goal.returns-clause-ok
 unfolding free_numbers
 returns-clause-ok c =
     found_first (is_free_number c.args.image.now c.args.layout.now) 1 (last_number c.args.layout.now) c.loop-k.numbers.items c.loop-k.from c.loop-k._k c.args.count c.loop-k.invariant (omega (arith, c.loop-k.auto._k-end, c.loop-k-test.false))
+
+pub next_free_number-requires-clause-counts : goal.next_free_number-requires-clause-counts
+next_free_number-requires-clause-counts c =
+    subst (λ l. ShowsNone l (clear_in c.args.image.now c.args.layout.now.home)) (sym (c.numbers.ensures ∙ ap (λ v. v.numbers) c.requires.counts)) (clear_none c.args.image.now c.args.layout.now.home)

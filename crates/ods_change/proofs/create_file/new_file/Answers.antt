@@ -1,16 +1,17 @@
-use Rattle.std.proofs.Common.{◌≡◌, ℕ, ap, sym, ◌∙◌, subst, List, [], length, Some}
-use Rattle.std.specs.Prelude.{is_some, slice_set}
+use Rattle.std.proofs.Common.{ℕ, refl, ap, sym, ◌∙◌, subst, List, [], length}
+use Rattle.std.specs.Prelude.{is_some}
 use Rattle.ods_space.specs.Draft.{applied}
-use Rattle.ods_space.specs.Layout.{VolumeLayout, place_of}
-use Rattle.ods_space.proofs.Drafts.{applied_none}
+use Rattle.ods_space.specs.Layout.{VolumeLayout}
+use Rattle.ods_space.proofs.Drafts.{applied_none, applied_over}
 use Rattle.ods_alloc.specs.Extend.{CanExtend, Extends}
-use Rattle.ods_state.proofs.GrowthReady.{ready_layout, well_placed}
+use Rattle.ods_state.proofs.Bookkeeping.{well_placed}
+use Rattle.ods_state.proofs.GrowthReady.{ready_layout}
 use Rattle.ods_state.proofs.GrowthChain.{ready_chain}
 use Rattle.ods_state.proofs.GrowthTakes.{can_extend}
 use Rattle.ods_state.specs.Growth.{IsReady}
 use Rattle.ods_state.specs.Wants.{taken_blocks}
 use Rattle.ods_change.specs.Taking.{IsZeroed}
-use Rattle.ods_change.proofs.NewDrafts.{first_place, new_header_here, new_ready, new_zeros, two_steps}
+use Rattle.ods_change.proofs.FirstWritten.{IsWritten, first_place, header_written, is_ready, taken_inside, taken_written}
 use Rattle.ods_change.proofs.create_file.new_file.Goals as goal
 use Rattle.ods_change.proofs.create_file.new_file.Goals.{In_ok-set}
 
@@ -33,34 +34,37 @@ module _ (c : In_ok-set) where
   abbrev Z : List (List ℕ)
   Z = applied I c.zero_blocks.new.draft
 
-  place : place_of L c.args.number ≡ Some c.unwrap-first.result
-  place = sym c.place.ensures ∙ c.unwrap-first.ensures
-
   zeroed : IsZeroed I (taken_blocks I L count) Z
   zeroed =
       subst (λ bs. IsZeroed I bs Z) c.requires.lowest
       (subst (λ J. IsZeroed J c.args.blocks.now Z) (ap (applied I) c.new-draft.ensures ∙ sym (applied_none I)) (c.in_ok-zero_blocks.ensures I))
 
-  written : K ≡ slice_set Z c.unwrap-first.result c.args.header
-  written = ap (applied I) c.in_ok-set.ensures.ok ∙ two_steps I c.zero_blocks.new.draft c.unwrap-first.result c.args.header
+  written : IsWritten I Z K L c.args.number c.unwrap-first.result count c.args.header
+  written = record {
+    sound = c.requires.sound;
+    place = sym c.place.ensures ∙ c.unwrap-first.ensures;
+    long = zeroed.long;
+    elsewhere = zeroed.elsewhere;
+    is = ap (applied I) c.in_ok-set.ensures.ok ∙ applied_over I c.zero_blocks.new.draft c.unwrap-first.result c.args.header;
+  }
 
   ready : IsReady I K L c.args.number [] count
-  ready = new_ready c.requires.sound c.args.number c.unwrap-first.result place Z K c.args.header count zeroed written c.requires.header
+  ready = is_ready written [] c.requires.header
 
-pub extend_chain-requires : goal.extend_chain-requires
-extend_chain-requires c =
+pub extend_from-requires : goal.extend_from-requires
+extend_from-requires c =
     let I : List (List ℕ) = c.args.image.now in
     let L : VolumeLayout = c.args.layout.now in
     let K : List (List ℕ) = applied I c.set.new.self in
     let n : ℕ = c.args.number in
     let count : ℕ = length c.args.blocks.now in
-    let at = ready (goal.at.extend_chain-requires c).In_ok-set in (
+    let at = ready (goal.at.extend_from-requires c).In_ok-set in (
       ready_layout I K L c.requires.sound n [] [] count c.args.others.now c.requires.taking at,
       (
         well_placed I L c.requires.sound,
         (
           ready_chain I K L c.requires.sound n [] [] count c.args.others.now c.requires.taking at c.len.ensures.image,
-          subst (λ bs. CanExtend K L n [] bs c.args.others.now) (sym c.requires.lowest) (can_extend I K L c.requires.sound n [] [] count c.args.others.now c.requires.taking at),
+          (subst (λ bs. CanExtend K L n [] bs c.args.others.now) (sym c.requires.lowest) (can_extend I K L c.requires.sound n [] [] count c.args.others.now c.requires.taking at), refl),
         ),
       ),
     )
@@ -75,7 +79,7 @@ returns c =
     record {
       ready = K;
       is_ready = ready at;
-      first = new_header_here c.requires.sound n c.unwrap-first.result (place at) (Z at) K c.args.header (length c.args.blocks.now) (zeroed at) (written at);
-      zeroed = new_zeros c.requires.sound n c.unwrap-first.result (place at) (Z at) K c.args.header (length c.args.blocks.now) (zeroed at) (written at);
-      extended = subst (λ bs. Extends K L n [] [] bs c.args.others.now (applied I c.extend_chain.new.draft)) c.requires.lowest c.in_ok-extend_chain.ensures.ok;
+      first = header_written (written at);
+      zeroed = λ y own. taken_written (written at) y own ∙ (zeroed at).zero y own (taken_inside I L (length c.args.blocks.now) y own);
+      extended = subst (λ bs. Extends K L n [] [] bs c.args.others.now (applied I c.extend_from.new.draft)) c.requires.lowest c.in_ok-extend_from.ensures.ok;
     }

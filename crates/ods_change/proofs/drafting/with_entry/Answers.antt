@@ -2,7 +2,7 @@ use Rattle.std.proofs.Common.{◌<◌, ◌≤◌, ◌/◌, subst, sym, length, a
 use Rattle.ods_space.specs.Layout.{header_at}
 use Rattle.ods_space.specs.Chain.{chain_blocks}
 use Rattle.ods_look.proofs.BlockPlaces.{is_located, located_is, located_inside}
-use Rattle.ods_look.proofs.FileBodies.{is_apart}
+use Rattle.ods_header.proofs.DirectoryHeaders.{is_apart}
 use Rattle.ods_change.proofs.drafting.with_entry.Goals as goal
 
 pub overflow_cast-vbn : goal.overflow_cast-vbn

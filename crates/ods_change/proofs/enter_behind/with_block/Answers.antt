@@ -1,8 +1,16 @@
-use Rattle.std.proofs.Common.{◌≡◌, ◌+◌, refl, ap, sym, ◌∙◌, ℕ, length, get_or, List, ◌∷◌, arith}
-use Rattle.ods_base.specs.Block.{with_bytes}
+use Rattle.std.proofs.Common.{◌≡◌, ◌+◌, refl, ap, sym, ◌∙◌, ℕ, length, get_or, List, ◌∷◌, Option, arith}
+use Rattle.std.specs.Prelude.{slice_set}
+use Rattle.ods_base.specs.Block.{with_bytes, zeros}
+use Rattle.ods_base.specs.Name.{RadName}
+use Rattle.ods_base.specs.declared.file_id.FileId.{FileId}
+use Rattle.ods_base.specs.declared.file_id.Uic.{Uic}
+use Rattle.ods_space.specs.Draft.{applied}
+use Rattle.ods_change.specs.Entering.{IsNewEntry}
+use Rattle.ods_change.proofs.ChainEnds.{last_walked}
 use Rattle.ods_change.proofs.GrowingChain.{chain_before, has_headers}
-use Rattle.ods_change.proofs.GrowingDirectory.{chain_ready, enter_behind, growing, one_taken, ready_is}
+use Rattle.ods_change.proofs.GrowingDirectory.{IsGrowing, chain_ready, enter_behind, growing, one_taken, ready_is}
 use Rattle.ods_change.proofs.enter_behind.with_block.Goals as goal
+use Rattle.ods_change.proofs.enter_behind.with_block.Goals.{In_ok-draft}
 
 pub bounds-blocks-0 : goal.bounds-blocks-0
 bounds-blocks-0 c =
@@ -12,34 +20,39 @@ bounds-blocks-0 c =
     let one : length c.args.blocks.now ≡ 1 = ap length got.0 ∙ one_taken c.args.image.now c.args.layout.now headers got.2 in
     omega (arith, one)
 
-pub extend_chain-requires : goal.extend_chain-requires
-extend_chain-requires c =
+-- what stands in the draft before the chain grows
+module _ (c : In_ok-draft) where
+  abbrev x : ℕ
+  x = get_or c.args.blocks.now 0 0
+
+  drafted : slice_set (slice_set c.args.image.now x (with_bytes zeros 0 c.args.entry.now.bytes)) c.unwrap-first.result c.marked_header-header.result ≡ applied c.args.image.now c.in_ok-draft.draft
+  drafted = ready_is c.args.image.now x c.unwrap-first.result _ c.set_bytes.new.self c.marked_header-header.result c.in_ok-draft.draft
+      (c.set_bytes.ensures.changed ∙ ap (λ z. with_bytes z 0 c.args.entry.now.bytes) c.zeros-block.ensures.value) c.in_ok-draft.ensures
+
+  -- and so the directory grows
+  grows_so : {who : Uic} {name : RadName} {given : Option ℕ} {file : FileId} (e : IsNewEntry c.args.image.now c.args.layout.now who c.args.dir name given file c.args.entry.now)
+      → IsGrowing c.args.image.now c.args.layout.now c.args.dir.number c.args.entry.now (c.args.dir.number ∷ e.own.is.held.others) x c.unwrap-first.result (c.count-count.result + 1) c.marked_header-header.result c.args.numbers.now
+  grows_so e =
+      let header = c.marked_header-header.ensures in
+      growing e c.requires.grows c.args.blocks.now c.args.numbers.now c.args.numbers.now x c.unwrap-first.result (c.count-count.result + 1) c.marked_header-header.result
+      c.requires.taken refl refl (sym c.place.ensures ∙ c.unwrap-first.ensures) (ap (λ k. k + 1) c.count-count.ensures) header.size header.changed header.fields
+
+pub extend_from-requires : goal.extend_from-requires
+extend_from-requires c =
     let I = c.args.image.now in
     let L = c.args.layout.now in
+    let s = (goal.at.extend_from-requires c).In_ok-draft in
     let e = c.requires.entry.4 in
     let headers : List ℕ = c.args.dir.number ∷ e.own.is.held.others in
     let has = has_headers e.own.is.held in
     let before = chain_before I L c.args.dir.number headers e.own.is.lbns c.len-count.ensures.image c.requires.sound has in
-    let header = c.marked_header-header.ensures in
-    let d = growing e c.requires.grows c.args.blocks.now c.args.numbers.now c.args.numbers.now (get_or c.args.blocks.now 0 0) c.unwrap-first.result (c.count-count.result + 1) c.marked_header-header.result
-    c.requires.taken refl refl (sym c.place.ensures ∙ c.unwrap-first.ensures) (ap (λ k. k + 1) c.count-count.ensures) header.size header.changed header.fields in
-    let ready = chain_ready c.requires.sound e c.requires.grows d c.len-count.ensures.image
-    (ready_is I (get_or c.args.blocks.now 0 0) c.unwrap-first.result _ c.set_bytes.new.self c.marked_header-header.result c.in_ok-draft.draft
-    (c.set_bytes.ensures.changed ∙ ap (λ z. with_bytes z 0 c.args.entry.now.bytes) c.zeros-block.ensures.value) c.in_ok-draft.ensures)
-    before.0 before.1 (c.requires.taken headers e.own.is.lbns has).0 in
-    (ready.0, (ready.1, (ready.2, ready.3)))
+    let ready = chain_ready c.requires.sound e c.requires.grows (grows_so s e) c.len-count.ensures.image (drafted s) before.0 before.1 (c.requires.taken headers e.own.is.lbns has).0 in
+    (ready.0, (ready.1, (ready.2, (ready.3, last_walked I L c.args.dir.number headers e.own.is.lbns c.args.last has c.requires.last before.0))))
 
 pub returns : goal.returns
 returns c = λ who name given file e.
-    let I = c.args.image.now in
-    let L = c.args.layout.now in
+    let s = (goal.at.returns c).In_ok-draft in
     let headers : List ℕ = c.args.dir.number ∷ e.own.is.held.others in
     let has = has_headers e.own.is.held in
-    let before = chain_before I L c.args.dir.number headers e.own.is.lbns c.len-count.ensures.image c.requires.sound has in
-    let header = c.marked_header-header.ensures in
-    let d = growing e c.requires.grows c.args.blocks.now c.args.numbers.now c.args.numbers.now (get_or c.args.blocks.now 0 0) c.unwrap-first.result (c.count-count.result + 1) c.marked_header-header.result
-    c.requires.taken refl refl (sym c.place.ensures ∙ c.unwrap-first.ensures) (ap (λ k. k + 1) c.count-count.ensures) header.size header.changed header.fields in
-    enter_behind c.requires.sound e c.requires.grows d
-    (ready_is I (get_or c.args.blocks.now 0 0) c.unwrap-first.result _ c.set_bytes.new.self c.marked_header-header.result c.in_ok-draft.draft
-    (c.set_bytes.ensures.changed ∙ ap (λ z. with_bytes z 0 c.args.entry.now.bytes) c.zeros-block.ensures.value) c.in_ok-draft.ensures)
-    before.0 before.1 (c.requires.taken headers e.own.is.lbns has).0 c.in_ok-extend_chain.ensures.ok
+    let before = chain_before c.args.image.now c.args.layout.now c.args.dir.number headers e.own.is.lbns c.len-count.ensures.image c.requires.sound has in
+    enter_behind c.requires.sound e c.requires.grows (grows_so s e) (drafted s) before.0 before.1 (c.requires.taken headers e.own.is.lbns has).0 c.in_ok-extend_from.ensures.ok

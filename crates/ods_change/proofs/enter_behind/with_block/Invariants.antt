@@ -2,5 +2,5 @@ use Rattle.ods_change.proofs.GrowingChain.{blocks_before, headers_behind}
 use Rattle.ods_change.proofs.enter_behind.with_block.Given as goal
 
 -- the chain as it is before it grows
-abbrev pub ghost-extend_chain : goal.ghost-extend_chain
-ghost-extend_chain a = (headers_behind a.image.now a.layout.now a.number, blocks_before a.image.now a.layout.now a.number)
+abbrev pub ghost-extend_from : goal.ghost-extend_from
+ghost-extend_from a = (headers_behind a.image.now a.layout.now a.number, blocks_before a.image.now a.layout.now a.number)

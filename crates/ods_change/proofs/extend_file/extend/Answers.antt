@@ -12,7 +12,7 @@ pub returns-in-Err : goal.returns-in-Err
 returns-in-Err c = refused_by_fault c.args.image.now c.args.layout.now c.args.who (Extend c.args.file c.args.count) c.in-Err.refusal c.in-Err.ensures.err
 
 pub chain_end-end-requires-clause-whole : goal.chain_end-end-requires-clause-whole
-chain_end-end-requires-clause-whole c = let o = c.in-Ok.ensures.ok.0 in (_, o.lbns, has c.requires o)
+chain_end-end-requires-clause-whole c = let o = c.in-Ok.ensures.ok.0 in (_, o.lbns, has c.requires.sound o)
 
 -- how the chain of the file ends
 ends : (c : After-chain_end-end) → let o = c.in-Ok.ensures.ok.0 in
@@ -20,7 +20,7 @@ ends : (c : After-chain_end-end) → let o = c.in-Ok.ensures.ok.0 in
     × (room_in c.args.image.now c.args.layout.now (c.args.file.number ∷ o.held.others) ≡ c.chain_end-end.result.room)
 ends c =
     let o = c.in-Ok.ensures.ok.0 in
-    let end = c.chain_end-end.ensures.end (c.args.file.number ∷ o.held.others) o.lbns (has c.requires o) in
+    let end = c.chain_end-end.ensures.end (c.args.file.number ∷ o.held.others) o.lbns (has c.requires.sound o) in
     (sym end.0, end.1, sym end.2)
 
 pub returns-in-Err-take : goal.returns-in-Err-take
@@ -36,7 +36,7 @@ returns-in-Err-take c =
         headers = c.args.file.number ∷ o.held.others;
         blocks = o.lbns;
         count = c.args.count;
-        wants = (has c.requires o, refl);
+        wants = (has c.requires.sound o, refl);
         lacking = lacks (c.args.file.number ∷ o.held.others) end.0 end.2;
       }) o.fine
     ]
@@ -45,9 +45,9 @@ returns-in-Err-take c =
 wanted : (c : In-Ok-take) → let o = c.in-Ok.ensures.ok.0 in IsWanted c.args.image.now c.args.layout.now c.args.file.number (c.args.file.number ∷ o.held.others) o.lbns c.args.count c.in-Ok-take.taken
 wanted c =
     let o = c.in-Ok.ensures.ok.0 in
-    let end = c.chain_end-end.ensures.end (c.args.file.number ∷ o.held.others) o.lbns (has c.requires o) in
+    let end = c.chain_end-end.ensures.end (c.args.file.number ∷ o.held.others) o.lbns (has c.requires.sound o) in
     let got = c.in-Ok-take.ensures.ok (c.args.file.number ∷ o.held.others) (sym end.0) (sym end.2) in
-    record { file = o.file.0; has = has c.requires o; blocks = got.0; numbers = got.1; enough = got.2 }
+    record { file = o.file.0; has = has c.requires.sound o; blocks = got.0; numbers = got.1; enough = got.2 }
 
 pub grown-requires-clause-wanted : goal.grown-requires-clause-wanted
 grown-requires-clause-wanted c =
@@ -59,7 +59,7 @@ returns-in-Ok-grown c =
     let o = c.in-Ok.ensures.ok.0 in
     let end = ends (goal.at.returns-in-Ok-grown c).After-chain_end-end in
     let w = wanted (goal.at.returns-in-Ok-grown c).In-Ok-take in
-    extend_is_step c.requires o (c.in-Ok-grown.ensures (c.args.file.number ∷ o.held.others) o.lbns c.args.count w) (c.chain_end-end.result.blocks + c.args.count) (ap (λ k. k + c.args.count) end.1) w.enough
+    extend_is_step c.requires.sound o (c.in-Ok-grown.ensures (c.args.file.number ∷ o.held.others) o.lbns c.args.count w) (c.chain_end-end.result.blocks + c.args.count) (ap (λ k. k + c.args.count) end.1) w.enough
 
 pub returns : goal.returns
 returns c = refused_for_memory c.args.image.now c.args.layout.now c.args.who (Extend c.args.file c.args.count) refl c.in-Ok.ensures.ok.0.fine

@@ -7,7 +7,8 @@ use Rattle.ods_space.specs.Layout.{header_at, place_of}
 use Rattle.ods_change.specs.Taking.{IsZeroed}
 use Rattle.ods_change.proofs.AttributesReplaced.{has_place}
 use Rattle.ods_change.proofs.ReadyToGrow.{chain_asked, growth_asked, has_grown, layout_asked, set_is, walked_as, zeroed_first}
-use Rattle.ods_state.proofs.GrowthReady.{well_placed}
+use Rattle.ods_state.proofs.Bookkeeping.{well_placed}
+use Rattle.ods_change.proofs.ChainEnds.{last_walked}
 use Rattle.ods_change.proofs.extend_file.grown.Goals as goal
 use Rattle.ods_change.proofs.extend_file.grown.Goals.{In_ok-set}
 
@@ -32,12 +33,12 @@ zeroed c = zeroed_first c.args.image.now (applied c.args.image.now c.zero_blocks
 set : (c : In_ok-set) → applied c.args.image.now c.set.new.self ≡ slice_set (applied c.args.image.now c.zero_blocks.new.draft) c.unwrap-lbn.result c.without_contiguous.result
 set c = set_is c.args.image.now c.zero_blocks.new.draft c.set.new.self c.unwrap-lbn.result c.without_contiguous.result c.in_ok-set.ensures.ok
 
-pub extend_chain-requires : goal.extend_chain-requires
-extend_chain-requires c =
+pub extend_from-requires : goal.extend_from-requires
+extend_from-requires c =
     let I = c.args.image.now in
     let L = c.args.layout.now in
     let n = c.args.number in
-    let s = (goal.at.extend_chain-requires c).In_ok-set in
+    let s = (goal.at.extend_from-requires c).In_ok-set in
     let headers = c.requires.wanted.0 in
     let old = c.requires.wanted.1 in
     let count = c.requires.wanted.2 in
@@ -51,8 +52,11 @@ extend_chain-requires c =
         (
           chain_asked I Z K L c.requires.sound n c.unwrap-lbn.result c.without_contiguous.result (place_is s) (changed s) (fields s) headers old count c.args.taken.now c.requires.above w (zeroed s) (set s)
               c.len.ensures.image (drop 1 (numbers_of (headers_of I L n))) (named_by (headers_of I L n)) walk.0 walk.1,
-          growth_asked I Z K L c.requires.sound n c.unwrap-lbn.result c.without_contiguous.result (place_is s) (changed s) (fields s) headers old count c.args.taken.now c.requires.above w (zeroed s) (set s)
-              (drop 1 (numbers_of (headers_of I L n))) c.deref-2.result.now c.deref-3.result.now walk.0 c.deref-2.ensures.value c.deref-3.ensures.value,
+          (
+            growth_asked I Z K L c.requires.sound n c.unwrap-lbn.result c.without_contiguous.result (place_is s) (changed s) (fields s) headers old count c.args.taken.now c.requires.above w (zeroed s) (set s)
+                (drop 1 (numbers_of (headers_of I L n))) c.deref-2.result.now c.deref-3.result.now walk.0 c.deref-2.ensures.value c.deref-3.ensures.value,
+            last_walked I L n headers old c.args.last w.has c.requires.last walk.0,
+          ),
         ),
       ),
     )
@@ -67,5 +71,5 @@ returns c = λ headers old count w.
     let K = applied I c.set.new.self in
     let walk = walked_as I L n headers old c.len.ensures.image c.requires.sound.layout w.has in
     has_grown I Z K L c.requires.sound n c.unwrap-lbn.result c.without_contiguous.result (place_is s) (changed s) (fields s) headers old count c.args.taken.now c.requires.above w (zeroed s) (set s)
-    (applied I c.extend_chain.new.draft) (drop 1 (numbers_of (headers_of I L n))) (named_by (headers_of I L n)) c.deref-2.result.now c.deref-3.result.now walk.0 walk.1 c.deref-2.ensures.value c.deref-3.ensures.value
-    c.in_ok-extend_chain.ensures.ok
+    (applied I c.extend_from.new.draft) (drop 1 (numbers_of (headers_of I L n))) (named_by (headers_of I L n)) c.deref-2.result.now c.deref-3.result.now walk.0 walk.1 c.deref-2.ensures.value c.deref-3.ensures.value
+    c.in_ok-extend_from.ensures.ok

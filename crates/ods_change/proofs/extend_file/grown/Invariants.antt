@@ -3,6 +3,6 @@ use Rattle.ods_space.specs.Chain.{headers_of, named_by, numbers_of}
 use Rattle.ods_change.proofs.extend_file.grown.Given as goal
 
 -- the headers that the file has behind its first, and its blocks
-abbrev pub ghost-extend_chain : goal.ghost-extend_chain
-ghost-extend_chain a =
+abbrev pub ghost-extend_from : goal.ghost-extend_from
+ghost-extend_from a =
     (drop 1 (numbers_of (headers_of a.image.now a.layout.now a.number)), named_by (headers_of a.image.now a.layout.now a.number))

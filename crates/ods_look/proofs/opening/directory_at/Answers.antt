@@ -6,7 +6,6 @@ use Rattle.ods_space.specs.Layout.{header_at}
 use Rattle.ods_directory.specs.Mark.{mark_in}
 use Rattle.ods_directory.specs.Names.{IsDirectory}
 use Rattle.ods_mount.specs.Faults.{contents_of, mark_at}
-use Rattle.ods_look.proofs.FileBodies.{header_says}
 use Rattle.ods_look.proofs.OpenDirectories.{mark_inside}
 use Rattle.ods_look.proofs.opening.directory_at.Goals as goal
 
@@ -32,5 +31,5 @@ returns c =
       mark = mark;
       inside = mark_inside (attributes_of (header_at I L n)) (length c.of-blocks.result) c.mark_of-mark.result cut;
       directory = subst (λ m. IsDirectory c.of-blocks.result m) (sym mark) (subst (λ bs. IsDirectory bs (mark_at I L n whole.0)) (sym contents)
-          (c.requires.sound.directories n whole.0 (c.requires.file, header_says n (header_at I L n) kind) whole.1));
+          (c.requires.sound.directories n whole.0 (c.requires.file, kind) whole.1));
     }

@@ -8,7 +8,8 @@ use Rattle.ods_request.specs.declared.answers.Kind.TheVariants as kind
 use Rattle.ods_request.specs.Steps.{kind_of}
 use Rattle.ods_state.specs.Contents.{body_of}
 use Rattle.ods_look.proofs.BlockPlaces.{blocks_are_one}
-use Rattle.ods_look.proofs.FileBodies.{plain_body, system_body}
+use Rattle.ods_state.proofs.Shown.{system_body}
+use Rattle.ods_look.proofs.FileBodies.{plain_body}
 use Rattle.ods_look.proofs.OpenDirectories.{open_body}
 use Rattle.ods_look.proofs.StatAnswers.{few_names}
 use Rattle.ods_look.proofs.shown.kind.Goals as goal

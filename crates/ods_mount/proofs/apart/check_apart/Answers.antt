@@ -1,4 +1,4 @@
-use Rattle.std.proofs.Common.{length, refl, sym, ap, ◌∙◌, arith}
+use Rattle.std.proofs.Common.{refl, sym, ◌∙◌}
 use Rattle.ods_space.specs.Chain.{headers_of, numbers_of}
 use Rattle.ods_mount.proofs.Sharing.{naming_first, naming_more, naming_there, naming_all, table_named, shared}
 use Rattle.ods_mount.proofs.apart.check_apart.Goals as goal

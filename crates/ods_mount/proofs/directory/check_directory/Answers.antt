@@ -7,7 +7,7 @@ use Rattle.ods_directory.specs.Mark.{mark_in}
 use Rattle.ods_space.specs.Chain.{index_for}
 use Rattle.ods_space.proofs.Sizes.{chain_size}
 use Rattle.ods_mount.specs.Faults.{contents_of, mark_at}
-use Rattle.ods_mount.proofs.Layouts.{same_blocks}
+use Rattle.ods_space.proofs.Surveyed.{same_blocks}
 use Rattle.ods_mount.proofs.directory.check_directory.Goals as goal
 use Rattle.ods_mount.proofs.directory.check_directory.Goals.{After-mark_of-mark}
 

@@ -1,4 +1,3 @@
-use Rattle.std.proofs.Common.{length, ap, arith}
 use Rattle.ods_space.specs.Chain.{headers_of}
 use Rattle.ods_mount.proofs.Naming.{sought_first, sought_here, sought_more, sought_none}
 use Rattle.ods_mount.proofs.held_twice.one_names.Goals as goal

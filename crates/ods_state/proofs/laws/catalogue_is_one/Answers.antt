@@ -1,4 +1,5 @@
-use Rattle.ods_state.proofs.One.{layout_is_one, catalogue_is_one, replay_is_one}
+use Rattle.ods_mount.proofs.Layouts.{layout_is_one}
+use Rattle.ods_state.proofs.One.{catalogue_is_one, replay_is_one}
 use Rattle.ods_state.proofs.laws.catalogue_is_one.Goals as goal
 
 pub returns : goal.returns

@@ -1,11 +1,11 @@
-use Rattle.std.proofs.Common.{refl, sym, subst}
+use Rattle.std.proofs.Common.{refl, subst}
 use Rattle.std.specs.Prelude.{MatchResult}
 use Rattle.ods_space.specs.Draft.{applied}
 use Rattle.ods_request.specs.declared.requests.Request.TheVariants.{List as Lines}
-use Rattle.ods_request.specs.declared.answers.Answer.TheVariants.{Created, Done, Entered, Extended, Names, Removed}
+use Rattle.ods_request.specs.declared.answers.Answer.TheVariants.{Names}
 use Rattle.ods_state.specs.Served.{IsRefusalOf, IsStepOf}
 use Rattle.ods_state.specs.Outcome.{CanBeAsked}
-use Rattle.ods_volume.proofs.Arms.{no_other}
+use Rattle.ods_volume.proofs.Arms.{no_other, refused_as, step_as}
 use Rattle.ods_volume.proofs.Looks.{look_by_none}
 use Rattle.ods_volume.proofs.prepare.carry_out.Goals as goal
 
@@ -22,73 +22,53 @@ unreachable-requires c =
 
 pub returns-in-Ok-list : goal.returns-in-Ok-list
 returns-in-Ok-list c =
-    subst (λ r. IsStepOf c.args.image.now c.args.layout.now c.args.who r (Names c.in-Ok-list.lines) (applied c.args.image.now c.new.result) c.args.layout.now) (sym c.in-List.is)
+    step_as c.in-List.is
     (look_by_none c.args.image.now c.args.layout.now c.requires.sound c.args.who (Lines c.in-List.dir) (Names c.in-Ok-list.lines) refl c.in-Ok-list.ensures c.new.result c.new.ensures)
 
 pub returns-in-Err-list : goal.returns-in-Err-list
-returns-in-Err-list c = subst (λ r. IsRefusalOf c.args.image.now c.args.layout.now c.args.who r c.in-Err-list.refusal) (sym c.in-List.is) c.in-Err-list.ensures
+returns-in-Err-list c = refused_as c.args.who c.in-Err-list.refusal c.in-List.is c.in-Err-list.ensures
 
 pub returns-in-Ok-write : goal.returns-in-Ok-write
-returns-in-Ok-write c =
-    subst (λ r. IsStepOf c.args.image.now c.args.layout.now c.args.who r Done (applied c.args.image.now c.in-Ok-write.draft) c.args.layout.now) (sym c.in-Write.is)
-    c.in-Ok-write.ensures
+returns-in-Ok-write c = step_as c.in-Write.is c.in-Ok-write.ensures
 
 pub returns-in-Err-write : goal.returns-in-Err-write
-returns-in-Err-write c = subst (λ r. IsRefusalOf c.args.image.now c.args.layout.now c.args.who r c.in-Err-write.refusal) (sym c.in-Write.is) c.in-Err-write.ensures
+returns-in-Err-write c = refused_as c.args.who c.in-Err-write.refusal c.in-Write.is c.in-Err-write.ensures
 
 pub returns-in-Ok-set_user : goal.returns-in-Ok-set_user
-returns-in-Ok-set_user c =
-    subst (λ r. IsStepOf c.args.image.now c.args.layout.now c.args.who r Done (applied c.args.image.now c.in-Ok-set_user.draft) c.args.layout.now) (sym c.in-SetUser.is)
-    c.in-Ok-set_user.ensures
+returns-in-Ok-set_user c = step_as c.in-SetUser.is c.in-Ok-set_user.ensures
 
 pub returns-in-Err-set_user : goal.returns-in-Err-set_user
-returns-in-Err-set_user c =
-    subst (λ r. IsRefusalOf c.args.image.now c.args.layout.now c.args.who r c.in-Err-set_user.refusal) (sym c.in-SetUser.is) c.in-Err-set_user.ensures
+returns-in-Err-set_user c = refused_as c.args.who c.in-Err-set_user.refusal c.in-SetUser.is c.in-Err-set_user.ensures
 
 pub returns-in-Ok-remove : goal.returns-in-Ok-remove
-returns-in-Ok-remove c =
-    let answer = Removed c.in-Ok-remove.file c.in-Ok-remove.version in
-    subst (λ r. IsStepOf c.args.image.now c.args.layout.now c.args.who r answer (applied c.args.image.now c.in-Ok-remove.draft) c.args.layout.now) (sym c.in-Remove.is)
-    c.in-Ok-remove.ensures
+returns-in-Ok-remove c = step_as c.in-Remove.is c.in-Ok-remove.ensures
 
 pub returns-in-Err-remove : goal.returns-in-Err-remove
-returns-in-Err-remove c = subst (λ r. IsRefusalOf c.args.image.now c.args.layout.now c.args.who r c.in-Err-remove.refusal) (sym c.in-Remove.is) c.in-Err-remove.ensures
+returns-in-Err-remove c = refused_as c.args.who c.in-Err-remove.refusal c.in-Remove.is c.in-Err-remove.ensures
 
 pub returns-in-Ok : goal.returns-in-Ok
-returns-in-Ok c =
-    let answer = Created c.in-Ok.file in
-    subst (λ r. IsStepOf c.args.image.now c.args.layout.now c.args.who r answer (applied c.args.image.now c.in-Ok.draft) c.args.layout.now) (sym c.in-Create.is)
-    c.in-Ok.ensures
+returns-in-Ok c = step_as c.in-Create.is c.in-Ok.ensures
 
 pub returns-in-Err : goal.returns-in-Err
-returns-in-Err c = subst (λ r. IsRefusalOf c.args.image.now c.args.layout.now c.args.who r c.in-Err.refusal) (sym c.in-Create.is) c.in-Err.ensures
+returns-in-Err c = refused_as c.args.who c.in-Err.refusal c.in-Create.is c.in-Err.ensures
 
 pub returns-in-Ok-extend : goal.returns-in-Ok-extend
-returns-in-Ok-extend c =
-    let answer = Extended c.in-Ok-extend.count in
-    subst (λ r. IsStepOf c.args.image.now c.args.layout.now c.args.who r answer (applied c.args.image.now c.in-Ok-extend.draft) c.args.layout.now) (sym c.in-Extend.is)
-    c.in-Ok-extend.ensures
+returns-in-Ok-extend c = step_as c.in-Extend.is c.in-Ok-extend.ensures
 
 pub returns-in-Err-extend : goal.returns-in-Err-extend
-returns-in-Err-extend c = subst (λ r. IsRefusalOf c.args.image.now c.args.layout.now c.args.who r c.in-Err-extend.refusal) (sym c.in-Extend.is) c.in-Err-extend.ensures
+returns-in-Err-extend c = refused_as c.args.who c.in-Err-extend.refusal c.in-Extend.is c.in-Err-extend.ensures
 
 pub returns-in-Ok-delete : goal.returns-in-Ok-delete
-returns-in-Ok-delete c =
-    let answer = Done in
-    subst (λ r. IsStepOf c.args.image.now c.args.layout.now c.args.who r answer (applied c.args.image.now c.in-Ok-delete.draft) c.args.layout.now) (sym c.in-Delete.is)
-    c.in-Ok-delete.ensures
+returns-in-Ok-delete c = step_as c.in-Delete.is c.in-Ok-delete.ensures
 
 pub returns-in-Err-delete : goal.returns-in-Err-delete
-returns-in-Err-delete c = subst (λ r. IsRefusalOf c.args.image.now c.args.layout.now c.args.who r c.in-Err-delete.refusal) (sym c.in-Delete.is) c.in-Err-delete.ensures
+returns-in-Err-delete c = refused_as c.args.who c.in-Err-delete.refusal c.in-Delete.is c.in-Err-delete.ensures
 
 pub returns-in-Ok-enter : goal.returns-in-Ok-enter
-returns-in-Ok-enter c =
-    let answer = Entered c.in-Ok-enter.version in
-    subst (λ r. IsStepOf c.args.image.now c.args.layout.now c.args.who r answer (applied c.args.image.now c.in-Ok-enter.draft) c.args.layout.now) (sym c.in-Enter.is)
-    c.in-Ok-enter.ensures
+returns-in-Ok-enter c = step_as c.in-Enter.is c.in-Ok-enter.ensures
 
 pub returns-in-Err-enter : goal.returns-in-Err-enter
-returns-in-Err-enter c = subst (λ r. IsRefusalOf c.args.image.now c.args.layout.now c.args.who r c.in-Err-enter.refusal) (sym c.in-Enter.is) c.in-Err-enter.ensures
+returns-in-Err-enter c = refused_as c.args.who c.in-Err-enter.refusal c.in-Enter.is c.in-Err-enter.ensures
 
 pub create-requires-clause-asked : goal.create-requires-clause-asked
 create-requires-clause-asked c = subst CanBeAsked c.in-Create.is c.requires.asked

@@ -1,4 +1,4 @@
-use Rattle.std.proofs.Common.{◌≡◌, ◌≢◌, ℕ, ◌-◌, List, [], ◌∷◌, refl, sym, ap, ◌∙◌, subst, arith}
+use Rattle.std.proofs.Common.{◌≡◌, ℕ, ◌-◌, List, ◌∷◌, refl, sym, ap, ◌∙◌, subst, arith}
 use Rattle.ods_header.specs.Header.{next_number_of}
 use Rattle.ods_space.specs.Layout.{header_at}
 use Rattle.ods_space.specs.Chain.{headers_along, AreValid}

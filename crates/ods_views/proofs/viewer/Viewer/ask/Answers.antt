@@ -2,7 +2,7 @@ use Rattle.std.proofs.Common.{◌≡◌, ◌≤◌, List, arith, rules, sym, ap,
 use Rattle.ods_request.specs.declared.answers.Entry.{Entry}
 use Rattle.ods_request.specs.Lists.{Begins}
 use Rattle.ods_state.specs.Version.{IsVersionBy}
-use Rattle.ods_views.specs.Viewers.{seen_by, IsAnsweredFrom}
+use Rattle.ods_views.specs.Viewers.{seen_by, IsAnsweredFrom, LeadsOn}
 use Rattle.ods_views.specs.declared.rule.View.{View}
 use Rattle.ods_views.specs.declared.version.Version.{Version}
 use Rattle.ods_views.proofs.Answered.{asked}
@@ -25,4 +25,4 @@ returns-else-version-least-clause-answer g c =
     let version = subst (λ (x : Version). IsVersionBy M seen x.image x.layout) (sym c.get-version.ensures) told.2 in
     let answered = subst (λ (l : List Entry). IsAnsweredFrom M l c.args.who c.args.query c.shown-found.result) after (c.shown-found.ensures M seen version) in
     asked M c.args.self.now (record { seen = seen_by c.leave-in-Ok.result.place; least = c.self.inside.least }) c.args.who c.args.query c.shown-found.result
-    (omega (arith, enough, told.1, ap length after)) answered
+    (omega (arith, enough, told.1, ap length after)) (subst (LeadsOn M) after (version.catalogue, version.replayed)) answered

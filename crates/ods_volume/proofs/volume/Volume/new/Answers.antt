@@ -1,4 +1,5 @@
 use Rattle.std.proofs.Common.{sym, subst, arith, ◌∙◌}
+use Rattle.ods_alloc.specs.Counts.{counts_of}
 use Rattle.ods_state.specs.Version.{IsLawful}
 use Rattle.ods_state.proofs.Opening.{new_is_lawful}
 use Rattle.ods_volume.proofs.volume.Volume.new.Goals as goal
@@ -12,5 +13,8 @@ invariant_of-result c =
     record {
       lawful = subst IsLawful (λ i. record { mounted = sym parts.0 i; entries = sym none i; image = sym copied i; layout = sym parts.1 i; limit = c.args.limit })
           (new_is_lawful m.image m.layout c.into_parts-image.ensures.sound c.args.limit);
+      low = c.requires.low;
+      high = c.requires.high;
       reserved = omega (arith, c.in-Ok-with_capacity.ensures.exact);
+      counted = c.in-Ok-of.ensures ∙ ((λ i. counts_of (c.image-2.ensures.value i) (c.layout.ensures.value i)) ∙ (λ i. counts_of (sym copied i) (sym parts.1 i)));
     }

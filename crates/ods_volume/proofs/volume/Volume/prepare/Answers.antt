@@ -5,7 +5,7 @@ use Rattle.ods_request.specs.Table.{takes_memory}
 use Rattle.ods_space.specs.Draft.{applied}
 use Rattle.ods_state.specs.Version.{State, IsPresent}
 use Rattle.ods_state.specs.Wants.{Lacks}
-use Rattle.ods_state.specs.Outcome.{IsReason, IsLawfulPlan, entry_of, list_full, no_memory}
+use Rattle.ods_state.specs.Outcome.{IsReason, IsLawfulPlan, Plan, entry_of, list_full, no_memory}
 use Rattle.ods_volume.specs.Kept.{state_of}
 use Rattle.ods_volume.proofs.Lawful.{plan_is_lawful}
 use Rattle.ods_volume.proofs.Reasons.{step_has_none, copy_takes_memory, refusal_is_first, refusal_is_reason, refusal_is_other}
@@ -24,10 +24,11 @@ pub returns-in-Ok-new-clause-plan : goal.returns-in-Ok-new-clause-plan
 returns-in-Ok-new-clause-plan c =
     let room : length c.self.inside.entries.items < c.self.inside.limit = omega arith in
     let made = c.in-Ok-new.ensures.ok in
-    let lawful = plan_is_lawful (state_of c.self.inside) c.self.invariant.lawful c.args.session c.args.nth c.args.who c.args.request c.in-Ok.answer c.in-Ok.draft room c.in-Ok.ensures in
-    let here : IsLawfulPlan (state_of c.self.inside) c.in-Ok-new.prepared = subst (IsLawfulPlan (state_of c.self.inside)) (λ i. record { entry = sym made.0 i; changes = sym made.1 i }) lawful in (
+    let lawful = plan_is_lawful (state_of c.self.inside) c.self.invariant.lawful c.args.session c.args.nth c.args.who c.args.request c.in-Ok.answer c.in-Ok.draft c.in-Ok-counts_after.counts room c.in-Ok.ensures c.in-Ok-counts_after.ensures.ok in
+    let here : IsLawfulPlan (state_of c.self.inside) c.in-Ok-new.prepared = subst (IsLawfulPlan (state_of c.self.inside)) (sym made) lawful in
+    let entered = ap (λ (p : Plan). p.entry) made in (
       subst (λ w. IsLawfulPlan w c.in-Ok-new.prepared) c.self.view_is here,
-      made.0 ∙ ap (entry_of c.args.session c.args.nth c.args.who c.args.request) (ap (λ (e : Entry). e.answer) (sym made.0)),
+      entered ∙ ap (entry_of c.args.session c.args.nth c.args.who c.args.request) (ap (λ (e : Entry). e.answer) (sym entered)),
     )
 
 pub returns-in-Ok-new-clause-lacking : goal.returns-in-Ok-new-clause-lacking
@@ -47,6 +48,13 @@ returns-in-Err-new-clause-memory c = λ none same.
     let takes : takes_memory c.args.request ≡ true = copy_takes_memory (state_of c.self.inside) c.self.invariant.lawful c.args.who c.args.request c.in-Ok.answer (applied c.self.inside.image c.in-Ok.draft) c.self.inside.layout c.in-Ok.ensures c.in-Err-new.ensures.err in
     let wrong : false ≡ true = sym none ∙ takes in
     absurd (cc)
+
+pub returns-in-Err-counts_after-clause-refused : goal.returns-in-Err-counts_after-clause-refused
+returns-in-Err-counts_after-clause-refused c = λ C f room present e.
+    absurd (step_has_none (state_of c.self.inside) c.self.invariant.lawful c.args.who c.args.request c.in-Ok.answer (applied c.self.inside.image c.in-Ok.draft) c.self.inside.layout c.in-Ok.ensures C f (subst (λ w. IsPresent w C) (sym c.self.view_is) present) e)
+
+pub returns-in-Err-counts_after-clause-reason : goal.returns-in-Err-counts_after-clause-reason
+returns-in-Err-counts_after-clause-reason c = no_memory c.in-Err-counts_after.ensures.err
 
 pub returns-in-Err-clause-refused : goal.returns-in-Err-clause-refused
 returns-in-Err-clause-refused c = λ C f room present e.

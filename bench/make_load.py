@@ -1,0 +1,105 @@
+#!/usr/bin/env python3
+"""Writes a script of one kind of load for f11, or the like operations for debugfs of e2fsprogs.
+
+A script of f11 has at most 1,048,576 bytes, so names are short. What debugfs does stands in its own words for the same:
+a file made and taken away, a file that grows, a block written and read, a name made, looked up and taken away.
+
+usage: make_load.py KIND COUNT [--debugfs SOURCE]     KIND: creates mixed extends blocks names
+SOURCE is the file that debugfs copies from.
+"""
+
+import argparse
+
+FILE_BLOCKS = 400  # of the file whose blocks are written and read: as many as a volume of 512 has room for
+GROWTH = 58  # blocks by which a file grows before it goes
+NAMES = 2_000  # in the directory
+
+
+def rounds(count, opening, body):
+    """The opening, and then so many rounds of the body that there are `count` lines; body(k) gives the lines of round k."""
+    lines = list(opening)
+    k = 0
+    while len(lines) < count:
+        lines += body(k)
+        k += 1
+    return lines[:count]
+
+
+def creates(count):
+    return rounds(count, [], lambda k: ["CREATE X.DAT 1", "DELETE $"])
+
+
+def mixed(count):
+    return rounds(count, [], lambda k: ["CREATE X.DAT 1", "WRITE $ 1 41", "READ $ 1", "DELETE $"])
+
+
+def extends(count):
+    return rounds(count, [], lambda k: ["CREATE X.DAT 0"] + ["EXTEND $ 1"] * GROWTH + ["DELETE $"])
+
+
+def blocks(count):
+    def body(k):
+        vbn = 1 + 37 * k % FILE_BLOCKS
+        return [f"WRITE $ {vbn} 4142", f"READ $ {vbn}"]
+
+    return rounds(count, [f"CREATE X.DAT {FILE_BLOCKS}"], body)
+
+
+def names(count):
+    # The volumes of served.sh have the files 6 and 7.
+    opening = ["CREATE D.DIR 63", "CREATE X.DAT 0"] + [f"ENTER 8,1 N{k}.D 9,1" for k in range(NAMES)]
+    return rounds(count, opening, lambda k: ["ENTER 8,1 Z.D 9,1", "LOOK 8,1 Z.D", "REMOVE 8,1 Z.D"])
+
+
+def debugfs_creates(count, source):
+    return rounds(count, [], lambda k: [f"write {source} x", "rm x"])
+
+
+def debugfs_mixed(count, source):
+    body = [f"write {source} x", "zap_block -f x -p 65 0", "block_dump -f x 0", "rm x"]
+    return rounds(count, [], lambda k: body)
+
+
+def debugfs_extends(count, source):
+    body = ["write /dev/null x"] + [f"fallocate x {k} {k}" for k in range(GROWTH)] + ["rm x"]
+    return rounds(count, [], lambda k: body)
+
+
+def debugfs_blocks(count, source):
+    opening = ["write /dev/null x", f"fallocate x 0 {FILE_BLOCKS - 1}"]
+
+    def body(k):
+        block = 37 * k % FILE_BLOCKS
+        return [f"zap_block -f x -p 65 {block}", f"block_dump -f x {block}"]
+
+    return rounds(count, opening, body)
+
+
+def debugfs_names(count, source):
+    # It makes no room in a directory by itself.
+    opening = ["mkdir d", f"write {source} x"] + ["expand_dir d"] * 60 + ["cd d"] + [f"ln /x n{k}" for k in range(NAMES)]
+    return rounds(count, opening, lambda k: ["ln /x z", "stat z", "unlink z"])
+
+
+KINDS = {
+    "creates": (creates, debugfs_creates),
+    "mixed": (mixed, debugfs_mixed),
+    "extends": (extends, debugfs_extends),
+    "blocks": (blocks, debugfs_blocks),
+    "names": (names, debugfs_names),
+}
+
+
+def main():
+    parser = argparse.ArgumentParser(description=__doc__, formatter_class=argparse.RawDescriptionHelpFormatter)
+    parser.add_argument("kind", choices=KINDS)
+    parser.add_argument("count", type=int)
+    parser.add_argument("--debugfs", metavar="SOURCE")
+    words = parser.parse_args()
+    ours, theirs = KINDS[words.kind]
+    lines = theirs(words.count, words.debugfs) if words.debugfs else ours(words.count)
+    print("\n".join(lines))
+
+
+if __name__ == "__main__":
+    main()

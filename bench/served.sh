@@ -1,0 +1,149 @@
+#!/usr/bin/env bash
+# Measures scripts of f11: loads of 60,000 commands, beside debugfs of e2fsprogs with like operations on an ext2 image; and the reading
+# and writing of a large image, beside cat. Prints two tables and the targets.
+#
+# usage: bench/served.sh
+#
+# Needs Python 3, and takes about 1.6 GB in TMPDIR. F11 names another program than ./f11, RUNS another count than 3, COUNT another
+# number of commands than 60000. Without debugfs its column is left out. A target that is missed is no failure, since other work on
+# the machine slows each run. Status 1: f11 refused a command of a load.
+set -eu
+here=$(cd "$(dirname "${BASH_SOURCE[0]}")" && pwd)
+program=${F11:-$here/../f11}
+runs=${RUNS:-3}
+count=${COUNT:-60000}
+like=$((count / 10)) # of debugfs, which is slower
+folder=$(mktemp -d "${TMPDIR:-/tmp}/f11-served.XXXXXX")
+trap 'rm -rf "$folder"' EXIT
+bad=0
+
+say() {
+    echo "served.sh: $*" >&2
+}
+
+# Volumes of 512 and of 65,536 blocks, and a large one that is full of files.
+make_volumes() {
+    say 'making the volumes'
+    make_volume 512 16 30
+    make_volume 65536 2000 2050
+    python3 "$here/make_image.py" "$folder/large" >/dev/null
+    cat "$folder/large" >/dev/null # now the system has it in memory
+    head -c 512 /dev/urandom >"$folder/source"
+    if command -v debugfs >/dev/null && command -v mke2fs >/dev/null; then
+        dd if=/dev/zero of="$folder/ext2" bs=1024 count=32768 2>/dev/null
+        mke2fs -q -t ext2 "$folder/ext2"
+    else
+        say 'no e2fsprogs: debugfs is passed over'
+    fi
+}
+
+# A volume of so many blocks, with room for so many headers, one directory and one file: make_volume BLOCKS HEADERS HELD
+make_volume() {
+    python3 "$here/make_image.py" --blocks "$1" --files 7 --directories 1 --held "$3" --scattered 0 --most-files "$2" "$folder/v$1" >/dev/null
+}
+
+# Runs a command, its output in NAME.out, and adds a line to NAME.figures: measure NAME COMMAND WORD..
+measure() {
+    local name=$1
+    shift
+    python3 "$here/measure.py" "$folder/$name.out" "$@" >>"$folder/$name.figures"
+}
+
+# The best times of a command and its highest peak: figures NAME
+figures() {
+    awk 'NR == 1 || $1 < clock { clock = $1 }
+        NR == 1 || $2 < processor { processor = $2 }
+        $3 > peak { peak = $3 }
+        END { print clock, processor, peak }' "$folder/$1.figures"
+}
+
+# One load on one volume by so many sessions: load KIND VOLUME SESSIONS
+load() {
+    local kind=$1 volume=$2 sessions=$3 name=$1-$2-$3
+    local part=$((count / sessions)) scripts=() round
+    python3 "$here/make_load.py" "$kind" "$part" >"$folder/$name.script"
+    for ((round = 0; round < sessions; round++)); do
+        scripts+=("$folder/$name.script")
+    done
+    for ((round = 0; round < runs; round++)); do
+        measure "$name" "$program" "$folder/$volume" --limit 65536 "${scripts[@]}"
+    done
+    if grep -q '^\(NO\|BAD\)' "$folder/$name.out"; then
+        say "$name: refused: $(grep -m 1 '^\(NO\|BAD\)' "$folder/$name.out")"
+        bad=1
+    fi
+    if [ -f "$folder/ext2" ] && [ ! -f "$folder/$kind.figures" ]; then
+        python3 "$here/make_load.py" "$kind" "$like" --debugfs "$folder/source" >"$folder/$kind.words"
+        for ((round = 0; round < runs; round++)); do
+            cp "$folder/ext2" "$folder/ext2.copy"
+            measure "$kind" debugfs -w -f "$folder/$kind.words" "$folder/ext2.copy"
+        done
+    fi
+    row "$kind" "$volume" "$sessions"
+}
+
+# One line of the table: row KIND VOLUME SESSIONS
+row() {
+    local clock processor peak base theirs=-
+    read -r clock processor peak <<<"$(figures "$1-$2-$3")"
+    read -r _ _ base <<<"$(figures "idle-$2")" # what one command takes on this volume
+    if [ -f "$folder/$1.figures" ]; then
+        theirs=$(figures "$1" | awk -v like="$like" '{ print like / $1 }')
+    fi
+    awk -v text="$1, $2, sessions: $3" -v clock="$clock" -v processor="$processor" -v peak="$peak" -v base="$base" -v count="$count" -v theirs="$theirs" 'BEGIN {
+        rate = count / clock
+        printf "%-28s %8.3f %9.3f %9.1f %11d %9.2f", text, clock, processor, peak / 1024, rate, (peak - base) / count
+        if (theirs == "-") printf "\n"; else printf " %9d %7.1f\n", theirs, rate / theirs
+    }'
+}
+
+# How a figure stands to another: ratio TEXT FIGURE BASE MOST
+ratio() {
+    awk -v text="$1" -v figure="$2" -v base="$3" -v most="$4" \
+        'BEGIN { r = figure / base; printf "%s: %.2f, at most %.1f is wanted, %s\n", text, r, most, r <= most ? "met" : "MISSED" }'
+}
+
+make_volumes
+"$program" "$folder/v512" >/dev/null # proves and builds it where that is due
+echo 'STAT 1,1' >"$folder/one"
+measure idle-v512 "$program" "$folder/v512" "$folder/one"
+measure idle-v65536 "$program" "$folder/v65536" "$folder/one"
+
+say 'measuring'
+printf '%-28s %8s %9s %9s %11s %9s %9s %7s\n' "best of $runs" seconds processor 'peak MiB' 'commands/s' KiB/each debugfs/s times
+load creates v512 1
+load creates v65536 1
+load mixed v512 1
+load mixed v65536 1
+load extends v512 1
+load extends v65536 1
+load blocks v512 1
+load blocks v65536 1
+load names v512 1
+load names v65536 1
+load creates v65536 8
+load mixed v65536 8
+echo 'wanted: over 200000 commands/s for one session of creates, mixed and blocks; at most 1.5 KiB each; over 100 times debugfs'
+
+for ((round = 0; round < runs; round++)); do
+    measure cat sh -c 'exec cat "$1" >"$2"' sh "$folder/large" "$folder/copy"
+    rm -f "$folder/copy"
+    measure checked "$program" "$folder/large"
+    measure written "$program" "$folder/large" --out "$folder/copy"
+    cmp "$folder/large" "$folder/copy" || bad=1
+    rm -f "$folder/copy"
+    measure served "$program" "$folder/large" "$folder/one"
+done
+printf '%-28s %8s %9s %9s\n' 'an image of 512 MiB' seconds processor 'peak MiB'
+for name in cat checked written served; do
+    figures "$name" | awk -v text="$name" '{ printf "%-28s %8.3f %9.3f %9.1f\n", text, $1, $2, $3 / 1024 }'
+done
+size=$(($(wc -c <"$folder/large") / 1024))
+read -r cat_clock cat_processor _ <<<"$(figures cat)"
+read -r clock processor peak <<<"$(figures written)"
+ratio "reading and writing to cat's seconds" "$clock" "$cat_clock" 1.2
+ratio "the same by processor seconds" "$processor" "$cat_processor" 1.2
+ratio "peak to the image's size, with no script" "$peak" "$size" 1.1
+read -r _ _ peak <<<"$(figures served)"
+ratio "peak to the image's size, with a script" "$peak" "$size" 4.2
+exit $bad

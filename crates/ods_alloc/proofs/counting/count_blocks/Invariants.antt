@@ -1,0 +1,7 @@
+use Rattle.std.proofs.Common.{◌≡◌, map}
+use Rattle.std.specs.List.{range_with_len}
+use Rattle.ods_alloc.specs.Counts.{free_in}
+use Rattle.ods_alloc.proofs.counting.count_blocks.Given as goal
+
+abbrev pub invariant-loop-k : goal.invariant-loop-k
+invariant-loop-k l = l.counts.items ≡ map (free_in l.image l.layout) (range_with_len 0 l.k)

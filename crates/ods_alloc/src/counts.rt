@@ -1,0 +1,95 @@
+//! Counts of free blocks and of clear index bits, one for each block of the bitmaps. They are kept beside an image, so that nobody
+//! reads blocks of a bitmap that have nothing left.
+use crate::counting::{
+    count_blocks, count_numbers, index_changes, recount_blocks, recount_numbers, storage_changes,
+};
+use ods_base::Image;
+use ods_space::{Draft, Layout};
+use std::alloc::{AllocError, Global};
+use std::marker::Model;
+
+/// How many free blocks each block of the storage bitmap covers, and how many bits of each block of the index bitmap are clear.
+#[derive(Drop)]
+pub struct FreeCounts {
+    blocks: Vec<u32>,
+    numbers: Vec<u32>,
+}
+
+impl Model for FreeCounts {
+    ghost use Rattle.std.specs.Prelude.{◌≤◌, ◌^◌};
+    ghost use Rattle.std.specs.List.{sum};
+    ghost use Rattle.ods_alloc.specs.Counts.{Counts};
+
+    ghost Value = { Counts };
+
+    ghost view = { λ f. record { blocks = f.blocks.items; numbers = f.numbers.items } };
+
+    // An image has at most so many blocks, so the counts can be added up.
+    ghost invariant = { λ f. sum f.blocks.items ≤ 2 ^ 20 };
+}
+
+impl FreeCounts {
+    ghost use Rattle.std.specs.Prelude.{◌≡◌, ℕ, List, length, IfOk};
+    ghost use Rattle.ods_space.specs.{Layout.VolumeLayout, Files.IsLayoutOf, Free.free_blocks, Draft.applied};
+    ghost use Rattle.ods_alloc.specs.Counts.{counts_of, AreCountsAfter};
+
+    /// The counts of an image, made anew.
+    pub fn of(alloc: Global, image: &Image, layout: &Layout) -> Result<FreeCounts, AllocError>
+        requires { IsLayoutOf image.now layout.now }
+        ensures { IfOk result (λ counts. counts ≡ counts_of image.now layout.now) }
+    {
+        let blocks = count_blocks(alloc, image, layout)?;
+        let numbers = count_numbers(alloc, image, &layout.home())?;
+        Ok(FreeCounts { blocks, numbers })
+    }
+
+    /// The counts once a draft is applied; none where it changes no block of either bitmap. Only the blocks that it changes are
+    /// counted anew.
+    pub fn after(
+        &self,
+        image: &Image,
+        layout: &Layout,
+        draft: &Draft,
+    ) -> Result<Option<FreeCounts>, AllocError>
+        requires layout { IsLayoutOf image.now layout.now }
+        requires counts { self.now ≡ counts_of image.now layout.now }
+        ensures { IfOk result (AreCountsAfter image.now (applied image.now draft.now) layout.now) }
+    {
+        let home = layout.home();
+        let storage = storage_changes(image, layout, draft);
+        let index = index_changes(image, &home, draft);
+        if !storage && !index {
+            return Ok(None);
+        }
+        let mut blocks = Vec::from_slice(*self.blocks.allocator(), &self.blocks)?;
+        recount_blocks(image, layout, draft, &mut blocks);
+        let mut numbers = Vec::from_slice(*self.numbers.allocator(), &self.numbers)?;
+        recount_numbers(image, &home, draft, &mut numbers);
+        Ok(Some(FreeCounts { blocks, numbers }))
+    }
+
+    /// How many blocks are free in all.
+    pub fn total(&self) -> u32
+        ensures { (I : List (List ℕ)) (L : VolumeLayout) → IsLayoutOf I L → self.now ≡ counts_of I L → result ≡ length (free_blocks I L) }
+    {
+        let mut total = 0;
+        for count in &self.blocks {
+            total += *count;
+        }
+        total
+    }
+
+    /// How many free blocks each block of the storage bitmap covers.
+    pub fn as_slice(&self) -> &[u32]
+        ensures { result.now ≡ self.now.blocks }
+    {
+        self.blocks.as_slice()
+    }
+
+    /// How many bits of each block of the index bitmap are clear.
+    pub(crate) fn numbers(&self) -> &[u32]
+        ensures { result.now ≡ self.now.numbers }
+    {
+        self.numbers.as_slice()
+    }
+}

@@ -1,0 +1,25 @@
+-- What comes of the reading of a script.
+use Rattle.std.specs.Prelude.{◌≡◌, ℕ, ◌<◌, ◌≤◌, ◌^◌, List, length, Option}
+use Rattle.std.specs.Io.KnownBytes.{IsAtEnd}
+use Rattle.ods_share.specs.declared.script.Command.{Command}
+use Rattle.ods_script.specs.Numbered.{AreCommandsOf}
+use Rattle.ods_cli.specs.declared.script_text.ScriptFault.{ScriptFault}
+use Rattle.ods_cli.specs.declared.script_text.ScriptFault.TheVariants as fault
+
+-- the text is all bytes that a reader had, of which `rest` is left, and they are not too many
+pub record IsTextOf (bytes : List ℕ) (rest : Option (List ℕ)) (text : List ℕ) : Type 0 where
+  pub all : text ≡ bytes
+  pub few : length bytes ≤ 2 ^ 20
+  pub at_end : IsAtEnd rest
+
+-- these are the commands of all bytes that a reader had, and they are not too many
+pub record IsScriptOf (bytes : List ℕ) (rest : Option (List ℕ)) (commands : List Command) : Type 0 where
+  pub few : length bytes ≤ 2 ^ 20
+  pub at_end : IsAtEnd rest
+  pub commands_are : AreCommandsOf bytes commands
+
+-- why there is no script from a reader that gave these bytes: a device may fail, and memory run out, at any moment
+abbrev pub IsScriptFault : List ℕ → ScriptFault → Type 0
+IsScriptFault bytes fault.Read = length bytes ≤ 2 ^ 20
+IsScriptFault bytes fault.TooLarge = 2 ^ 20 < length bytes
+IsScriptFault bytes fault.NoMemory = Unit {0}
