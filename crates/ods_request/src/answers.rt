@@ -158,7 +158,7 @@ impl Answer {
 pub struct Entry {
     /// The session that asked.
     pub session: u16,
-    /// Which of its requests this is, counted from the session's first.
+    /// The number that its caller gave it; the program gives the line of its script.
     pub nth: u32,
     /// The user for whom it asked.
     pub who: Uic,
