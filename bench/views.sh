@@ -1,13 +1,16 @@
 #!/usr/bin/env bash
-# Times views and compares them with three targets: 8 viewers answer at least 3 times as many views a second as one does, each time beside
-# a thread that writes; a view takes at most twice as long as a look with no viewer; f11 takes at most 4.2 times the image to serve a script.
+# Times views and compares them with targets: 8 viewers answer at least 3 times as many views a second as one does, each time beside a thread
+# that writes; a view takes at most twice as long as a look with no viewer; f11 takes at most 4.2 times the image to serve a script.
 #
 # usage: bench/views.sh [TIMES]     (after rt ci or rt test; 100 looks each, TIMES times, by default 10,000)
 #
 # The first two are the tests `timed_views` of `ods_share_tests` as the gate built them, which read TRIALS and VIEWERS. RUNS runs of each are
 # made, 5 by default, and the best counts; BLOCKS is the size of the third's image, 262,144 by default, and F11 another program than ./f11.
-# With other work on the machine 8 viewers get no 4 processors, so views are also counted by the second of processor: where 8 viewers make
-# three quarters as many by it as one, nothing keeps them from 3 times as many on 4 free processors. A target that is missed is no failure.
+#
+# 8 viewers and a writer are 9 threads. On 4 processors a viewer is set aside now and then within a view, the writer then waits for it, awake,
+# and the last viewers end alone: the clock measures the system's turns too. What viewers wait for is told by two measures that it leaves
+# out: 8 viewers to 1 by the second of processor, the writer's included, times 4; and by the clock as many viewers as leave the writer a
+# processor, to 1. A target that is missed is no failure.
 set -eu
 here=$(cd "$(dirname "${BASH_SOURCE[0]}")" && pwd)
 tests=$here/../crates/ods_share_tests/out/ods_share_tests_tests
@@ -30,6 +33,11 @@ target() {
     }'
 }
 
+# One number to another: ratio A B [TIMES]
+ratio() {
+    awk -v a="$1" -v b="$2" -v times="${3:-1}" 'BEGIN { print times * a / b }'
+}
+
 # The most views of so many viewers by the second, and by the second of processor: rates VIEWERS
 rates() {
     for ((run = 0; run < runs; run++)); do
@@ -42,10 +50,11 @@ rates() {
         END { printf "%d %d %d\n", clock, processor, writes / NR }'
 }
 
-# The least microseconds of a look and of a view, in short runs that other work seldom breaks.
+# The least microseconds of a look and of a view, in runs of some 3 ms: other work seldom breaks them, and the desk, which is opened
+# within the time of the views, is less than a hundredth of it.
 costs() {
     for ((run = 0; run < 8 * runs; run++)); do
-        printed a_view_beside_a_look 20 1 '[0-9]* looks, [0-9]* microseconds; [0-9]* views, [0-9]* microseconds'
+        printed a_view_beside_a_look 200 1 '[0-9]* looks, [0-9]* microseconds; [0-9]* views, [0-9]* microseconds'
     done | awk '
         NR == 1 || $2 < look { look = $2 }
         NR == 1 || $4 < view { view = $4 }
@@ -57,15 +66,20 @@ read -r one one_processor writes <<<"$(rates 1)"
 printf '1 viewer: %d views a second, %d a second of processor, %d writes beside it\n' "$one" "$one_processor" "$writes"
 read -r eight eight_processor writes <<<"$(rates 8)"
 printf '8 viewers: %d views a second, %d a second of processor, %d writes beside them\n' "$eight" "$eight_processor" "$writes"
-target "8 viewers to 1" "$(awk -v a="$eight" -v b="$one" 'BEGIN { print a / b }')" least 3
-target "the same by the second of processor, on 4" "$(awk -v a="$eight_processor" -v b="$one_processor" 'BEGIN { print 4 * a / b }')" least 3
+target "8 viewers to 1, by the clock" "$(ratio "$eight" "$one")" least 3
+target "8 viewers to 1, by the second of processor, on 4" "$(ratio "$eight_processor" "$one_processor" 4)" least 3
+few=$(($(nproc) > 2 ? $(nproc) - 1 : 1))
+few=$((few < 8 ? few : 8))
+read -r some _ writes <<<"$(rates "$few")"
+printf '%d viewers: %d views a second, %d writes beside them\n' "$few" "$some" "$writes"
+target "$few viewers to 1, by the clock, for each viewer" "$(ratio "$some" "$((one * few))")" least 0.9
 read -r look view <<<"$(costs)"
 printf 'a look: %s microseconds; a view: %s\n' "$look" "$view"
-target "a view to a look" "$(awk -v a="$view" -v b="$look" 'BEGIN { print a / b }')" most 2
+target "a view to a look" "$(ratio "$view" "$look")" most 2
 "$program" </dev/null >/dev/null || true # proves and builds it where that is due
 blocks=${BLOCKS:-262144}
 python3 "$here/make_image.py" --blocks "$blocks" --held "$((blocks / 4))" "$folder/image" >/dev/null
 echo 'STAT 1,1' >"$folder/script"
 read -r clock _ peak status <<<"$(python3 "$here/measure.py" "$folder/out" "$program" "$folder/image" "$folder/script")"
 printf 'f11 IMAGE SCRIPT: %s s, %d KiB, status %d\n' "$clock" "$peak" "$status"
-target "f11's peak to the image's size" "$(awk -v a="$peak" -v b="$((blocks / 2))" 'BEGIN { print a / b }')" most 4.2
+target "f11's peak to the image's size" "$(ratio "$peak" "$((blocks / 2))")" most 4.2

@@ -1,16 +1,18 @@
 -- Counts that are made anew one after another, where a draft changes what is counted.
-use Rattle.std.proofs.Common.{◌≡◌, ℕ, ◌+◌, ◌-◌, ◌*◌, ◌<◌, ◌≤◌, List, map, length, get_or, set, sym, ap, ◌∙◌, arith, inl, inr}
+use Rattle.std.proofs.Common.{◌≡◌, ℕ, ◌+◌, ◌-◌, ◌<◌, ◌≤◌, ◌⊎◌, List, None, map, length, get_or, set, refl, sym, ap, subst, ◌∙◌, arith, inl, inr}
 use Rattle.std.specs.List.{range_with_len}
 use Rattle.std.proofs.lemmas.Bool.{cases_lt, cases_eq}
 use Rattle.std.proofs.lemmas.List.{length-set, get_or-set_same, get_or-set_other}
 use Rattle.std.proofs.lemmas.List.FromFn.{fill_by_all, length-map-range_with_len, get_or-map-range_with_len}
 use Rattle.ods_base.specs.Image.{block_at}
-use Rattle.ods_header.specs.declared.home.Home.{Home}
 use Rattle.ods_space.specs.Layout.{VolumeLayout}
-use Rattle.ods_space.specs.Draft.{Changes, applied}
+use Rattle.ods_space.specs.Draft.{Changes, applied, change_at}
 use Rattle.ods_space.proofs.Drafts.{length-applied}
-use Rattle.ods_alloc.specs.Counts.{free_in, free_counts, clear_in, clear_counts, low_bits_set, bitmap_lbn, index_lbn}
-use Rattle.ods_alloc.proofs.Counted.{free_in_is, clear_in_is}
+use Rattle.ods_alloc.specs.declared.counting.Bitmap.{Bitmap}
+use Rattle.ods_alloc.specs.declared.counting.Bitmap.TheVariants.{Storage, Index}
+use Rattle.ods_alloc.specs.Bitmaps.{AreKept, IsNextChanged, IsStretch, count_in, counted, counts_in, place_in, size_of}
+use Rattle.ods_alloc.specs.Counts.{clear_counts, free_counts}
+use Rattle.ods_alloc.proofs.Counted.{clear_in_is, free_in_is, kept_block, past_block}
 
 -- Of n numbers the first k are new, and the others are still the old ones.
 pub record IsPartly (old new : ℕ → ℕ) (n k : ℕ) (xs : List ℕ) : Type 0 where
@@ -38,83 +40,73 @@ module _ (old new : ℕ → ℕ) (n : ℕ) where
         left = λ j above low. let other : j ≡ k → ⊥ = λ e. absurd (omega (arith, above, e)) in get_or-set_other xs k j x 0 other ∙ before.left j (omega arith) low;
       }
 
-  pub partly_kept : (k : ℕ) (xs : List ℕ) → k < n → IsPartly old new n k xs → new k ≡ old k → IsPartly old new n (k + 1) xs
-  partly_kept k xs within before same = record {
-    size = before.size;
-    done = λ j low. elim (cases_lt j k) [
-      | inl earlier ↦ before.done j earlier
-      | inr here ↦ let one : j ≡ k = omega (arith, low, here) in ap (λ m. get_or xs m 0) one ∙ before.left k (omega arith) within ∙ sym same ∙ ap new (sym one)
-    ];
-    left = λ j above low. before.left j (omega arith) low;
-  }
-
   pub partly_all : (k : ℕ) (xs : List ℕ) → n ≤ k → IsPartly old new n k xs → xs ≡ map new (range_with_len 0 n)
   partly_all k xs all before = fill_by_all new xs n 0 before.size (λ j low. before.done j (omega arith))
 
--- the counts of an image, before a draft and after it
-abbrev pub ArePartlyFree : List (List ℕ) → Changes → VolumeLayout → ℕ → List ℕ → Type 0
-ArePartlyFree I d L k xs = IsPartly (free_in I L) (free_in (applied I d) L) (length L.bitmap - 1) k xs
+  -- those that stay are passed over at once
+  pub partly_passed : (k m : ℕ) (xs : List ℕ) → k ≤ m → m ≤ n → IsPartly old new n k xs → ((j : ℕ) → k ≤ j → j < m → new j ≡ old j) → IsPartly old new n m xs
+  partly_passed k m xs order within before same = record {
+    size = before.size;
+    done = λ j low. elim (cases_lt j k) [
+      | inl earlier ↦ before.done j earlier
+      | inr here ↦ before.left j here (omega (arith, low, within)) ∙ sym (same j here low)
+    ];
+    left = λ j above low. before.left j (omega (arith, above, order)) low;
+  }
 
-abbrev pub ArePartlyClear : List (List ℕ) → Changes → Home → ℕ → List ℕ → Type 0
-ArePartlyClear I d h k xs = IsPartly (clear_in I h) (clear_in (applied I d) h) h.index_bitmap_size k xs
+-- The counts of a bitmap, before a draft and after it.
+abbrev pub ArePartlyNew : List (List ℕ) → Changes → VolumeLayout → Bitmap → ℕ → List ℕ → Type 0
+ArePartlyNew I d L m k xs = IsPartly (count_in I L m) (count_in (applied I d) L m) (size_of L m) k xs
 
-module _ (I : List (List ℕ)) (d : Changes) (L : VolumeLayout) where
-  pub free_begun : (xs : List ℕ) → xs ≡ free_counts I L → ArePartlyFree I d L 0 xs
-  unfolding free_counts
-  free_begun xs is = partly_none (free_in I L) (free_in (applied I d) L) (length L.bitmap - 1) xs is
+-- a count is one of the bits of a block
+pub count_is : (I : List (List ℕ)) (L : VolumeLayout) (m : Bitmap) (k : ℕ) → k < size_of L m → count_in I L m k ≡ counted (length I) m k (block_at I (place_in L m k))
+count_is I L Storage k within = free_in_is I L k within
+count_is I L Index k within = clear_in_is I L.home k within
 
-  pub free_recounted : (k few count : ℕ) (xs : List ℕ) → k < length L.bitmap - 1 → few ≡ length I - 4096 * k → ArePartlyFree I d L k xs
-      → count ≡ low_bits_set few (block_at (applied I d) (bitmap_lbn L k)) → ArePartlyFree I d L (k + 1) (set xs k count)
-  free_recounted k few count xs within few_is before is =
-      let same : few ≡ length (applied I d) - 4096 * k = omega (arith, few_is, length-applied I d) in
-      partly_set (free_in I L) (free_in (applied I d) L) (length L.bitmap - 1) k count xs within before
-      (is ∙ ap (λ m. low_bits_set m (block_at (applied I d) (bitmap_lbn L k))) same ∙ sym (free_in_is (applied I d) L k within))
+counts_are : (I : List (List ℕ)) (L : VolumeLayout) (m : Bitmap) → counts_in I L m ≡ map (count_in I L m) (range_with_len 0 (size_of L m))
+unfolding free_counts clear_counts
+counts_are I L Storage = refl
+counts_are I L Index = refl
 
-  free_same : (k : ℕ) → k < length L.bitmap - 1 → block_at (applied I d) (bitmap_lbn L k) ≡ block_at I (bitmap_lbn L k) → free_in (applied I d) L k ≡ free_in I L k
-  free_same k within kept =
-      free_in_is (applied I d) L k within ∙ ap (λ n. low_bits_set (n - 4096 * k) (block_at (applied I d) (bitmap_lbn L k))) (length-applied I d)
-      ∙ ap (low_bits_set (length I - 4096 * k)) kept ∙ sym (free_in_is I L k within)
+module _ (I : List (List ℕ)) (d : Changes) (L : VolumeLayout) (m : Bitmap) where
+  kept_counts : (j : ℕ) → j < size_of L m → block_at (applied I d) (place_in L m j) ≡ block_at I (place_in L m j) → count_in (applied I d) L m j ≡ count_in I L m j
+  kept_counts j within kept =
+      count_is (applied I d) L m j within ∙ ap (λ n. counted n m j (block_at (applied I d) (place_in L m j))) (length-applied I d)
+      ∙ ap (counted (length I) m j) kept ∙ sym (count_is I L m j within)
 
-  pub free_kept : (k : ℕ) (xs : List ℕ) → k < length L.bitmap - 1 → ArePartlyFree I d L k xs → block_at (applied I d) (bitmap_lbn L k) ≡ block_at I (bitmap_lbn L k) → ArePartlyFree I d L (k + 1) xs
-  free_kept k xs within before kept = partly_kept (free_in I L) (free_in (applied I d) L) (length L.bitmap - 1) k xs within before (free_same k within kept)
+  pub recount_passed : (k next : ℕ) (xs : List ℕ) → ArePartlyNew I d L m k xs → IsNextChanged I (applied I d) L m k next → ArePartlyNew I d L m next xs
+  recount_passed k next xs before is =
+      let high = is.within in
+      partly_passed (count_in I L m) (count_in (applied I d) L m) (size_of L m) k next xs is.above is.within before (λ j above below. kept_counts j (omega (arith, high, below)) (is.kept j above below))
 
-  pub free_done : (k : ℕ) (xs : List ℕ) → length L.bitmap - 1 ≤ k → ArePartlyFree I d L k xs → xs ≡ free_counts (applied I d) L
-  unfolding free_counts
-  free_done k xs all before = partly_all (free_in I L) (free_in (applied I d) L) (length L.bitmap - 1) k xs all before
+  pub recount_begun : (first : ℕ) (xs : List ℕ) → xs ≡ counts_in I L m → IsNextChanged I (applied I d) L m 0 first → ArePartlyNew I d L m first xs
+  recount_begun first xs are is = recount_passed 0 first xs (partly_none (count_in I L m) (count_in (applied I d) L m) (size_of L m) xs (are ∙ counts_are I L m)) is
 
-  -- no block of the storage bitmap changes
-  pub free_unchanged : ((k : ℕ) → k < length L.bitmap - 1 → block_at (applied I d) (bitmap_lbn L k) ≡ block_at I (bitmap_lbn L k)) → free_counts (applied I d) L ≡ free_counts I L
-  unfolding free_counts
-  free_unchanged kept =
-      let n : ℕ = length L.bitmap - 1 in
-      sym (fill_by_all (free_in (applied I d) L) (map (free_in I L) (range_with_len 0 n)) n 0 (length-map-range_with_len (free_in I L) 0 n)
-      (λ k within. get_or-map-range_with_len (free_in I L) 0 n k k 0 within (omega arith) ∙ sym (free_same k within (kept k within))))
+  pub recounted : (k next len count : ℕ) (xs b : List ℕ) → k < size_of L m → len ≡ length I → ArePartlyNew I d L m k xs → b ≡ block_at (applied I d) (place_in L m k) → count ≡ counted len m k b
+      → IsNextChanged I (applied I d) L m (k + 1) next → ArePartlyNew I d L m next (set xs k count)
+  recounted k next len count xs b within size before read is =
+      recount_passed (k + 1) next (set xs k count)
+      (partly_set (count_in I L m) (count_in (applied I d) L m) (size_of L m) k count xs within before
+      (is ∙ ap (counted len m k) read ∙ ap (λ n. counted n m k (block_at (applied I d) (place_in L m k))) (size ∙ sym (length-applied I d)) ∙ sym (count_is (applied I d) L m k within)))
 
-module _ (I : List (List ℕ)) (d : Changes) (h : Home) where
-  pub clear_begun : (xs : List ℕ) → xs ≡ clear_counts I h → ArePartlyClear I d h 0 xs
-  unfolding clear_counts
-  clear_begun xs is = partly_none (clear_in I h) (clear_in (applied I d) h) h.index_bitmap_size xs is
+  pub recount_done : (k : ℕ) (xs : List ℕ) → size_of L m ≤ k → ArePartlyNew I d L m k xs → xs ≡ counts_in (applied I d) L m
+  recount_done k xs all before = partly_all (count_in I L m) (count_in (applied I d) L m) (size_of L m) k xs all before ∙ sym (counts_are (applied I d) L m)
 
-  pub clear_recounted : (k count : ℕ) (xs : List ℕ) → k < h.index_bitmap_size → ArePartlyClear I d h k xs
-      → count ≡ low_bits_set 4096 (block_at (applied I d) (index_lbn h k)) → ArePartlyClear I d h (k + 1) (set xs k (4096 - count))
-  clear_recounted k count xs within before is =
-      partly_set (clear_in I h) (clear_in (applied I d) h) h.index_bitmap_size k (4096 - count) xs within before
-      (ap (λ m. 4096 - m) is ∙ sym (clear_in_is (applied I d) h k within))
+  -- where no block changes, the counts stay
+  pub counts_stay : (k : ℕ) → k ≡ size_of L m → IsNextChanged I (applied I d) L m 0 k → counts_in (applied I d) L m ≡ counts_in I L m
+  counts_stay k all is = sym (recount_done k (counts_in I L m) (omega (arith, all)) (recount_begun k (counts_in I L m) refl is))
 
-  clear_same : (k : ℕ) → k < h.index_bitmap_size → block_at (applied I d) (index_lbn h k) ≡ block_at I (index_lbn h k) → clear_in (applied I d) h k ≡ clear_in I h k
-  clear_same k within kept = clear_in_is (applied I d) h k within ∙ ap (λ b. 4096 - low_bits_set 4096 b) kept ∙ sym (clear_in_is I h k within)
-
-  pub clear_kept : (k : ℕ) (xs : List ℕ) → k < h.index_bitmap_size → ArePartlyClear I d h k xs → block_at (applied I d) (index_lbn h k) ≡ block_at I (index_lbn h k) → ArePartlyClear I d h (k + 1) xs
-  clear_kept k xs within before kept = partly_kept (clear_in I h) (clear_in (applied I d) h) h.index_bitmap_size k xs within before (clear_same k within kept)
-
-  pub clear_done : (k : ℕ) (xs : List ℕ) → h.index_bitmap_size ≤ k → ArePartlyClear I d h k xs → xs ≡ clear_counts (applied I d) h
-  unfolding clear_counts
-  clear_done k xs all before = partly_all (clear_in I h) (clear_in (applied I d) h) h.index_bitmap_size k xs all before
-
-  -- no block of the index bitmap changes
-  pub clear_unchanged : ((k : ℕ) → k < h.index_bitmap_size → block_at (applied I d) (index_lbn h k) ≡ block_at I (index_lbn h k)) → clear_counts (applied I d) h ≡ clear_counts I h
-  unfolding clear_counts
-  clear_unchanged kept =
-      let n : ℕ = h.index_bitmap_size in
-      sym (fill_by_all (clear_in (applied I d) h) (map (clear_in I h) (range_with_len 0 n)) n 0 (length-map-range_with_len (clear_in I h) 0 n)
-      (λ k within. get_or-map-range_with_len (clear_in I h) 0 n k k 0 within (omega arith) ∙ sym (clear_same k within (kept k within))))
+  -- a stretch of blocks from k on, of which the first t do not change: each stands below the next change, or past the image
+  pub kept_further : (a k many first lbn t : ℕ) → AreKept I (applied I d) L m a k → IsStretch L m k many → first ≡ place_in L m k → ((x : ℕ) → first ≤ x → x < lbn → change_at d x ≡ None) → t ≤ many
+      → ((j : ℕ) → j < t → (first + j < lbn) ⊎ (length I ≤ first + j)) → AreKept I (applied I d) L m a (k + t)
+  kept_further a k many first lbn t before s is none few each j above below = elim (cases_lt j k) [
+    | inl earlier ↦ before j above earlier
+    | inr here ↦
+        let i : ℕ = j - k in
+        let place : first + i ≡ place_in L m j = ap (λ n. n + i) is ∙ sym (s.places i (omega (arith, few, below, here))) ∙ ap (place_in L m) (omega (arith, here)) in
+        let P : ℕ → Type 0 = λ x. block_at (applied I d) x ≡ block_at I x in
+        subst P place (elim (each i (omega (arith, below, here))) [
+          | inl low ↦ kept_block I d (first + i) (none (first + i) (omega arith) low)
+          | inr past ↦ past_block I d (first + i) past
+        ])
+  ]

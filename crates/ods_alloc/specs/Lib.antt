@@ -1,8 +1,10 @@
 pub mod Extend
+pub mod Ends
 pub mod Marks
 pub mod Extension
 pub mod Chains
 pub mod Scan
 pub mod Counts
+pub mod Bitmaps
 pub mod Faults
 pub mod Refusals

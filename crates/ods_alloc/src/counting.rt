@@ -1,9 +1,10 @@
 //! The blocks of the bitmaps counted, one by one: all of them, or those that a draft changes.
-ghost use Rattle.std.specs.Prelude.{◌≡◌, ◌-◌, ◌<◌, ◌≤◌, ◌^◌, ◌*◌, length, slice_set, true, false, IfOk, IfSome, IfNone};
+ghost use Rattle.std.specs.Prelude.{◌≡◌, ◌-◌, ◌<◌, ◌≤◌, ◌^◌, ◌*◌, length, IfOk};
 ghost use Rattle.std.specs.List.{sum};
 ghost use Rattle.ods_base.specs.Image.{block_at};
 ghost use Rattle.ods_space.specs.Draft.{applied};
 ghost use Rattle.ods_alloc.specs.Counts.{free_counts, clear_counts, low_bits_set};
+ghost use Rattle.ods_alloc.specs.Bitmaps.{IsNextChanged, IsStretch, counted, counts_in, place_in, size_of};
 
 use crate::words::low_bits;
 use ods_base::{Block, Image, bit_word};
@@ -80,84 +81,110 @@ pub(crate) fn count_numbers(
     Ok(counts)
 }
 
-/// Whether a draft changes the block at this LBN of an image.
-fn is_changed(image: &Image, draft: &Draft, lbn: u64) -> bool
-    ensures inside { result ≡ true → (lbn < length image.now) × (lbn < 2 ^ 32) }
-    ensures same { result ≡ false → block_at (applied image.now draft.now) lbn ≡ block_at image.now lbn }
-{
-    lbn < image.len() as u64 && draft.changes(lbn as u32)
+/// One of the two bitmaps of a volume.
+#[derive(Clone, Copy)]
+pub(crate) enum Bitmap {
+    Storage,
+    Index,
 }
 
-/// How many of the first `few` bits are set of the block that a draft makes of the one at this LBN; none where it leaves that as it is.
-fn bits_after(image: &Image, draft: &Draft, lbn: u64, few: u32) -> Option<u32>
-    ensures some { IfSome result (λ count. count ≡ low_bits_set few (block_at (applied image.now draft.now) lbn)) }
-    ensures none { IfNone result (block_at (applied image.now draft.now) lbn ≡ block_at image.now lbn) }
+/// How many blocks a bitmap has, the storage control block not counted.
+pub(crate) fn size_of(layout: &Layout, bitmap: Bitmap) -> usize
+    ensures value { result ≡ size_of layout.now bitmap }
+    ensures few { result < 2 ^ 62 }
 {
-    if is_changed(image, draft, lbn) {
-        Some(bits_set(&draft.block(image, lbn as u32), few))
-    } else {
-        None
+    match bitmap {
+        Bitmap::Storage => layout.bitmap().len().saturating_sub(1),
+        Bitmap::Index => layout.home().index_bitmap_size as usize,
     }
 }
 
-/// Whether a draft changes a block of the storage bitmap.
-pub(crate) fn storage_changes(image: &Image, layout: &Layout, draft: &Draft) -> bool
-    ensures { result ≡ false → free_counts (applied image.now draft.now) layout.now ≡ free_counts image.now layout.now }
+/// The LBN of block `k` of a bitmap.
+fn place_in(layout: &Layout, bitmap: Bitmap, k: usize) -> u64
+    requires { k < size_of layout.now bitmap }
+    ensures value { result ≡ place_in layout.now bitmap k }
+    ensures few { result < 2 ^ 33 }
 {
-    let bitmap = layout.bitmap();
-    for k in 0..bitmap.len().saturating_sub(1) {
-        if is_changed(image, draft, bitmap[k + 1] as u64) {
-            return true;
+    match bitmap {
+        Bitmap::Storage => layout.bitmap()[k + 1] as u64,
+        Bitmap::Index => layout.home().index_bitmap_lbn as u64 + k as u64,
+    }
+}
+
+/// How many blocks of a bitmap from block `k` on stand one behind the other, as all do that are contiguous.
+fn stretch(layout: &Layout, bitmap: Bitmap, k: usize) -> usize
+    requires { k < size_of layout.now bitmap }
+    ensures { IsStretch layout.now bitmap k result }
+{
+    let size = size_of(layout, bitmap);
+    let first = place_in(layout, bitmap, k);
+    let mut many = 1;
+    while many < size - k && place_in(layout, bitmap, k + many) == first + many as u64 {
+        many += 1;
+    }
+    many
+}
+
+/// The first block of a bitmap from block `from` on that a draft changes, or the number of its blocks for none. Stretches of blocks are
+/// looked for in one pass over the draft.
+pub(crate) fn next_changed(
+    image: &Image,
+    layout: &Layout,
+    draft: &Draft,
+    bitmap: Bitmap,
+    from: usize,
+) -> usize
+    requires { from ≤ size_of layout.now bitmap }
+    ensures { IsNextChanged image.now (applied image.now draft.now) layout.now bitmap from result }
+{
+    let size = size_of(layout, bitmap);
+    let len = image.len() as u64;
+    let mut k = from;
+    while k < size {
+        let many = stretch(layout, bitmap, k);
+        let first = place_in(layout, bitmap, k);
+        let end = len.min(first + many as u64).max(first);
+        let lbn = draft.next_change(first, end);
+        if lbn < end {
+            return k + (lbn - first) as usize;
         }
+        k += many;
     }
-    false
+    size
 }
 
-/// Whether a draft changes a block of the index bitmap.
-pub(crate) fn index_changes(image: &Image, home: &Home, draft: &Draft) -> bool
-    ensures { result ≡ false → clear_counts (applied image.now draft.now) home.now ≡ clear_counts image.now home.now }
+/// What is counted in block `k` of a bitmap, on an image of `len` blocks: of the storage bitmap free blocks, of the index bitmap clear bits.
+fn count(len: u32, bitmap: Bitmap, k: usize, block: &Block) -> u32
+    requires { len ≤ 2 ^ 20 }
+    ensures { result ≡ counted len bitmap k block.now }
 {
-    for k in 0..home.index_bitmap_size {
-        if is_changed(image, draft, home.index_bitmap_lbn as u64 + k as u64) {
-            return true;
-        }
+    match bitmap {
+        Bitmap::Storage => bits_set(block, few_of(len, k)),
+        Bitmap::Index => 4096 - bits_set(block, 4096),
     }
-    false
 }
 
-/// Counts anew the blocks of the storage bitmap that a draft changes.
-pub(crate) fn recount_blocks(image: &Image, layout: &Layout, draft: &Draft, counts: &mut [u32])
-    requires { counts.old ≡ free_counts image.now layout.now }
-    ensures counts { counts.new ≡ free_counts (applied image.now draft.now) layout.now }
-    ensures few { sum counts.new ≤ 2 ^ 20 }
+/// Counts anew the blocks of a bitmap that a draft changes, of which this is the first.
+pub(crate) fn recount(
+    image: &Image,
+    layout: &Layout,
+    draft: &Draft,
+    bitmap: Bitmap,
+    first: usize,
+    counts: &mut [u32],
+)
+    requires counts { counts.old ≡ counts_in image.now layout.now bitmap }
+    requires first { IsNextChanged image.now (applied image.now draft.now) layout.now bitmap 0 first }
+    ensures counts { counts.new ≡ counts_in (applied image.now draft.now) layout.now bitmap }
     ensures size { length counts.new ≡ length counts.old }
 {
+    let size = size_of(layout, bitmap);
     let len = image.len();
-    let bitmap = layout.bitmap();
-    for k in 0..bitmap.len().saturating_sub(1) {
-        if let Some(count) = bits_after(image, draft, bitmap[k + 1] as u64, few_of(len, k)) {
-            counts[k] = count;
-        }
-    }
-}
-
-/// Puts a count in its place.
-fn put_count(counts: &mut [u32], k: u16, count: u32)
-    requires { k < length counts.old }
-    ensures { counts.new ≡ slice_set counts.old k count }
-{
-    counts[k as usize] = count;
-}
-
-/// Counts anew the blocks of the index bitmap that a draft changes.
-pub(crate) fn recount_numbers(image: &Image, home: &Home, draft: &Draft, counts: &mut [u32])
-    requires { counts.old ≡ clear_counts image.now home.now }
-    ensures { counts.new ≡ clear_counts (applied image.now draft.now) home.now }
-{
-    for k in 0..home.index_bitmap_size {
-        let lbn = home.index_bitmap_lbn as u64 + k as u64;
-        if let Some(count) = bits_after(image, draft, lbn, 4096) {
-            put_count(counts, k, 4096 - count);
-        }
+    let mut k = first;
+    while k < size {
+        let lbn = place_in(layout, bitmap, k);
+        let block = draft.block(image, lbn as u32);
+        counts[k] = count(len, bitmap, k, &block);
+        k = next_changed(image, layout, draft, bitmap, k + 1);
     }
 }

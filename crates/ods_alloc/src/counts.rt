@@ -1,8 +1,6 @@
 //! Counts of free blocks and of clear index bits, one for each block of the bitmaps. They are kept beside an image, so that nobody
 //! reads blocks of a bitmap that have nothing left.
-use crate::counting::{
-    count_blocks, count_numbers, index_changes, recount_blocks, recount_numbers, storage_changes,
-};
+use crate::counting::{Bitmap, count_blocks, count_numbers, next_changed, recount, size_of};
 use ods_base::Image;
 use ods_space::{Draft, Layout};
 use std::alloc::{AllocError, Global};
@@ -55,16 +53,19 @@ impl FreeCounts {
         requires counts { self.now ≡ counts_of image.now layout.now }
         ensures { IfOk result (AreCountsAfter image.now (applied image.now draft.now) layout.now) }
     {
-        let home = layout.home();
-        let storage = storage_changes(image, layout, draft);
-        let index = index_changes(image, &home, draft);
-        if !storage && !index {
+        let storage = next_changed(image, layout, draft, Bitmap::Storage, 0);
+        let index = next_changed(image, layout, draft, Bitmap::Index, 0);
+        let storage_end = size_of(layout, Bitmap::Storage);
+        let index_end = size_of(layout, Bitmap::Index);
+        if storage == storage_end && index == index_end {
             return Ok(None);
         }
+        // An image has at most 2 ^ 20 blocks.
+        let _ = image.len();
         let mut blocks = Vec::from_slice(*self.blocks.allocator(), &self.blocks)?;
-        recount_blocks(image, layout, draft, &mut blocks);
+        recount(image, layout, draft, Bitmap::Storage, storage, &mut blocks);
         let mut numbers = Vec::from_slice(*self.numbers.allocator(), &self.numbers)?;
-        recount_numbers(image, &home, draft, &mut numbers);
+        recount(image, layout, draft, Bitmap::Index, index, &mut numbers);
         Ok(Some(FreeCounts { blocks, numbers }))
     }
 

@@ -1,15 +1,24 @@
 //! Chains that grow: a file gets blocks, and headers where its own have no room for their pointers, all in a draft.
 ghost use Rattle.std.specs.Prelude.{◌≡◌, List, ℕ, OnOk, OnErr};
 ghost use Rattle.ods_space.specs.{Chain.IsChain, Files.IsLayoutOf, Draft.applied};
-ghost use Rattle.ods_alloc.specs.Extend.{IsWellPlaced, CanExtend, Extends, last_of, with_in_use};
+ghost use Rattle.ods_alloc.specs.{Ends.AreEnds, Extend.IsWellPlaced, Extend.CanExtend, Extend.Extends, Extend.with_in_use};
 
 use crate::bitmap::{mark_blocks, mark_numbers};
+use crate::drafted::header_block;
 use crate::headers::write_headers;
 use crate::last::last_header;
 use crate::runs::runs_of_blocks;
-use ods_base::Image;
+use ods_base::{Block, Image};
 use ods_space::{Draft, Layout};
 use std::alloc::{AllocError, Global};
+
+/// The first header of a chain and its last, as a draft has them, with the number of the last. They may be one.
+#[derive(Clone, Copy)]
+pub struct ChainEnds<'a> {
+    pub first: &'a Block,
+    pub number: u16,
+    pub last: &'a Block,
+}
 
 /// Appends blocks to the chain of a file, whose first header is written but may not be in use yet, with these
 /// extension headers, in a draft; the bits of all of them say that they are in use. After an `Err` the draft is as
@@ -31,18 +40,25 @@ pub fn extend_chain(
     ensures ok { OnOk result (Extends (applied image.now draft.old) layout.now number chain.0 chain.1 blocks.now numbers.now (applied image.now draft.new)) }
     ensures err { OnErr result (draft.new ≡ draft.old) }
 {
-    let last = last_header(image, layout, number, draft);
-    extend_from(alloc, image, layout, number, last, blocks, numbers, draft)
+    let end = last_header(image, layout, number, draft);
+    let first = header_block(image, layout, number, draft);
+    let last = header_block(image, layout, end, draft);
+    let ends = ChainEnds {
+        first: &first,
+        number: end,
+        last: &last,
+    };
+    extend_from(alloc, image, layout, number, &ends, blocks, numbers, draft)
 }
 
-/// Does what `extend_chain` does where it is known which header of the chain is its last: of the headers that are
-/// there it reads this one, and the first where new ones are made. After an `Err` the draft is as it was.
+/// Does what `extend_chain` does where the first header of the chain and its last are at hand: of the headers that
+/// are there it reads none again. After an `Err` the draft is as it was.
 pub fn extend_from(
     alloc: Global,
     image: &Image,
     layout: &Layout,
     number: u16,
-    last: u16,
+    ends: &ChainEnds<'_>,
     blocks: &[u32],
     numbers: &[u16],
     draft: &mut Draft,
@@ -52,7 +68,7 @@ pub fn extend_from(
     requires places { IsWellPlaced layout.now }
     requires chain { IsChain (with_in_use (applied image.now draft.old) layout.now.home number) layout.now number chain.0 chain.1 }
     requires grows { CanExtend (applied image.now draft.old) layout.now number chain.0 blocks.now numbers.now }
-    requires last { last ≡ last_of number chain.0 }
+    requires ends { AreEnds (applied image.now draft.old) layout.now number chain.0 ends.now }
     ensures ok { OnOk result (Extends (applied image.now draft.old) layout.now number chain.0 chain.1 blocks.now numbers.now (applied image.now draft.new)) }
     ensures err { OnErr result (draft.new ≡ draft.old) }
 {
@@ -63,7 +79,7 @@ pub fn extend_from(
         image,
         layout,
         number,
-        last,
+        ends,
         numbers,
         &runs,
         draft,

@@ -32,7 +32,7 @@ pub fn give_back(
 }
 
 /// Marks blocks and numbers as free in both bitmaps, as far as these cover them, in a draft; nothing else changes.
-/// After an `Err` the draft may have some of these changes: it is for a caller who then drops it.
+/// After an `Err` the draft is as it was.
 pub fn mark_free(
     image: &Image,
     layout: &Layout,
@@ -43,9 +43,12 @@ pub fn mark_free(
     requires places { HasPlaces (length image.now) layout.now }
     ensures bits { OnOk result (GivesBits (applied image.now draft.old) layout.now blocks.now numbers.now (applied image.now draft.new)) }
     ensures only { OnOk result (ChangesOnly (applied image.now draft.old) layout.now [] (applied image.now draft.new)) }
+    ensures err { OnErr result (draft.new ≡ draft.old) }
 {
-    mark_numbers(image, layout, numbers, false, draft)?;
-    mark_blocks(image, layout, blocks, true, draft)?;
+    let mut changed = draft.copy()?;
+    mark_numbers(image, layout, numbers, false, &mut changed)?;
+    mark_blocks(image, layout, blocks, true, &mut changed)?;
+    *draft = changed;
     Ok(())
 }
 

@@ -19,7 +19,7 @@ mod runs;
 mod words;
 
 pub use counts::FreeCounts;
-pub use extend::{extend_chain, extend_from};
+pub use extend::{ChainEnds, extend_chain, extend_from};
 pub use fault::SpaceFault;
 pub use free::{free_count, pick_blocks};
 pub use give::{give_back, mark_free};

@@ -9,7 +9,7 @@ use Rattle.ods_base.specs.declared.file_id.FileId.{FileId}
 use Rattle.ods_base.specs.declared.file_id.Uic.{Uic}
 use Rattle.ods_header.specs.Header.{attributes_of, ident_of, sequence_of}
 use Rattle.ods_header.specs.declared.header.Header.{Header}
-use Rattle.ods_header.proofs.KeptFields.{SaysTheSame, says_the_same}
+use Rattle.ods_change.proofs.KeptFields.{SaysTheSame, says_the_same}
 use Rattle.ods_space.specs.Layout.{VolumeLayout, header_at}
 use Rattle.ods_mount.specs.Faults.{contents_of}
 use Rattle.ods_mount.specs.Sound.{IsSoundBy}

@@ -24,7 +24,7 @@ use Rattle.ods_state.specs.Change.{disk}
 use Rattle.ods_state.specs.Made.{IsEnteredAt}
 use Rattle.ods_state.specs.Moves.{ChangesAttributes}
 use Rattle.ods_look.proofs.OpenDirectories.{names_there}
-use Rattle.ods_change.specs.declared.entering.NewEntry.{NewEntry}
+use Rattle.ods_change.specs.declared.entry.NewEntry.{NewEntry}
 use Rattle.ods_change.specs.Entering.{IsNewEntry}
 
 -- a header that stays has other attributes at most

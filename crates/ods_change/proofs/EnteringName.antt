@@ -32,7 +32,7 @@ use Rattle.ods_state.proofs.TwoChanges.{nothing_moves_on, put_put}
 use Rattle.ods_look.specs.Opening.{file_shown}
 use Rattle.ods_look.proofs.BlockPlaces.{blocks_are_one}
 use Rattle.ods_look.proofs.FileBodies.{directory_body}
-use Rattle.ods_change.specs.declared.entering.NewEntry.{NewEntry}
+use Rattle.ods_change.specs.declared.entry.NewEntry.{NewEntry}
 use Rattle.ods_change.specs.Entering.{IsNewEntry}
 use Rattle.ods_change.proofs.Marks.{IsSlotInside, slot_inside, no_growth, marked_is}
 use Rattle.ods_change.proofs.EnteredAt.{entered_at, names_entered, names_then_in, header_changed, header_kept, mark_moves, mark_stays}
@@ -45,9 +45,6 @@ module _ {I : List (List ℕ)} {L : VolumeLayout} (S : IsSoundBy I L) {who : Uic
     (e : IsNewEntry I L who dir name given file new) (stays_in : new.slot.grows ≡ false) where
   abbrev n : ℕ
   n = dir.number
-
-  abbrev lbns : List ℕ
-  lbns = e.own.is.lbns
 
   -- the slot lies in the blocks of the directory
   pub lies : IsSlotInside new.opened.mark (length new.opened.blocks) new.slot
@@ -66,6 +63,9 @@ module _ {I : List (List ℕ)} {L : VolumeLayout} (S : IsSoundBy I L) {who : Uic
   nothing_lacking f lacks = nothing_wanted lacks.headers lacks.blocks lacks.count lacks.wants
 
   module _ {lbn : ℕ} (h : Holds I L n (new.slot.at / 512 + 1) lbn) where
+    abbrev lbns : List ℕ
+    lbns = e.own.is.lbns
+
     abbrev entry_is : IsEntry I L dir new.opened new.slot.at lbn
     entry_is = record { sound = S; who = who; right = right.Write; own = e.own; held = h }
 

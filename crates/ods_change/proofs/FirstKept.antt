@@ -7,7 +7,7 @@ use Rattle.ods_header.specs.Contiguous.{IsWithoutContiguous, KeepsAllButContiguo
 use Rattle.ods_header.specs.Header.{IsValidHeader, header_of, user_char_of}
 use Rattle.ods_header.proofs.AllButOne.{one_is_other}
 use Rattle.ods_header.proofs.OtherFront.{ident_ext_kept}
-use Rattle.ods_header.proofs.KeptFields.{SaysTheSame}
+use Rattle.ods_change.proofs.KeptFields.{SaysTheSame}
 use Rattle.ods_request.specs.Steps.{not_contiguous}
 use Rattle.ods_change.specs.Extending.{SaysGrown}
 

@@ -11,7 +11,7 @@ use Rattle.ods_base.specs.declared.file_id.FileId.{FileId}
 use Rattle.ods_base.specs.declared.file_id.Uic.{Uic}
 use Rattle.ods_header.specs.Attributes.{IsWithAttributes, KeepsOtherFields}
 use Rattle.ods_header.specs.Header.{IsValidHeader, attributes_of}
-use Rattle.ods_header.proofs.KeptFields.{SaysTheSame, says_the_same}
+use Rattle.ods_change.proofs.KeptFields.{SaysTheSame, says_the_same}
 use Rattle.ods_space.specs.Layout.{VolumeLayout, header_at, place_of}
 use Rattle.ods_space.specs.Files.{IsLayoutOf}
 use Rattle.ods_space.specs.Chain.{IsChain}
@@ -42,13 +42,13 @@ use Rattle.ods_state.specs.Growth.{IsGrowth, IsReady, IsTaking}
 use Rattle.ods_state.proofs.GrowthChain.{ready_chain}
 use Rattle.ods_state.proofs.GrowthMade.{grows as grows_to, made as headers_made, filled as blocks_filled}
 use Rattle.ods_state.proofs.Bookkeeping.{well_placed}
-use Rattle.ods_state.proofs.GrowthReady.{ready_layout}
+use Rattle.ods_state.proofs.GrowthReady.{header_stays, ready_layout}
 use Rattle.ods_state.proofs.GrowthTakes.{can_extend, is_enough}
 use Rattle.ods_state.proofs.Served.{carried_is_step, refused_for_memory}
 use Rattle.ods_state.proofs.Wanted.{may_take, none_lacks}
 use Rattle.ods_look.specs.Opening.{file_shown}
 use Rattle.ods_look.proofs.FileBodies.{directory_body}
-use Rattle.ods_change.specs.declared.entering.NewEntry.{NewEntry}
+use Rattle.ods_change.specs.declared.entry.NewEntry.{NewEntry}
 use Rattle.ods_change.specs.Entering.{IsNewEntry, IsTakenFor}
 use Rattle.ods_change.proofs.AttributesReplaced.{HasOtherAttributes}
 use Rattle.ods_change.proofs.AttributesReplaced as header_change
@@ -196,6 +196,12 @@ module _ {I : List (List ℕ)} {L : VolumeLayout} (S : IsSoundBy I L) {who : Uic
           ready_chain I K L S n headers old 1 numbers t ready image,
           can_extend I K L S n headers old 1 numbers t ready,
         ))))
+
+    -- its first header is the new one, and its other headers stay
+    pub headers_ready : {M : List (List ℕ)} → K ≡ M → (header_at M L n ≡ c) × ((m : ℕ) → m ≢ n → header_at M L m ≡ header_at I L m)
+    headers_ready here =
+        subst (λ X. (header_at X L n ≡ c) × ((m : ℕ) → m ≢ n → header_at X L m ≡ header_at I L m)) here
+        (header_ready S b e.own.is.held.file.valid place taken w, header_stays I K L S n headers old 1 numbers t ready)
 
     module _ (J : List (List ℕ)) (ext : Extends K L n others old (taken_blocks I L 1) numbers J) where
       g : IsGrowth I J L n headers old 1 numbers

@@ -12,6 +12,7 @@ pub mod EntryReplaced
 pub mod RemovingName
 pub mod Marks
 pub mod NewEntries
+pub mod OwnEntries
 pub mod EnteredAt
 pub mod BehindBlocks
 pub mod ReadyDirectory
@@ -19,6 +20,7 @@ pub mod GrowingChain
 pub mod GrowingDirectory
 pub mod EnteringName
 pub mod ExtendingFile
+pub mod KeptFields
 pub mod FirstKept
 pub mod ReadyToGrow
 pub mod HeldByFiles

@@ -1,5 +1,5 @@
 -- A file of a sound volume that grows: what it takes, what is written before its chain grows, and what the blocks are then.
-use Rattle.std.proofs.Common.{◌≡◌, ℕ, ◌<◌, List, [], ◌∷◌, ◌++◌, drop, get_or, Some, sym, ap, ◌∙◌, subst, inl, arith}
+use Rattle.std.proofs.Common.{◌≡◌, ◌≢◌, ℕ, ◌<◌, List, [], ◌∷◌, ◌++◌, drop, get_or, Some, sym, ap, ◌∙◌, subst, inl, arith}
 use Rattle.std.specs.Prelude.{slice_set}
 use Rattle.std.specs.List.{Contains}
 use Rattle.std.proofs.lemmas.List.Elements.{Contains-get_or}
@@ -8,7 +8,7 @@ use Rattle.ods_base.specs.Image.{IsImage, block_at}
 use Rattle.ods_header.specs.Contiguous.{IsWithoutContiguous, KeepsAllButContiguous}
 use Rattle.ods_header.specs.Header.{IsValidHeader}
 use Rattle.ods_header.proofs.AllButOne.{one_is_other}
-use Rattle.ods_header.proofs.KeptFields.{SaysTheSame, says_the_same}
+use Rattle.ods_change.proofs.KeptFields.{SaysTheSame, says_the_same}
 use Rattle.ods_space.specs.Chain.{IsChain, headers_of, named_by, numbers_of}
 use Rattle.ods_space.specs.Files.{IsLayoutOf}
 use Rattle.ods_space.specs.Layout.{VolumeLayout, header_at, place_of}
@@ -22,7 +22,7 @@ use Rattle.ods_state.specs.Growth.{IsFirstFor, IsReady, IsTaking, all_headers}
 use Rattle.ods_state.proofs.OtherFront.{kept_first}
 use Rattle.ods_state.proofs.GrowthChain.{ready_chain}
 use Rattle.ods_state.proofs.GrowthMade.{filled, first_fields, first_valid, grows, made}
-use Rattle.ods_state.proofs.GrowthReady.{ready_layout}
+use Rattle.ods_state.proofs.GrowthReady.{header_stays, ready_layout}
 use Rattle.ods_state.proofs.GrowthTakes.{can_extend}
 use Rattle.ods_change.specs.declared.taking.Taken.{Taken}
 use Rattle.ods_change.specs.Extending.{IsGrownBy, IsWanted}
@@ -70,6 +70,9 @@ module _ (I Z K : List (List ℕ)) (L : VolumeLayout) (S : IsSoundBy I L) (n x :
   chain_asked image others all o a =
       subst (λ l. IsChain (with_in_use K L.home n) L n l all) (sym o) (subst (λ l. IsChain (with_in_use K L.home n) L n (drop 1 headers) l) (sym a)
       (ready_chain I K L S n headers old count numbers taking is_ready image))
+
+  pub headers_asked : (header_at K L n ≡ c) × ((m : ℕ) → m ≢ n → header_at K L m ≡ header_at I L m)
+  headers_asked = (header_written written, header_stays I K L S n headers old count numbers taking is_ready)
 
   pub growth_asked : (others blocks ns : List ℕ) → others ≡ drop 1 headers → blocks ≡ t.blocks.items → ns ≡ numbers → CanExtend K L n others blocks ns
   growth_asked others blocks ns o b m =

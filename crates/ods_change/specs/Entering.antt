@@ -1,5 +1,5 @@
 -- What an Enter finds of a name that can be entered, and when that needs a block more of its directory.
-use Rattle.std.specs.Prelude.{◌≡◌, ℕ, List, Option, None}
+use Rattle.std.specs.Prelude.{◌≡◌, ℕ, List, MatchResult, Option, None, Result}
 use Rattle.std.specs.FinMap.{insert}
 use Rattle.ods_base.specs.Name.{RadName, key_of}
 use Rattle.ods_base.specs.declared.file_id.FileId.{FileId}
@@ -20,7 +20,7 @@ use Rattle.ods_state.specs.Change.{IsAnsweredBy}
 use Rattle.ods_state.specs.Served.{IsStepOf, IsRefusalOf}
 use Rattle.ods_state.specs.Wants.{HasHeaders, lack_of, taken_blocks, taken_numbers}
 use Rattle.ods_look.specs.Opening.{IsOpenDirectory}
-use Rattle.ods_change.specs.declared.entering.NewEntry.{NewEntry}
+use Rattle.ods_change.specs.declared.entry.NewEntry.{NewEntry}
 
 -- a fault of a directory as a refusal
 abbrev pub refusal_of : DirFault → Refusal
@@ -30,6 +30,9 @@ refusal_of fault.VersionsFull = refusal.VersionsFull
 
 -- The Enter is not refused, and this is what it writes: with the bytes at the slot, behind a block of zeros where the slot grows, the directory has one name more.
 pub record IsNewEntry (I : List (List ℕ)) (L : VolumeLayout) (who : Uic) (dir : FileId) (name : RadName) (given : Option ℕ) (file : FileId) (new : NewEntry) : Type 0 where
+  pub image : new.image.now ≡ I
+  pub layout : new.layout.now ≡ L
+  pub directory : new.dir ≡ dir
   pub own : IsOpenDirectory I L dir who right.Write new.opened
   pub answered : IsAnsweredBy I L who (Enter dir name given file) (Entered new.version)
   pub slot : IsSlot new.opened.blocks new.opened.mark new.slot
@@ -50,6 +53,14 @@ IsEntering I L dir new draft = (who : Uic) (name : RadName) (given : Option ℕ)
 -- each such Enter is refused so
 abbrev pub IsWhyNotEntering : List (List ℕ) → VolumeLayout → FileId → NewEntry → Refusal → Type 0
 IsWhyNotEntering I L dir new f = (who : Uic) (name : RadName) (given : Option ℕ) (file : FileId) → IsNewEntry I L who dir name given file new → IsRefusalOf I L who (Enter dir name given file) f
+
+-- some Enter writes this, in the directory and on the volume that it names
+abbrev pub IsOwnEntry : NewEntry → Type 0
+IsOwnEntry new = IsSomeEntry new.image.now new.layout.now new.dir new
+
+-- the draft carries out each such Enter, or it is refused so
+abbrev pub IsOwnEntering : NewEntry → Result Changes Refusal → Type 0
+IsOwnEntering new result = MatchResult result (IsEntering new.image.now new.layout.now new.dir new) (IsWhyNotEntering new.image.now new.layout.now new.dir new)
 
 -- directory n takes this block, and these numbers for its headers
 abbrev pub IsTakenFor : List (List ℕ) → VolumeLayout → ℕ → List ℕ → List ℕ → Type 0

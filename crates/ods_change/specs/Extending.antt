@@ -29,16 +29,20 @@ pub record IsExtensible (I : List (List ℕ)) (L : VolumeLayout) (who : Uic) (id
   pub there : (C : Catalogue) → ShowsBy I L C → map.get C.files id ≡ Some (file_shown I L id lbns)
   pub fine : (C : Catalogue) → ShowsBy I L C → fault_of C who (Extend id count) ≡ None
 
--- header c says of its file what header b says, but that its blocks are contiguous
-pub record SaysGrown (b c : List ℕ) : Type 0 where
+-- header c says of its file what header b says, with these user characteristics
+pub record SaysWith (char : ℕ) (b c : List ℕ) : Type 0 where
   pub sequence : sequence_of c ≡ sequence_of b
   pub owner : owner_of c ≡ owner_of b
   pub protection : protection_of c ≡ protection_of b
-  pub user_char : user_char_of c ≡ not_contiguous (user_char_of b)
+  pub user_char : user_char_of c ≡ char
   pub system_char : system_char_of c ≡ system_char_of b
   pub attributes : attributes_of c ≡ attributes_of b
   pub ident : ident_of c ≡ ident_of b
   pub kind : (n : ℕ) → is_directory_header n c ≡ is_directory_header n b
+
+-- the same, but that its blocks are contiguous
+abbrev pub SaysGrown : List ℕ → List ℕ → Type 0
+SaysGrown b c = SaysWith (not_contiguous (user_char_of b)) b c
 
 -- file n has these headers and blocks, and this is what it takes to get `count` more
 pub record IsWanted (I : List (List ℕ)) (L : VolumeLayout) (n : ℕ) (headers old : List ℕ) (count : ℕ) (t : Taken) : Type 0 where

@@ -9,7 +9,7 @@ ghost use Rattle.ods_state.specs.{Growth.IsNewFirst, Growth.IsTaking, Moves.new_
 ghost use Rattle.ods_change.specs.Creating.{IsMadeFile, IsNewHeaderFor, new_id};
 
 use crate::taking::{take, zero_blocks};
-use ods_alloc::{FreeCounts, extend_from};
+use ods_alloc::{ChainEnds, FreeCounts, extend_from};
 use ods_base::{Block, FileId, Image, Name, Uic};
 use ods_directory::with_mark;
 use ods_header::first_block;
@@ -96,8 +96,13 @@ fn new_file(
     let first = layout.place(number).unwrap();
     draft.set(first, header)?;
     // The first header is the last that the chain has.
+    let ends = ChainEnds {
+        first: &header,
+        number,
+        last: &header,
+    };
     extend_from(
-        alloc, image, layout, number, number, blocks, others, &mut draft,
+        alloc, image, layout, number, &ends, blocks, others, &mut draft,
     )?;
     Ok(draft)
 }

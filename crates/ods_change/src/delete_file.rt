@@ -12,7 +12,7 @@ use ods_alloc::mark_free;
 use ods_base::{Block, FileId, Image, Uic};
 use ods_directory::has_names;
 use ods_header::{deleted_header, is_directory};
-use ods_look::opening::{directory_at, is_granted, named_header};
+use ods_look::opening::{OpenDirectory, is_granted, named_header};
 use ods_request::{Refusal, Right};
 use ods_space::{ChainHeaders, Draft, Layout, push_header};
 use std::alloc::{AllocError, Global};
@@ -30,7 +30,7 @@ pub fn delete(
         (λ draft. IsStepOf image.now layout.now who (Delete file) Done (applied image.now draft) layout.now)
         (IsRefusalOf image.now layout.now who (Delete file)) }
 {
-    let first = match deletable(image, layout, who, file) {
+    let first = match open_to_delete(image, layout, who, file) {
         Ok(first) => first,
         Err(refusal) => return Err(refusal),
     };
@@ -41,7 +41,7 @@ pub fn delete(
 }
 
 /// The first header of a file that the user may delete, or the first fault.
-fn deletable<'a>(
+fn open_to_delete<'a>(
     image: &'a Image,
     layout: &'a Layout,
     who: Uic,
@@ -79,7 +79,7 @@ fn is_used_directory(image: &Image, layout: &Layout, number: u16, first: &Block)
     if !is_directory(number, first) {
         return false;
     }
-    let directory = directory_at(image, layout, number, first);
+    let directory = OpenDirectory::of(image, layout, number, first);
     has_names(&directory.blocks, directory.mark)
 }
 

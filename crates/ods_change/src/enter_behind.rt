@@ -1,13 +1,12 @@
 //! An Enter whose entry stands in a new block, behind those that the directory has.
-ghost use Rattle.std.specs.Prelude.{◌≡◌, true, ℕ, List, IfOk, MatchResult};
-ghost use Rattle.ods_alloc.specs.{Counts.counts_of, Extend.last_of};
+ghost use Rattle.std.specs.Prelude.{◌≡◌, true, IfOk};
+ghost use Rattle.ods_alloc.specs.Counts.{counts_of};
 ghost use Rattle.ods_mount.specs.Sound.{IsSoundBy};
-ghost use Rattle.ods_space.specs.Chain.{IsChain};
-ghost use Rattle.ods_change.specs.Entering.{IsEntering, IsSomeEntry, IsTakenFor, IsWhyNotEntering};
+ghost use Rattle.ods_change.specs.{Entering.IsEntering, Entering.IsOwnEntering, Entering.IsOwnEntry, Entering.IsSomeEntry, Entering.IsTakenFor, Taking.IsEndOf};
 
-use crate::drafting::{marked_header, two_blocks};
-use crate::entering::NewEntry;
-use crate::taking::{chain_end, take};
+use crate::drafts::{marked_header, two_blocks};
+use crate::entry::NewEntry;
+use crate::taking::{ChainEnd, ends_with, take};
 use ods_alloc::{FreeCounts, extend_from};
 use ods_base::{Block, FileId, Image};
 use ods_directory::DirBlocks;
@@ -18,19 +17,19 @@ use std::alloc::{AllocError, Global};
 /// The draft that puts a block of zeros with an entry behind the blocks of a directory, or what the volume lacks.
 pub(crate) fn enter_behind(
     alloc: Global,
-    image: &Image,
-    layout: &Layout,
     counts: &FreeCounts,
-    dir: FileId,
     entry: &NewEntry,
 ) -> Result<Draft, Refusal>
-    requires sound { IsSoundBy image.now layout.now }
-    requires counts { counts.now ≡ counts_of image.now layout.now }
-    requires entry { IsSomeEntry image.now layout.now dir entry.now }
+    requires sound { IsSoundBy entry.now.image.now entry.now.layout.now }
+    requires counts { counts.now ≡ counts_of entry.now.image.now entry.now.layout.now }
+    requires entry { IsOwnEntry entry.now }
     requires grows { entry.now.slot.grows ≡ true }
-    ensures { MatchResult result (IsEntering image.now layout.now dir entry.now) (IsWhyNotEntering image.now layout.now dir entry.now) }
+    ensures { IsOwnEntering entry.now result }
 {
-    let end = chain_end(image, layout, dir.number, entry.opened.header);
+    let image = entry.image;
+    let layout = entry.layout;
+    let dir = entry.dir;
+    let end = ChainEnd::of(image, layout, dir.number, entry.opened.header);
     let taken = match take(alloc, image, layout, counts, end.headers, end.room, 1) {
         Ok(taken) => taken,
         Err(refusal) => return Err(refusal),
@@ -41,7 +40,7 @@ pub(crate) fn enter_behind(
         layout,
         dir,
         entry,
-        end.last,
+        &end,
         &taken.blocks,
         &taken.numbers,
     ) {
@@ -50,21 +49,21 @@ pub(crate) fn enter_behind(
     }
 }
 
-/// The draft that puts an entry into the block that a directory with this last header takes, and this block behind its own.
+/// The draft that puts an entry into the block that a directory whose chain ends so takes, and this block behind its own.
 fn with_block(
     alloc: Global,
     image: &Image,
     layout: &Layout,
     dir: FileId,
     entry: &NewEntry,
-    last: u16,
+    end: &ChainEnd<'_>,
     blocks: &[u32],
     numbers: &[u16],
 ) -> Result<Draft, AllocError>
     requires sound { IsSoundBy image.now layout.now }
     requires entry { IsSomeEntry image.now layout.now dir entry.now }
     requires grows { entry.now.slot.grows ≡ true }
-    requires last { (others : List ℕ) (held : List ℕ) → IsChain image.now layout.now dir.number others held → last ≡ last_of dir.number others }
+    requires end { IsEndOf image.now layout.now dir.number end.now }
     requires taken { IsTakenFor image.now layout.now dir.number blocks.now numbers.now }
     ensures { IfOk result (IsEntering image.now layout.now dir entry.now) }
 {
@@ -78,7 +77,14 @@ fn with_block(
     let first = layout.place(dir.number).unwrap();
     let mut draft = two_blocks(alloc, blocks[0], block, first, header)?;
     extend_from(
-        alloc, image, layout, dir.number, last, blocks, numbers, &mut draft,
+        alloc,
+        image,
+        layout,
+        dir.number,
+        &ends_with(dir.number, &header, end.number, end.last),
+        blocks,
+        numbers,
+        &mut draft,
     )?;
     Ok(draft)
 }

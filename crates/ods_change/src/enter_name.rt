@@ -8,7 +8,7 @@ ghost use Rattle.ods_state.specs.{Outcome.CanBeAsked, Served.IsStepOf, Served.Is
 
 use crate::enter_behind::enter_behind;
 use crate::enter_within::enter_within;
-use crate::entering::new_entry;
+use crate::entry::new_entry;
 use ods_alloc::FreeCounts;
 use ods_base::{FileId, Image, Name, Uic};
 use ods_request::Refusal;
@@ -40,9 +40,9 @@ pub fn enter(
         Err(refusal) => return Err(refusal),
     };
     let drafted = if entry.slot.grows {
-        enter_behind(alloc, image, layout, counts, dir, &entry)
+        enter_behind(alloc, counts, &entry)
     } else {
-        enter_within(alloc, image, layout, dir, &entry)
+        enter_within(alloc, &entry)
     };
     match drafted {
         Ok(draft) => Ok((draft, entry.version)),

@@ -1,14 +1,14 @@
 //! An Extend: its checks, and the draft by which the file gets blocks of zeros behind its own.
 ghost use Rattle.std.specs.Prelude.{◌≡◌, ◌<◌, ◌==◌, ◌||◌, nat_lt, ℕ, List, IfOk, IfErr, MatchResult};
-ghost use Rattle.ods_alloc.specs.{Counts.counts_of, Extend.last_of};
+ghost use Rattle.ods_alloc.specs.Counts.{counts_of};
 ghost use Rattle.ods_header.specs.Header.{owner_of, protection_of};
-ghost use Rattle.ods_space.specs.{Chain.IsChain, Draft.applied, Layout.header_at};
+ghost use Rattle.ods_space.specs.{Draft.applied, Layout.header_at};
 ghost use Rattle.ods_mount.specs.Sound.{IsSoundBy};
 ghost use Rattle.ods_request.specs.{declared.answers.Answer.TheVariants.Extended, declared.requests.Request.TheVariants.Extend, Rights.permits};
 ghost use Rattle.ods_state.specs.{Change.IsFaultBy, Served.IsStepOf, Served.IsRefusalOf};
-ghost use Rattle.ods_change.specs.Extending.{IsExtensible, IsGrownBy, IsWanted};
+ghost use Rattle.ods_change.specs.{Extending.IsExtensible, Extending.IsGrownBy, Extending.IsWanted, Taking.IsEndOf};
 
-use crate::taking::{Taken, chain_end, take, zero_blocks};
+use crate::taking::{ChainEnd, Taken, ends_with, take, zero_blocks};
 use ods_alloc::{FreeCounts, extend_from};
 use ods_base::{Block, FileId, Image, Uic};
 use ods_header::{is_directory, owner, protection, without_contiguous};
@@ -61,7 +61,7 @@ fn may_extend(header: &Block, who: Uic) -> bool
     permits(&who, &owner(header), protection(header), Right::Extend)
 }
 
-/// The draft by which a file with this last header takes these blocks and numbers. The blocks become zeros, and the first
+/// The draft by which a file whose chain ends so takes these blocks and numbers. The blocks become zeros, and the first
 /// header says no more that the file's blocks are contiguous.
 fn grown(
     alloc: Global,
@@ -69,13 +69,13 @@ fn grown(
     layout: &Layout,
     number: u16,
     first: &Block,
-    last: u16,
+    end: &ChainEnd<'_>,
     taken: &Taken,
 ) -> Result<Draft, AllocError>
     requires sound { IsSoundBy image.now layout.now }
     requires above { 5 < number }
     requires first { first.now ≡ header_at image.now layout.now number }
-    requires last { (others : List ℕ) (blocks : List ℕ) → IsChain image.now layout.now number others blocks → last ≡ last_of number others }
+    requires end { IsEndOf image.now layout.now number end.now }
     requires wanted { (headers : List ℕ) × (old : List ℕ) × (count : ℕ) × IsWanted image.now layout.now number headers old count taken.now }
     ensures { IfOk result (λ draft. (headers old : List ℕ) (count : ℕ) → IsWanted image.now layout.now number headers old count taken.now
         → IsGrownBy image.now layout.now number headers old count taken.now.numbers.items (applied image.now draft)) }
@@ -85,13 +85,14 @@ fn grown(
     let mut draft = Draft::new(alloc);
     zero_blocks(alloc, &taken.blocks, &mut draft)?;
     let lbn = layout.place(number).unwrap();
-    draft.set(lbn, without_contiguous(first))?;
+    let header = without_contiguous(first);
+    draft.set(lbn, header)?;
     extend_from(
         alloc,
         image,
         layout,
         number,
-        last,
+        &ends_with(number, &header, end.number, end.last),
         &taken.blocks,
         &taken.numbers,
         &mut draft,
@@ -120,12 +121,12 @@ pub fn extend(
         Ok(first) => first,
         Err(refusal) => return Err(refusal),
     };
-    let end = chain_end(image, layout, file.number, first);
+    let end = ChainEnd::of(image, layout, file.number, first);
     let taken = match take(alloc, image, layout, counts, end.headers, end.room, count) {
         Ok(taken) => taken,
         Err(refusal) => return Err(refusal),
     };
-    match grown(alloc, image, layout, file.number, first, end.last, &taken) {
+    match grown(alloc, image, layout, file.number, first, &end, &taken) {
         Ok(draft) => Ok((draft, end.blocks + count)),
         Err(_) => Err(Refusal::NoMemory),
     }

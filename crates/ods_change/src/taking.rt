@@ -1,56 +1,80 @@
 //! What a file takes to grow: the lowest free blocks, and the lowest free numbers for the headers that their pointers need.
-ghost use Rattle.std.specs.Prelude.{◌≡◌, ◌+◌, ◌⊎◌, ◌<◌, ◌≤◌, ◌^◌, ℕ, List, None, Some, length, IfOk, IfErr, OnOk};
-ghost use Rattle.ods_alloc.specs.{Counts.counts_of, Extend.last_of};
+ghost use Rattle.std.specs.Prelude.{◌≡◌, ◌≢◌, ◌+◌, ◌⊎◌, ◌<◌, ◌≤◌, ◌^◌, ℕ, List, None, Some, length, IfOk, IfErr, OnOk};
+ghost use Rattle.ods_alloc.specs.Counts.{counts_of};
 ghost use Rattle.ods_header.specs.Header.{IsLaidOut, blocks_of};
-ghost use Rattle.ods_space.specs.{Chain.IsChain, Chain.chain_blocks, Chain.header_blocks, Draft.applied, Files.IsLayoutOf, Layout.header_at};
+ghost use Rattle.ods_space.specs.{Chain.chain_blocks, Chain.header_blocks, Draft.applied, Files.IsLayoutOf, Layout.header_at};
 ghost use Rattle.ods_state.specs.Wants.{HasHeaders, lack_of, new_headers, room_in, taken_blocks, taken_numbers};
-ghost use Rattle.ods_change.specs.Taking.{IsZeroed, refusal_for};
+ghost use Rattle.ods_change.specs.Taking.{IsEndOf, IsZeroed, refusal_for};
 
-use ods_alloc::{FreeCounts, SpaceFault, pick_blocks, pick_numbers, runs_of_blocks};
+use ods_alloc::{ChainEnds, FreeCounts, SpaceFault, pick_blocks, pick_numbers, runs_of_blocks};
 use ods_base::{Block, Image};
 use ods_header::{pointer_at, pointer_count, room_words};
 use ods_request::Refusal;
 use ods_space::{ChainHeaders, Draft, Layout};
 use std::alloc::{AllocError, Global};
 
-/// Where the chain of a file ends: how many headers it has, how many blocks they map, the number of the last of them, and
-/// its room in words for pointers.
+/// Where the chain of a file ends: how many headers it has, how many blocks they map, and the last of them, with its number
+/// and its room in words for pointers.
 #[derive(Clone, Copy)]
-pub(crate) struct ChainEnd {
+pub(crate) struct ChainEnd<'a> {
     pub headers: u32,
     pub blocks: u32,
-    pub last: u16,
+    pub number: u16,
+    pub last: &'a Block,
     pub room: u32,
 }
 
-/// Where the chain of a file ends, by one walk along it. `first` is its first header.
-pub(crate) fn chain_end(image: &Image, layout: &Layout, number: u16, first: &Block) -> ChainEnd
-    requires layout { IsLayoutOf image.now layout.now }
-    requires whole { (hs : List ℕ) × (blocks : List ℕ) × HasHeaders image.now layout.now number hs blocks }
-    requires first { first.now ≡ header_at image.now layout.now number }
-    ensures end { (hs blocks : List ℕ) → HasHeaders image.now layout.now number hs blocks → (result.headers ≡ length hs) × (result.blocks ≡ length blocks) × (result.room ≡ room_in image.now layout.now hs) }
-    ensures last { (others blocks : List ℕ) → IsChain image.now layout.now number others blocks → result.last ≡ last_of number others }
-    ensures few { result.headers ≤ 256 }
-    ensures small { result.blocks ≤ chain_blocks }
-{
-    // The blocks of an image have bytes, so a chain has at most 256 headers.
-    let _ = image.len();
-    let mut count = 0;
-    let mut blocks = 0;
-    let mut last = 0;
-    let mut room = 0;
-    let mut headers = ChainHeaders::from(image, layout, number, first);
-    while let Some((at, header)) = headers.next() {
-        count += 1;
-        blocks += mapped(header);
-        last = at;
-        room = room_words(header) as u32;
+impl<'a> ChainEnd<'a> {
+    /// Where the chain of a file ends, by one walk along it. `first` is its first header.
+    pub fn of(image: &'a Image, layout: &'a Layout, number: u16, first: &'a Block) -> Self
+        requires layout { IsLayoutOf image.now layout.now }
+        requires whole { (hs : List ℕ) × (blocks : List ℕ) × HasHeaders image.now layout.now number hs blocks }
+        requires first { first.now ≡ header_at image.now layout.now number }
+        ensures end { (hs blocks : List ℕ) → HasHeaders image.now layout.now number hs blocks → (result.headers ≡ length hs) × (result.blocks ≡ length blocks) × (result.room ≡ room_in image.now layout.now hs) }
+        ensures last { IsEndOf image.now layout.now number result }
+        ensures few { result.headers ≤ 256 }
+        ensures small { result.blocks ≤ chain_blocks }
+    {
+        // The blocks of an image have bytes, so a chain has at most 256 headers.
+        let _ = image.len();
+        let mut count = 0;
+        let mut blocks = 0;
+        let mut end = number;
+        let mut last = first;
+        let mut headers = ChainHeaders::from(image, layout, number, first);
+        while let Some((at, header)) = headers.next() {
+            count += 1;
+            blocks += mapped(header);
+            end = at;
+            last = header;
+        }
+        ChainEnd {
+            headers: count,
+            blocks,
+            number: end,
+            last,
+            room: room_words(last) as u32,
+        }
     }
-    ChainEnd {
-        headers: count,
-        blocks,
-        last,
-        room,
+}
+
+/// The ends of a chain whose first header, of this number, is written anew, and whose last was this one: where it has no other
+/// header, that is the new one too.
+pub(crate) fn ends_with<'a>(
+    number: u16,
+    first: &'a Block,
+    end: u16,
+    last: &'a Block,
+) -> ChainEnds<'a>
+    ensures first { result.first.now ≡ first.now }
+    ensures number { result.number ≡ end }
+    ensures one { end ≡ number → result.last.now ≡ first.now }
+    ensures other { end ≢ number → result.last.now ≡ last.now }
+{
+    ChainEnds {
+        first,
+        number: end,
+        last: if end == number { first } else { last },
     }
 }
 

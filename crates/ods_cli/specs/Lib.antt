@@ -2,9 +2,9 @@ pub mod Reply
 pub mod Run
 pub mod HeaderReply
 pub mod HeaderRun
-pub mod CheckReply
-pub mod CheckRun
+pub mod ImageLines
 pub mod Runs
 pub mod Endings
 pub mod Serve
+pub mod Sample
 pub mod ScriptText

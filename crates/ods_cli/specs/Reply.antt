@@ -22,18 +22,19 @@ pub record AreImageBytes (bytes : List ℕ) (rest : Option (List ℕ)) (I : List
   pub bytes_are : image_bytes I ≡ bytes
   pub at_end : IsAtEnd rest
 
--- the bytes are no image, and this is the line that says so
-pub record IsNoImageLine (bytes : List ℕ) (rest : Option (List ℕ)) (reply : List ℕ) : Type 0 where
+-- the bytes spell no image, and this is the number of a refusal that is true of them, with its line
+pub record AreNoImage (bytes : List ℕ) (rest : Option (List ℕ)) (number : ℕ) (line : List ℕ) : Type 0 where
   pub refusal : ImageError
   pub is_refusal : IsRefusal refusal
   pub reason : IsNoReading bytes rest refusal
-  pub line : reply ≡ refusal_line (image_row refusal).0 (image_row refusal).1
+  pub number_is : number ≡ (image_row refusal).0
+  pub line_is : line ≡ refusal_line (image_row refusal).0 (image_row refusal).1
 
 -- The reply to what a reader gave: the bytes are no image, or it is a reply about their image, as `About` says of an image, of whether
 -- the reply says what was asked for, and of its text.
 abbrev pub IsReply : (List (List ℕ) → Bool → List ℕ → Type 0) → List ℕ → Option (List ℕ) → Bool → List ℕ → Type 0
 IsReply About bytes rest found reply =
-    ((found ≡ false) × IsNoImageLine bytes rest reply)
+    ((found ≡ false) × (number : ℕ) × AreNoImage bytes rest number reply)
     ⊎ ((I : List (List ℕ)) × AreImageBytes bytes rest I × About I found reply)
 
 -- why there is no reply to a reader that gave these bytes: a device may fail, and memory run out, at any moment

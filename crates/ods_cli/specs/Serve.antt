@@ -2,9 +2,7 @@
 use Rattle.std.specs.Prelude.{◌≡◌, ℕ, ◌⊎◌, List, ◌∷◌, ◌++◌, length, map, codes, Option, None, Some, Result, Ok, Err}
 use Rattle.std.specs.Fmt.{decimal}
 use Rattle.std.specs.Io.KnownBytes.{Appends, Keeps}
-use Rattle.ods_base.specs.Image.{IsNoReading, TookBytes, image_bytes}
-use Rattle.ods_base.specs.Refusals.{image_row}
-use Rattle.ods_base.specs.declared.faults.ImageError.{ImageError}
+use Rattle.ods_base.specs.Image.{TookBytes, image_bytes}
 use Rattle.ods_space.specs.Layout.{VolumeLayout}
 use Rattle.ods_space.specs.Free.{free_blocks, free_numbers}
 use Rattle.ods_mount.specs.declared.fault.MountFault.{MountFault}
@@ -18,9 +16,9 @@ use Rattle.ods_share.specs.declared.outcome.Outcome.{Outcome}
 use Rattle.ods_share.specs.declared.settlement.Report.{Report}
 use Rattle.ods_share.specs.Scripts.{EachOutcome}
 use Rattle.ods_share.specs.Settles.{Calls, AreCalls, AreLengths}
-use Rattle.ods_script.specs.Texts.{refusal_line, sessions_text}
-use Rattle.ods_cli.specs.Reply.{AreImageBytes, IsRefusal, IsReplyFault}
-use Rattle.ods_cli.specs.CheckReply.{count_lines, fault_line}
+use Rattle.ods_script.specs.Texts.{sessions_text}
+use Rattle.ods_cli.specs.Reply.{AreImageBytes, AreNoImage, IsReplyFault}
+use Rattle.ods_cli.specs.ImageLines.{count_lines, fault_line}
 use Rattle.ods_cli.specs.declared.fault.ServeFault.{ServeFault}
 use Rattle.ods_cli.specs.declared.fault.ServeFault.TheVariants.{Read, Write, WriteOut, NoMemory, Refused, NoThread, Unmatched}
 
@@ -61,14 +59,6 @@ pub record IsRun (stamp : List ℕ) (scripts : List Script) (bytes : List ℕ) (
   pub image : List (List ℕ)
   pub sound : AreSound bytes rest image
   pub served : IsServedTo stamp scripts image J r text
-
--- the bytes spell no image, and this is the number of a refusal that is true of them, with its line
-pub record AreNoImage (bytes : List ℕ) (rest : Option (List ℕ)) (number : ℕ) (line : List ℕ) : Type 0 where
-  pub refusal : ImageError
-  pub is_refusal : IsRefusal refusal
-  pub reason : IsNoReading bytes rest refusal
-  pub number_is : number ≡ (image_row refusal).0
-  pub line_is : line ≡ refusal_line (image_row refusal).0 (image_row refusal).1
 
 -- a fault is true of the image, and this is its number, with its line
 pub record IsFaultOf (I : List (List ℕ)) (number : ℕ) (line : List ℕ) : Type 0 where

@@ -7,8 +7,9 @@ ghost use Rattle.ods_share.specs.Scripts.{CanBeRun};
 ghost use Rattle.ods_cli.specs.{Serve.EndsServe, Serve.EndsWriting, Serve.IsRefusedWith, Serve.GotAll, Serve.GotPart, Serve.wrote, declared.fault.ServeFault.TheVariants.WriteOut};
 
 use crate::ServeFault;
+use crate::reply::NoImage;
 use crate::sessions::{Said, serve_all, unserved};
-use crate::sound::{NoImage, sound_image};
+use crate::sound::sound_image;
 use ods_base::{Image, write_bytes};
 use ods_request::Stamp;
 use ods_share::{Gate, Report, Script};

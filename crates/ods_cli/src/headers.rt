@@ -1,12 +1,11 @@
 //! One header line from the bytes of an image.
-ghost use Rattle.std.specs.Prelude.{◌≡◌, ◌≤◌, ◌++◌, ℕ, List, [], ◌∷◌, true, IfOk, IsOkUnless};
+ghost use Rattle.std.specs.Prelude.{◌≡◌, ◌≤◌, ◌++◌, ℕ, List, [], ◌∷◌, true, false, IfOk, IsOkUnless, MatchResult};
 ghost use Rattle.std.specs.String.{string_bytes};
 ghost use Rattle.std.specs.Io.KnownBytes.{Consumes};
-ghost use Rattle.ods_cli.specs.{HeaderReply.IsImageReply, HeaderRun.EndsHeaderRun};
+ghost use Rattle.ods_cli.specs.{HeaderReply.IsImageReply, HeaderRun.EndsHeaderRun, Reply.IsReply, Reply.IsReplyFault};
 
 use crate::ServeFault;
-use crate::question::{Question, run};
-use crate::reply::{Reply, refused};
+use crate::reply::{Reply, read_image, refused, send};
 use ods_base::{Coded, Image};
 use ods_header::{LineFault, find_home, header_line};
 use std::alloc::{AllocError, Global};
@@ -26,20 +25,21 @@ pub fn header_run<R: Read, W: Write>(
     ensures { (bytes : List ℕ) × Consumes (R.remaining reader.old) (R.remaining reader.new) bytes
         × EndsHeaderRun bytes (R.remaining reader.new) number (W.contents replies.old) (W.contents replies.new) result }
 {
-    run(alloc, reader, &HeaderNumber(number), replies)
+    let reply = reply_to(alloc, reader, number)?;
+    send(replies, &reply)
 }
 
-/// The number of a header that is asked for.
-#[derive(Drop)]
-struct HeaderNumber(u16);
-
-impl Question for HeaderNumber {
-    ghost is_lawful = { λ q. (1 ≤ q.0) × (q.0 ≤ 16) };
-
-    ghost about = { λ q. IsImageReply q.0 };
-
-    fn reply(&self, alloc: Global, image: Image) -> Result<Reply, ServeFault> {
-        reply_about(alloc, &image, self.0)
+/// The reply about a header of what the reader gives.
+fn reply_to<R: Read>(alloc: Global, reader: &mut R, number: u16) -> Result<Reply, ServeFault>
+    requires some { 1 ≤ number }
+    requires most { number ≤ 16 }
+    ensures { (bytes : List ℕ) × Consumes (R.remaining reader.old) (R.remaining reader.new) bytes
+        × MatchResult result (λ reply. IsReply (IsImageReply number) bytes (R.remaining reader.new) reply.found (string_bytes reply.text))
+        (IsReplyFault bytes) }
+{
+    match read_image(alloc, reader)? {
+        Ok(image) => reply_about(alloc, &image, number),
+        Err(no_image) => Ok(missing(no_image.line)),
     }
 }
 
@@ -52,12 +52,12 @@ fn reply_about(alloc: Global, image: &Image, number: u16) -> Result<Reply, Serve
 {
     let home = match find_home(image) {
         Ok((_, home)) => home,
-        Err(fault) => return Ok(refused(alloc, fault.code(), fault.name())?),
+        Err(fault) => return Ok(missing(refused(alloc, fault.code(), fault.name())?)),
     };
     match header_line(alloc, image, &home, number) {
         Ok(line) => Ok(found(line)?),
         Err(LineFault::NoMemory) => Err(ServeFault::NoMemory),
-        Err(fault) => Ok(refused(alloc, fault.code(), fault.name())?),
+        Err(fault) => Ok(missing(refused(alloc, fault.code(), fault.name())?)),
     }
 }
 
@@ -70,4 +70,12 @@ fn found(mut line: String) -> Result<Reply, AllocError>
         found: true,
         text: line,
     })
+}
+
+/// The reply with the line of a refusal.
+fn missing(text: String) -> Reply
+    ensures found { result.found ≡ false }
+    ensures text { string_bytes result.text ≡ string_bytes text }
+{
+    Reply { found: false, text }
 }

@@ -1,12 +1,10 @@
 //! The engine of `f11`: what it serves, over any reader and writer, its words, and its sample volumes.
 #![tactic(auto)]
 
-mod check;
 mod endings;
 mod engine;
 mod fault;
 mod headers;
-mod question;
 mod reply;
 mod runs;
 mod samples;
@@ -15,7 +13,6 @@ mod sessions;
 mod sound;
 mod words;
 
-pub use check::check_run;
 pub use endings::{WRONG_WORDS, status};
 pub use engine::{Options, serve};
 pub use fault::ServeFault;

@@ -1,9 +1,9 @@
 //! Replies: how a run reads the image that it is to speak of, and how it writes what it says.
-ghost use Rattle.std.specs.Prelude.{◌≡◌, ℕ, List, false, IfOk, MatchResult};
+ghost use Rattle.std.specs.Prelude.{◌≡◌, ℕ, List, IfOk, MatchResult};
 ghost use Rattle.std.specs.String.{string_bytes};
 ghost use Rattle.std.specs.Io.KnownBytes.{Appends, Consumes};
 ghost use Rattle.ods_base.specs.Image.{TookBytes};
-ghost use Rattle.ods_cli.specs.Reply.{AreImageBytes, IsNoImageLine, IsReplyFault, refusal_line};
+ghost use Rattle.ods_cli.specs.Reply.{AreImageBytes, AreNoImage, IsReplyFault, refusal_line};
 
 use crate::ServeFault;
 use ods_base::{Coded, Image, ImageError, write_bytes};
@@ -19,30 +19,41 @@ pub(crate) struct Reply {
     pub(crate) text: String,
 }
 
-/// The image of what the reader gives, or the reply that refuses its bytes.
+/// That bytes are no image, or no sound one: the number of a refusal that is true of them, and its line, with its line feed.
+#[derive(Drop)]
+pub(crate) struct NoImage {
+    pub(crate) number: u16,
+    pub(crate) line: String,
+}
+
+/// The image of what the reader gives, or why it is none.
 pub(crate) fn read_image<R: Read>(
     alloc: Global,
     reader: &mut R,
-) -> Result<Result<Image, Reply>, ServeFault>
+) -> Result<Result<Image, NoImage>, ServeFault>
     ensures { (bytes : List ℕ) × Consumes (R.remaining reader.old) (R.remaining reader.new) bytes
         × MatchResult result (λ found. MatchResult found (AreImageBytes bytes (R.remaining reader.new))
-        (λ reply. (reply.found ≡ false) × IsNoImageLine bytes (R.remaining reader.new) (string_bytes reply.text)))
+        (λ n. AreNoImage bytes (R.remaining reader.new) n.number (string_bytes n.line)))
         (IsReplyFault bytes) }
 {
     match Image::read_from(alloc, reader) {
         Ok(image) => Ok(Ok(image)),
         Err(ImageError::ReadFailed) => Err(ServeFault::Read),
         Err(ImageError::NoMemory) => Err(ServeFault::NoMemory),
-        Err(refusal) => Ok(Err(refused(alloc, refusal.code(), refusal.name())?)),
+        Err(refusal) => {
+            let number = refusal.code();
+            let line = refused(alloc, number, refusal.name())?;
+            Ok(Err(NoImage { number, line }))
+        }
     }
 }
 
-/// The reply with a refusal.
-pub(crate) fn refused(alloc: Global, number: u16, name: &str) -> Result<Reply, AllocError>
-    ensures { IfOk result (λ reply. (reply.found ≡ false) × (string_bytes reply.text ≡ refusal_line number name.now)) }
+/// The line of a refusal that carries nothing.
+pub(crate) fn refused(alloc: Global, number: u16, name: &str) -> Result<String, AllocError>
+    ensures { IfOk result (λ line. string_bytes line ≡ refusal_line number name.now) }
 {
-    let text = format!(in alloc; "NO {number} {name}\n")?;
-    Ok(Reply { found: false, text })
+    let line = format!(in alloc; "NO {number} {name}\n")?;
+    Ok(line)
 }
 
 /// Writes the reply, and answers whether it says what was asked for.

@@ -1,5 +1,7 @@
 //! Sample volumes, made in memory: five reserved files, a master directory with their names, and the rest free.
-ghost use Rattle.std.specs.Prelude.{◌≡◌, ◌*◌, ◌⊎◌, IfOk, vec_len};
+ghost use Rattle.std.specs.Prelude.{◌≡◌, ◌+◌, ◌*◌, ◌/◌, ◌%◌, ◌≤◌, ◌⊎◌, ◌∷◌, [], IfOk, length, vec_len};
+ghost use Rattle.std.specs.List.{flat_map, range_with_len};
+ghost use Rattle.ods_cli.specs.Sample.{HasBits, IsSample, IsSampleBlock, IsSampleHeader, IsSampleHome, pointers_of, reserved, sample_attributes, sample_entry, sample_ident, starting};
 
 use arrayvec::ArrayVec;
 use ods_base::{Block, FileId, Uic, set_word, sum};
@@ -25,7 +27,8 @@ struct Reserved {
 /// The bytes of a sample volume of 40 or 512 blocks. Its blocks from LBN 22 on are free, and hold old bytes.
 pub fn sample(alloc: Global, blocks: u32) -> Result<Vec<u8>, AllocError>
     requires { (blocks ≡ 40) ⊎ (blocks ≡ 512) }
-    ensures { IfOk result (λ bytes. vec_len bytes ≡ 512 * blocks) }
+    ensures blocks { IfOk result (λ bytes. IsSample blocks bytes.items) }
+    ensures size { IfOk result (λ bytes. vec_len bytes ≡ 512 * blocks) }
 {
     let mut bytes = Vec::with_capacity(alloc, 512 * blocks as usize)?;
     for lbn in 0..blocks {
@@ -37,38 +40,53 @@ pub fn sample(alloc: Global, blocks: u32) -> Result<Vec<u8>, AllocError>
 /// The block at an LBN of a sample volume of so many blocks.
 fn block_at(lbn: u32, blocks: u32) -> Block
     requires { (blocks ≡ 40) ⊎ (blocks ≡ 512) }
+    ensures { IsSampleBlock blocks lbn result }
 {
     match lbn {
         1 => home_block(),
-        2 => filled(0, 1, 0x1f),
+        2 => index_bitmap(),
         3..=7 => header_block(lbn as u16 - 2),
         20 => storage_bitmap(blocks),
         21 => master_directory(),
         0 | 8..=19 => Block::zeros(),
-        _ => filled(0, 512, 0x5a),
+        _ => Block::new([0x5a; 512]),
     }
 }
 
-/// A block of zeros but for these bytes.
-fn filled(from: usize, to: usize, byte: u8) -> Block {
+/// A block that begins with these bytes, and has zeros behind them.
+fn starting(bytes: &[u8]) -> Block
+    requires { length bytes.now ≤ 512 }
+    ensures { result ≡ starting bytes.now }
+{
     let mut block = Block::zeros();
-    for at in from..to.min(512) {
-        block.set_bytes(at, &[byte]);
-    }
+    block.set_bytes(0, bytes);
     block
+}
+
+/// The index bitmap: numbers 1 to 5 are in use.
+fn index_bitmap() -> Block
+    ensures { HasBits result 0 5 }
+{
+    starting(&[0x1f])
 }
 
 /// The storage bitmap: the blocks from LBN 22 on are free.
 fn storage_bitmap(blocks: u32) -> Block
     requires { (blocks ≡ 40) ⊎ (blocks ≡ 512) }
+    ensures { HasBits result 22 blocks }
 {
-    let mut block = filled(3, blocks as usize / 8, 0xff);
-    block.set_bytes(2, &[0xc0]);
+    if blocks == 40 {
+        return starting(&[0, 0, 0xc0, 0xff, 0xff]);
+    }
+    let mut block = starting(&[0xff; 64]);
+    block.set_bytes(0, &[0, 0, 0xc0]);
     block
 }
 
 /// The home block: one block of index bitmap at LBN 2, and at most 16 files.
-fn home_block() -> Block {
+fn home_block() -> Block
+    ensures { IsSampleHome result }
+{
     let mut block = Block::zeros();
     set_word(&mut block, 0, 1);
     set_word(&mut block, 2, 2);
@@ -85,7 +103,9 @@ fn home_block() -> Block {
 }
 
 /// The reserved file of a number from 1 to 5.
-fn reserved_file(number: u16) -> Reserved {
+fn reserved_file(number: u16) -> Reserved
+    ensures { result ≡ reserved number }
+{
     let (name, ext, run) = match number {
         1 => ([14964, 8966, 0], SYS, Some(Run { lbn: 0, count: 19 })),
         2 => ([3580, 20856, 0], SYS, Some(Run { lbn: 19, count: 2 })),
@@ -97,16 +117,9 @@ fn reserved_file(number: u16) -> Reserved {
 }
 
 /// The header of a reserved file.
-fn header_block(number: u16) -> Block {
-    let file = reserved_file(number);
-    let mut pointers = ArrayVec::new();
-    if let Some(run) = file.run {
-        pointers.push(run);
-    }
-    let mut attributes = [0; 32];
-    if number == 4 {
-        attributes = directory_attributes();
-    }
+fn header_block(number: u16) -> Block
+    ensures { IsSampleHeader number result }
+{
     write_header(&Header {
         file: FileId {
             number,
@@ -119,8 +132,8 @@ fn header_block(number: u16) -> Block {
         protection: PROTECTION,
         user_char: 0,
         system_char: 0,
-        attributes,
-        ident: ident_of(&file),
+        attributes: attributes_of(number),
+        ident: ident_of(number),
         segment: 0,
         next: FileId {
             number: 0,
@@ -130,45 +143,74 @@ fn header_block(number: u16) -> Block {
         ident_offset: 23,
         map_offset: 46,
         most_words: 204,
-        pointers,
+        pointers: pointers_of(reserved_file(number).run),
     })
 }
 
-/// The attributes of the master directory: records of 16 bytes, one block, five names.
-fn directory_attributes() -> [u8; 32] {
-    let mut attributes = [0; 32];
-    attributes[0] = 1;
-    attributes[2] = 16;
-    attributes[6] = 1;
-    attributes[10] = 1;
-    attributes[12] = 80;
-    attributes
+/// The pointers of a file that has one run, or none.
+fn pointers_of(run: Option<Run>) -> ArrayVec<Run, 102>
+    ensures { result.items ≡ pointers_of run }
+{
+    let mut pointers = ArrayVec::new();
+    if let Some(run) = run {
+        pointers.push(run);
+    }
+    pointers
+}
+
+/// The attributes of a reserved file. The master directory has records of 16 bytes, one block, and five names.
+fn attributes_of(number: u16) -> [u8; 32]
+    ensures { result ≡ sample_attributes number }
+{
+    if number != 4 {
+        return [0; 32];
+    }
+    [
+        1, 0, 16, 0, 0, 0, 1, 0, 0, 0, 1, 0, 80, 0, 0, 0, 0, 0, 0, 0, 0, 0, 0, 0, 0, 0, 0, 0, 0, 0,
+        0, 0,
+    ]
 }
 
 /// The ident of a reserved file: its name, its type and version 1.
-fn ident_of(file: &Reserved) -> [u8; 46] {
-    let mut ident = [0; 46];
-    ident[..2].copy_from_slice(&file.name[0].to_le_bytes());
-    ident[2..4].copy_from_slice(&file.name[1].to_le_bytes());
-    ident[4..6].copy_from_slice(&file.name[2].to_le_bytes());
-    ident[6..8].copy_from_slice(&file.ext.to_le_bytes());
-    ident[8] = 1;
-    ident
+fn ident_of(number: u16) -> [u8; 46]
+    ensures { result ≡ sample_ident (reserved number) }
+{
+    let file = reserved_file(number);
+    let [first, second, third] = file.name;
+    let (first, second) = (first.to_le_bytes(), second.to_le_bytes());
+    let (third, ext) = (third.to_le_bytes(), file.ext.to_le_bytes());
+    [
+        first[0], first[1], second[0], second[1], third[0], third[1], ext[0], ext[1], 1, 0, 0, 0,
+        0, 0, 0, 0, 0, 0, 0, 0, 0, 0, 0, 0, 0, 0, 0, 0, 0, 0, 0, 0, 0, 0, 0, 0, 0, 0, 0, 0, 0, 0,
+        0, 0, 0, 0,
+    ]
 }
 
 /// The master directory: the five reserved files under their names.
-fn master_directory() -> Block {
-    let mut block = Block::zeros();
-    for number in 1..6 {
-        let file = reserved_file(number);
-        let at = 8 * (number as usize - 1);
-        set_word(&mut block, at, number);
-        set_word(&mut block, at + 1, number);
-        set_word(&mut block, at + 3, file.name[0]);
-        set_word(&mut block, at + 4, file.name[1]);
-        set_word(&mut block, at + 5, file.name[2]);
-        set_word(&mut block, at + 6, file.ext);
-        set_word(&mut block, at + 7, 1);
-    }
-    block
+fn master_directory() -> Block
+    ensures { result ≡ starting (flat_map sample_entry (range_with_len 1 5)) }
+{
+    let entries = [
+        entry_of(1),
+        entry_of(2),
+        entry_of(3),
+        entry_of(4),
+        entry_of(5),
+    ];
+    starting(entries.as_flattened())
+}
+
+/// The entry of the reserved file of a number.
+fn entry_of(number: u16) -> [u8; 16]
+    ensures { result ≡ sample_entry number }
+{
+    let file = reserved_file(number);
+    let [first, second, third] = file.name;
+    let id = number.to_le_bytes();
+    let (first, second) = (first.to_le_bytes(), second.to_le_bytes());
+    let (third, ext) = (third.to_le_bytes(), file.ext.to_le_bytes());
+    [
+        id[0], id[1], id[0], id[1], 0, 0, first[0], first[1], second[0], second[1], third[0],
+        third[1], ext[0], ext[1], 1, 0,
+    ]
 }

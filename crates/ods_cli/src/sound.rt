@@ -1,23 +1,15 @@
 //! Sound images from the bytes of a reader, and why there is none.
-ghost use Rattle.std.specs.Prelude.{◌≡◌, ◌⊎◌, ℕ, List, MatchResult, IfOk, IfErr, IsOkUnless};
+ghost use Rattle.std.specs.Prelude.{◌≡◌, ◌≢◌, ℕ, List, MatchResult, IfOk, IsOkUnless};
 ghost use Rattle.std.specs.String.{string_bytes};
 ghost use Rattle.std.specs.Io.KnownBytes.{Consumes};
-ghost use Rattle.ods_cli.specs.{Reply.IsReplyFault, Serve.AreSound, Serve.AreRefused, Serve.IsSoundImage, Serve.IsFaultOf};
+ghost use Rattle.ods_cli.specs.{ImageLines.fault_line, Reply.IsReplyFault, Serve.AreSound, Serve.AreRefused, Serve.IsSoundImage, Serve.IsFaultOf};
 
 use crate::ServeFault;
-use crate::check::faulty;
-use crate::reply::refused;
-use ods_base::{Coded, Image, ImageError};
-use ods_mount::{Mounted, mount};
+use crate::reply::{NoImage, read_image, refused};
+use ods_base::{Coded, Image};
+use ods_mount::{MountFault, Mounted, mount};
 use std::alloc::Global;
 use std::io::Read;
-
-/// That bytes are no sound image: the number of a refusal that is true of them, and its line, with its line feed.
-#[derive(Drop)]
-pub(crate) struct NoImage {
-    pub(crate) number: u16,
-    pub(crate) line: String,
-}
 
 /// The sound image of what the reader gives, or why it is none.
 pub(crate) fn sound_image<R: Read>(
@@ -29,15 +21,9 @@ pub(crate) fn sound_image<R: Read>(
         (λ n. AreRefused bytes (R.remaining reader.new) n.number (string_bytes n.line)))
         (IsReplyFault bytes) }
 {
-    match Image::read_from(alloc, reader) {
+    match read_image(alloc, reader)? {
         Ok(image) => mounted(alloc, image),
-        Err(ImageError::ReadFailed) => Err(ServeFault::Read),
-        Err(ImageError::NoMemory) => Err(ServeFault::NoMemory),
-        Err(refusal) => {
-            let number = refusal.code();
-            let line = refused(alloc, number, refusal.name())?.text;
-            Ok(Err(NoImage { number, line }))
-        }
+        Err(no_image) => Ok(Err(no_image)),
     }
 }
 
@@ -49,11 +35,38 @@ fn mounted(alloc: Global, image: Image) -> Result<Result<Mounted, NoImage>, Serv
     match mount(alloc, image) {
         Ok(mounted) => Ok(Ok(mounted)),
         Err((_, fault)) => {
-            let line = faulty(alloc, fault)?.text;
+            let line = faulty(alloc, fault)?;
             Ok(Err(NoImage {
                 number: fault.code(),
                 line,
             }))
         }
     }
+}
+
+/// The line of a fault of an image: behind its name stands what it carries, each in decimal after a space, numbers of
+/// files and then the LBN of a block. Want of memory is no such fault.
+fn faulty(alloc: Global, fault: MountFault) -> Result<String, ServeFault>
+    ensures ok { IfOk result (λ line. (fault ≢ MountFault.NoMemory) × (string_bytes line ≡ fault_line fault)) }
+    ensures err { IsOkUnless result ServeFault.NoMemory }
+{
+    let (number, name) = (fault.code(), fault.name());
+    let line = match fault {
+        MountFault::UnsupportedMap(file)
+        | MountFault::BadChain(file)
+        | MountFault::BadDirectory(file)
+        | MountFault::DuplicateName(file) => format!(in alloc; "NO {number} {name} {file}\n")?,
+        MountFault::OutsideVolume(file, block) | MountFault::MarkedFree(file, block) => {
+            format!(in alloc; "NO {number} {name} {file} {block}\n")?
+        }
+        MountFault::DoublyUsed(one, other, block) => {
+            format!(in alloc; "NO {number} {name} {one} {other} {block}\n")?
+        }
+        MountFault::NoHome
+        | MountFault::BadIndex
+        | MountFault::BadStorageMap
+        | MountFault::BadMaster => refused(alloc, number, name)?,
+        MountFault::NoMemory => return Err(ServeFault::NoMemory),
+    };
+    Ok(line)
 }

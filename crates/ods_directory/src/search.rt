@@ -57,9 +57,12 @@ impl Pass for Search {
     ghost after = { search_after };
 
     fn take(&mut self, block: &Block, at: usize, k: u64) {
-        let is_named = entry::is_used(block, at) && entry::is_of(block, at, &self.name);
+        // Most entries have another name, so that is the first test.
+        if !entry::is_of(block, at, &self.name) || !entry::is_used(block, at) {
+            return;
+        }
         let version = entry::version(block, at);
-        if is_named && self.is_better(version) {
+        if self.is_better(version) {
             self.found = Some(Found {
                 position: k,
                 file: entry::file(block, at),

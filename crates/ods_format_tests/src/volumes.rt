@@ -90,6 +90,35 @@ pub fn reserved(number: u16, name: Name) -> FileHeader {
     }
 }
 
+/// The attributes of a directory of so many blocks, which ends at this byte (F.FFBY) of this block (F.EFBK): records of 16 bytes,
+/// none of which crosses into the next block.
+pub fn directory_attributes(blocks: u8, block: u8, byte: u8) -> [u8; 32] {
+    let mut attributes = [0; 32];
+    attributes[0] = 1;
+    attributes[2] = 16;
+    attributes[6] = blocks;
+    attributes[10] = block;
+    attributes[12] = byte;
+    attributes
+}
+
+/// The sample volume of 40 blocks with a file of two headers, files 6,1 and 7,1, which map these runs.
+pub fn in_two_headers(
+    alloc: Global,
+    name: Name,
+    first: &[Run],
+    second: &[Run],
+) -> Result<Image, Fail> {
+    Variant {
+        headers: &[
+            (8, added(6, name).before(7).mapping(first)),
+            (9, added(7, name).second().mapping(second)),
+        ],
+        ..sample_of(40)
+    }
+    .image(alloc)
+}
+
 impl FileHeader {
     /// The same header, with this next one in its chain; 0 for none.
     pub fn before(self, next: u16) -> FileHeader {

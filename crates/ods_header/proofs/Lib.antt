@@ -2,7 +2,6 @@ pub mod AttributesSet
 pub mod Grown
 pub mod HeaderPlaces
 pub mod HeaderSteps
-pub mod KeptFields
 pub mod Made
 pub mod Missing
 pub mod Octal

@@ -39,12 +39,7 @@ impl<'a> Model for DirectoryBlocks<'a> {
 
 impl<'a> DirectoryBlocks<'a> {
     /// The blocks of the file with this first header.
-    pub(crate) fn of(
-        image: &'a Image,
-        layout: &'a Layout,
-        number: u16,
-        header: &'a Block,
-    ) -> DirectoryBlocks<'a>
+    pub(crate) fn of(image: &'a Image, layout: &'a Layout, number: u16, header: &'a Block) -> Self
         requires sound { IsSoundBy image.now layout.now }
         requires file { IsFile image.now layout.now number }
         requires other { number ≢ 1 }

@@ -116,27 +116,24 @@ pub fn open_directory<'a>(
     if !is_granted(block, who, right) {
         return Err(Refusal::Denied);
     }
-    Ok(directory_at(image, layout, dir.number, block))
+    Ok(OpenDirectory::of(image, layout, dir.number, block))
 }
 
-/// The directory with this first header.
-pub fn directory_at<'a>(
-    image: &'a Image,
-    layout: &'a Layout,
-    number: u16,
-    header: &'a Block,
-) -> OpenDirectory<'a>
-    requires sound { IsSoundBy image.now layout.now }
-    requires file { IsFile image.now layout.now number }
-    requires header { header.now ≡ header_at image.now layout.now number }
-    requires directory { is_directory_header number header.now ≡ true }
-    ensures { IsDirectoryAt image.now layout.now number result }
-{
-    let blocks = DirectoryBlocks::of(image, layout, number, header);
-    let mark = mark_of(&attributes(header), blocks.count());
-    OpenDirectory {
-        header,
-        blocks,
-        mark,
+impl<'a> OpenDirectory<'a> {
+    /// The directory with this first header.
+    pub fn of(image: &'a Image, layout: &'a Layout, number: u16, header: &'a Block) -> Self
+        requires sound { IsSoundBy image.now layout.now }
+        requires file { IsFile image.now layout.now number }
+        requires header { header.now ≡ header_at image.now layout.now number }
+        requires directory { is_directory_header number header.now ≡ true }
+        ensures { IsDirectoryAt image.now layout.now number result }
+    {
+        let blocks = DirectoryBlocks::of(image, layout, number, header);
+        let mark = mark_of(&attributes(header), blocks.count());
+        OpenDirectory {
+            header,
+            blocks,
+            mark,
+        }
     }
 }

@@ -6,7 +6,7 @@ ghost use Rattle.ods_mount.specs.{Faults.contents_of, Sound.IsSoundBy};
 ghost use Rattle.ods_request.specs.{declared.requests.Request.TheVariants.Stat as StatRequest, declared.answers.Answer.TheVariants.Info, Steps.kind_of};
 ghost use Rattle.ods_state.specs.{Contents.body_of, Change.IsAnsweredBy, Served.IsRefusalOf};
 
-use crate::opening::{directory_at, named_header};
+use crate::opening::{OpenDirectory, named_header};
 use ods_base::{Block, FileId, Image};
 use ods_directory::name_count;
 use ods_header::{attributes, ident, is_directory, owner, protection, system_char, user_char};
@@ -44,7 +44,7 @@ fn kind(image: &Image, layout: &Layout, number: u16, block: &Block) -> Kind
         return Kind::System;
     }
     if is_directory(number, block) {
-        let directory = directory_at(image, layout, number, block);
+        let directory = OpenDirectory::of(image, layout, number, block);
         return Kind::Directory {
             names: name_count(&directory.blocks, directory.mark) as u32,
         };

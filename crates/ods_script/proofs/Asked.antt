@@ -1,5 +1,5 @@
 -- The commands of lines may be asked.
-use Rattle.std.proofs.Common.{◌≡◌, ℕ, List, [], ◌∷◌, Option, Some, None, MatchOption, suc, zero, arith}
+use Rattle.std.proofs.Common.{ℕ, List, [], ◌∷◌, Option, Some, None, MatchOption, suc, zero, arith}
 use Rattle.ods_base.specs.declared.file_id.FileId.{FileId}
 use Rattle.std.specs.Option.{option_map, option_and_then}
 use Rattle.ods_request.specs.declared.requests.Request.{Request}

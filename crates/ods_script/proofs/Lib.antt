@@ -5,7 +5,6 @@ pub mod Lawful
 pub mod LineCuts
 pub mod Meaning
 pub mod Numerals
-pub mod Pairs
 pub mod Places
 pub mod VerbWords
 pub mod Versions

@@ -1,24 +1,24 @@
 //! The command language: which command each line of a script is, and the text of each reply.
 #![tactic(auto)]
 
-mod answered;
+mod answers;
 mod cuts;
-mod hexed;
+mod hex_bytes;
+mod hex_text;
 mod ids;
 mod laws;
 mod lines;
 mod names;
 mod numbers;
-mod replied;
+mod replies;
 mod scripts;
-mod shown;
 mod spelled;
 mod spoken;
-mod stated;
+mod stats;
 mod verbs;
 
 pub use laws::{cuts_at_first, versions_are_versions};
 pub use lines::{parse_line, read_command};
-pub use replied::{push_reply, sessions_text};
+pub use replies::{push_reply, sessions_text};
 pub use scripts::parse_script;
 pub use spoken::Spoken;

@@ -1,187 +1,111 @@
-//! What the words behind each verb mean.
-ghost use Rattle.std.specs.Prelude.{◌≡◌};
-ghost use Rattle.ods_script.specs.{Spelling.IsTheOne, Commands.Behind, Commands.Viewed};
-ghost use Rattle.ods_script.specs.declared.spoken.Verb.TheVariants as verb;
+//! The verbs: the word that each is written as, and what may stand behind it.
+ghost use Rattle.std.specs.Prelude.{◌≡◌, MatchOption, Some, None};
+ghost use Rattle.ods_script.specs.{Spelling.IsTheOne, Commands.verb_text, Commands.Behind, Commands.Begins, Commands.IsSplit, Commands.Viewed};
 
+use crate::cuts::cut_at;
 use crate::names::{GivenName, NewName, WantedName};
 use crate::spelled::Spelled;
-use crate::spoken::{Attributes, BlockBytes, Spoken};
+use crate::spoken::{Spoken, Verb};
 use ods_base::{Block, Uic};
 use ods_share::{Id, Look};
 
-/// A User, by the words behind it.
-pub fn user(args: &[u8]) -> Option<Spoken>
-    ensures { IsTheOne (Behind verb.User args.now) result }
+/// The verb that a word is.
+fn read_verb(word: &[u8]) -> Option<Verb>
+    ensures { IsTheOne (λ v. word.now ≡ verb_text v) result }
 {
-    let Some(who) = <Uic as Spelled>::read(args) else {
-        return None;
-    };
-    Some(Spoken::User(who))
+    match word {
+        b"USER" => Some(Verb::User),
+        b"CREATE" => Some(Verb::Create),
+        b"EXTEND" => Some(Verb::Extend),
+        b"DELETE" => Some(Verb::Delete),
+        b"ENTER" => Some(Verb::Enter),
+        b"LOOK" => Some(Verb::LookUp),
+        b"REMOVE" => Some(Verb::Remove),
+        b"READ" => Some(Verb::Read),
+        b"WRITE" => Some(Verb::Write),
+        b"LIST" => Some(Verb::List),
+        b"STAT" => Some(Verb::Stat),
+        b"SETUSER" => Some(Verb::SetUser),
+        b"VIEW" => Some(Verb::View),
+        _ => None,
+    }
 }
 
-/// A Create, by the words behind it.
-pub fn create(args: &[u8]) -> Option<Spoken>
-    ensures { IsTheOne (Behind verb.Create args.now) result }
+/// The verb that a text begins with, and the words behind it.
+pub(crate) fn split_verb(text: &[u8]) -> Option<(Verb, &[u8])>
+    ensures { MatchOption result (IsTheOne (IsSplit text.now) None) (λ x. IsTheOne (IsSplit text.now) (Some (x.0, x.1.now))) }
 {
-    let Some((new, blocks)) = <(NewName, u32) as Spelled>::read(args) else {
-        return None;
-    };
-    Some(Spoken::Create {
-        name: new.name,
-        version: new.version,
-        blocks,
-    })
+    let (word, args) = cut_at(b' ', text)?;
+    let verb = read_verb(word)?;
+    Some((verb, args))
 }
 
-/// An Extend, by the words behind it.
-pub fn extend(args: &[u8]) -> Option<Spoken>
-    ensures { IsTheOne (Behind verb.Extend args.now) result }
+/// The command that the words behind a verb spell: a row for each verb.
+pub(crate) fn read_behind(verb: Verb, args: &[u8]) -> Option<Spoken>
+    ensures { IsTheOne (Behind verb args.now) result }
 {
-    let Some((file, blocks)) = <(Id, u32) as Spelled>::read(args) else {
-        return None;
-    };
-    Some(Spoken::Extend { file, blocks })
+    match verb {
+        Verb::User => Uic::read(args).map(|who| Spoken::User(who)),
+        Verb::Create => <(NewName, u32)>::read(args).map(|(name, blocks)| Spoken::Create {
+            name: name.name,
+            version: name.version,
+            blocks,
+        }),
+        Verb::Extend => <(Id, u32)>::read(args).map(|(file, blocks)| Spoken::Extend {
+            file,
+            blocks,
+        }),
+        Verb::Delete => Id::read(args).map(|file| Spoken::Delete { file }),
+        Verb::Enter => <(Id, (GivenName, Id))>::read(args).map(|(dir, (name, file))| Spoken::Enter {
+            dir,
+            name: name.name,
+            version: name.version,
+            file,
+        }),
+        Verb::LookUp => <(Id, WantedName)>::read(args).map(|(dir, name)| Spoken::LookUp {
+            dir,
+            name: name.name,
+            pick: name.version,
+        }),
+        Verb::Remove => <(Id, WantedName)>::read(args).map(|(dir, name)| Spoken::Remove {
+            dir,
+            name: name.name,
+            pick: name.version,
+        }),
+        Verb::Read => <(Id, u32)>::read(args).map(|(file, vbn)| Spoken::Read { file, vbn }),
+        Verb::Write => <(Id, (u32, Block))>::read(args).map(|(file, (vbn, block))| Spoken::Write {
+            file,
+            vbn,
+            block,
+        }),
+        Verb::List => Id::read(args).map(|dir| Spoken::List { dir }),
+        Verb::Stat => Id::read(args).map(|file| Spoken::Stat { file }),
+        Verb::SetUser => <(Id, [u8; 32])>::read(args).map(|(file, attributes)| Spoken::SetUser {
+            file,
+            attributes,
+        }),
+        Verb::View => read_view(args),
+    }
 }
 
-/// A Delete, by the words behind it.
-pub fn delete(args: &[u8]) -> Option<Spoken>
-    ensures { IsTheOne (Behind verb.Delete args.now) result }
+/// The query that the words behind VIEW spell: a row for each verb that can be viewed.
+fn read_view(text: &[u8]) -> Option<Spoken>
+    ensures { IsTheOne (Begins Viewed text.now) result }
 {
-    let Some(file) = <Id as Spelled>::read(args) else {
-        return None;
-    };
-    Some(Spoken::Delete { file })
-}
-
-/// An Enter, by the words behind it.
-pub fn enter(args: &[u8]) -> Option<Spoken>
-    ensures { IsTheOne (Behind verb.Enter args.now) result }
-{
-    let Some((dir, (given, file))) = <(Id, (GivenName, Id)) as Spelled>::read(args) else {
-        return None;
-    };
-    Some(Spoken::Enter {
-        dir,
-        name: given.name,
-        version: given.version,
-        file,
-    })
-}
-
-/// A LookUp, by the words behind it.
-pub fn look_up(args: &[u8]) -> Option<Spoken>
-    ensures { IsTheOne (Behind verb.LookUp args.now) result }
-{
-    let Some((dir, wanted)) = <(Id, WantedName) as Spelled>::read(args) else {
-        return None;
-    };
-    Some(Spoken::LookUp {
-        dir,
-        name: wanted.name,
-        pick: wanted.pick,
-    })
-}
-
-/// A Remove, by the words behind it.
-pub fn remove(args: &[u8]) -> Option<Spoken>
-    ensures { IsTheOne (Behind verb.Remove args.now) result }
-{
-    let Some((dir, wanted)) = <(Id, WantedName) as Spelled>::read(args) else {
-        return None;
-    };
-    Some(Spoken::Remove {
-        dir,
-        name: wanted.name,
-        pick: wanted.pick,
-    })
-}
-
-/// A Read, by the words behind it.
-pub fn read_block(args: &[u8]) -> Option<Spoken>
-    ensures { IsTheOne (Behind verb.Read args.now) result }
-{
-    let Some((file, vbn)) = <(Id, u32) as Spelled>::read(args) else {
-        return None;
-    };
-    Some(Spoken::Read { file, vbn })
-}
-
-/// A Write, by the words behind it.
-pub fn write_block(args: &[u8]) -> Option<Spoken>
-    ensures { IsTheOne (Behind verb.Write args.now) result }
-{
-    let Some((file, (vbn, spelled))) = <(Id, (u32, BlockBytes)) as Spelled>::read(args) else {
-        return None;
-    };
-    let bytes = spelled.bytes;
-    let block = Block::new(bytes);
-    Some(Spoken::Write { file, vbn, block })
-}
-
-/// A List, by the words behind it.
-pub fn list(args: &[u8]) -> Option<Spoken>
-    ensures { IsTheOne (Behind verb.List args.now) result }
-{
-    let Some(dir) = <Id as Spelled>::read(args) else {
-        return None;
-    };
-    Some(Spoken::List { dir })
-}
-
-/// A Stat, by the words behind it.
-pub fn stat(args: &[u8]) -> Option<Spoken>
-    ensures { IsTheOne (Behind verb.Stat args.now) result }
-{
-    let Some(file) = <Id as Spelled>::read(args) else {
-        return None;
-    };
-    Some(Spoken::Stat { file })
-}
-
-/// A SetUser, by the words behind it.
-pub fn set_user(args: &[u8]) -> Option<Spoken>
-    ensures { IsTheOne (Behind verb.SetUser args.now) result }
-{
-    let Some((file, attributes)) = <(Id, Attributes) as Spelled>::read(args) else {
-        return None;
-    };
-    let bytes = attributes.bytes;
-    Some(Spoken::SetUser {
-        file,
-        attributes: bytes,
-    })
-}
-
-/// A LookUp, by the words behind it.
-pub fn view_look(args: &[u8]) -> Option<Spoken>
-    ensures { IsTheOne (Viewed verb.LookUp args.now) result }
-{
-    let Some((dir, wanted)) = <(Id, WantedName) as Spelled>::read(args) else {
-        return None;
-    };
-    Some(Spoken::View(Look::LookUp {
-        dir,
-        name: wanted.name,
-        pick: wanted.pick,
-    }))
-}
-
-/// A Read, by the words behind it.
-pub fn view_read(args: &[u8]) -> Option<Spoken>
-    ensures { IsTheOne (Viewed verb.Read args.now) result }
-{
-    let Some((file, vbn)) = <(Id, u32) as Spelled>::read(args) else {
-        return None;
-    };
-    Some(Spoken::View(Look::Read { file, vbn }))
-}
-
-/// A Stat, by the words behind it.
-pub fn view_stat(args: &[u8]) -> Option<Spoken>
-    ensures { IsTheOne (Viewed verb.Stat args.now) result }
-{
-    let Some(file) = <Id as Spelled>::read(args) else {
-        return None;
-    };
-    Some(Spoken::View(Look::Stat { file }))
+    let (verb, args) = split_verb(text)?;
+    match verb {
+        Verb::LookUp => <(Id, WantedName)>::read(args).map(|(dir, name)| Spoken::View(
+            Look::LookUp {
+                dir,
+                name: name.name,
+                pick: name.version,
+            },
+        )),
+        Verb::Read => <(Id, u32)>::read(args).map(|(file, vbn)| Spoken::View(Look::Read {
+            file,
+            vbn,
+        })),
+        Verb::Stat => Id::read(args).map(|file| Spoken::View(Look::Stat { file })),
+        _ => None,
+    }
 }

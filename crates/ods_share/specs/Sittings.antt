@@ -1,4 +1,4 @@
--- A session as its code keeps it: its seat, and the room for what comes of its script.
+-- A session as its code keeps it: its context, and the room for what comes of its script.
 use Rattle.std.specs.Prelude.{◌≡◌, ◌+◌, ◌≤◌, ◌++◌, ◌∷◌, [], ℕ, List, Option, Some, None, Ok, Err, length, option_to_list}
 use Rattle.std.specs.List.{sum_by}
 use Rattle.std.specs.Vec.{vec_capacity}
@@ -14,11 +14,11 @@ use Rattle.ods_share.specs.declared.outcome.Call.{Call}
 use Rattle.ods_share.specs.declared.outcome.Outcome.{Outcome}
 use Rattle.ods_share.specs.declared.outcome.Reply.{Reply}
 use Rattle.ods_share.specs.declared.outcome.Reply.TheVariants as reply
-use Rattle.ods_share.specs.declared.session.Seat.{Seat}
+use Rattle.ods_share.specs.declared.session.Context.{Context}
 use Rattle.ods_share.specs.Scripts.{Sitting, Tells, call_of}
 
--- a seat with the calls so far
-abbrev pub sitting : Seat → List Call → Sitting
+-- a context with the calls so far
+abbrev pub sitting : Context → List Call → Sitting
 sitting s calls = record { who = s.who; last = s.last; calls = calls }
 
 -- an answer with its call, or a refusal with none
@@ -37,12 +37,12 @@ IsView mounted before after who q reply.Closed = Asked mounted before after who 
 IsView mounted before after who q reply.User = ⊥
 IsView mounted before after who q reply.Bad = ⊥
 
--- One command from seat to seat: this reply, and this call behind those that there were, if there is one.
-abbrev pub TellsSeat : List ℕ → Command → Seat → Reply → Option Call → Seat → Type 0
-TellsSeat stamp c s r call t = (calls : List Call) → Tells stamp (sitting s calls) c.nth c.action r (sitting t (calls ++ option_to_list call))
+-- One command from context to context: this reply, and this call behind those that there were, if there is one.
+abbrev pub TellsContext : List ℕ → Command → Context → Reply → Option Call → Context → Type 0
+TellsContext stamp c s r call t = (calls : List Call) → Tells stamp (sitting s calls) c.nth c.action r (sitting t (calls ++ option_to_list call))
 
 -- One command from outcome to outcome: its reply is behind the others, and its call, if there is one.
-abbrev pub TellsMore : List ℕ → Command → Seat → Outcome → Seat → Outcome → Type 0
+abbrev pub TellsMore : List ℕ → Command → Context → Outcome → Context → Outcome → Type 0
 TellsMore stamp c s was t now = (r : Reply) × (now.replies.items ≡ was.replies.items ++ r ∷ []) × Tells stamp (sitting s was.calls.items) c.nth c.action r (sitting t now.calls.items)
 
 -- how many calls may come of a command: one of a request

@@ -7,7 +7,7 @@ use ods_base::FileId;
 use ods_request::{Answer, Query, Request, Stamp};
 
 /// The file that is meant; none where `$` stands for none.
-fn resolved(last: Option<FileId>, id: Id) -> Option<FileId>
+fn resolve(last: Option<FileId>, id: Id) -> Option<FileId>
     ensures { result ≡ id_of last id }
 {
     match id {
@@ -32,14 +32,14 @@ pub(crate) fn request_for(stamp: Stamp, last: Option<FileId>, ask: &Ask) -> Opti
             stamp,
         }),
         Ask::Extend { file, blocks } => {
-            let file = resolved(last, *file)?;
+            let file = resolve(last, *file)?;
             Some(Request::Extend {
                 file,
                 blocks: *blocks,
             })
         }
         Ask::Delete { file } => {
-            let file = resolved(last, *file)?;
+            let file = resolve(last, *file)?;
             Some(Request::Delete { file })
         }
         Ask::Enter {
@@ -48,8 +48,8 @@ pub(crate) fn request_for(stamp: Stamp, last: Option<FileId>, ask: &Ask) -> Opti
             version,
             file,
         } => {
-            let dir = resolved(last, *dir)?;
-            let file = resolved(last, *file)?;
+            let dir = resolve(last, *dir)?;
+            let file = resolve(last, *file)?;
             Some(Request::Enter {
                 dir,
                 name: *name,
@@ -58,7 +58,7 @@ pub(crate) fn request_for(stamp: Stamp, last: Option<FileId>, ask: &Ask) -> Opti
             })
         }
         Ask::LookUp { dir, name, pick } => {
-            let dir = resolved(last, *dir)?;
+            let dir = resolve(last, *dir)?;
             Some(Request::LookUp {
                 dir,
                 name: *name,
@@ -66,7 +66,7 @@ pub(crate) fn request_for(stamp: Stamp, last: Option<FileId>, ask: &Ask) -> Opti
             })
         }
         Ask::Remove { dir, name, pick } => {
-            let dir = resolved(last, *dir)?;
+            let dir = resolve(last, *dir)?;
             Some(Request::Remove {
                 dir,
                 name: *name,
@@ -74,11 +74,11 @@ pub(crate) fn request_for(stamp: Stamp, last: Option<FileId>, ask: &Ask) -> Opti
             })
         }
         Ask::Read { file, vbn } => {
-            let file = resolved(last, *file)?;
+            let file = resolve(last, *file)?;
             Some(Request::Read { file, vbn: *vbn })
         }
         Ask::Write { file, vbn, block } => {
-            let file = resolved(last, *file)?;
+            let file = resolve(last, *file)?;
             Some(Request::Write {
                 file,
                 vbn: *vbn,
@@ -86,15 +86,15 @@ pub(crate) fn request_for(stamp: Stamp, last: Option<FileId>, ask: &Ask) -> Opti
             })
         }
         Ask::List { dir } => {
-            let dir = resolved(last, *dir)?;
+            let dir = resolve(last, *dir)?;
             Some(Request::List { dir })
         }
         Ask::Stat { file } => {
-            let file = resolved(last, *file)?;
+            let file = resolve(last, *file)?;
             Some(Request::Stat { file })
         }
         Ask::SetUser { file, attributes } => {
-            let file = resolved(last, *file)?;
+            let file = resolve(last, *file)?;
             Some(Request::SetUser {
                 file,
                 attributes: *attributes,
@@ -109,7 +109,7 @@ pub(crate) fn query_for(last: Option<FileId>, look: &Look) -> Option<Query>
 {
     match look {
         Look::LookUp { dir, name, pick } => {
-            let dir = resolved(last, *dir)?;
+            let dir = resolve(last, *dir)?;
             Some(Query::LookUp {
                 dir,
                 name: *name,
@@ -117,11 +117,11 @@ pub(crate) fn query_for(last: Option<FileId>, look: &Look) -> Option<Query>
             })
         }
         Look::Read { file, vbn } => {
-            let file = resolved(last, *file)?;
+            let file = resolve(last, *file)?;
             Some(Query::Read { file, vbn: *vbn })
         }
         Look::Stat { file } => {
-            let file = resolved(last, *file)?;
+            let file = resolve(last, *file)?;
             Some(Query::Stat { file })
         }
     }

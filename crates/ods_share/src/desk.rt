@@ -2,16 +2,17 @@
 //! writer that shows its versions.
 ghost use Rattle.std.specs.Prelude.{◌≡◌, ◌<◌, ◌≤◌, All, length, vec_len, IfOk, IfErr, IsErr, OnErr, Err, Some, None};
 ghost use Rattle.ods_request.specs.{declared.refusals.Refusal.Refusal, Catalogue.Catalogue, Faults.fault_of, Lists.Begins};
-ghost use Rattle.ods_state.specs.{Version.IsPresent, Version.IsLawful, Wants.Lacks, Outcome.Accepts, Outcome.CanBeAsked, Outcome.entry_of};
+ghost use Rattle.ods_state.specs.{Version.IsPresent, Version.IsLawful, Wants.Lacks, Outcome.Accepts, Outcome.CanBeAsked, Outcome.IsLawfulPlan, Outcome.entry_of};
 ghost use Rattle.ods_share.specs.Desks.{IsDeskReason};
 ghost use Rattle.ods_views.specs.Viewers.{newly};
 
-use crate::seating::seated;
-use crate::storing::stored;
+use crate::storing::store;
 use ods_base::{NoMemory, Uic};
 use ods_request::{Answer, Refusal, Request};
-use ods_views::{Change, DeskWriter, Naming, Told, Viewer, added, opened, published};
-use ods_volume::Volume;
+use ods_views::{
+    Change, DeskWriter, Naming, Told, Viewer, add_change, make_viewers, open_writer, publish_change,
+};
+use ods_volume::{Prepared, Volume};
 use std::alloc::Global;
 use std::marker::{Brand, Model};
 use std::mem;
@@ -30,8 +31,7 @@ pub struct Desk<J: Naming> {
 impl<J: Naming> Model for Desk<J> {
     ghost use Rattle.std.specs.Prelude.{drop, MatchOption};
     ghost use Rattle.ods_state.specs.Version.{State};
-    ghost use Rattle.ods_share.specs.Desks.{IsOpened};
-    ghost use Rattle.ods_views.specs.Viewers.{IsTied};
+    ghost use Rattle.ods_views.specs.Viewers.{IsOpened, IsTied};
 
     ghost Value = { State };
 
@@ -57,11 +57,11 @@ impl<J: Naming> Desk<J> {
         ensures viewers { IfOk result (λ p. (vec_len p.1 ≡ places) × All (λ v. v ≡ newly volume.entries) p.1.items) }
         ensures err { IfErr result (λ e. e.0 ≡ volume) }
     {
-        let writer = match opened::<J>(alloc, &volume, places) {
+        let writer = match open_writer::<J>(alloc, &volume, places) {
             Ok(writer) => writer,
             Err(_) => return Err((volume, NoMemory)),
         };
-        match seated(alloc, writer.factory(), places) {
+        match make_viewers(alloc, &writer, places) {
             Ok(viewers) => {
                 let desk = Desk {
                     volume,
@@ -111,39 +111,28 @@ impl<J: Naming> Desk<J> {
         // What was told before is the beginning of what is told now.
         ensures grown { Begins self.old.entries result.1 }
     {
-        let result = self.attempt(rt, session, nth, who, request);
-        (result, Told::of(&self.volume))
+        match self.volume.prepare(session, nth, who, request) {
+            Ok(prepared) => {
+                let result = self.apply_and_show(rt, prepared);
+                (result, Told::of(&self.volume))
+            }
+            Err(refusal) => (Err(refusal), Told::of(&self.volume)),
+        }
     }
 
-    /// All that takes memory comes before the volume changes: the plan with its answer for the caller, the copy of its draft, and the
-    /// writer's room for it.
-    fn attempt<R: Wait>(
-        &mut self,
-        rt: &R,
-        session: u16,
-        nth: u32,
-        who: Uic,
-        request: Request,
-    ) -> Result<Answer, Refusal>
-        requires { CanBeAsked request }
-        ensures full { length self.old.entries ≡ self.old.limit → result ≡ Err Refusal.ListFull }
-        ensures refused { (C : Catalogue) (f : Refusal) → length self.old.entries < self.old.limit → IsPresent self.old C
-            → fault_of C who request ≡ Some f → result ≡ Err f }
-        ensures accepted { IfOk result (λ a. Accepts self.old (entry_of session nth who request a) self.new) }
-        ensures lacking { (f : Refusal) → Lacks self.old.image self.old.layout request f → IsErr result }
-        ensures reason { IfErr result (λ f. IsDeskReason self.old who request f) }
-        ensures unchanged { OnErr result (self.new ≡ self.old) }
+    /// Makes a change that was prepared, and shows the version to which it leads. All that may want memory comes before the volume changes:
+    /// the copy of the draft, and the writer's room for it.
+    fn apply_and_show<R: Wait>(&mut self, rt: &R, prepared: Prepared) -> Result<Answer, Refusal>
+        requires { IsLawfulPlan self.old prepared }
+        ensures accepted { IfOk result (λ a. Accepts self.old prepared.entry self.new × (a ≡ prepared.entry.answer)) }
+        ensures refused { IfErr result (λ f. (f ≡ Refusal.NoMemory) × (self.new ≡ self.old)) }
     {
-        let prepared = match self.volume.prepare(session, nth, who, request) {
-            Ok(prepared) => prepared,
-            Err(refusal) => return Err(refusal),
-        };
         let Ok(draft) = prepared.changes().copy() else {
             return Err(Refusal::NoMemory);
         };
         let count = self.volume.entries().len() as u64 + 1;
         let writer = self.writer.take().unwrap();
-        let writer = match added(writer, Change { draft, count }) {
+        let writer = match add_change(writer, Change { draft, count }) {
             Ok(writer) => writer,
             Err(writer) => {
                 put_back(&mut self.writer, writer);
@@ -151,8 +140,8 @@ impl<J: Naming> Desk<J> {
             }
         };
         let plan = Snapshot::of(&prepared);
-        let answer = stored(&mut self.volume, prepared);
-        let writer = published::<J, Brand, R>(rt, writer, plan, &self.volume);
+        let answer = store(&mut self.volume, prepared);
+        let writer = publish_change::<J, Brand, R>(rt, writer, plan, &self.volume);
         put_back(&mut self.writer, writer);
         Ok(answer)
     }

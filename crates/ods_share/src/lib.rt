@@ -8,7 +8,6 @@ mod gate;
 mod outcome;
 mod run;
 mod script;
-mod seating;
 mod session;
 mod settlement;
 mod storing;

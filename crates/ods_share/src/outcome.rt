@@ -58,7 +58,7 @@ fn submit_count(script: &[Command]) -> usize
 }
 
 /// An outcome of nothing yet, with room for all that may come of a script.
-pub(crate) fn roomy(alloc: Global, script: &[Command]) -> Result<Outcome, AllocError>
+pub(crate) fn reserve_outcome(alloc: Global, script: &[Command]) -> Result<Outcome, AllocError>
     ensures { IfOk result (λ o. (o.calls.items ≡ []) × (o.replies.items ≡ []) × HasRoom o (room_for script.now) (length script.now)) }
 {
     let calls = Vec::with_capacity(alloc, submit_count(script))?;

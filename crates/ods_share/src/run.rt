@@ -8,7 +8,7 @@ use crate::faults::RunFault;
 use crate::gate::Gate;
 use crate::outcome::Outcome;
 use crate::script::Script;
-use crate::threads::all_run;
+use crate::threads::run_all;
 use ods_request::Stamp;
 use ods_views::{Naming, Viewer};
 use ods_volume::Volume;
@@ -18,10 +18,7 @@ use std::sync::{Mutex, Wait};
 use std::thread::Threads;
 
 /// The outcomes, if each session came to its end.
-fn unpacked(
-    alloc: Global,
-    done: Vec<Result<Outcome, AllocError>>,
-) -> Result<Vec<Outcome>, AllocError>
+fn unpack(alloc: Global, done: Vec<Result<Outcome, AllocError>>) -> Result<Vec<Outcome>, AllocError>
     ensures { IfOk result (λ v. done.items ≡ map Ok v.items) }
 {
     let mut outcomes = Vec::with_capacity(alloc, done.len())?;
@@ -46,17 +43,17 @@ pub fn run_sessions<J: Naming + Send + Sync, G: Gate + Sync, R: Threads + Wait +
     gate: &G,
 ) -> Result<(Volume, Vec<Outcome>), RunFault>
     requires few { length scripts.now ≤ 8 }
-    requires seats { length scripts.now ≤ vec_len viewers }
+    requires enough { length scripts.now ≤ vec_len viewers }
     requires can { All (λ s. CanBeRun s.commands.items) scripts.now }
     ensures mounted { IfOk result (λ p. p.0.mounted ≡ J.mounted) }
     ensures opening { IfOk result (λ p. Begins J.opening p.0.entries) }
     ensures outcomes { IfOk result (λ p. (vec_len p.1 ≡ length scripts.now) × EachOutcome stamp scripts.now p.1.items) }
 {
     let lock = Mutex::new(desk);
-    let done = all_run(rt, alloc, &lock, gate, viewers, scripts, &stamp);
+    let done = run_all(rt, alloc, &lock, gate, viewers, scripts, &stamp);
     let volume = lock.into_inner().close(rt);
     match done {
-        Ok(done) => match unpacked(alloc, done) {
+        Ok(done) => match unpack(alloc, done) {
             Ok(outcomes) => Ok((volume, outcomes)),
             Err(_) => Err(RunFault::NoMemory),
         },

@@ -7,7 +7,7 @@ use crate::faults::RunFault;
 use crate::gate::Gate;
 use crate::outcome::Outcome;
 use crate::script::Script;
-use crate::session::{Session, sit};
+use crate::session::Session;
 use ods_request::Stamp;
 use ods_views::{Naming, Viewer};
 use std::alloc::{AllocError, Global};
@@ -33,7 +33,7 @@ impl Promise<Result<Outcome, AllocError>> for OfScript {
 type Handle = PromisedHandle<Result<Outcome, AllocError>, OfScript>;
 
 /// Obeys a script as the session with this number and viewer.
-fn sit_as<J: Naming, G: Gate, R: Wait>(
+fn run_session<J: Naming, G: Gate, R: Wait>(
     rt: &R,
     alloc: Global,
     desk: &Mutex<Desk<J>>,
@@ -47,15 +47,18 @@ fn sit_as<J: Naming, G: Gate, R: Wait>(
     ensures { IfOk result (λ o. IsOutcome stamp.now script.now.commands.items o) }
 {
     let session = Session {
+        rt,
+        desk,
+        gate,
+        alloc,
         number,
         stamp: *stamp,
-        alloc,
     };
-    sit(rt, desk, gate, &session, viewer, script.commands.as_slice())
+    session.sit(viewer, script.commands.as_slice())
 }
 
 /// Starts the thread of one script.
-fn begun<'s, E, J: Naming + Send + Sync + 's, G: Gate + Sync, R: Threads + Wait + Sync>(
+fn begin_thread<'s, E, J: Naming + Send + Sync + 's, G: Gate + Sync, R: Threads + Wait + Sync>(
     scope: &Scope<'s, E>,
     rt: &'s R,
     alloc: Global,
@@ -72,7 +75,7 @@ fn begun<'s, E, J: Naming + Send + Sync + 's, G: Gate + Sync, R: Threads + Wait 
     let work = move || -> Result<Outcome, AllocError>
         requires { CanBeRun script.now.commands.items }
         ensures { IfOk result (λ o. IsOutcome stamp.entry.now script.entry.now.commands.items o) }
-    { sit_as(rt, alloc, desk, gate, number, viewer, stamp, script) };
+    { run_session(rt, alloc, desk, gate, number, viewer, stamp, script) };
     let promise = OfScript {
         script: Snapshot::of(script),
         stamp: Snapshot::of(stamp),
@@ -95,7 +98,7 @@ fn hold(handles: &mut Vec<Handle>, handle: Handle) -> Result<(), RunFault>
 }
 
 /// Starts a thread for each script, with the next viewer, and waits for all.
-fn all_begun<'s, E, J: Naming + Send + Sync + 's, G: Gate + Sync, R: Threads + Wait + Sync>(
+fn begin_all<'s, E, J: Naming + Send + Sync + 's, G: Gate + Sync, R: Threads + Wait + Sync>(
     scope: &Scope<'s, E>,
     rt: &'s R,
     alloc: Global,
@@ -106,17 +109,17 @@ fn all_begun<'s, E, J: Naming + Send + Sync + 's, G: Gate + Sync, R: Threads + W
     stamp: &'s Stamp,
 ) -> Result<Vec<Result<Outcome, AllocError>>, RunFault>
     requires few { length scripts.now ≤ 8 }
-    requires seats { length scripts.now ≤ vec_len viewers }
+    requires enough { length scripts.now ≤ vec_len viewers }
     requires can { All (λ s. CanBeRun s.commands.items) scripts.now }
     ensures { IfOk result (λ v. (vec_len v ≡ length scripts.entry.now) × EachIfOk stamp.entry.now scripts.entry.now v.items) }
 {
     let mut handles = Vec::new(alloc);
     let mut number = 0u16;
-    let mut seats = viewers.into_iter();
+    let mut viewers = viewers.into_iter();
     for script in scripts {
         number += 1;
-        let viewer = seats.next().unwrap();
-        let handle = begun(scope, rt, alloc, desk, gate, number, viewer, stamp, script)?;
+        let viewer = viewers.next().unwrap();
+        let handle = begin_thread(scope, rt, alloc, desk, gate, number, viewer, stamp, script)?;
         hold(&mut handles, handle)?;
     }
     match thread::join_promised(rt, handles) {
@@ -127,7 +130,7 @@ fn all_begun<'s, E, J: Naming + Send + Sync + 's, G: Gate + Sync, R: Threads + W
 
 /// Runs each script as a session in a thread of its own, the first as session 1, with the first viewer. All threads have ended when it
 /// returns, also where one could not be started.
-pub(crate) fn all_run<J: Naming + Send + Sync, G: Gate + Sync, R: Threads + Wait + Sync>(
+pub(crate) fn run_all<J: Naming + Send + Sync, G: Gate + Sync, R: Threads + Wait + Sync>(
     rt: &R,
     alloc: Global,
     desk: &Mutex<Desk<J>>,
@@ -137,7 +140,7 @@ pub(crate) fn all_run<J: Naming + Send + Sync, G: Gate + Sync, R: Threads + Wait
     stamp: &Stamp,
 ) -> Result<Vec<Result<Outcome, AllocError>>, RunFault>
     requires few { length scripts.now ≤ 8 }
-    requires seats { length scripts.now ≤ vec_len viewers }
+    requires enough { length scripts.now ≤ vec_len viewers }
     requires can { All (λ s. CanBeRun s.commands.items) scripts.now }
     ensures { IfOk result (λ v. (vec_len v ≡ length scripts.now) × EachIfOk stamp.now scripts.now v.items) }
 {
@@ -147,6 +150,6 @@ pub(crate) fn all_run<J: Naming + Send + Sync, G: Gate + Sync, R: Threads + Wait
         |scope| -> Result<Vec<Result<Outcome, AllocError>>, RunFault>
             requires { (length scripts.now ≤ 8) × (length scripts.now ≤ vec_len viewers) × All (λ s. CanBeRun s.commands.items) scripts.now }
             ensures { IfOk result (λ v. (vec_len v ≡ length scripts.entry.now) × EachIfOk stamp.entry.now scripts.entry.now v.items) }
-        { all_begun(scope, rt, alloc, desk, gate, viewers, scripts, stamp) },
+        { begin_all(scope, rt, alloc, desk, gate, viewers, scripts, stamp) },
     )
 }

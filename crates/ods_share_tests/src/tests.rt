@@ -1,4 +1,5 @@
 //! Tests of public calls, one idea a file.
+mod any_scripts;
 mod created;
 mod desks;
 mod engine;

@@ -1,15 +1,15 @@
 -- What is looked up in a draft, and what an image becomes, with one change more.
-use Rattle.std.proofs.Common.{◌≡◌, ◌≢◌, ℕ, zero, suc, ◌+◌, ◌-◌, ◌<◌, ◌≤◌, Bool, true, false, cond, nat_eq, List, [], ◌∷◌, ◌++◌, map, length, set, get_or, take, Option, Some, None, refl, sym, ap, ◌∙◌, arith, inl, inr}
-use Rattle.std.specs.Prelude.{unwrap_or, is_some}
+use Rattle.std.proofs.Common.{◌≡◌, ◌≢◌, ℕ, zero, suc, ◌+◌, ◌-◌, ◌<◌, ◌≤◌, Bool, true, false, cond, nat_eq, List, [], ◌∷◌, ◌++◌, map, length, set, get_or, take, Option, Some, None, refl, sym, ap, subst, ◌∙◌, arith, inl, inr}
+use Rattle.std.specs.Prelude.{◌⊎◌, unwrap_or, is_some}
 use Rattle.std.specs.List.{range_with_len}
-use Rattle.std.proofs.lemmas.Bool.{cases_lt, cases_eq, eqb-true, eqb-false}
+use Rattle.std.proofs.lemmas.Bool.{cases_lt, cases_eq, eq-eqb, eqb-true, eqb-false, ne_eqb}
 use Rattle.std.proofs.lemmas.List.{append-nil, take_more, length-set, get_or-set_same, get_or-set_other, set_past}
 use Rattle.std.proofs.lemmas.List.FromFn.{fill_by_all, length-map-range_with_len, get_or-map-range_with_len}
 use Rattle.ods_base.specs.Block.{zeros}
 use Rattle.ods_base.specs.Image.{block_at}
 use Rattle.ods_header.specs.declared.header.Run.{Run}
-use Rattle.ods_space.specs.Draft.{Changes, change_at, seen_at, applied, zeroed}
-use Rattle.ods_space.specs.Changes.{changed, changes_after, changes_of}
+use Rattle.ods_space.specs.Draft.{Changes, IsNextChange, change_at, seen_at, applied, zeroed}
+use Rattle.ods_space.specs.Changes.{IsSpan, changed, changes_after, changes_of}
 use Rattle.ods_space.specs.declared.draft.Change.{Change}
 use Rattle.ods_space.specs.declared.draft.Change.TheVariants.{Set, Zero}
 
@@ -93,6 +93,26 @@ change_at-zeros_outside a (suc n) lbn apart = by (nat_eq a lbn) refl (change_at-
     by : (t : Bool) → nat_eq a lbn ≡ t → change_at (zeros_from (a + 1) n) lbn ≡ None → cond t (Some zeros) (change_at (zeros_from (a + 1) n) lbn) ≡ None
     by true e rest = let same = eqb-true a lbn e in absurd (apart 0 (omega arith) (omega (arith, same)))
     by false e rest = rest
+
+-- which blocks one change is of
+pub span_set : (c : Change) (lbn : ℕ) (b : List ℕ) → c ≡ Set lbn b → IsSpan (changed c []) lbn (lbn + 1)
+span_set c lbn b is =
+    let P : Change → Type 0 = λ x. IsSpan (changed x []) lbn (lbn + 1) in
+    let apart : (x : ℕ) → (x < lbn) ⊎ (lbn + 1 ≤ x) → lbn ≢ x = λ x away e. elim away [ inl low ↦ absurd (omega arith) | inr high ↦ absurd (omega arith) ] in
+    subst P (sym is) (record {
+      inside = λ x above below. let same : lbn ≡ x = omega arith in ap (λ t. is_some (cond t (Some b) None)) (eq-eqb lbn x same);
+      outside = λ x away. ap (λ t. cond t (Some b) None) (ne_eqb lbn x (apart x away));
+    })
+
+pub span_zero : (c : Change) (r : Run) → c ≡ Zero r → IsSpan (changed c []) r.lbn (r.lbn + r.count)
+span_zero c r is =
+    let P : Change → Type 0 = λ x. IsSpan (changed x []) r.lbn (r.lbn + r.count) in
+    let bare : zeroed r [] ≡ zeros_from r.lbn r.count = append-nil (zeros_from r.lbn r.count) in
+    let apart : (x : ℕ) → (x < r.lbn) ⊎ (r.lbn + r.count ≤ x) → (k : ℕ) → k < r.count → r.lbn + k ≢ x = λ x away k small e. elim away [ inl low ↦ absurd (omega arith) | inr high ↦ absurd (omega arith) ] in
+    subst P (sym is) (record {
+      inside = λ x above below. ap (λ d. is_some (change_at d x)) bare ∙ ap is_some (change_at-zeros_inside r.lbn r.count x above below);
+      outside = λ x away. ap (λ d. change_at d x) bare ∙ change_at-zeros_outside r.lbn r.count x (apart x away);
+    })
 
 -- an image whose blocks of the run are zeros, and the others as they were
 pub record IsCleared (I J : List (List ℕ)) (from to : ℕ) : Type 0 where
@@ -185,6 +205,33 @@ module _ (cs : List Change) (k lbn : ℕ) (c : Change) (some : 0 < k) (within : 
       by : (o : Option (List ℕ)) → is_some o ≡ true → is_some (or_older o (change_at (changes_of (take (k - 1) cs)) lbn)) ≡ true
       by None e = absurd (cc)
       by (Some b) e = refl
+
+-- of two lookups one has something
+some_newer : (o p : Option (List ℕ)) → is_some o ≡ true → is_some (or_older o p) ≡ true
+some_newer None p e = absurd (cc)
+some_newer (Some b) p e = refl
+
+some_older : (o p : Option (List ℕ)) → is_some p ≡ true → is_some (or_older o p) ≡ true
+some_older None p e = e
+some_older (Some b) p e = refl
+
+-- what is next is known with one change more
+pub next_more : (cs : List Change) (k : ℕ) (c : Change) (from to at next : ℕ) → k < length cs → c ≡ get_or cs k c → IsNextChange (changes_of (take k cs)) from to at → IsNextChange (changed c []) from at next
+    → IsNextChange (changes_of (take (k + 1) cs)) from to next
+next_more cs k c from to at next within is before here =
+    let d : Changes = changes_of (take k cs) in
+    let low = here.below in
+    let high = before.below in
+    let now : (x : ℕ) → change_at (changes_of (take (k + 1) cs)) x ≡ or_older (change_at (changed c []) x) (change_at d x) = λ x. ap (λ e. change_at e x) (changes_of_more cs k c within is) ∙ change_at-changed c d x in
+    record {
+      above = here.above;
+      below = omega arith;
+      passed = λ x above below. now x ∙ ap (λ o. or_older o (change_at d x)) (here.passed x above below) ∙ before.passed x above (omega arith);
+      stops = λ less. ap is_some (now next) ∙ elim (cases_lt next at) [
+        | inl earlier ↦ some_newer (change_at (changed c []) next) (change_at d next) (here.stops earlier)
+        | inr same ↦ let one : at ≡ next = omega arith in some_older (change_at (changed c []) next) (change_at d next) (ap (λ x. is_some (change_at d x)) (sym one) ∙ before.stops (omega arith))
+      ];
+    }
 
 -- what is not there
 pub none_since : (o : Option (List ℕ)) → is_some o ≡ false → None ≡ o

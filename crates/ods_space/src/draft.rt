@@ -13,9 +13,9 @@ enum Change {
 }
 
 impl Change {
-    ghost use Rattle.std.specs.Prelude.{◌≡◌, true, [], IfSome, is_some};
+    ghost use Rattle.std.specs.Prelude.{◌≡◌, ◌≤◌, true, [], IfSome, is_some};
     ghost use Rattle.ods_base.specs.Block.{IsBlock};
-    ghost use Rattle.ods_space.specs.{Draft.change_at, Draft.applied, Changes.changed, declared.draft.Change.TheVariants.Set};
+    ghost use Rattle.ods_space.specs.{Draft.change_at, Draft.applied, Draft.IsNextChange, Changes.IsSpan, Changes.changed, declared.draft.Change.TheVariants.Set};
     ghost use Rattle.std.specs.Prelude.{ℕ, List};
 
     /// Whether this change sets the block at this LBN.
@@ -26,6 +26,26 @@ impl Change {
             Change::Set(at, _) => *at == lbn,
             Change::Zero(_) => false,
         }
+    }
+
+    /// The LBNs that this change is of: from the first on, below the second.
+    fn span(&self) -> (u64, u64)
+        ensures { IsSpan (changed self.now []) result.0 result.1 }
+    {
+        match self {
+            Change::Set(at, _) => (*at as u64, *at as u64 + 1),
+            Change::Zero(run) => (run.lbn as u64, run.lbn as u64 + run.count as u64),
+        }
+    }
+
+    /// The least LBN from `from` on and below `to` that this change is of, or `to` for none.
+    fn next(&self, from: u64, to: u64) -> u64
+        requires { from ≤ to }
+        ensures { IsNextChange (changed self.now []) from to result }
+    {
+        let (first, end) = self.span();
+        let at = first.max(from);
+        if at < end { at.min(to) } else { to }
     }
 
     /// Whether this change is of the block at this LBN.
@@ -91,9 +111,9 @@ impl Model for Draft {
 }
 
 impl Draft {
-    ghost use Rattle.std.specs.Prelude.{◌≡◌, ◌<◌, ◌∷◌, ℕ, List, [], length, is_some, IfOk, OnOk, OnErr};
+    ghost use Rattle.std.specs.Prelude.{◌≡◌, ◌<◌, ◌≤◌, ◌∷◌, ℕ, List, [], length, is_some, IfOk, OnOk, OnErr};
     ghost use Rattle.ods_base.specs.Block.{IsBlock};
-    ghost use Rattle.ods_space.specs.Draft.{change_at, seen_at, applied, zeroed};
+    ghost use Rattle.ods_space.specs.Draft.{IsNextChange, change_at, seen_at, applied, zeroed};
 
     /// A draft without a change.
     pub fn new(alloc: Global) -> Draft
@@ -128,6 +148,18 @@ impl Draft {
             }
         }
         false
+    }
+
+    /// The least LBN from `from` on and below `to` that changes, or `to` for none.
+    pub fn next_change(&self, from: u64, to: u64) -> u64
+        requires { from ≤ to }
+        ensures { IsNextChange self.now from to result }
+    {
+        let mut at = to;
+        for change in &self.changes {
+            at = change.next(from, at);
+        }
+        at
     }
 
     /// One block changes. After an `Err` the draft is as it was.

@@ -40,7 +40,7 @@ impl<'a> ChainHeaders<'a> {
     ghost use Rattle.ods_space.specs.{Layout.header_at, Chain.IsChain, Chain.headers_of, Files.IsLayoutOf};
 
     /// The headers of the chain of this file.
-    pub fn of(image: &'a Image, layout: &'a Layout, number: u16) -> ChainHeaders<'a>
+    pub fn of(image: &'a Image, layout: &'a Layout, number: u16) -> Self
         requires layout { IsLayoutOf image.now layout.now }
         requires chain { (others : List ℕ) × (blocks : List ℕ) × IsChain image.now layout.now number others blocks }
         ensures { result ≡ headers_of image.now layout.now number }
@@ -52,12 +52,7 @@ impl<'a> ChainHeaders<'a> {
     }
 
     /// The headers of the chain with this first header.
-    pub fn from(
-        image: &'a Image,
-        layout: &'a Layout,
-        number: u16,
-        first: &'a Block,
-    ) -> ChainHeaders<'a>
+    pub fn from(image: &'a Image, layout: &'a Layout, number: u16, first: &'a Block) -> Self
         requires layout { IsLayoutOf image.now layout.now }
         requires chain { (others : List ℕ) × (blocks : List ℕ) × IsChain image.now layout.now number others blocks }
         requires first { first.now ≡ header_at image.now layout.now number }
@@ -65,7 +60,7 @@ impl<'a> ChainHeaders<'a> {
     {
         // The blocks of an image have bytes, so a chain has at most 256 headers.
         let _ = image.len();
-        ChainHeaders {
+        Self {
             image,
             layout,
             number,

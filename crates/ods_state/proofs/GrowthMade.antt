@@ -146,7 +146,14 @@ module _ (I K J : List (List ℕ)) (L : VolumeLayout) (S : IsSoundBy I L) (n : �
   kept_at : (m : ℕ) → Contains written m → KeepsFields (header_at K L m) (header_at J L m)
   kept_at m c = All-contains (λ x. KeepsFields (header_at K L x) (header_at J L x)) written m e.stays c
 
-  -- what of an old header was written
+  -- what the first header keeps where the file is there, each header keeps
+  field_before : {A : Type 0} (f : List ℕ → A) → f (header_at K L n) ≡ f (header_at I L n) → (m : ℕ) → f (header_at K L m) ≡ f (header_at I L m)
+  field_before f first m = by (cases_eq m n)
+    where
+      by : (m ≡ n) ⊎ (m ≢ n) → f (header_at K L m) ≡ f (header_at I L m)
+      by (inl is) = subst (λ x. f (header_at K L x) ≡ f (header_at I L x)) (sym is) first
+      by (inr other) = ap f (same_header m other)
+
   form_before : Old → (m : ℕ) → KeepsForm (header_at I L m) (header_at K L m)
   form_before o m = by (cases_eq m n)
     where
@@ -155,25 +162,7 @@ module _ (I K J : List (List ℕ)) (L : VolumeLayout) (S : IsSoundBy I L) (n : �
       by (inr other) = λ i at. ap (λ b. byte b i) (same_header m other)
 
   runs_before : Old → (m : ℕ) → runs_of (header_at K L m) ≡ runs_of (header_at I L m)
-  runs_before o m = by (cases_eq m n)
-    where
-      by : (m ≡ n) ⊎ (m ≢ n) → runs_of (header_at K L m) ≡ runs_of (header_at I L m)
-      by (inl is) = subst (λ x. runs_of (header_at K L x) ≡ runs_of (header_at I L x)) (sym is) o.kept.pointers
-      by (inr other) = ap runs_of (same_header m other)
-
-  volume_before : Old → (m : ℕ) → next_volume_of (header_at K L m) ≡ next_volume_of (header_at I L m)
-  volume_before o m = by (cases_eq m n)
-    where
-      by : (m ≡ n) ⊎ (m ≢ n) → next_volume_of (header_at K L m) ≡ next_volume_of (header_at I L m)
-      by (inl is) = subst (λ x. next_volume_of (header_at K L x) ≡ next_volume_of (header_at I L x)) (sym is) o.kept.links.next_volume
-      by (inr other) = ap next_volume_of (same_header m other)
-
-  sequence_before : Old → (m : ℕ) → sequence_of (header_at K L m) ≡ sequence_of (header_at I L m)
-  sequence_before o m = by (cases_eq m n)
-    where
-      by : (m ≡ n) ⊎ (m ≢ n) → sequence_of (header_at K L m) ≡ sequence_of (header_at I L m)
-      by (inl is) = subst (λ x. sequence_of (header_at K L x) ≡ sequence_of (header_at I L x)) (sym is) o.kept.links.sequence
-      by (inr other) = ap sequence_of (same_header m other)
+  runs_before o = field_before runs_of o.kept.pointers
 
   -- a number that is taken is the new first header, or one of those behind
   number_from : (m : ℕ) → Contains (taken_numbers I L headers count) m → (New × (m ≡ n)) ⊎ Contains numbers m
@@ -208,7 +197,7 @@ module _ (I K J : List (List ℕ)) (L : VolumeLayout) (S : IsSoundBy I L) (n : �
   sequence_stays m c = by which
     where
       by : Old ⊎ New → sequence_of (header_at J L m) ≡ sequence_of (header_at I L m)
-      by (inl o) = let c' = among o m c in sequence_kept (header_at K L m) (header_at J L m) m (old_valid o m c') (kept_at m c') ∙ sequence_before o m
+      by (inl o) = let c' = among o m c in sequence_kept (header_at K L m) (header_at J L m) m (old_valid o m c') (kept_at m c') ∙ field_before sequence_of o.kept.links.sequence m
       by (inr f) = absurd (no_header f m c)
 
   sequence_rises : (m : ℕ) → Contains (taken_numbers I L headers count) m → sequence_of (header_at J L m) ≡ sequence_of (header_at I L m) + 1
@@ -352,7 +341,7 @@ module _ (I K J : List (List ℕ)) (L : VolumeLayout) (S : IsSoundBy I L) (n : �
       by (inl o) =
           let z : ℕ = last_of n (drop 1 headers) in
           let there : z ≡ last_of first behind = ap (λ l. last_of (get_or l 0 0) (drop 1 l)) (sym o.is ∙ is) in
-          subst (λ m. next_volume_of (header_at J L m) ≡ next_volume_of (header_at I L m)) there (e.last_volume (no_number o.is) ∙ volume_before o z)
+          subst (λ m. next_volume_of (header_at J L m) ≡ next_volume_of (header_at I L m)) there (e.last_volume (no_number o.is) ∙ field_before next_volume_of o.kept.links.next_volume z)
       by (inr f) = let clash : ◌≡◌ {A = List ℕ} (first ∷ behind) [] = sym is ∙ f.none in absurd (cc)
 
   pub made : AreMade (disk I L) (disk J L) headers (taken_numbers I L headers count)

@@ -59,25 +59,25 @@ module _ (m : List (List ℕ)) (o : List Entry) where
   pub admits : Admits (Keeps m o) (newcomer o)
   admits x views h = (h.0, h.1, h.2, h.3, fits_snoc h.0 views (newcomer o) h.4 h.3)
 
-  pub looks : (seat : ℕ) (v : View) (least : ℕ) → Turns (Keeps m o) seat v (λ x. x) (LookedFrom least m)
-  looks seat v least x views h at = by_count (dec_le least x.count)
+  pub looks : (place : ℕ) (v : View) (least : ℕ) → Turns (Keeps m o) place v (λ x. x) (LookedFrom least m)
+  looks place v least x views h at = by_count (dec_le least x.count)
     where
-      by_count : Dec (least ≤ x.count) → (w : View) × Keeps m o x (set views seat w) × LookedFrom least m v x x w
+      by_count : Dec (least ≤ x.count) → (w : View) × Keeps m o x (set views place w) × LookedFrom least m v x x w
       by_count (yes enough) =
           let w = newcomer h.0 in (
             w,
-            (h.0, h.1, h.2, h.3, fits_set h.0 views seat w (λ j u _ e. h.4 j u e) (begins_refl h.0)),
-            ((λ _. (h.4 seat v at, h.2, h.1)), (λ (less : x.count < least). absurd (omega arith))),
+            (h.0, h.1, h.2, h.3, fits_set h.0 views place w (λ j u _ e. h.4 j u e) (begins_refl h.0)),
+            ((λ _. (h.4 place v at, h.2, h.1)), (λ (less : x.count < least). absurd (omega arith))),
           )
       by_count (no few) = (
         v,
-        (h.0, h.1, h.2, h.3, fits_set h.0 views seat v (λ j u _ e. h.4 j u e) (h.4 seat v at)),
+        (h.0, h.1, h.2, h.3, fits_set h.0 views place v (λ j u _ e. h.4 j u e) (h.4 place v at)),
         ((λ enough. absurd (few enough)), (λ _. refl)),
       )
 
-  pub adds : (seat : ℕ) (v : View) (e : Entry) (x y : Version) → length v.seen ≡ x.count → y.count ≡ x.count + 1 → IsVersionBy m (v.seen ++ e ∷ []) y.image y.layout → TurnsAt (Keeps m o) seat v x y (Added e)
-  adds seat v e x y had has is views h at =
-      let mine = h.4 seat v at in
+  pub adds : (place : ℕ) (v : View) (e : Entry) (x y : Version) → length v.seen ≡ x.count → y.count ≡ x.count + 1 → IsVersionBy m (v.seen ++ e ∷ []) y.image y.layout → TurnsAt (Keeps m o) place v x y (Added e)
+  adds place v e x y had has is views h at =
+      let mine = h.4 place v at in
       let whole : v.seen ≡ h.0 = begins_whole v.seen h.0 mine (h.2 ∙ sym had) in
       let log = v.seen ++ e ∷ [] in
       let w = newcomer log in (
@@ -87,19 +87,19 @@ module _ (m : List (List ℕ)) (o : List Entry) where
           is,
           omega (arith, length-append v.seen (e ∷ [])),
           subst (λ (l : List Entry). Begins o (l ++ e ∷ [])) (sym whole) (begins_more o h.0 (e ∷ []) h.3),
-          fits_set log views seat w (λ j u _ at'. subst (λ (l : List Entry). Fits (l ++ e ∷ []) u) (sym whole) (begins_more u.seen h.0 (e ∷ []) (h.4 j u at'))) (begins_refl log),
+          fits_set log views place w (λ j u _ at'. subst (λ (l : List Entry). Fits (l ++ e ∷ []) u) (sym whole) (begins_more u.seen h.0 (e ∷ []) (h.4 j u at'))) (begins_refl log),
         ),
         refl,
       )
 
-  pub forks : (seat : ℕ) (v : View) → Forks (Keeps m o) seat v v v
-  forks seat v x views h at =
-      let mine = h.4 seat v at in
-      (h.0, h.1, h.2, h.3, fits_snoc h.0 (set views seat v) v (λ j u e. fits_set h.0 views seat v (λ i y _ e'. h.4 i y e') mine j u e) mine)
+  pub forks : (place : ℕ) (v : View) → Forks (Keeps m o) place v v v
+  forks place v x views h at =
+      let mine = h.4 place v at in
+      (h.0, h.1, h.2, h.3, fits_snoc h.0 (set views place v) v (λ j u e. fits_set h.0 views place v (λ i y _ e'. h.4 i y e') mine j u e) mine)
 
-  pub merges : (seat : ℕ) (v : View) (other : ℕ) (w : View) → Merges (Keeps m o) seat v other w w (newcomer [])
-  merges seat v other w x views h at apart there =
-      let mine = h.4 seat v at in
+  pub merges : (place : ℕ) (v : View) (other : ℕ) (w : View) → Merges (Keeps m o) place v other w w (newcomer [])
+  merges place v other w x views h at apart there =
+      let mine = h.4 place v at in
       let both = w in
-      let theirs : Fits h.0 w = ⊎_elim (λ (t : (other ≡ seat) × (both ≡ w)). absurd (apart t.0)) (λ (t : (other ≢ seat) × (get_elem? views other ≡ some w)). h.4 other w t.1) (at_set views seat other both w there) in
-      (h.0, h.1, h.2, h.3, fits_set h.0 (set views seat both) other (newcomer []) (λ j u _ e. fits_set h.0 views seat both (λ i y _ e'. h.4 i y e') theirs j u e) (begins_nil h.0))
+      let theirs : Fits h.0 w = ⊎_elim (λ (t : (other ≡ place) × (both ≡ w)). absurd (apart t.0)) (λ (t : (other ≢ place) × (get_elem? views other ≡ some w)). h.4 other w t.1) (at_set views place other both w there) in
+      (h.0, h.1, h.2, h.3, fits_set h.0 (set views place both) other (newcomer []) (λ j u _ e. fits_set h.0 views place both (λ i y _ e'. h.4 i y e') theirs j u e) (begins_nil h.0))

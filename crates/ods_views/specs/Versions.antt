@@ -36,7 +36,7 @@ newcomer opening = record { seen = opening }
 abbrev pub Keeps : List (List ℕ) → List Entry → Version → List View → Type 0
 Keeps mounted opening x views =
     (log : List Entry) × IsVersionBy mounted log x.image x.layout × (length log ≡ x.count) × Begins opening log
-    × ((seat : ℕ) (v : View) → get_elem? views seat ≡ some v → Begins v.seen log)
+    × ((place : ℕ) (v : View) → get_elem? views place ≡ some v → Begins v.seen log)
 
 -- by the replay of the list: the fault, or an answer that is a step
 abbrev pub AnswersBy : List (List ℕ) → List Entry → Uic → Query → Result Answer Refusal → Type 0

@@ -15,5 +15,5 @@ pub use naming::Naming;
 pub use rule::{Adding, Adds, Asking, Lists, Looks, View};
 pub use told::{Told, entry_count};
 pub use version::{Change, Version};
-pub use viewer::{ViewFault, Viewer};
-pub use writing::{DeskWriter, added, opened, published};
+pub use viewer::{ViewFault, Viewer, make_viewers};
+pub use writing::{DeskWriter, add_change, open_writer, publish_change};

@@ -1,19 +1,19 @@
 //! Who looks beside the lock.
-ghost use Rattle.std.specs.Prelude.{◌≡◌, max, length, MatchResult};
+ghost use Rattle.std.specs.Prelude.{◌≡◌, max, length, vec_len, All, IfOk, MatchResult};
 ghost use Rattle.left_right.specs.Sides.{view};
 ghost use Rattle.ods_request.specs.Lists.{Begins};
-ghost use Rattle.ods_views.specs.{Versions.LookedFrom, Viewers.Asked, Viewers.IsShown, Viewers.newly, Viewers.seen_by, Refusals.view_row};
-ghost use Rattle.ods_mount.specs.Sound.{IsSoundBy};
+ghost use Rattle.ods_views.specs.{Versions.LookedFrom, Viewers.Asked, Viewers.newly, Viewers.seen_by, Refusals.view_row};
 
-use crate::laws::answers_by_the_list;
 use crate::naming::Naming;
 use crate::rule::{Asking, Lists, Looks, View};
 use crate::told::Told;
 use crate::version::Version;
+use crate::writing::DeskWriter;
 use left_right::reader::{Reader, Reading};
 use ods_base::{Coded, Row, Uic};
 use ods_look::look;
 use ods_request::{Answer, Query, Refusal};
+use std::alloc::{AllocError, Global};
 use std::marker::{Brand, Model};
 use thiserror::Error;
 
@@ -62,14 +62,14 @@ impl<J: Naming> Model for Viewer<J> {
 }
 
 impl<J: Naming> Viewer<J> {
-    /// The viewer at a reader's place, which was told of so many entries. A desk makes it.
-    pub fn over(reader: DeskReader<J>, least: u64) -> Viewer<J>
-        ensures { result ≡ record { seen = seen_by reader.place; least = least } }
+    /// The viewer at a new place of this writer's desk.
+    fn beside(writer: &DeskWriter<J>) -> Result<Viewer<J>, AllocError>
+        ensures { IfOk result (λ v. v ≡ newly J.opening) }
     {
-        Viewer {
-            reader: Some(reader),
-            least,
-        }
+        Ok(Viewer {
+            reader: Some(writer.factory().reader()?),
+            least: 0,
+        })
     }
 
     /// From now on it answers from no fewer entries than it was told of: there are so many in the list that it then has seen.
@@ -79,7 +79,8 @@ impl<J: Naming> Viewer<J> {
         self.least = self.least.max(u64::from(told.entries()));
     }
 
-    /// Answers from the version that is published now. It waits for nobody and takes no memory.
+    /// Answers from the version that is published now. It waits for nobody and takes no memory. What it looked up is moved once, after the
+    /// version is left.
     pub fn ask(&mut self, who: Uic, query: Query) -> Result<Answer, ViewFault>
         ensures later { Begins self.old.seen self.new.seen }
         ensures least { self.new.least ≡ self.old.least }
@@ -87,16 +88,19 @@ impl<J: Naming> Viewer<J> {
     {
         let least = self.least;
         let reader = self.reader.take().unwrap();
-        match entered::<J, Brand>(reader, least) {
+        match enter::<J, Brand>(reader, least) {
             Ok(reading) => {
                 let version = reading.get();
                 if version.count < least {
                     self.reader = Some(reading.leave());
                     return Err(ViewFault::Closed);
                 }
-                let found = shown(version, who, query);
+                let found = look(&version.image, &version.layout, who, query);
                 self.reader = Some(reading.leave());
-                found
+                match found {
+                    Ok(answer) => Ok(answer),
+                    Err(refusal) => Err(ViewFault::Refused(refusal)),
+                }
             }
             Err(reader) => {
                 self.reader = Some(reader);
@@ -106,20 +110,26 @@ impl<J: Naming> Viewer<J> {
     }
 }
 
-/// What a version answers.
-fn shown(version: &Version, who: Uic, query: Query) -> Result<Answer, ViewFault>
-    requires { IsSoundBy version.now.image version.now.layout }
-    ensures { IsShown version.now who query result }
+/// A viewer for each of so many places of this writer's desk, which has seen the opening list.
+pub fn make_viewers<J: Naming>(
+    alloc: Global,
+    writer: &DeskWriter<J>,
+    places: usize,
+) -> Result<Vec<Viewer<J>>, AllocError>
+    ensures { IfOk result (λ v. (vec_len v ≡ places) × All (λ x. x ≡ newly J.opening) v.items) }
 {
-    answers_by_the_list();
-    match look(&version.image, &version.layout, who, query) {
-        Ok(answer) => Ok(answer),
-        Err(refusal) => Err(ViewFault::Refused(refusal)),
+    let mut viewers = Vec::with_capacity(alloc, places)?;
+    for _ in 0..places {
+        let viewer = Viewer::beside(writer)?;
+        if viewers.push(viewer).is_err() {
+            return Err(AllocError);
+        }
     }
+    Ok(viewers)
 }
 
 /// Takes the version that is published. Its list is learnt only where it has so many entries.
-fn entered<J: Naming, N: Asking>(
+fn enter<J: Naming, N: Asking>(
     reader: DeskReader<J>,
     least: u64,
 ) -> Result<Reading<Version, View, Lists<J>>, DeskReader<J>>

@@ -15,7 +15,7 @@ use std::sync::Wait;
 pub type DeskWriter<J> = Writer<Version, Change, View, Lists<J>>;
 
 /// The writer over two copies of the volume's blocks.
-pub fn opened<J: Naming>(
+pub fn open_writer<J: Naming>(
     alloc: Global,
     volume: &Volume,
     places: usize,
@@ -46,7 +46,7 @@ pub fn opened<J: Naming>(
 }
 
 /// The writer with this change pending, or as it was where there is no memory.
-pub fn added<J: Naming>(
+pub fn add_change<J: Naming>(
     writer: DeskWriter<J>,
     change: Change,
 ) -> Result<DeskWriter<J>, DeskWriter<J>>
@@ -61,7 +61,7 @@ pub fn added<J: Naming>(
 }
 
 /// Shows the pending change, which leads to the blocks of this volume, whose last entry this plan has.
-pub fn published<J: Naming, N: Adding, R: Wait>(
+pub fn publish_change<J: Naming, N: Adding, R: Wait>(
     rt: &R,
     writer: DeskWriter<J>,
     plan: Snapshot<Prepared>,

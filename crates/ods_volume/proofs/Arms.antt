@@ -1,5 +1,5 @@
 -- The arms of a match on a request.
-use Rattle.std.proofs.Common.{◌≡◌, ◌≢◌, ℕ, refl, sym, subst, List, Option}
+use Rattle.std.proofs.Common.{◌≡◌, ◌≢◌, ℕ, refl, sym, subst, false, List, Option}
 use Rattle.ods_base.specs.Name.{RadName}
 use Rattle.ods_base.specs.declared.file_id.FileId.{FileId}
 use Rattle.ods_base.specs.declared.file_id.Uic.{Uic}
@@ -11,26 +11,41 @@ use Rattle.ods_request.specs.declared.requests.Query.TheVariants as query
 use Rattle.ods_request.specs.declared.requests.Request.{Request}
 use Rattle.ods_request.specs.declared.requests.Request.TheVariants.{Create, Extend, Delete, Enter, LookUp, Remove, Read, Write, List as Lines, Stat, SetUser}
 use Rattle.ods_request.specs.Queries.{request_of}
+use Rattle.ods_request.specs.Table.{only_looks}
 use Rattle.ods_space.specs.Layout.{VolumeLayout}
 use Rattle.ods_state.specs.Served.{IsRefusalOf, IsStepOf}
 
--- each request that is no query has an arm
-pub no_other : (r : Request) → ((q : Query) → request_of q ≢ r)
+-- each request that is no query and no List changes something
+pub others_change : (r : Request) → ((q : Query) → request_of q ≢ r) → ((dir : FileId) → r ≢ Lines dir) → only_looks r ≡ false
+others_change (LookUp dir name pick) queries lists = absurd (queries (query.LookUp dir name pick) refl)
+others_change (Read file vbn) queries lists = absurd (queries (query.Read file vbn) refl)
+others_change (Stat file) queries lists = absurd (queries (query.Stat file) refl)
+others_change (Lines dir) queries lists = absurd (lists dir refl)
+others_change (Create name version blocks stamp) queries lists = refl
+others_change (Extend file blocks) queries lists = refl
+others_change (Delete file) queries lists = refl
+others_change (Enter dir name version file) queries lists = refl
+others_change (Remove dir name pick) queries lists = refl
+others_change (Write file vbn block) queries lists = refl
+others_change (SetUser file attributes) queries lists = refl
+
+-- each request that does not only look has an arm
+pub no_other : (r : Request) → only_looks r ≡ false
     → ((name : RadName) (version blocks : ℕ) (stamp : List ℕ) → r ≢ Create name version blocks stamp) → ((file : FileId) (blocks : ℕ) → r ≢ Extend file blocks)
     → ((file : FileId) → r ≢ Delete file) → ((dir : FileId) (name : RadName) (version : Option ℕ) (file : FileId) → r ≢ Enter dir name version file)
-    → ((dir : FileId) → r ≢ Lines dir) → ((file : FileId) (vbn : ℕ) (block : List ℕ) → r ≢ Write file vbn block)
+    → ((file : FileId) (vbn : ℕ) (block : List ℕ) → r ≢ Write file vbn block)
     → ((file : FileId) (attributes : List ℕ) → r ≢ SetUser file attributes) → ((dir : FileId) (name : RadName) (pick : Pick) → r ≢ Remove dir name pick) → ⊥
-no_other (LookUp dir name pick) queries creates extends deletes enters lists writes sets removes = queries (query.LookUp dir name pick) refl
-no_other (Read file vbn) queries creates extends deletes enters lists writes sets removes = queries (query.Read file vbn) refl
-no_other (Stat file) queries creates extends deletes enters lists writes sets removes = queries (query.Stat file) refl
-no_other (Create name version blocks stamp) queries creates extends deletes enters lists writes sets removes = creates name version blocks stamp refl
-no_other (Extend file blocks) queries creates extends deletes enters lists writes sets removes = extends file blocks refl
-no_other (Delete file) queries creates extends deletes enters lists writes sets removes = deletes file refl
-no_other (Enter dir name version file) queries creates extends deletes enters lists writes sets removes = enters dir name version file refl
-no_other (Lines dir) queries creates extends deletes enters lists writes sets removes = lists dir refl
-no_other (Write file vbn block) queries creates extends deletes enters lists writes sets removes = writes file vbn block refl
-no_other (SetUser file attributes) queries creates extends deletes enters lists writes sets removes = sets file attributes refl
-no_other (Remove dir name pick) queries creates extends deletes enters lists writes sets removes = removes dir name pick refl
+no_other (LookUp dir name pick) changes creates extends deletes enters writes sets removes = absurd (cc)
+no_other (Read file vbn) changes creates extends deletes enters writes sets removes = absurd (cc)
+no_other (Stat file) changes creates extends deletes enters writes sets removes = absurd (cc)
+no_other (Lines dir) changes creates extends deletes enters writes sets removes = absurd (cc)
+no_other (Create name version blocks stamp) changes creates extends deletes enters writes sets removes = creates name version blocks stamp refl
+no_other (Extend file blocks) changes creates extends deletes enters writes sets removes = extends file blocks refl
+no_other (Delete file) changes creates extends deletes enters writes sets removes = deletes file refl
+no_other (Enter dir name version file) changes creates extends deletes enters writes sets removes = enters dir name version file refl
+no_other (Write file vbn block) changes creates extends deletes enters writes sets removes = writes file vbn block refl
+no_other (SetUser file attributes) changes creates extends deletes enters writes sets removes = sets file attributes refl
+no_other (Remove dir name pick) changes creates extends deletes enters writes sets removes = removes dir name pick refl
 
 -- what an arm finds of its request is found of the request that was given
 pub step_as : {I : List (List ℕ)} {L : VolumeLayout} {who : Uic} {given its : Request} {a : Answer} {J : List (List ℕ)} {M : VolumeLayout}

@@ -1,6 +1,10 @@
 -- What a volume is made of, and what it keeps beside what contracts see: the room of its list is reserved, and what the bitmaps have left is counted.
-use Rattle.std.specs.Prelude.{◌≡◌, ℕ, ◌≤◌}
+use Rattle.std.specs.Prelude.{◌≡◌, ℕ, ◌≤◌, List, Option, MatchOption}
 use Rattle.ods_alloc.specs.Counts.{Counts, counts_of}
+use Rattle.ods_base.specs.declared.listed.Listed.{Listed}
+use Rattle.ods_request.specs.declared.answers.Answer.{Answer}
+use Rattle.ods_request.specs.declared.answers.Answer.TheVariants.{Names}
+use Rattle.ods_request.specs.Lines.{HasLines}
 use Rattle.ods_state.specs.Version.{State, IsLawful}
 use Rattle.ods_volume.specs.declared.volume.Volume.TheInside.{Inside}
 
@@ -15,3 +19,7 @@ pub record IsKept (v : State) (capacity : ℕ) (counts : Counts) : Type 0 where
   pub high : v.limit ≤ 65536
   pub reserved : v.limit ≤ capacity
   pub counted : counts ≡ counts_of v.image v.layout
+
+-- the lines of an answer, where it has lines
+abbrev pub AreLinesOf : Answer → Option (List Listed) → Type 0
+AreLinesOf a lines = MatchOption lines (¬ HasLines a) (λ l. a ≡ Names l)

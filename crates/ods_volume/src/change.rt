@@ -3,7 +3,7 @@ ghost use Rattle.std.specs.Prelude.{◌≡◌, ◌≢◌, ◌<◌, false, length
 ghost use Rattle.ods_request.specs.{declared.refusals.Refusal.Refusal, Catalogue.Catalogue, Faults.fault_of, Table.takes_memory};
 ghost use Rattle.ods_state.specs.{Version.IsPresent, Wants.Lacks, Outcome.Accepts, Outcome.CanBeAsked, Outcome.IsReason, Outcome.IsLawfulPlan, Outcome.carried_out, Outcome.entry_of};
 
-use crate::planned::Prepared;
+use crate::planned::{Prepared, answer_with};
 use crate::volume::Volume;
 use ods_alloc::FreeCounts;
 use ods_base::Uic;
@@ -28,10 +28,11 @@ impl Volume {
     {
         let Prepared {
             entry,
-            answer,
+            lines,
             draft,
             counts,
         } = prepared;
+        let answer = answer_with(&entry.answer, lines);
         match self.entries.push(entry) {
             Ok(()) => {
                 draft.apply(&mut self.image);

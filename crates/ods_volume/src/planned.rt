@@ -1,19 +1,20 @@
 //! A request that is accepted, before its change is made.
 ghost use Rattle.std.specs.Prelude.{◌≡◌, IfOk, OnErr};
 ghost use Rattle.ods_request.specs.Lines.{HasLines};
+ghost use Rattle.ods_volume.specs.Kept.{AreLinesOf};
 
 use ods_alloc::FreeCounts;
-use ods_request::{Answer, Entry};
+use ods_request::{Answer, Entry, Listing};
 use ods_space::Draft;
 use std::alloc::AllocError;
 use std::marker::Model;
 
 /// A request that is accepted, with its answer, the blocks that it changes, and the counts of the bitmaps afterwards, where they are
-/// made anew. The answer is there twice, once for the list and once for the caller, so that making the change takes no memory.
+/// made anew. The lines of a directory are there twice, once for the list and once for the caller, so that making the change takes no memory.
 #[derive(Drop)]
 pub struct Prepared {
     pub(crate) entry: Entry,
-    pub(crate) answer: Answer,
+    pub(crate) lines: Option<Listing>,
     pub(crate) draft: Draft,
     pub(crate) counts: Option<FreeCounts>,
 }
@@ -26,7 +27,37 @@ impl Model for Prepared {
 
     ghost view = { λ p. record { entry = p.entry; changes = p.draft; counts = p.counts } };
 
-    ghost invariant = { λ p. p.answer ≡ p.entry.answer };
+    ghost use Rattle.ods_volume.specs.Kept.{AreLinesOf};
+
+    ghost invariant = { λ p. AreLinesOf p.entry.answer p.lines };
+}
+
+/// The lines of an answer once more, where it has lines. Only they take memory.
+fn lines_of(answer: &Answer) -> Result<Option<Listing>, AllocError>
+    ensures ok { IfOk result (AreLinesOf answer.now) }
+    ensures err { OnErr result (HasLines answer.now) }
+{
+    match answer {
+        Answer::Names(lines) => match lines.copy() {
+            Ok(copy) => Ok(Some(copy)),
+            Err(error) => Err(error),
+        },
+        _ => Ok(None),
+    }
+}
+
+/// The answer with these lines, or, where there are none, its copy, which takes no memory.
+pub(crate) fn answer_with(answer: &Answer, lines: Option<Listing>) -> Answer
+    requires { AreLinesOf answer.now lines }
+    ensures { result ≡ answer.now }
+{
+    if let Some(lines) = lines {
+        return Answer::Names(lines);
+    }
+    match answer.copy() {
+        Ok(copy) => copy,
+        Err(_) => unreachable!(),
+    }
 }
 
 impl Prepared {
@@ -39,10 +70,10 @@ impl Prepared {
         ensures ok { IfOk result (λ p. p ≡ record { entry = entry; changes = draft; counts = counts }) }
         ensures err { OnErr result (HasLines entry.answer) }
     {
-        match entry.answer.copy() {
-            Ok(answer) => Ok(Prepared {
+        match lines_of(&entry.answer) {
+            Ok(lines) => Ok(Prepared {
                 entry,
-                answer,
+                lines,
                 draft,
                 counts,
             }),
@@ -61,6 +92,6 @@ impl Prepared {
     pub fn answer(&self) -> &Answer
         ensures { result.now ≡ self.now.entry.answer }
     {
-        &self.answer
+        &self.entry.answer
     }
 }

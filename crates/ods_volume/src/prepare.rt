@@ -4,13 +4,14 @@ ghost use Rattle.std.specs.Prelude.{◌≡◌, ◌≢◌, ◌<◌, false, true, 
 ghost use Rattle.ods_alloc.specs.Counts.{AreCountsAfter, counts_of};
 ghost use Rattle.ods_space.specs.Draft.{applied};
 ghost use Rattle.ods_mount.specs.Sound.{IsSoundBy};
-ghost use Rattle.ods_request.specs.{declared.answers.Answer.Answer, declared.refusals.Refusal.Refusal, Catalogue.Catalogue, Faults.fault_of, Queries.request_of, Table.takes_memory};
+ghost use Rattle.ods_request.specs.{declared.answers.Answer.Answer, declared.refusals.Refusal.Refusal, declared.requests.Request.TheVariants.List as Lines, Catalogue.Catalogue, Faults.fault_of, Queries.request_of, Table.only_looks, Table.takes_memory};
 ghost use Rattle.ods_state.specs.{Version.IsPresent, Wants.Lacks, Served.IsStepOf, Served.IsRefusalOf, Outcome.CanBeAsked, Outcome.IsReason, Outcome.IsLawfulPlan, Outcome.entry_of};
+ghost use Rattle.ods_volume.specs.Made.{answer_of};
 
 use crate::planned::Prepared;
 use crate::volume::Volume;
 use ods_alloc::FreeCounts;
-use ods_base::{Image, Uic};
+use ods_base::{FileId, Image, Uic};
 use ods_change::{create, delete, enter, extend, remove, set_user, write};
 use ods_look::{list, look};
 use ods_request::{Answer, Entry, Query, Refusal, Request};
@@ -35,6 +36,119 @@ fn look_only(
     }
 }
 
+/// What a List is answered. It changes no block.
+fn list_only(
+    alloc: Global,
+    image: &Image,
+    layout: &Layout,
+    who: Uic,
+    dir: FileId,
+) -> Result<(Answer, Draft), Refusal>
+    requires { IsSoundBy image.now layout.now }
+    ensures { MatchResult result (λ p. IsStepOf image.now layout.now who (Lines dir) p.0 (applied image.now p.1) layout.now)
+        (IsRefusalOf image.now layout.now who (Lines dir)) }
+{
+    match list(alloc, image, layout, who, dir) {
+        Ok(lines) => Ok((Answer::Names(lines), Draft::new(alloc))),
+        Err(refusal) => Err(refusal),
+    }
+}
+
+/// What a change is answered. No such answer has a block or lines, so this is small and cheap to hand on.
+#[derive(Clone, Copy)]
+pub(crate) enum Made {
+    Created(FileId),
+    Extended(u32),
+    Done,
+    Entered(u16),
+    Removed(FileId, u16),
+}
+
+/// The answer of a change.
+fn answer_of(made: Made) -> Answer
+    ensures { result ≡ answer_of made }
+{
+    match made {
+        Made::Created(file) => Answer::Created(file),
+        Made::Extended(count) => Answer::Extended(count),
+        Made::Done => Answer::Done,
+        Made::Entered(version) => Answer::Entered(version),
+        Made::Removed(file, version) => Answer::Removed(file, version),
+    }
+}
+
+/// What a request is answered that does not only look, and the blocks that it changes.
+fn change(
+    alloc: Global,
+    image: &Image,
+    layout: &Layout,
+    counts: &FreeCounts,
+    who: Uic,
+    request: &Request,
+) -> Result<(Made, Draft), Refusal>
+    requires asked { CanBeAsked request.now }
+    requires changes { only_looks request.now ≡ false }
+    requires sound { IsSoundBy image.now layout.now }
+    requires counts { counts.now ≡ counts_of image.now layout.now }
+    ensures { MatchResult result (λ p. IsStepOf image.now layout.now who request.now (answer_of p.0) (applied image.now p.1) layout.now)
+        (IsRefusalOf image.now layout.now who request.now) }
+{
+    match request {
+        Request::Create {
+            name,
+            version,
+            blocks,
+            stamp,
+        } => match create(
+            alloc, image, layout, counts, who, *name, *version, *blocks, *stamp,
+        ) {
+            Ok((draft, file)) => Ok((Made::Created(file), draft)),
+            Err(refusal) => Err(refusal),
+        },
+        Request::Extend { file, blocks } => {
+            match extend(alloc, image, layout, counts, who, *file, *blocks) {
+                Ok((draft, count)) => Ok((Made::Extended(count), draft)),
+                Err(refusal) => Err(refusal),
+            }
+        }
+        Request::Delete { file } => match delete(alloc, image, layout, who, *file) {
+            Ok(draft) => Ok((Made::Done, draft)),
+            Err(refusal) => Err(refusal),
+        },
+        Request::Enter {
+            dir,
+            name,
+            version,
+            file,
+        } => match enter(
+            alloc, image, layout, counts, who, *dir, *name, *version, *file,
+        ) {
+            Ok((draft, version)) => Ok((Made::Entered(version), draft)),
+            Err(refusal) => Err(refusal),
+        },
+        Request::Write { file, vbn, block } => {
+            match write(alloc, image, layout, who, *file, *vbn, block) {
+                Ok(draft) => Ok((Made::Done, draft)),
+                Err(refusal) => Err(refusal),
+            }
+        }
+        Request::SetUser { file, attributes } => {
+            match set_user(alloc, image, layout, who, *file, *attributes) {
+                Ok(draft) => Ok((Made::Done, draft)),
+                Err(refusal) => Err(refusal),
+            }
+        }
+        Request::Remove { dir, name, pick } => {
+            match remove(alloc, image, layout, who, *dir, *name, *pick) {
+                Ok((draft, file, version)) => Ok((Made::Removed(file, version), draft)),
+                Err(refusal) => Err(refusal),
+            }
+        }
+        // The others only look.
+        _ => unreachable!(),
+    }
+}
+
 /// What a request is answered, and the blocks that it changes.
 fn carry_out(
     alloc: Global,
@@ -53,61 +167,12 @@ fn carry_out(
     if let Some(query) = request.as_query() {
         return look_only(alloc, image, layout, who, query);
     }
-    match *request {
-        Request::Create {
-            name,
-            version,
-            blocks,
-            stamp,
-        } => match create(
-            alloc, image, layout, counts, who, name, version, blocks, stamp,
-        ) {
-            Ok((draft, file)) => Ok((Answer::Created(file), draft)),
-            Err(refusal) => Err(refusal),
-        },
-        Request::Extend { file, blocks } => {
-            match extend(alloc, image, layout, counts, who, file, blocks) {
-                Ok((draft, count)) => Ok((Answer::Extended(count), draft)),
-                Err(refusal) => Err(refusal),
-            }
-        }
-        Request::Delete { file } => match delete(alloc, image, layout, who, file) {
-            Ok(draft) => Ok((Answer::Done, draft)),
-            Err(refusal) => Err(refusal),
-        },
-        Request::Enter {
-            dir,
-            name,
-            version,
-            file,
-        } => match enter(alloc, image, layout, counts, who, dir, name, version, file) {
-            Ok((draft, version)) => Ok((Answer::Entered(version), draft)),
-            Err(refusal) => Err(refusal),
-        },
-        Request::List { dir } => match list(alloc, image, layout, who, dir) {
-            Ok(lines) => Ok((Answer::Names(lines), Draft::new(alloc))),
-            Err(refusal) => Err(refusal),
-        },
-        Request::Write { file, vbn, block } => {
-            match write(alloc, image, layout, who, file, vbn, &block) {
-                Ok(draft) => Ok((Answer::Done, draft)),
-                Err(refusal) => Err(refusal),
-            }
-        }
-        Request::SetUser { file, attributes } => {
-            match set_user(alloc, image, layout, who, file, attributes) {
-                Ok(draft) => Ok((Answer::Done, draft)),
-                Err(refusal) => Err(refusal),
-            }
-        }
-        Request::Remove { dir, name, pick } => {
-            match remove(alloc, image, layout, who, dir, name, pick) {
-                Ok((draft, file, version)) => Ok((Answer::Removed(file, version), draft)),
-                Err(refusal) => Err(refusal),
-            }
-        }
-        // The others are queries.
-        _ => unreachable!(),
+    if let Request::List { dir } = request {
+        return list_only(alloc, image, layout, who, *dir);
+    }
+    match change(alloc, image, layout, counts, who, request) {
+        Ok((made, draft)) => Ok((answer_of(made), draft)),
+        Err(refusal) => Err(refusal),
     }
 }
 

@@ -6,8 +6,8 @@ ghost use Rattle.ods_directory.specs.Names.{IsDirectory};
 use super::kept::{Kept, demand, put, zeroed};
 use crate::dice::Dice;
 use crate::persons::TXT;
-use ods_base::{Block, FileId, Name, Pick};
-use ods_directory::{DirFault, enter, entries, look_up, name_count, remove, slot_for};
+use ods_base::{Block, FileId, Listed, Name, Pick};
+use ods_directory::{DirFault, Slot, enter, entries, look_up, name_count, remove, slot_for};
 use std::alloc::Global;
 use std::collections::BTreeMap;
 use std::process::Abort;
@@ -32,7 +32,32 @@ fn picked(model: &Model, word: u16, pick: Pick) -> Option<u16> {
     }
 }
 
-/// Enters a name on both sides.
+/// What the map answers to an Enter: the version that is entered.
+fn version_for(model: &Model, word: u16, version: Option<u16>) -> Result<u16, DirFault> {
+    match version {
+        Some(exact) => match model.get(&(word, exact)) {
+            Some(_) => Err(DirFault::NameTaken),
+            None => Ok(exact),
+        },
+        None => match picked(model, word, Pick::Highest) {
+            Some(32767) => Err(DirFault::VersionsFull),
+            Some(highest) => Ok(highest.saturating_add(1)),
+            None => Ok(1),
+        },
+    }
+}
+
+/// Puts an entry into its slot, for which the directory takes a block where it has none.
+fn put_entry(rt: &impl Abort, kept: &mut Kept, slot: Slot, bytes: &[u8; 16]) -> Result<(), Fail> {
+    if slot.grows {
+        assert!(rt; kept.blocks.len() < 1000);
+        kept.blocks.push(Block::zeros())?;
+    }
+    put(rt, kept, slot.at, bytes);
+    Ok(())
+}
+
+/// Enters a name on both sides, and answers where the directory ends then.
 fn enter_both(
     rt: &impl Abort,
     kept: &mut Kept,
@@ -48,36 +73,18 @@ fn enter_both(
     requires version { ForSome version (λ v. (1 ≤ v) × (v ≤ 32767)) }
     requires file { file.number ≢ 0 }
 {
-    let wanted = match version {
-        Some(exact) => match model.get(&(word, exact)) {
-            Some(_) => Err(DirFault::NameTaken),
-            None => Ok(exact),
-        },
-        None => match picked(model, word, Pick::Highest) {
-            Some(32767) => Err(DirFault::VersionsFull),
-            Some(highest) => Ok(highest.saturating_add(1)),
-            None => Ok(1),
-        },
-    };
+    let wanted = version_for(model, word, version);
     let place = slot_for(kept, mark);
     match enter(kept, mark, &name_for(word), version, file) {
         Err(fault) => {
-            assert_eq!(rt; Err(fault), wanted);
+            assert!(rt; wanted == Err(fault), "{fault:?}");
             Ok(mark)
         }
         Ok(entered) => {
-            let version = entered.0;
-            let slot = entered.1;
-            let bytes = entered.2;
-            assert_eq!(rt; Ok(version), wanted);
-            assert_eq!(rt; slot, place);
-            if slot.grows {
-                assert!(rt; kept.blocks.len() < 1000);
-                kept.blocks.push(Block::zeros())?;
-            }
-            put(rt, kept, slot.at, &bytes);
-            model.insert((word, version), file)?;
-            Ok(slot.mark)
+            assert!(rt; wanted == Ok(entered.0) && entered.1 == place);
+            put_entry(rt, kept, place, &entered.2)?;
+            model.insert((word, entered.0), file)?;
+            Ok(place.mark)
         }
     }
 }
@@ -98,24 +105,21 @@ fn find_both(
 {
     let name = name_for(word);
     let found = look_up(kept, mark, &name, pick);
-    match picked(model, word, pick) {
-        None => {
-            assert_eq!(rt; found, Err(DirFault::NoSuchName));
-            assert_eq!(rt; remove(kept, mark, &name, pick), Err(DirFault::NoSuchName));
-        }
-        Some(version) => {
-            let file = model
-                .get(&(word, version))
-                .copied()
-                .expect(rt, "it is there");
-            assert_eq!(rt; found, Ok((file, version)));
-            if removes {
-                let (gone, which, at) = remove(kept, mark, &name, pick).expect(rt, "it is there");
-                assert_eq!(rt; (gone, which), (file, version));
-                put(rt, kept, at, &[0; 16]);
-                model.remove(&(word, version));
-            }
-        }
+    let Some(version) = picked(model, word, pick) else {
+        let removed = remove(kept, mark, &name, pick);
+        assert!(rt; found == Err(DirFault::NoSuchName) && removed == Err(DirFault::NoSuchName));
+        return Ok(());
+    };
+    let file = model
+        .get(&(word, version))
+        .copied()
+        .expect(rt, "it is there");
+    assert!(rt; found == Ok((file, version)));
+    if removes {
+        let (gone, which, at) = remove(kept, mark, &name, pick).expect(rt, "it is there");
+        assert!(rt; gone == file && which == version);
+        put(rt, kept, at, &[0; 16]);
+        model.remove(&(word, version));
     }
     Ok(())
 }
@@ -131,55 +135,80 @@ fn compare(
     requires directory { IsDirectory kept.now.blocks.items mark }
     requires mark { mark ≤ 512 * vec_len kept.now.blocks }
 {
-    let all = entries(alloc, kept, mark)?;
-    assert_eq!(rt; all.len(), model.len());
-    assert_eq!(rt; name_count(kept, mark), model.len() as u64);
-    for (line, (key, file)) in all.iter().zip(model.iter()) {
-        assert_eq!(rt; line.name.words()[0], key.0);
-        assert_eq!(rt; line.version, key.1);
-        assert_eq!(rt; line.file, *file);
-    }
+    assert!(rt; name_count(kept, mark) == model.len() as u64);
+    same_lines(rt, entries(alloc, kept, mark)?.as_slice(), model);
     Ok(())
+}
+
+/// The lines are those of the map.
+fn same_lines(rt: &impl Abort, lines: &[Listed], model: &Model) {
+    assert!(rt; lines.len() == model.len());
+    for (line, (key, file)) in lines.iter().zip(model.iter()) {
+        let found = (line.name.words()[0], line.version);
+        assert!(rt; found == *key && line.file == *file, "{line:?}");
+    }
+}
+
+/// A version.
+fn some_version(dice: &mut Dice) -> u16
+    ensures { (1 ≤ result) × (result ≤ 32767) }
+{
+    match dice.roll(40) {
+        0 => 32767,
+        other => other as u16,
+    }
+}
+
+/// A pick.
+fn some_pick(dice: &mut Dice, version: u16) -> Pick {
+    match dice.roll(3) {
+        0 => Pick::Exact(version),
+        1 => Pick::Highest,
+        _ => Pick::Lowest,
+    }
+}
+
+/// A file.
+fn some_file(dice: &mut Dice) -> FileId
+    ensures { result.number ≢ 0 }
+{
+    FileId {
+        number: 1 + dice.roll(60_000) as u16,
+        sequence: dice.roll(60_000) as u16,
+    }
+}
+
+/// Makes a random change, or looks, on both sides, and answers where the directory ends then.
+fn change(
+    rt: &impl Abort,
+    alloc: Global,
+    kept: &mut Kept,
+    mark: u64,
+    model: &mut Model,
+    dice: &mut Dice,
+) -> Result<u64, Fail> {
+    demand(rt, alloc, kept, mark)?;
+    let word = dice.roll(12) as u16 * 1600;
+    let version = some_version(dice);
+    let pick = some_pick(dice, version);
+    match dice.roll(8) {
+        0 => compare(rt, alloc, kept, mark, model)?,
+        1 => find_both(rt, kept, mark, model, word, pick, false)?,
+        2 | 3 | 4 => find_both(rt, kept, mark, model, word, pick, true)?,
+        5 | 6 => return enter_both(rt, kept, mark, model, word, Some(version), some_file(dice)),
+        _ => return enter_both(rt, kept, mark, model, word, None, some_file(dice)),
+    }
+    Ok(mark)
 }
 
 #[test]
 fn beside_a_map(rt: HostRuntime) -> Result<(), Fail> {
-    let alloc = rt.alloc();
     let mut dice = Dice::from(2026);
-    let mut kept = zeroed(alloc, 0)?;
-    let mut model = BTreeMap::new(alloc);
+    let mut kept = zeroed(rt.alloc(), 0)?;
+    let mut model = BTreeMap::new(rt.alloc());
     let mut mark = 0;
     for _ in 0..4000 {
-        demand(&rt, alloc, &kept, mark)?;
-        let word = dice.roll(12) as u16 * 1600;
-        let version = match dice.roll(40) {
-            0 => 32767,
-            other => other as u16,
-        };
-        let pick = match dice.roll(3) {
-            0 => Pick::Exact(version),
-            1 => Pick::Highest,
-            _ => Pick::Lowest,
-        };
-        match dice.roll(8) {
-            0 => compare(&rt, alloc, &kept, mark, &model)?,
-            1 => find_both(&rt, &mut kept, mark, &mut model, word, pick, false)?,
-            2 | 3 | 4 => find_both(&rt, &mut kept, mark, &mut model, word, pick, true)?,
-            5 | 6 => {
-                let file = FileId {
-                    number: 1 + dice.roll(60_000) as u16,
-                    sequence: dice.roll(60_000) as u16,
-                };
-                mark = enter_both(&rt, &mut kept, mark, &mut model, word, Some(version), file)?;
-            }
-            _ => {
-                let file = FileId {
-                    number: 1 + dice.roll(60_000) as u16,
-                    sequence: 0,
-                };
-                mark = enter_both(&rt, &mut kept, mark, &mut model, word, None, file)?;
-            }
-        }
+        mark = change(&rt, rt.alloc(), &mut kept, mark, &mut model, &mut dice)?;
     }
     assert!(rt; model.len() > 30, "the directory grew");
     Ok(())

@@ -12,36 +12,56 @@ use std::alloc::Global;
 use std::process::Abort;
 use std::test::Fail;
 
+/// The names of the sample's master directory.
+fn sample_names(rt: &impl Abort, alloc: Global) -> Result<Names, Fail> {
+    let mut names = Names::new(alloc);
+    for (name, number) in reserved_names() {
+        assert!(rt; names.get(&name, 1).is_none());
+        names.insert(name, 1, reserved_id(number))?;
+    }
+    Ok(names)
+}
+
+/// The body of a file of the sample.
+fn sample_body(rt: &impl Abort, alloc: Global, number: u16) -> Result<Body, Fail> {
+    Ok(match number {
+        1 | 2 => Body::System,
+        4 => Body::Directory(sample_names(rt, alloc)?),
+        _ => Body::Plain {
+            attributes: [0; 32],
+            blocks: Vec::new(alloc),
+        },
+    })
+}
+
+/// Adds a file of USER.
+fn add(
+    rt: &impl Abort,
+    catalogue: &mut Catalogue,
+    id: FileId,
+    name: &Name,
+    user_char: u8,
+    body: Body,
+) -> Result<(), Fail> {
+    let file = File {
+        owner: USER,
+        protection: PROTECTION,
+        user_char,
+        system_char: 0,
+        ident: ident(name),
+        body,
+    };
+    assert!(rt; catalogue.file(id).is_none() && file.may_have(id));
+    catalogue.add(id, file)?;
+    Ok(())
+}
+
 /// The catalogue of the sample.
 fn sample_catalogue(rt: &impl Abort, alloc: Global) -> Result<Catalogue, Fail> {
-    let mut master = Names::new(alloc);
-    for (name, number) in reserved_names() {
-        assert!(rt; master.get(&name, 1).is_none());
-        master.insert(name, 1, reserved_id(number))?;
-    }
     let mut catalogue = Catalogue::new(alloc, PROTECTION);
-    let mut master = Some(master);
     for (name, number) in reserved_names() {
-        let body = match number {
-            1 | 2 => Body::System,
-            4 => Body::Directory(master.take().ok_or("one master directory")?),
-            _ => Body::Plain {
-                attributes: [0; 32],
-                blocks: Vec::new(alloc),
-            },
-        };
-        let file = File {
-            owner: USER,
-            protection: PROTECTION,
-            user_char: 0,
-            system_char: 0,
-            ident: ident(&name),
-            body,
-        };
-        let id = reserved_id(number);
-        assert!(rt; catalogue.file(id).is_none());
-        assert!(rt; file.may_have(id));
-        catalogue.add(id, file)?;
+        let body = sample_body(rt, alloc, number)?;
+        add(rt, &mut catalogue, reserved_id(number), &name, 0, body)?;
     }
     Ok(catalogue)
 }
@@ -272,29 +292,26 @@ fn lists_and_shows(rt: HostRuntime) -> Result<(), Fail> {
     Ok(())
 }
 
-#[test]
-fn a_contiguous_file_grows(rt: HostRuntime) -> Result<(), Fail> {
-    let mut catalogue = sample_catalogue(&rt, rt.alloc())?;
-    let c_dat = c_dat();
-    let mut blocks = Vec::new(rt.alloc());
+/// Adds C.DAT, a contiguous file of one block.
+fn add_contiguous(rt: &impl Abort, alloc: Global, catalogue: &mut Catalogue) -> Result<(), Fail> {
+    let mut blocks = Vec::new(alloc);
     blocks.push(Block::zeros())?;
-    let file = File {
-        owner: USER,
-        protection: PROTECTION,
-        user_char: 0o200,
-        system_char: 0,
-        ident: ident(&c_dat),
-        body: Body::Plain {
-            attributes: [0; 32],
-            blocks,
-        },
+    let body = Body::Plain {
+        attributes: [0; 32],
+        blocks,
     };
-    assert!(rt; catalogue.file(FIRST).is_none());
-    catalogue.add(FIRST, file)?;
-    let attributes = other_attributes();
-    let shown = |user_char, blocks, attributes| {
-        stat_of(FIRST, &c_dat, user_char, Kind::Plain { blocks, attributes })
-    };
+    add(rt, catalogue, FIRST, &c_dat(), 0o200, body)
+}
+
+/// What is shown of it.
+fn contiguous_shown(user_char: u8, blocks: u32, attributes: [u8; 32]) -> Result<Answer, StepError> {
+    let kind = Kind::Plain { blocks, attributes };
+    Ok(Answer::Info(stat_of(FIRST, &c_dat(), user_char, kind)))
+}
+
+/// It is extended, and its attributes are set: it is contiguous no more.
+fn grows(rt: &impl Abort, catalogue: &mut Catalogue) {
+    let other = other_attributes();
     let stat = Request::Stat { file: FIRST };
     let extend = Request::Extend {
         file: FIRST,
@@ -302,18 +319,25 @@ fn a_contiguous_file_grows(rt: HostRuntime) -> Result<(), Fail> {
     };
     let set_user = Request::SetUser {
         file: FIRST,
-        attributes,
+        attributes: other,
     };
     play(
-        &rt,
-        &mut catalogue,
+        rt,
+        catalogue,
         &[
-            (USER, &stat, Ok(Answer::Info(shown(0o200, 1, [0; 32])))),
+            (USER, &stat, contiguous_shown(0o200, 1, [0; 32])),
             (USER, &extend, Ok(Answer::Extended(2))),
             (USER, &set_user, Ok(Answer::Done)),
-            (USER, &stat, Ok(Answer::Info(shown(0, 2, attributes)))),
+            (USER, &stat, contiguous_shown(0, 2, other)),
         ],
     );
+}
+
+#[test]
+fn a_contiguous_file_grows(rt: HostRuntime) -> Result<(), Fail> {
+    let mut catalogue = sample_catalogue(&rt, rt.alloc())?;
+    add_contiguous(&rt, rt.alloc(), &mut catalogue)?;
+    grows(&rt, &mut catalogue);
     Ok(())
 }
 
@@ -329,6 +353,6 @@ fn an_id_of_the_past_is_not_given_again(rt: HostRuntime) -> Result<(), Fail> {
         ],
     )?;
     let again = catalogue.step(USER, &create, FIRST);
-    assert_eq!(rt; again, Err(StepError::NotNew));
+    assert!(rt; again == Err(StepError::NotNew));
     Ok(())
 }

@@ -1,11 +1,14 @@
 //! Chains of headers: the blocks of a file, and a chain into itself.
+ghost use Rattle.ods_space.specs.Files.{IsLayoutOf};
+
 use super::layouts::{layout_of, scattered};
 use crate::persons::a_txt;
 use crate::volumes::{Variant, added, run, sample_of};
 use ods_alloc::runs_of_blocks;
 use ods_base::{Coded, Image};
-use ods_space::{ChainFault, block_count, chain, file_header, locate};
+use ods_space::{ChainFault, Layout, block_count, chain, file_header, locate};
 use std::alloc::Global;
+use std::process::Abort;
 use std::test::Fail;
 
 /// Header 7 names itself as the next header.
@@ -19,18 +22,32 @@ fn looped(alloc: Global) -> Result<Image, Fail> {
     .image(alloc)
 }
 
-#[test]
-fn chain_of_scattered_file(rt: HostRuntime) -> Result<(), Fail> {
-    let image = scattered(rt.alloc())?;
-    let layout = layout_of(rt.alloc(), &image)?;
-    let blocks = chain(rt.alloc(), &image, &layout, 6)?;
-    assert_eq!(rt; blocks.len(), 103);
-    assert_eq!(rt; blocks.last().copied(), Some(226));
-    assert_eq!(rt; block_count(&image, &layout, 6), Some(103));
-    assert_eq!(rt; block_count(&image, &layout, 8), None);
-    let first = file_header(&image, &layout, 6).ok_or("no file")?;
-    assert_eq!(rt; first.next.number, 8);
-    assert!(rt; file_header(&image, &layout, 8).is_none());
+/// File 6 has 103 blocks by its two headers, the second of which is header 8.
+fn has_103_blocks(rt: &impl Abort, image: &Image, layout: &Layout) -> Result<(), Fail>
+    requires { IsLayoutOf image.now layout.now }
+{
+    assert!(rt; block_count(image, layout, 6) == Some(103));
+    assert!(rt; block_count(image, layout, 8).is_none());
+    let first = file_header(image, layout, 6).ok_or("no file")?;
+    assert!(rt; first.next.number == 8);
+    assert!(rt; file_header(image, layout, 8).is_none());
+    Ok(())
+}
+
+/// The blocks of its chain.
+fn has_chain(rt: &impl Abort, alloc: Global, image: &Image, layout: &Layout) -> Result<(), Fail>
+    requires { IsLayoutOf image.now layout.now }
+{
+    let blocks = chain(alloc, image, layout, 6)?;
+    assert!(rt; blocks.len() == 103);
+    assert!(rt; blocks.last().copied() == Some(226));
+    Ok(())
+}
+
+/// Where its blocks are.
+fn has_places(rt: &impl Abort, image: &Image, layout: &Layout)
+    requires { IsLayoutOf image.now layout.now }
+{
     for (vbn, lbn) in [
         (0, None),
         (1, Some(22)),
@@ -38,20 +55,34 @@ fn chain_of_scattered_file(rt: HostRuntime) -> Result<(), Fail> {
         (103, Some(226)),
         (104, None),
     ] {
-        assert_eq!(rt; locate(&image, &layout, 6, vbn), lbn, "block {vbn}");
+        assert!(rt; locate(image, layout, 6, vbn) == lbn, "block {vbn}");
     }
-    Ok(())
+}
+
+#[test]
+fn chain_of_scattered_file(rt: HostRuntime) -> Result<(), Fail> {
+    let image = scattered(rt.alloc())?;
+    let layout = layout_of(rt.alloc(), &image)?;
+    has_places(&rt, &image, &layout);
+    has_chain(&rt, rt.alloc(), &image, &layout)?;
+    has_103_blocks(&rt, &image, &layout)
+}
+
+/// File 6 has no whole chain.
+fn has_no_chain(rt: &impl Abort, alloc: Global, image: &Image, layout: &Layout)
+    requires { IsLayoutOf image.now layout.now }
+{
+    let fault = chain(alloc, image, layout, 6).err();
+    assert!(rt; fault == Some(ChainFault::BadChain));
+    assert!(rt; ChainFault::BadChain.code() == 20);
+    assert!(rt; block_count(image, layout, 6).is_none());
+    assert!(rt; locate(image, layout, 6, 1).is_none());
 }
 
 #[test]
 fn looped_chain(rt: HostRuntime) -> Result<(), Fail> {
     let image = looped(rt.alloc())?;
-    let layout = layout_of(rt.alloc(), &image)?;
-    let fault = chain(rt.alloc(), &image, &layout, 6).err();
-    assert_eq!(rt; fault, Some(ChainFault::BadChain));
-    assert_eq!(rt; ChainFault::BadChain.code(), 20);
-    assert_eq!(rt; block_count(&image, &layout, 6), None);
-    assert_eq!(rt; locate(&image, &layout, 6, 1), None);
+    has_no_chain(&rt, rt.alloc(), &image, &layout_of(rt.alloc(), &image)?);
     Ok(())
 }
 
@@ -59,10 +90,6 @@ fn looped_chain(rt: HostRuntime) -> Result<(), Fail> {
 #[test]
 fn cuts_where_blocks_are_apart(rt: HostRuntime) -> Result<(), Fail> {
     let runs = runs_of_blocks(rt.alloc(), &[5, 6, 7, 9])?;
-    assert_eq!(rt; runs.len(), 2);
-    let first = runs.as_slice().get(0).ok_or("no run")?;
-    let second = runs.as_slice().get(1).ok_or("one run")?;
-    assert_eq!(rt; (first.lbn, first.count), (5, 3));
-    assert_eq!(rt; (second.lbn, second.count), (9, 1));
+    assert!(rt; runs.as_slice() == [run(5, 3), run(9, 1)].as_slice());
     Ok(())
 }

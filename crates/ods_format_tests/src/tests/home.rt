@@ -11,25 +11,38 @@ fn sample_home(alloc: Global) -> Result<Block, Fail> {
     Ok(*block_of(&image, 1)?)
 }
 
+/// An image of these bytes.
+fn image_of(alloc: Global, bytes: &[u8]) -> Result<Image, Fail> {
+    Ok(Image::from_bytes(alloc, bytes)?)
+}
+
 #[test]
 fn home_is_found(rt: HostRuntime) -> Result<(), Fail> {
     let home = sample_home(rt.alloc())?;
-    assert_eq!(rt; sum(&home, 29), 57621);
-    assert_eq!(rt; sum(&home, 255), 11408);
+    assert!(rt; sum(&home, 29) == 57621 && sum(&home, 255) == 11408);
     let mut bytes = [0; 1024];
     bytes[512..].copy_from_slice(home.bytes());
-    let image = Image::from_bytes(rt.alloc(), &bytes)
-        .ok()
-        .ok_or("no image")?;
-    let (lbn, found) = find_home(&image).ok().ok_or("no home")?;
-    assert_eq!(rt; lbn, 1);
-    assert_eq!(rt; found.index_bitmap_lbn, 2);
-    assert_eq!(rt; found.max_files, 16);
-    let bare = Image::from_bytes(rt.alloc(), &bytes[..512])
-        .ok()
-        .ok_or("no image")?;
+    let image = image_of(rt.alloc(), &bytes)?;
+    let (lbn, found) = find_home(&image)?;
+    assert!(rt; lbn == 1 && found.index_bitmap_lbn == 2 && found.max_files == 16);
+    Ok(())
+}
+
+/// An image of one block has no home block.
+#[test]
+fn one_block_has_no_home(rt: HostRuntime) -> Result<(), Fail> {
+    let bare = image_of(rt.alloc(), &[0; 512])?;
     assert!(rt; matches!(&find_home(&bare), Err(HomeFault::NoHome)));
     Ok(())
+}
+
+/// Where the home block of a volume of these bytes is.
+fn place_of_home(alloc: Global, bytes: &[u8]) -> Result<Option<u32>, Fail> {
+    Ok(
+        find_home(&image_of(alloc, bytes)?)
+            .ok()
+            .map(|place| place.0),
+    )
 }
 
 /// A home block counts only at LBN 1, 256, 512 and so on, and the least of them is the volume's.
@@ -46,14 +59,7 @@ fn home_may_stand_later(rt: HostRuntime) -> Result<(), Fail> {
         for (byte, here) in bytes.iter_mut().skip(512 * lbn as usize).zip(home.bytes()) {
             *byte = *here;
         }
-        let image = Image::from_bytes(rt.alloc(), &bytes)
-            .ok()
-            .ok_or("no image")?;
-        assert_eq!(rt;
-            find_home(&image).ok().map(|place| place.0),
-            found,
-            "at {lbn}"
-        );
+        assert!(rt; place_of_home(rt.alloc(), &bytes)? == found, "at {lbn}");
     }
     Ok(())
 }

@@ -2,8 +2,10 @@
 ghost use Rattle.std.specs.Prelude.{◌≤◌, IfOk};
 
 use ods_base::{Block, Coded, Image, ImageError, word};
+use std::alloc::Global;
 use std::io;
 use std::io::{Read, Write};
+use std::process::Abort;
 use std::test::Fail;
 
 /// A device of 0x5a bytes, which moves at most `most` of them in a call, and fails at the call numbered `fails_at`, from 1.
@@ -60,77 +62,84 @@ fn new_device(left: usize, most: usize, fails_at: u32) -> Device {
 
 #[test]
 fn images_come_from_bytes(rt: HostRuntime) -> Result<(), Fail> {
-    let bytes = [7; 1024];
-    let image = Image::from_bytes(rt.alloc(), &bytes).ok().ok_or("refused")?;
-    assert_eq!(rt; image.len(), 2);
-    assert_eq!(rt; word(image.block(1), 255), 0x0707);
-    let copy = image.copy()?;
-    assert!(rt; copy == image);
-    assert!(rt;
-        Image::from_bytes(rt.alloc(), &[])
-            .ok()
-            .ok_or("refused")?
-            .is_empty()
-    );
-    let fault = Image::from_bytes(rt.alloc(), &bytes[..511])
-        .err()
-        .ok_or("taken")?;
-    assert_eq!(rt; fault, ImageError::NotWholeBlocks);
-    assert_eq!(rt; fault.code(), 1);
-    assert_eq!(rt; fault.name(), "NotWholeBlocks");
-    assert_eq!(rt; ImageError::TooBig.code(), 2);
+    let image = Image::from_bytes(rt.alloc(), &[7; 1024])?;
+    assert!(rt; image.len() == 2 && !image.is_empty());
+    assert!(rt; word(image.block(1), 255) == 0x0707);
+    assert!(rt; image.copy()? == image);
     Ok(())
+}
+
+#[test]
+fn no_bytes_are_an_empty_image(rt: HostRuntime) -> Result<(), Fail> {
+    assert!(rt; Image::from_bytes(rt.alloc(), &[])?.is_empty());
+    Ok(())
+}
+
+#[test]
+fn half_a_block_is_refused(rt: HostRuntime) {
+    let fault = Image::from_bytes(rt.alloc(), &[7; 511]).err();
+    assert!(rt; fault == Some(ImageError::NotWholeBlocks));
+    assert!(rt; ImageError::NotWholeBlocks.code() == 1);
+    assert!(rt; ImageError::NotWholeBlocks.name() == "NotWholeBlocks");
+    assert!(rt; ImageError::TooBig.code() == 2);
+}
+
+/// The image has 200 blocks, each of the bytes of the device.
+fn has_its_bytes(rt: &impl Abort, image: &Image) {
+    assert!(rt; image.len() == 200);
+    for lbn in 0..image.len() {
+        assert!(rt; *image.block(lbn) == Block::new([0x5a; 512]), "block {lbn}");
+    }
 }
 
 #[test]
 fn readers_may_give_any_pieces(rt: HostRuntime) -> Result<(), Fail> {
     for most in [1, 511, 513, 65_536, 100_000] {
         let mut reader = new_device(200 * 512, most, 0);
-        let image = Image::read_from(rt.alloc(), &mut reader)
-            .ok()
-            .ok_or("refused")?;
-        assert_eq!(rt; image.len(), 200, "in pieces of {most}");
-        for lbn in 0..image.len() {
-            assert!(rt;
-                *image.block(lbn) == Block::new([0x5a; 512]),
-                "block {lbn} in pieces of {most}"
-            );
-        }
+        has_its_bytes(&rt, &Image::read_from(rt.alloc(), &mut reader)?);
     }
-    let fault = Image::read_from(rt.alloc(), &mut new_device(511, 100, 0))
-        .err()
-        .ok_or("taken")?;
-    assert_eq!(rt; fault, ImageError::NotWholeBlocks);
     Ok(())
+}
+
+#[test]
+fn part_of_a_block_is_refused(rt: HostRuntime) {
+    let fault = Image::read_from(rt.alloc(), &mut new_device(511, 100, 0)).err();
+    assert!(rt; fault == Some(ImageError::NotWholeBlocks));
 }
 
 /// A read that failed is the last one, though the device would go on.
 #[test]
-fn failed_reads_are_not_repeated(rt: HostRuntime) -> Result<(), Fail> {
+fn failed_reads_are_not_repeated(rt: HostRuntime) {
     for fails_at in 1..5 {
         let mut reader = new_device(2048, 512, fails_at);
-        let fault = Image::read_from(rt.alloc(), &mut reader)
-            .err()
-            .ok_or("taken")?;
-        assert_eq!(rt; fault, ImageError::ReadFailed, "at {fails_at}");
-        assert_eq!(rt; reader.calls, fails_at);
+        let fault = Image::read_from(rt.alloc(), &mut reader).err();
+        assert!(rt; fault == Some(ImageError::ReadFailed), "at {fails_at}");
+        assert!(rt; reader.calls == fails_at, "at {fails_at}");
     }
-    assert_eq!(rt; ImageError::ReadFailed.code(), 0);
+    assert!(rt; ImageError::ReadFailed.code() == 0);
+}
+
+/// An image of 300 blocks of the byte 3.
+fn image_of_threes(alloc: Global) -> Result<Image, Fail> {
+    let bytes = vec![in alloc; 3; 300 * 512]?;
+    Ok(Image::from_bytes(alloc, &bytes)?)
+}
+
+#[test]
+fn all_is_written(rt: HostRuntime) -> Result<(), Fail> {
+    let mut out = Vec::new(rt.alloc());
+    image_of_threes(rt.alloc())?.write_to(&mut out)?;
+    assert!(rt; out.len() == 300 * 512 && out.iter().all(|byte| *byte == 3));
     Ok(())
 }
 
 #[test]
 fn writers_may_take_any_pieces(rt: HostRuntime) -> Result<(), Fail> {
-    let bytes = vec![in rt.alloc(); 3; 300 * 512]?;
-    let image = Image::from_bytes(rt.alloc(), &bytes).ok().ok_or("refused")?;
-    let mut out = Vec::new(rt.alloc());
-    assert!(rt; image.write_to(&mut out).is_ok());
-    assert!(rt; out.as_slice() == bytes.as_slice());
+    let image = image_of_threes(rt.alloc())?;
     for most in [1000, 65_536, 1_000_000] {
-        assert!(rt;
-            image.write_to(&mut new_device(300 * 512, most, 0)).is_ok(),
-            "in pieces of {most}"
-        );
+        let mut writer = new_device(300 * 512, most, 0);
+        assert!(rt; image.write_to(&mut writer).is_ok(), "in pieces of {most}");
+        assert!(rt; writer.left == 0, "in pieces of {most}");
     }
     Ok(())
 }
@@ -138,8 +147,7 @@ fn writers_may_take_any_pieces(rt: HostRuntime) -> Result<(), Fail> {
 /// The count in a fault is what went out, and after it nothing more does.
 #[test]
 fn failed_writes_are_counted(rt: HostRuntime) -> Result<(), Fail> {
-    let bytes = vec![in rt.alloc(); 3; 300 * 512]?;
-    let image = Image::from_bytes(rt.alloc(), &bytes).ok().ok_or("refused")?;
+    let image = image_of_threes(rt.alloc())?;
     for (left, most, fails_at, written) in [
         (1_000_000, 1000, 1, 0),
         (1_000_000, 1000, 3, 2000),
@@ -149,8 +157,11 @@ fn failed_writes_are_counted(rt: HostRuntime) -> Result<(), Fail> {
     ] {
         let mut writer = new_device(left, most, fails_at);
         let fault = image.write_to(&mut writer).err().ok_or("written")?;
-        assert_eq!(rt; fault.written, written, "at {left} {most} {fails_at}");
-        assert_eq!(rt; left.saturating_sub(writer.left) as u64, written);
+        assert!(rt; fault.written == written, "at {left} {most} {fails_at}");
+        assert!(rt;
+            left.saturating_sub(writer.left) as u64 == written,
+            "at {left} {most} {fails_at}"
+        );
     }
     Ok(())
 }

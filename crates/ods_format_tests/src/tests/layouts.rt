@@ -8,6 +8,7 @@ use ods_base::Image;
 use ods_header::find_home;
 use ods_space::Layout;
 use std::alloc::Global;
+use std::process::Abort;
 use std::test::Fail;
 
 /// The layout of an image.
@@ -40,16 +41,20 @@ pub fn scattered(alloc: Global) -> Result<Image, Fail> {
     .image(alloc)
 }
 
+/// The layout of the sample of forty blocks.
+fn is_small(rt: &impl Abort, layout: &Layout) {
+    assert!(rt; layout.index().len() == 19);
+    assert!(rt; layout.bitmap() == [19, 20].as_slice());
+    for (number, place) in [(0, None), (1, Some(3)), (16, Some(18)), (17, None)] {
+        assert!(rt; layout.place(number) == place, "header {number}");
+    }
+}
+
 #[test]
 fn small_volume(rt: HostRuntime) -> Result<(), Fail> {
     let image = sample_of(40).image(rt.alloc())?;
     let layout = layout_of(rt.alloc(), &image)?;
-    assert_eq!(rt; layout.index().len(), 19);
-    assert_eq!(rt; layout.bitmap(), [19, 20].as_slice());
-    let copy = layout.copy()?;
-    assert_eq!(rt; copy.index(), layout.index());
-    for (number, place) in [(0, None), (1, Some(3)), (16, Some(18)), (17, None)] {
-        assert_eq!(rt; layout.place(number), place, "header {number}");
-    }
+    is_small(&rt, &layout);
+    is_small(&rt, &layout.copy()?);
     Ok(())
 }

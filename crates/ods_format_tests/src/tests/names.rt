@@ -1,5 +1,6 @@
 //! Texts of names, read and printed.
 use ods_base::{Coded, Name, Pick, parse_name, print_name, print_words};
+use std::process::Abort;
 use std::test::Fail;
 
 #[test]
@@ -23,41 +24,32 @@ fn texts_spell_names(rt: HostRuntime) -> Result<(), Fail> {
     ];
     for (text, words, ext, pick) in table {
         let (name, picked) = parse_name(text)?;
-        assert_eq!(rt; name.words(), words, "{text:?}");
-        assert_eq!(rt; name.ext(), ext, "{text:?}");
-        assert_eq!(rt; picked, pick, "{text:?}");
+        assert!(rt; name.words() == words, "{text:?}");
+        assert!(rt; name.ext() == ext, "{text:?}");
+        assert!(rt; picked == pick, "{text:?}");
     }
     Ok(())
 }
 
+/// Texts that are no names, one behind another; the first is empty.
+const NO_NAMES: &str = "|A|A;1|A_.TXT|A.TX_|ABCDEFGHIJ.TXT|A.TXTX|a.TXT|A B.TXT|A..";
+
+/// Texts with a name, and a version that is none.
+const NO_VERSIONS: &str =
+    "A.TXT;|A.TXT;01|A.TXT;00|A.TXT;-0|A.TXT;-2|A.TXT;+1|A.TXT;1;1|A.TXT;32768|A.TXT;65537";
+
+/// None of these is a name.
+fn are_no_names(rt: &impl Abort, texts: &str) {
+    for text in texts.split('|') {
+        let fault = parse_name(text.as_bytes()).expect_err(rt, "a text that is no name");
+        assert!(rt; fault.code() == 3 && fault.name() == "BadName", "{text}");
+    }
+}
+
 #[test]
 fn other_texts_are_no_names(rt: HostRuntime) {
-    let table = [
-        b"".as_slice(),
-        b"A",
-        b"A;1",
-        b"A_.TXT",
-        b"A.TX_",
-        b"ABCDEFGHIJ.TXT",
-        b"A.TXTX",
-        b"a.TXT",
-        b"A B.TXT",
-        b"A..",
-        b"A.TXT;",
-        b"A.TXT;01",
-        b"A.TXT;00",
-        b"A.TXT;-0",
-        b"A.TXT;-2",
-        b"A.TXT;+1",
-        b"A.TXT;1;1",
-        b"A.TXT;32768",
-        b"A.TXT;65537",
-    ];
-    for text in table {
-        let fault = parse_name(text).expect_err(&rt, "a text that is no name");
-        assert_eq!(rt; fault.code(), 3, "{text:?}");
-        assert_eq!(rt; fault.name(), "BadName", "{text:?}");
-    }
+    are_no_names(&rt, NO_NAMES);
+    are_no_names(&rt, NO_VERSIONS);
 }
 
 #[test]
@@ -72,14 +64,14 @@ fn words_are_printed(rt: HostRuntime) {
     ];
     for (words, ext, version, text) in table {
         let printed = print_words(words, ext, version);
-        assert_eq!(rt; printed.as_str(), text);
+        assert!(rt; printed.as_str() == text, "{text}");
     }
 }
 
 #[test]
 fn a_name_is_printed_as_it_was_read(rt: HostRuntime) -> Result<(), Fail> {
     let (name, _) = parse_name(b"A.TXT;1")?;
-    assert_eq!(rt; name, Name::new([1600, 0, 0], 32980));
-    assert_eq!(rt; print_name(&name, 1).as_str(), "A.TXT;1");
+    assert!(rt; name == Name::new([1600, 0, 0], 32980));
+    assert!(rt; print_name(&name, 1).as_str() == "A.TXT;1");
     Ok(())
 }

@@ -14,7 +14,7 @@ fn numbers_and_names(rt: HostRuntime) {
         (Refusal::NoMemory, 49, "NoMemory"),
     ];
     for (refusal, code, name) in rows {
-        assert_eq!(rt; refusal.code(), code);
+        assert!(rt; refusal.code() == code);
         assert!(rt; refusal.name() == name, "{refusal}");
     }
 }
@@ -40,7 +40,7 @@ fn any_class_may_grant(rt: HostRuntime) {
     ];
     for (who, protection, right, wanted) in rows {
         let granted = permits(&who, &owner, protection, right);
-        assert_eq!(rt; granted, wanted, "{who:?} {protection:o} {right:?}");
+        assert!(rt; granted == wanted, "{who:?} {protection:o} {right:?}");
     }
 }
 
@@ -71,12 +71,12 @@ fn listings_hold_their_lines(rt: HostRuntime) -> Result<(), Fail> {
     let mut lines = Vec::new(rt.alloc());
     lines.push(line)?;
     let listing = Listing::new(lines);
-    assert_eq!(rt; listing.names(), [line].as_slice());
+    assert!(rt; listing.names() == [line].as_slice());
     let empty = Listing::new(Vec::new(rt.alloc()));
     let answer = Answer::Names(listing);
     assert!(rt; Answer::Names(empty) != answer);
     assert!(rt; answer.copy()? == answer);
     let names = Listing::new([line].to_vec(rt.alloc())?).into_names();
-    assert_eq!(rt; names.as_slice(), [line].as_slice());
+    assert!(rt; names.as_slice() == [line].as_slice());
     Ok(())
 }

@@ -8,11 +8,11 @@ fn words_and_sums_are_little_endian(rt: HostRuntime) {
     for (k, value) in [(0, 1), (2, 2), (3, 16), (4, 1), (6, 257), (18, 57_344)] {
         set_word(&mut block, k, value);
     }
-    assert_eq!(rt; sum(&block, 29), 57_621);
+    assert!(rt; sum(&block, 29) == 57_621);
     set_word(&mut block, 29, 57_621);
-    assert_eq!(rt; block.byte(58), 0x15);
-    assert_eq!(rt; block.byte(59), 0xe1);
-    assert_eq!(rt; word(&block, 29), 57_621);
+    assert!(rt; block.byte(58) == 0x15);
+    assert!(rt; block.byte(59) == 0xe1);
+    assert!(rt; word(&block, 29) == 57_621);
     block.set_bytes(496, b"DECFILE11A  ");
-    assert_eq!(rt; sum(&block, 255), 11_408);
+    assert!(rt; sum(&block, 255) == 11_408);
 }

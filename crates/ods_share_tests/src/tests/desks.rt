@@ -2,7 +2,7 @@
 ghost use Rattle.std.specs.Prelude.{◌≡◌, []};
 ghost use Rattle.ods_state.specs.Outcome.{CanBeAsked};
 
-use super::runs::{two_files, volume_of};
+use super::runs::{two_file_volume, two_files, volume_of};
 use ods_base::FileId;
 use ods_format_tests::persons::{FIRST, NONE, USER};
 use ods_request::{Answer, Refusal, Request};
@@ -31,7 +31,7 @@ fn asks<J: Naming, R: Abort + Wait>(
 ) -> Result<Vec<Call>, AllocError> {
     let mut guard = desk.lock(rt);
     let (result, told) = guard.submit(rt, session, 1, USER, first_block(FIRST));
-    assert_eq!(rt; told.entries() as usize, guard.volume().entries().len());
+    assert!(rt; told.entries() as usize == guard.volume().entries().len());
     MutexGuard::unlock(guard);
     let mut calls = Vec::new(alloc);
     if let Ok(answer) = result {
@@ -52,14 +52,14 @@ fn tells<J: Naming, R: Abort + Wait>(rt: &R, alloc: Global, volume: Volume) -> R
 {
     match Desk::<J>::new(rt, alloc, volume, 1) {
         Ok((mut desk, viewers)) => {
-            assert_eq!(rt; viewers.len(), 1);
+            assert!(rt; viewers.len() == 1);
             let (result, told) = desk.submit(rt, 1, 1, USER, first_block(FIRST));
             assert!(rt; matches!(result, Ok(Answer::Bytes(_))));
-            assert_eq!(rt; told.entries(), 1);
+            assert!(rt; told.entries() == 1);
             let (result, told) = desk.submit(rt, 1, 2, USER, first_block(NONE));
             assert!(rt; matches!(result, Err(Refusal::NoSuchFile)));
-            assert_eq!(rt; told.entries(), 1);
-            assert_eq!(rt; desk.volume().entries().len(), 1);
+            assert!(rt; told.entries() == 1);
+            assert!(rt; desk.volume().entries().len() == 1);
             Ok(desk.close(rt))
         }
         Err(_) => Err("memory for a desk".into()),
@@ -69,9 +69,9 @@ fn tells<J: Naming, R: Abort + Wait>(rt: &R, alloc: Global, volume: Volume) -> R
 #[test]
 fn desk_tells_how_long_its_list_is(rt: HostRuntime) -> Result<(), Fail> {
     let alloc = rt.alloc();
-    let volume = volume_of(&rt, alloc, two_files(alloc)?, 4_096)?;
+    let volume = two_file_volume(&rt, alloc, 4_096)?;
     let volume = tells::<Brand, _>(&rt, alloc, volume)?;
-    assert_eq!(rt; volume.entries().len(), 1);
+    assert!(rt; volume.entries().len() == 1);
     Ok(())
 }
 
@@ -121,13 +121,9 @@ fn swapped_volume_is_unmatched(rt: HostRuntime) -> Result<(), Fail> {
     let volume = volume_of(&rt, alloc, image, 4_096)?;
     let other = volume_of(&rt, alloc, same, 4_096)?;
     let (volume, calls) = swapped::<Brand, _>(&rt, alloc, volume, other)?;
-    for list in &calls {
-        assert_eq!(rt; list.len(), 1);
-    }
-    assert_eq!(rt; volume.entries().len(), 1);
-    match settle(alloc, volume.mounted(), &volume, calls.as_slice()) {
-        Err(fault) => assert_eq!(rt; fault, SettleFault::Unmatched),
-        Ok(_) => assert!(rt; false, "it is settled"),
-    }
+    assert!(rt; calls.iter().all(|list| list.len() == 1));
+    assert!(rt; volume.entries().len() == 1);
+    let settled = settle(alloc, volume.mounted(), &volume, calls.as_slice());
+    assert!(rt; matches!(settled, Err(SettleFault::Unmatched)));
     Ok(())
 }

@@ -3,67 +3,67 @@ use ods_script::{Spoken, parse_script, read_command};
 use ods_share::{Action, Ask, Id};
 use std::test::Fail;
 
+/// Lines that are commands: each verb, and the forms of what stands behind it.
+const COMMANDS: &[u8] = b"USER [20,1]
+USER [001,004]
+CREATE A.TXT;1 3
+CREATE A.TXT 65536
+CREATE A.TXT;0 4294967295
+EXTEND $ 0
+DELETE 6,1
+ENTER 4,4 A.TXT $
+ENTER $ A.TXT;32767 65535,65535
+LOOK 4,4 A.TXT;-1
+REMOVE 4,4 A.TXT
+READ $ 0
+WRITE $ 1 41
+WRITE $ 1 aBcD
+LIST 4,4
+STAT 1,0
+SETUSER 6,1 0200
+VIEW LOOK 4,4 A.TXT
+VIEW READ $ 1
+VIEW STAT 6,1";
+
+/// Lines that are none, the first of which is empty.
+const OTHERS: &[u8] = b"
+\x20
+USER
+USER [400,1]
+USER [0001,1]
+USER [8,1]
+USER [,1]
+create a.txt 1
+CREATE A.TXT;32768 1
+CREATE A.TXT;-1 1
+CREATE A.TXT;1 01
+CREATE A.TXT;1 4294967296
+CREATE A.TXT;1  1
+CREATE A.TXT;1 1\x20
+ CREATE A.TXT;1 1
+CREATE A.TXT;1 1\r
+ENTER 4,4 A.TXT;-1 4,4
+DELETE 0,1
+DELETE 65536,1
+DELETE 1,65536
+DELETE +1,1
+DELETE $ $
+WRITE 6,1 1 4
+WRITE 6,1 1\x20
+WRITE 6,1 1 4g
+VIEW LIST 4,4
+VIEW VIEW STAT 6,1";
+
 #[test]
 fn lines_are_commands(rt: HostRuntime) {
-    let lines = [
-        b"USER [20,1]".as_slice(),
-        b"USER [001,004]",
-        b"CREATE A.TXT;1 3",
-        b"CREATE A.TXT 65536",
-        b"CREATE A.TXT;0 4294967295",
-        b"EXTEND $ 0",
-        b"DELETE 6,1",
-        b"ENTER 4,4 A.TXT $",
-        b"ENTER $ A.TXT;32767 65535,65535",
-        b"LOOK 4,4 A.TXT;-1",
-        b"REMOVE 4,4 A.TXT",
-        b"READ $ 0",
-        b"WRITE $ 1 41",
-        b"WRITE $ 1 aBcD",
-        b"LIST 4,4",
-        b"STAT 1,0",
-        b"SETUSER 6,1 0200",
-        b"VIEW LOOK 4,4 A.TXT",
-        b"VIEW READ $ 1",
-        b"VIEW STAT 6,1",
-    ];
-    for line in lines {
+    for line in COMMANDS.split(|byte| *byte == b'\n') {
         assert!(rt; read_command(line).is_some(), "{line:?}");
     }
 }
 
 #[test]
 fn other_lines_are_none(rt: HostRuntime) {
-    let lines = [
-        b"".as_slice(),
-        b" ",
-        b"USER",
-        b"USER [400,1]",
-        b"USER [0001,1]",
-        b"USER [8,1]",
-        b"USER [,1]",
-        b"create a.txt 1",
-        b"CREATE A.TXT;32768 1",
-        b"CREATE A.TXT;-1 1",
-        b"CREATE A.TXT;1 01",
-        b"CREATE A.TXT;1 4294967296",
-        b"CREATE A.TXT;1  1",
-        b"CREATE A.TXT;1 1 ",
-        b" CREATE A.TXT;1 1",
-        b"CREATE A.TXT;1 1\r",
-        b"ENTER 4,4 A.TXT;-1 4,4",
-        b"DELETE 0,1",
-        b"DELETE 65536,1",
-        b"DELETE 1,65536",
-        b"DELETE +1,1",
-        b"DELETE $ $",
-        b"WRITE 6,1 1 4",
-        b"WRITE 6,1 1 ",
-        b"WRITE 6,1 1 4g",
-        b"VIEW LIST 4,4",
-        b"VIEW VIEW STAT 6,1",
-    ];
-    for line in lines {
+    for line in OTHERS.split(|byte| *byte == b'\n') {
         assert!(rt; read_command(line).is_none(), "{line:?}");
     }
 }

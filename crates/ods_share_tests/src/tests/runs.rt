@@ -2,7 +2,7 @@
 ghost use Rattle.std.specs.Prelude.{◌≡◌, [], All, IfOk};
 ghost use Rattle.ods_share.specs.Scripts.{CanBeRun};
 
-use super::scripts::{add, add_script, read, remove, script, set_user, write};
+use super::scripts::{add, both, read, remove, script, set_user, write};
 use ods_base::Image;
 use ods_format_tests::persons::{
     FIRST, MASTER, SECOND, a_txt, b_txt, bitmap, letter_a, other_attributes,
@@ -10,7 +10,7 @@ use ods_format_tests::persons::{
 use ods_format_tests::volumes::{Variant, added, run, sample_of};
 use ods_mount::mount;
 use ods_request::Stamp;
-use ods_share::{Call, Gate, Outcome, Report, Script, SettleFault, run_scripts, settle};
+use ods_share::{Call, Gate, Outcome, Reply, Report, Script, SettleFault, run_scripts, settle};
 use ods_volume::Volume;
 use std::alloc::{AllocError, Global};
 use std::process::Abort;
@@ -62,6 +62,13 @@ pub fn volume_of(rt: &impl Abort, alloc: Global, image: Image, limit: u32) -> Re
     }
 }
 
+/// The sample volume with those two files, whose list has room for so many requests.
+pub fn two_file_volume(rt: &impl Abort, alloc: Global, limit: u32) -> Result<Volume, Fail>
+    ensures { IfOk result (λ v. v.entries ≡ []) }
+{
+    volume_of(rt, alloc, two_files(alloc)?, limit)
+}
+
 /// The stamp of a program that is given none.
 pub fn stamp() -> Result<Stamp, Fail> {
     match Stamp::parse(b"01JAN80000000") {
@@ -98,10 +105,66 @@ pub fn two_scripts(alloc: Global) -> Result<Vec<Script>, Fail>
     let mut second = script(alloc);
     add(&mut second, set_user(SECOND, other_attributes()))?;
     add(&mut second, read(SECOND, 1))?;
-    let mut scripts = Vec::new(alloc);
-    add_script(&mut scripts, first)?;
-    add_script(&mut scripts, second)?;
-    Ok(scripts)
+    both(alloc, first, second)
+}
+
+/// What these two sessions left on the volume with two files.
+pub fn two_ran<R: Abort + Threads + Wait + Sync>(rt: &R, alloc: Global) -> Result<Ran, Fail> {
+    let scripts = two_scripts(alloc)?;
+    let volume = two_file_volume(rt, alloc, 4_096)?;
+    run_on(rt, alloc, volume, &scripts, &Open)
+}
+
+/// The list has so many entries, and so many blocks and numbers are free.
+pub fn has_totals(rt: &impl Abort, volume: &Volume, entries: usize, blocks: u32, numbers: u32) {
+    assert!(rt; volume.entries().len() == entries);
+    assert!(rt; volume.free_count() == blocks);
+    assert!(rt; volume.number_count() == numbers);
+}
+
+/// A run is settled, and each session has so many calls. A test hands what it owns on: what owns much and may fail at many calls takes
+/// long to prove.
+pub fn run_settles(rt: &impl Abort, alloc: Global, ran: Ran, lengths: &[u32]) -> Result<(), Fail> {
+    let Ran { volume, outcomes } = ran;
+    let calls = calls_of(alloc, outcomes)?;
+    settles(rt, alloc, &volume, calls.as_slice(), lengths)
+}
+
+/// Runs this script alone on a volume: the replies, behind so many calls that settle its list.
+pub fn replies_alone<R: Abort + Threads + Wait + Sync>(
+    rt: &R,
+    alloc: Global,
+    volume: Volume,
+    script: Script,
+    calls: u32,
+) -> Result<Vec<Reply>, Fail>
+    requires { CanBeRun script.commands.items }
+{
+    let Ran { volume, outcomes } = run_on(rt, alloc, volume, &[script], &Open)?;
+    only_replies(rt, alloc, &volume, outcomes, calls)
+}
+
+/// The replies of the only outcome, whose calls, which are so many, settle the list.
+fn only_replies(
+    rt: &impl Abort,
+    alloc: Global,
+    volume: &Volume,
+    outcomes: Vec<Outcome>,
+    calls: u32,
+) -> Result<Vec<Reply>, Fail> {
+    let mut outcomes = outcomes;
+    assert!(rt; outcomes.len() == 1);
+    let Some(
+        Outcome {
+            calls: list,
+            replies,
+        },
+    ) = outcomes.pop()
+    else {
+        return Err("an outcome".into());
+    };
+    settles(rt, alloc, volume, &[list], &[calls])?;
+    Ok(replies)
 }
 
 /// The calls of each session.
@@ -128,8 +191,8 @@ pub fn settles(
                 of_session,
             },
         ) => {
-            assert_eq!(rt; entries as usize, volume.entries().len());
-            assert_eq!(rt; of_session.as_slice(), lengths);
+            assert!(rt; entries as usize == volume.entries().len());
+            assert!(rt; of_session.as_slice() == lengths);
             Ok(())
         }
         Err(SettleFault::NoMemory) => Err("memory for a report".into()),

@@ -1,8 +1,10 @@
 //! Scripts for tests, put together command by command.
-ghost use Rattle.std.specs.Prelude.{◌≤◌, All, IfOk};
+ghost use Rattle.std.specs.Prelude.{◌≤◌, All, IfOk, MatchOption};
 ghost use Rattle.ods_share.specs.Scripts.{CanBeObeyed, CanBeRun};
+ghost use Rattle.ods_state.specs.Outcome.{IsVersionNumber};
 
 use ods_base::{Block, FileId, Name, Pick};
+use ods_format_tests::persons::MASTER;
 use ods_share::{Action, Ask, Command, Id, Script};
 use std::alloc::{AllocError, Global};
 use std::test::Fail;
@@ -38,6 +40,27 @@ pub fn add_script(scripts: &mut Vec<Script>, script: Script) -> Result<(), Fail>
     Ok(())
 }
 
+/// One script alone.
+pub fn alone(alloc: Global, script: Script) -> Result<Vec<Script>, Fail>
+    requires { CanBeRun script.commands.items }
+    ensures { IfOk result (λ v. All (λ s. CanBeRun s.commands.items) v.items) }
+{
+    let mut scripts = Vec::new(alloc);
+    add_script(&mut scripts, script)?;
+    Ok(scripts)
+}
+
+/// Two scripts, in this order.
+pub fn both(alloc: Global, first: Script, second: Script) -> Result<Vec<Script>, Fail>
+    requires first { CanBeRun first.commands.items }
+    requires second { CanBeRun second.commands.items }
+    ensures { IfOk result (λ v. All (λ s. CanBeRun s.commands.items) v.items) }
+{
+    let mut scripts = alone(alloc, first)?;
+    add_script(&mut scripts, second)?;
+    Ok(scripts)
+}
+
 pub fn read(file: FileId, vbn: u32) -> Action
     ensures { CanBeObeyed result }
 {
@@ -64,22 +87,16 @@ pub fn set_user(file: FileId, attributes: [u8; 32]) -> Action
 pub fn remove(dir: FileId, name: Name) -> Action
     ensures { CanBeObeyed result }
 {
-    Action::Submit(Ask::Remove {
-        dir: Id::Given(dir),
-        name,
-        pick: Pick::Highest,
-    })
+    let (dir, pick) = (Id::Given(dir), Pick::Highest);
+    Action::Submit(Ask::Remove { dir, name, pick })
 }
 
 /// A LookUp of the highest version of a name.
 pub fn look_up(dir: FileId, name: Name) -> Action
     ensures { CanBeObeyed result }
 {
-    Action::Submit(Ask::LookUp {
-        dir: Id::Given(dir),
-        name,
-        pick: Pick::Highest,
-    })
+    let (dir, pick) = (Id::Given(dir), Pick::Highest);
+    Action::Submit(Ask::LookUp { dir, name, pick })
 }
 
 pub fn list(dir: FileId) -> Action
@@ -119,6 +136,31 @@ pub fn create(name: Name, version: u16, blocks: u32) -> Action
         name,
         version,
         blocks,
+    })
+}
+
+pub fn extend(file: Id, blocks: u32) -> Action
+    ensures { CanBeObeyed result }
+{
+    Action::Submit(Ask::Extend { file, blocks })
+}
+
+pub fn delete(file: Id) -> Action
+    ensures { CanBeObeyed result }
+{
+    Action::Submit(Ask::Delete { file })
+}
+
+/// An Enter of a name in the master directory.
+pub fn enter(name: Name, version: Option<u16>, file: Id) -> Action
+    requires { MatchOption version (Unit {0}) IsVersionNumber }
+    ensures { CanBeObeyed result }
+{
+    Action::Submit(Ask::Enter {
+        dir: Id::Given(MASTER),
+        name,
+        version,
+        file,
     })
 }
 

@@ -2,9 +2,9 @@
 ghost use Rattle.std.specs.Prelude.{All, IfOk};
 ghost use Rattle.ods_share.specs.Scripts.{CanBeRun};
 
-use super::runs::{Open, Ran, calls_of, run_on, settles, two_files, two_scripts, volume_of};
+use super::runs::{Open, has_totals, replies_alone, run_on, run_settles, two_file_volume, two_ran};
 use super::scripts::{
-    add, add_script, look_up, read, read_last, remove, script, stat, stat_last, write,
+    add, alone, look_up, read, read_last, remove, script, stat, stat_last, write,
 };
 use ods_format_tests::persons::{
     FIRST, MASTER, SECOND, STRANGER, USER, a_txt, bitmap, corimg, index_stat, letter_a, old_block,
@@ -36,52 +36,50 @@ fn in_short(reply: &Reply) -> Short {
     }
 }
 
-/// The replies of an outcome.
-pub fn replied(rt: &impl Abort, outcome: &Outcome, wanted: &[Short]) {
-    assert_eq!(rt; outcome.replies.len(), wanted.len());
-    for (reply, wanted) in outcome.replies.iter().zip(wanted.iter()) {
-        assert_eq!(rt; in_short(reply), *wanted);
+/// The replies are these.
+pub fn replied(rt: &impl Abort, replies: &[Reply], wanted: &[Short]) {
+    assert!(rt; replies.len() == wanted.len());
+    for (reply, wanted) in replies.iter().zip(wanted.iter()) {
+        assert!(rt; in_short(reply) == *wanted, "{reply:?}");
     }
 }
 
 /// The answer to one of the calls of an outcome, which has this number.
 fn answered(rt: &impl Abort, outcome: &Outcome, call: usize, nth: u32, wanted: Answer) {
-    assert!(rt; call < outcome.calls.as_slice().len());
-    assert_eq!(rt; outcome.calls.as_slice()[call].nth, nth);
-    assert_eq!(rt; outcome.calls.as_slice()[call].answer, wanted);
+    match outcome.calls.as_slice().get(call) {
+        Some(call) => assert!(rt; call.nth == nth && call.answer == wanted, "{call:?}"),
+        None => assert!(rt; false, "no call {call}"),
+    }
+}
+
+/// What the first of the two sessions is replied.
+fn first_is_served(rt: &impl Abort, outcome: &Outcome) {
+    replied(rt, &outcome.replies, &[Short::Got, Short::Got, Short::Got]);
+    answered(rt, outcome, 0, 1, Answer::Done);
+    answered(rt, outcome, 1, 2, Answer::Bytes(letter_a()));
+    answered(rt, outcome, 2, 3, Answer::Removed(reserved_id(2), 1));
+}
+
+/// What the second one is replied.
+fn second_is_served(rt: &impl Abort, outcome: &Outcome) {
+    replied(rt, &outcome.replies, &[Short::Got, Short::Got]);
+    answered(rt, outcome, 0, 1, Answer::Done);
+    answered(rt, outcome, 1, 2, Answer::Bytes(old_block()));
 }
 
 #[test]
 fn two_sessions_are_served(rt: HostRuntime) -> Result<(), Fail> {
     let alloc = rt.alloc();
-    let volume = volume_of(&rt, alloc, two_files(alloc)?, 4_096)?;
-    let scripts = two_scripts(alloc)?;
-    let Ran { volume, outcomes } = run_on(&rt, alloc, volume, scripts.as_slice(), &Open)?;
-    assert_eq!(rt; outcomes.as_slice().len(), 2);
-    let first = &outcomes.as_slice()[0];
-    replied(&rt, first, &[Short::Got, Short::Got, Short::Got]);
-    answered(&rt, first, 0, 1, Answer::Done);
-    answered(&rt, first, 1, 2, Answer::Bytes(letter_a()));
-    answered(&rt, first, 2, 3, Answer::Removed(reserved_id(2), 1));
-    let second = &outcomes.as_slice()[1];
-    replied(&rt, second, &[Short::Got, Short::Got]);
-    answered(&rt, second, 0, 1, Answer::Done);
-    answered(&rt, second, 1, 2, Answer::Bytes(old_block()));
-    assert_eq!(rt; volume.entries().len(), 5);
-    assert_eq!(rt; volume.free_count(), 16);
-    assert_eq!(rt; volume.number_count(), 9);
-    let calls = calls_of(alloc, outcomes)?;
-    settles(&rt, alloc, &volume, calls.as_slice(), &[3, 2])
-}
-
-/// One script alone.
-pub fn alone(alloc: Global, script: Script) -> Result<Vec<Script>, Fail>
-    requires { CanBeRun script.commands.items }
-    ensures { IfOk result (λ v. All (λ s. CanBeRun s.commands.items) v.items) }
-{
-    let mut scripts = Vec::new(alloc);
-    add_script(&mut scripts, script)?;
-    Ok(scripts)
+    let ran = two_ran(&rt, alloc)?;
+    match ran.outcomes.as_slice() {
+        [first, second] => {
+            first_is_served(&rt, first);
+            second_is_served(&rt, second);
+        }
+        _ => assert!(rt; false, "two outcomes"),
+    }
+    has_totals(&rt, &ran.volume, 5, 16, 9);
+    run_settles(&rt, alloc, ran, &[3, 2])
 }
 
 /// Six lines: `$` before it stands for a file, a user with few rights, what he may not and may do, and `$` twice, once in a view.
@@ -111,19 +109,11 @@ fn more_lines(script: &mut Script) -> Result<(), Fail>
     add(script, stat(reserved_id(1)))
 }
 
-#[test]
-fn commands_that_are_no_requests(rt: HostRuntime) -> Result<(), Fail> {
-    let alloc = rt.alloc();
-    let volume = volume_of(&rt, alloc, two_files(alloc)?, 4_096)?;
-    let mut script = first_lines(alloc)?;
-    more_lines(&mut script)?;
-    let scripts = alone(alloc, script)?;
-    let Ran { volume, outcomes } = run_on(&rt, alloc, volume, scripts.as_slice(), &Open)?;
-    assert_eq!(rt; outcomes.as_slice().len(), 1);
-    let only = &outcomes.as_slice()[0];
+/// What the session of these lines is replied.
+fn lines_are_served(rt: &impl Abort, only: &Outcome) {
     replied(
-        &rt,
-        only,
+        rt,
+        &only.replies,
         &[
             Short::Bad,
             Short::User,
@@ -139,11 +129,31 @@ fn commands_that_are_no_requests(rt: HostRuntime) -> Result<(), Fail> {
             Short::Got,
         ],
     );
-    answered(&rt, only, 0, 4, Answer::Found(reserved_id(5), 1));
-    answered(&rt, only, 1, 9, Answer::Removed(reserved_id(2), 1));
-    answered(&rt, only, 2, 12, Answer::Info(index_stat()));
-    let calls = calls_of(alloc, outcomes)?;
-    settles(&rt, alloc, &volume, calls.as_slice(), &[3])
+    answered(rt, only, 0, 4, Answer::Found(reserved_id(5), 1));
+    answered(rt, only, 1, 9, Answer::Removed(reserved_id(2), 1));
+    answered(rt, only, 2, 12, Answer::Info(index_stat()));
+}
+
+/// The twelve lines.
+fn all_lines(alloc: Global) -> Result<Vec<Script>, Fail>
+    ensures { IfOk result (λ v. All (λ s. CanBeRun s.commands.items) v.items) }
+{
+    let mut script = first_lines(alloc)?;
+    more_lines(&mut script)?;
+    alone(alloc, script)
+}
+
+#[test]
+fn commands_that_are_no_requests(rt: HostRuntime) -> Result<(), Fail> {
+    let alloc = rt.alloc();
+    let scripts = all_lines(alloc)?;
+    let volume = two_file_volume(&rt, alloc, 4_096)?;
+    let ran = run_on(&rt, alloc, volume, &scripts, &Open)?;
+    match ran.outcomes.as_slice() {
+        [only] => lines_are_served(&rt, only),
+        _ => assert!(rt; false, "one outcome"),
+    }
+    run_settles(&rt, alloc, ran, &[3])
 }
 
 /// Four Reads, of which one names no block.
@@ -158,30 +168,35 @@ fn four_reads(alloc: Global) -> Result<Script, Fail>
     Ok(script)
 }
 
+/// What they are replied where the list has room for two.
+const FULL_AT_TWO: [Short; 4] = [
+    Short::Got,
+    Short::No(Refusal::NoSuchBlock),
+    Short::Got,
+    Short::No(Refusal::ListFull),
+];
+
 #[test]
 fn full_list_refuses_sessions(rt: HostRuntime) -> Result<(), Fail> {
     let alloc = rt.alloc();
-    let volume = volume_of(&rt, alloc, two_files(alloc)?, 2)?;
-    let scripts = alone(alloc, four_reads(alloc)?)?;
-    let Ran { volume, outcomes } = run_on(&rt, alloc, volume, scripts.as_slice(), &Open)?;
-    assert_eq!(rt; outcomes.as_slice().len(), 1);
-    let only = &outcomes.as_slice()[0];
-    let missing = Short::No(Refusal::NoSuchBlock);
-    let full = Short::No(Refusal::ListFull);
-    replied(&rt, only, &[Short::Got, missing, Short::Got, full]);
-    let calls = calls_of(alloc, outcomes)?;
-    settles(&rt, alloc, &volume, calls.as_slice(), &[2])
+    let volume = two_file_volume(&rt, alloc, 2)?;
+    let replies = replies_alone(&rt, alloc, volume, four_reads(alloc)?, 2)?;
+    replied(&rt, &replies, &FULL_AT_TWO);
+    Ok(())
 }
 
 #[test]
 fn no_scripts_and_empty_scripts(rt: HostRuntime) -> Result<(), Fail> {
     let alloc = rt.alloc();
-    let volume = volume_of(&rt, alloc, two_files(alloc)?, 1)?;
-    let Ran { volume, outcomes } = run_on(&rt, alloc, volume, &[], &Open)?;
-    let calls = calls_of(alloc, outcomes)?;
-    settles(&rt, alloc, &volume, calls.as_slice(), &[])?;
-    let scripts = alone(alloc, script(alloc))?;
-    let Ran { volume, outcomes } = run_on(&rt, alloc, volume, scripts.as_slice(), &Open)?;
-    let calls = calls_of(alloc, outcomes)?;
-    settles(&rt, alloc, &volume, calls.as_slice(), &[0])
+    let ran = run_on(&rt, alloc, two_file_volume(&rt, alloc, 1)?, &[], &Open)?;
+    run_settles(&rt, alloc, ran, &[])?;
+    let replies = replies_alone(
+        &rt,
+        alloc,
+        two_file_volume(&rt, alloc, 1)?,
+        script(alloc),
+        0,
+    )?;
+    assert!(rt; replies.is_empty());
+    Ok(())
 }

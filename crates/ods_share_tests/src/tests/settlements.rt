@@ -1,5 +1,7 @@
 //! Lists that are settled, and lists that are not.
-use super::runs::{Open, Ran, calls_of, run_on, settles, two_files, two_scripts, volume_of};
+use super::runs::{
+    Open, Ran, calls_of, run_on, settles, two_file_volume, two_files, two_ran, two_scripts,
+};
 use ods_base::{Coded, Image};
 use ods_format_tests::persons::{FIRST, USER};
 use ods_request::Request;
@@ -7,16 +9,7 @@ use ods_share::{Call, RunFault, SettleFault, settle};
 use ods_volume::Volume;
 use std::alloc::Global;
 use std::process::Abort;
-use std::sync::Wait;
 use std::test::Fail;
-use std::thread::Threads;
-
-/// What the two sessions left.
-fn two_ran<R: Abort + Threads + Wait + Sync>(rt: &R, alloc: Global) -> Result<Ran, Fail> {
-    let volume = volume_of(rt, alloc, two_files(alloc)?, 4_096)?;
-    let scripts = two_scripts(alloc)?;
-    run_on(rt, alloc, volume, scripts.as_slice(), &Open)
-}
 
 /// The list is not settled with these calls and this image.
 fn is_unmatched(
@@ -27,7 +20,7 @@ fn is_unmatched(
     calls: &[Vec<Call>],
 ) {
     match settle(alloc, image, volume, calls) {
-        Err(fault) => assert_eq!(rt; fault, SettleFault::Unmatched),
+        Err(fault) => assert!(rt; fault == SettleFault::Unmatched),
         Ok(_) => assert!(rt; false, "it is settled"),
     }
 }
@@ -56,14 +49,24 @@ fn swapped_lists_are_unmatched(rt: HostRuntime) -> Result<(), Fail> {
 fn list_without_its_last_call_is_unmatched(rt: HostRuntime) -> Result<(), Fail> {
     let alloc = rt.alloc();
     let Ran { volume, outcomes } = two_ran(&rt, alloc)?;
-    let mut calls = calls_of(alloc, outcomes)?;
+    lacks_calls(&rt, alloc, &volume, calls_of(alloc, outcomes)?)
+}
+
+/// The list is not settled without the last list of calls, nor without the last call of that.
+fn lacks_calls(
+    rt: &impl Abort,
+    alloc: Global,
+    volume: &Volume,
+    calls: Vec<Vec<Call>>,
+) -> Result<(), Fail> {
+    let mut calls = calls;
     let Some(mut second) = calls.pop() else {
         return Err("two lists".into());
     };
-    is_unmatched(&rt, alloc, volume.mounted(), &volume, calls.as_slice());
+    is_unmatched(rt, alloc, volume.mounted(), volume, calls.as_slice());
     assert!(rt; second.pop().is_some());
     calls.push(second)?;
-    is_unmatched(&rt, alloc, volume.mounted(), &volume, calls.as_slice());
+    is_unmatched(rt, alloc, volume.mounted(), volume, calls.as_slice());
     Ok(())
 }
 
@@ -91,7 +94,7 @@ fn other_image_is_unmatched(rt: HostRuntime) -> Result<(), Fail> {
 #[test]
 fn request_that_no_script_has_is_found(rt: HostRuntime) -> Result<(), Fail> {
     let alloc = rt.alloc();
-    let mut volume = volume_of(&rt, alloc, two_files(alloc)?, 4_096)?;
+    let mut volume = two_file_volume(&rt, alloc, 4_096)?;
     let extra = Request::Stat { file: FIRST };
     assert!(rt; volume.request(1, 1, USER, extra).is_ok());
     let scripts = two_scripts(alloc)?;

@@ -3,7 +3,7 @@
 ghost use Rattle.std.specs.Prelude.{◌≡◌, ◌≤◌};
 
 use super::requests::{block_viewed, block_written};
-use super::runs::{two_files, volume_of};
+use super::runs::two_file_volume;
 use ods_format_tests::persons::USER;
 use ods_format_tests::settings::number_of;
 use ods_request::Answer;
@@ -11,6 +11,7 @@ use ods_share::{Desk, Naming, Viewer};
 use ods_volume::{Volume, look};
 use std::alloc::{AllocError, Global};
 use std::marker::Brand;
+use std::rt::Env;
 use std::sync::Wait;
 use std::sync::atomic::{AtomicBool, Ordering};
 use std::test::Fail;
@@ -110,40 +111,39 @@ fn beside_a_writer<J: Naming + Send + Sync, R: Clock + Threads + Wait + Sync>(
     })
 }
 
+/// How many looks each makes, and whether what is timed is printed.
+fn load(rt: &impl Env) -> (u32, bool) {
+    match number_of(rt, "TRIALS") {
+        Some(trials) => (LOOKS.saturating_mul(trials), true),
+        None => (LOOKS, false),
+    }
+}
+
 #[test]
 fn views_beside_a_writer(rt: HostRuntime) -> Result<(), Fail> {
     let alloc = rt.alloc();
-    let trials = number_of(&rt, "TRIALS");
+    let (count, is_timed) = load(&rt);
     let viewers = number_of(&rt, "VIEWERS").unwrap_or(2).clamp(1, 8);
-    let count = LOOKS.saturating_mul(trials.unwrap_or(1));
-    let volume = volume_of(&rt, alloc, two_files(alloc)?, 65_536)?;
+    let volume = two_file_volume(&rt, alloc, 65_536)?;
     let timed = beside_a_writer::<Brand, _>(&rt, alloc, volume, viewers as usize, count)?;
-    assert_eq!(rt; timed.shown, viewers.saturating_mul(count));
-    if trials.is_some() {
+    assert!(rt; timed.shown == viewers.saturating_mul(count));
+    if is_timed {
         let Timed {
             shown,
             spent,
             written,
         } = timed;
-        println!(rt;
-            "{shown} views, {} microseconds, {written} writes",
-            spent.as_micros()
-        )?;
+        let spent = spent.as_micros();
+        println!(rt; "{shown} views, {spent} microseconds, {written} writes")?;
     }
     Ok(())
 }
 
-/// Lets one viewer look with nobody else at the desk.
-fn alone<J: Naming, R: Clock + Wait>(
-    rt: &R,
-    alloc: Global,
-    volume: Volume,
-    count: u32,
-) -> Result<Timed, Fail>
+/// How many of so many views show a block where nobody else is at the desk.
+fn alone<J: Naming, R: Wait>(rt: &R, alloc: Global, volume: Volume, count: u32) -> Result<u32, Fail>
     requires mounted { volume.mounted ≡ J.mounted }
     requires opening { volume.entries ≡ J.opening }
 {
-    let begun = Instant::now(rt)?;
     let Ok((desk, mut viewers)) = Desk::<J>::new(rt, alloc, volume, 1) else {
         return Err("memory for a desk".into());
     };
@@ -151,28 +151,22 @@ fn alone<J: Naming, R: Clock + Wait>(
         Some(viewer) => views(viewer, count),
         None => 0,
     };
-    let spent = begun.elapsed(rt);
-    let volume = desk.close(rt);
-    Ok(Timed {
-        shown,
-        spent: spent?,
-        written: volume.entries().len(),
-    })
+    desk.close(rt);
+    Ok(shown)
 }
 
 #[test]
 fn a_view_beside_a_look(rt: HostRuntime) -> Result<(), Fail> {
     let alloc = rt.alloc();
-    let trials = number_of(&rt, "TRIALS");
-    let count = LOOKS.saturating_mul(trials.unwrap_or(1));
-    let volume = volume_of(&rt, alloc, two_files(alloc)?, 1)?;
+    let (count, is_timed) = load(&rt);
+    let volume = two_file_volume(&rt, alloc, 1)?;
     let begun = Instant::now(&rt)?;
-    assert_eq!(rt; looks(&volume, count), count);
-    let looked = begun.elapsed(&rt)?;
-    let viewed = alone::<Brand, _>(&rt, alloc, volume, count)?;
-    assert_eq!(rt; viewed.shown, count);
-    if trials.is_some() {
-        let (looked, viewed) = (looked.as_micros(), viewed.spent.as_micros());
+    assert!(rt; looks(&volume, count) == count);
+    let looked = begun.elapsed(&rt)?.as_micros();
+    let begun = Instant::now(&rt)?;
+    assert!(rt; alone::<Brand, _>(&rt, alloc, volume, count)? == count);
+    let viewed = begun.elapsed(&rt)?.as_micros();
+    if is_timed {
         println!(rt; "{count} looks, {looked} microseconds; {count} views, {viewed} microseconds")?;
     }
     Ok(())

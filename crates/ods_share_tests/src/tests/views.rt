@@ -3,16 +3,16 @@ ghost use Rattle.std.specs.Prelude.{◌≡◌, All, IfOk};
 ghost use Rattle.ods_share.specs.Scripts.{CanBeObeyed, CanBeRun};
 
 use super::requests::{block_viewed, block_written, file_made};
-use super::runs::{Open, Ran, calls_of, run_on, settles, stamp, two_files, volume_of};
-use super::scripts::{add, add_script, create, read_last, script, write, write_last};
-use super::sessions::{Short, alone, replied};
+use super::runs::{replies_alone, run_on, stamp, two_file_volume, volume_of};
+use super::scripts::{add, both, create, read_last, script, write, write_last};
+use super::sessions::{Short, replied};
 use ods_base::Pick;
 use ods_format_tests::persons::{
     FIRST, MASTER, NONE, USER, a_txt, corimg, letter_a, old_block, reserved_id,
 };
 use ods_format_tests::volumes::sample_of;
 use ods_request::{Answer, Refusal, Stamp};
-use ods_share::{Action, Desk, Gate, Id, Look, Naming, Outcome, Reply, Script, ViewFault, Viewer};
+use ods_share::{Action, Desk, Gate, Id, Look, Naming, Reply, Script, ViewFault, Viewer};
 use ods_volume::Volume;
 use std::alloc::Global;
 use std::marker::Brand;
@@ -34,12 +34,12 @@ fn view_last() -> Action
 }
 
 /// This reply has this answer.
-fn shown(rt: &impl Abort, outcome: &Outcome, reply: usize, wanted: &Answer) {
-    assert!(rt; reply < outcome.replies.as_slice().len());
-    match &outcome.replies.as_slice()[reply] {
-        Reply::Got(answer) => assert!(rt; **answer == *wanted, "{answer:?} is shown"),
-        other => assert!(rt; false, "the reply is {other:?}"),
-    }
+fn shown(rt: &impl Abort, replies: &[Reply], reply: usize, wanted: &Answer) {
+    let is_shown = match replies.get(reply) {
+        Some(Reply::Got(answer)) => **answer == *wanted,
+        _ => false,
+    };
+    assert!(rt; is_shown, "reply {reply} is not {wanted:?}");
 }
 
 /// A file is made, its block is written, and viewed; where it is to be read, that comes before the view.
@@ -60,30 +60,22 @@ fn made_and_viewed(alloc: Global, is_read: bool) -> Result<Script, Fail>
 fn view_shows_what_its_session_wrote(rt: HostRuntime) -> Result<(), Fail> {
     let alloc = rt.alloc();
     let volume = volume_of(&rt, alloc, sample_of(40).image(alloc)?, 4_096)?;
-    let scripts = alone(alloc, made_and_viewed(alloc, false)?)?;
-    let Ran { volume, outcomes } = run_on(&rt, alloc, volume, scripts.as_slice(), &Open)?;
-    assert_eq!(rt; outcomes.as_slice().len(), 1);
-    let only = &outcomes.as_slice()[0];
-    replied(&rt, only, &[Short::Got, Short::Got, Short::Got]);
-    shown(&rt, only, 0, &Answer::Created(FIRST));
-    shown(&rt, only, 2, &Answer::Bytes(letter_a()));
-    let calls = calls_of(alloc, outcomes)?;
-    settles(&rt, alloc, &volume, calls.as_slice(), &[2])
+    let replies = replies_alone(&rt, alloc, volume, made_and_viewed(alloc, false)?, 2)?;
+    replied(&rt, &replies, &[Short::Got, Short::Got, Short::Got]);
+    shown(&rt, &replies, 0, &Answer::Created(FIRST));
+    shown(&rt, &replies, 2, &Answer::Bytes(letter_a()));
+    Ok(())
 }
 
 #[test]
 fn view_is_answered_when_the_list_is_full(rt: HostRuntime) -> Result<(), Fail> {
     let alloc = rt.alloc();
     let volume = volume_of(&rt, alloc, sample_of(40).image(alloc)?, 2)?;
-    let scripts = alone(alloc, made_and_viewed(alloc, true)?)?;
-    let Ran { volume, outcomes } = run_on(&rt, alloc, volume, scripts.as_slice(), &Open)?;
-    assert_eq!(rt; outcomes.as_slice().len(), 1);
-    let only = &outcomes.as_slice()[0];
+    let replies = replies_alone(&rt, alloc, volume, made_and_viewed(alloc, true)?, 2)?;
     let full = Short::No(Refusal::ListFull);
-    replied(&rt, only, &[Short::Got, Short::Got, full, Short::Got]);
-    shown(&rt, only, 3, &Answer::Bytes(letter_a()));
-    let calls = calls_of(alloc, outcomes)?;
-    settles(&rt, alloc, &volume, calls.as_slice(), &[2])
+    replied(&rt, &replies, &[Short::Got, Short::Got, full, Short::Got]);
+    shown(&rt, &replies, 3, &Answer::Bytes(letter_a()));
+    Ok(())
 }
 
 /// A view where `$` stands for nothing, one that finds a file, one of that file, and one of no file.
@@ -109,17 +101,13 @@ fn four_views(alloc: Global) -> Result<Script, Fail>
 #[test]
 fn dollar_follows_a_look_that_is_viewed(rt: HostRuntime) -> Result<(), Fail> {
     let alloc = rt.alloc();
-    let volume = volume_of(&rt, alloc, two_files(alloc)?, 4_096)?;
-    let scripts = alone(alloc, four_views(alloc)?)?;
-    let Ran { volume, outcomes } = run_on(&rt, alloc, volume, scripts.as_slice(), &Open)?;
-    assert_eq!(rt; outcomes.as_slice().len(), 1);
-    let only = &outcomes.as_slice()[0];
+    let volume = two_file_volume(&rt, alloc, 4_096)?;
+    let replies = replies_alone(&rt, alloc, volume, four_views(alloc)?, 0)?;
     let block = Short::No(Refusal::NoSuchBlock);
     let file = Short::No(Refusal::NoSuchFile);
-    replied(&rt, only, &[Short::Bad, Short::Got, block, file]);
-    shown(&rt, only, 1, &Answer::Found(reserved_id(5), 1));
-    let calls = calls_of(alloc, outcomes)?;
-    settles(&rt, alloc, &volume, calls.as_slice(), &[0])
+    replied(&rt, &replies, &[Short::Bad, Short::Got, block, file]);
+    shown(&rt, &replies, 1, &Answer::Found(reserved_id(5), 1));
+    Ok(())
 }
 
 /// What a viewer that moves to a second thread shows there of the first block of the first file.
@@ -161,7 +149,7 @@ fn in_hand<J: Naming + Send + Sync, R: Abort + Threads + Wait + Sync>(
                 None => Ok(Answer::Done),
             };
             assert!(rt; made == Ok(Answer::Created(FIRST)) && written == Ok(Answer::Done));
-            assert_eq!(rt; told, 2);
+            assert!(rt; told == 2);
             assert!(rt; seen == Ok(Answer::Bytes(letter_a())));
             assert!(rt; late == Err(ViewFault::Closed));
             Ok(volume)
@@ -175,7 +163,7 @@ fn viewer_shows_what_it_learned(rt: HostRuntime) -> Result<(), Fail> {
     let alloc = rt.alloc();
     let volume = volume_of(&rt, alloc, sample_of(40).image(alloc)?, 4_096)?;
     let volume = in_hand::<Brand, _>(&rt, alloc, volume, stamp()?)?;
-    assert_eq!(rt; volume.entries().len(), 2);
+    assert!(rt; volume.entries().len() == 2);
     Ok(())
 }
 
@@ -219,10 +207,7 @@ fn written_and_viewed(alloc: Global) -> Result<Vec<Script>, Fail>
     };
     let mut second = script(alloc);
     add(&mut second, Action::View(look))?;
-    let mut scripts = Vec::new(alloc);
-    add_script(&mut scripts, first)?;
-    add_script(&mut scripts, second)?;
-    Ok(scripts)
+    both(alloc, first, second)
 }
 
 #[test]
@@ -232,14 +217,18 @@ fn view_needs_no_lock(rt: HostRuntime) -> Result<(), Fail> {
         answered: AtomicBool::new(false),
         gave_up: AtomicBool::new(false),
     };
-    let volume = volume_of(&rt, alloc, two_files(alloc)?, 4_096)?;
     let scripts = written_and_viewed(alloc)?;
-    let Ran { volume, outcomes } = run_on(&rt, alloc, volume, scripts.as_slice(), &gate)?;
+    let volume = two_file_volume(&rt, alloc, 4_096)?;
+    let ran = run_on(&rt, alloc, volume, &scripts, &gate)?;
     let gave_up = gate.gave_up.load(Ordering::SeqCst);
     assert!(rt; !gave_up, "the view waited for the lock");
-    assert_eq!(rt; volume.entries().len(), 1);
-    assert_eq!(rt; outcomes.as_slice().len(), 2);
-    replied(&rt, &outcomes.as_slice()[0], &[Short::Got]);
-    shown(&rt, &outcomes.as_slice()[1], 0, &Answer::Bytes(old_block()));
+    assert!(rt; ran.volume.entries().len() == 1);
+    match ran.outcomes.as_slice() {
+        [first, second] => {
+            replied(&rt, &first.replies, &[Short::Got]);
+            shown(&rt, &second.replies, 0, &Answer::Bytes(old_block()));
+        }
+        _ => assert!(rt; false, "two outcomes"),
+    }
     Ok(())
 }

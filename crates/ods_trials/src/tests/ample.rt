@@ -4,7 +4,7 @@ use super::check_runs::replies;
 use super::mounts::mounts;
 use ods_base::{Block, FileId, Image, Listed, Name, set_word};
 use ods_format_tests::persons::{DIR, USER, a_txt, b_txt, indexf, old_block, reserved_id};
-use ods_format_tests::volumes::{FileHeader, Variant, added, run, sample_of};
+use ods_format_tests::volumes::{FileHeader, Variant, added, directory_attributes, run, sample_of};
 use ods_look::list;
 use ods_mount::Mounted;
 use std::alloc::{AllocError, Global};
@@ -30,14 +30,9 @@ fn directory_id(number: u16) -> FileId {
 /// The header of directory A.DIR of this number, which maps one block, and the LBN where it stands: headers 1 to 16 follow the
 /// index bitmap, and header 17 is at LBN 23.
 fn directory_header(number: u16) -> (u32, Block) {
-    let mut attributes = [0; 32];
-    attributes[0] = 1;
-    attributes[2] = 16;
-    attributes[6] = 1;
-    attributes[10] = 1;
-    attributes[12] = if number % 2 == 0 { 32 } else { 16 };
+    let end = if number % 2 == 0 { 32 } else { 16 };
     let header = FileHeader {
-        attributes,
+        attributes: directory_attributes(1, 1, end),
         ..added(number, Name::new([1_600, 0, 0], DIR))
     };
     let lbn = number as u32 + if number <= 16 { 2 } else { 6 };

@@ -4,8 +4,10 @@ use ods_alloc::{free_count, number_count};
 use ods_base::{Block, FileId, Image, Name, word};
 use ods_change::delete;
 use ods_format_tests::contiguous::{WORLD, WORLD_DENIED, contiguous_file};
-use ods_format_tests::persons::{DIR, FIRST, MASTER, PROTECTION, SECOND, USER, c_dat};
-use ods_format_tests::volumes::{FileHeader, Variant, added, block_of, run, sample_of};
+use ods_format_tests::persons::{DIR, FIRST, MASTER, SECOND, USER, c_dat};
+use ods_format_tests::volumes::{
+    FileHeader, Variant, added, block_of, in_two_headers, run, sample_of,
+};
 use ods_look::stat;
 use ods_mount::Mounted;
 use ods_request::Refusal;
@@ -21,22 +23,7 @@ fn deleted(alloc: Global, before: &Mounted, file: FileId) -> Result<Draft, Refus
 
 /// The sample volume with C.DAT, file 6,1: LBN 22 by its first header, LBN 24 by header 7.
 fn two_headers(alloc: Global) -> Result<Image, Fail> {
-    let first = FileHeader {
-        next: 7,
-        ..added(6, c_dat())
-    };
-    let second = FileHeader {
-        segment: 1,
-        ..added(7, c_dat())
-    };
-    Variant {
-        headers: &[
-            (8, first.mapping(&[run(22, 1)])),
-            (9, second.mapping(&[run(24, 1)])),
-        ],
-        ..sample_of(40)
-    }
-    .image(alloc)
+    in_two_headers(alloc, c_dat(), &[run(22, 1)], &[run(24, 1)])
 }
 
 /// The sample volume with a directory, file 6,1 with LBN 22, whose end mark is byte 16; its one entry has this file
@@ -77,20 +64,24 @@ fn is_gone(rt: &impl Abort, volume: &Mounted) {
 }
 
 /// The header has number 0, and keeps its sequence number.
-fn is_given_back(rt: &impl Abort, header: &Block) {
+fn has_no_file(rt: &impl Abort, header: &Block) {
     assert!(rt; word(header, 1) == 0 && word(header, 2) == 1);
+}
+
+/// The file of two headers is gone, and all that it had is free.
+fn is_given_back(rt: &impl Abort, after: &Mounted) -> Result<(), Fail> {
+    has_free(rt, after, 18, 11);
+    is_gone(rt, after);
+    has_no_file(rt, block_of(after.image(), 8)?);
+    has_no_file(rt, block_of(after.image(), 9)?);
+    Ok(())
 }
 
 #[test]
 fn a_file_of_two_headers_is_deleted(rt: HostRuntime) -> Result<(), Fail> {
     let alloc = rt.alloc();
     has_free(&rt, &mounted(alloc, two_headers(alloc)?)?, 16, 9);
-    let after = without_first(alloc, two_headers(alloc)?)?;
-    has_free(&rt, &after, 18, 11);
-    is_gone(&rt, &after);
-    is_given_back(&rt, block_of(after.image(), 8)?);
-    is_given_back(&rt, block_of(after.image(), 9)?);
-    Ok(())
+    is_given_back(&rt, &without_first(alloc, two_headers(alloc)?)?)
 }
 
 /// What a Delete of the directory with this entry is answered.
@@ -106,14 +97,18 @@ fn a_directory_is_deleted_without_names(rt: HostRuntime) -> Result<(), Fail> {
     Ok(())
 }
 
-#[test]
-fn deletes_are_refused(rt: HostRuntime) -> Result<(), Fail> {
-    let alloc = rt.alloc();
-    let private = mounted(alloc, contiguous_file(alloc, WORLD_DENIED)?)?;
+/// What may not be deleted.
+fn refuses(rt: &impl Abort, alloc: Global, private: &Mounted) {
     for (file, refusal) in [(MASTER, Refusal::Reserved), (SECOND, Refusal::NoSuchFile)] {
-        assert!(rt; deleted(alloc, &private, file).err() == Some(refusal));
+        assert!(rt; deleted(alloc, private, file).err() == Some(refusal));
     }
     let refused = delete(alloc, private.image(), private.layout(), WORLD, FIRST);
     assert!(rt; refused.err() == Some(Refusal::Denied));
+}
+
+#[test]
+fn deletes_are_refused(rt: HostRuntime) -> Result<(), Fail> {
+    let image = contiguous_file(rt.alloc(), WORLD_DENIED)?;
+    refuses(&rt, rt.alloc(), &mounted(rt.alloc(), image)?);
     Ok(())
 }

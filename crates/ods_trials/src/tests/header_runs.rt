@@ -53,25 +53,37 @@ fn headers_are_replied(rt: HostRuntime) -> Result<(), Fail> {
     Ok(())
 }
 
+/// Too few bytes for a header.
 #[test]
-fn refused_bytes_are_replied(rt: HostRuntime) -> Result<(), Fail> {
+fn parts_are_replied(rt: HostRuntime) -> Result<(), Fail> {
     let bytes = sample(rt.alloc(), 40)?;
-    let part = bytes.as_slice().get(..511).ok_or("short")?;
-    let two_blocks = bytes.as_slice().get(..1024).ok_or("short")?;
-    let mut spoiled = sample(rt.alloc(), 40)?;
-    assert!(rt; 512 + 58 < spoiled.len());
-    spoiled[512 + 58] = 0;
-    let mut unsummed = sample(rt.alloc(), 40)?;
-    assert!(rt; 512 * 6 + 12 < unsummed.len());
-    unsummed[512 * 6 + 12] = 1;
-    for (image, reply) in [
-        (&bytes[..0], "NO 15 NoHome\n"),
-        (part, "NO 1 NotWholeBlocks\n"),
-        (two_blocks, "NO 11 WrongNumber\n"),
-        (spoiled.as_slice(), "NO 15 NoHome\n"),
-        (unsummed.as_slice(), "NO 10 BadSum\n"),
+    for (length, reply) in [
+        (0, "NO 15 NoHome\n"),
+        (511, "NO 1 NotWholeBlocks\n"),
+        (1024, "NO 11 WrongNumber\n"),
     ] {
-        replied(&rt, rt.alloc(), image, 4, false, reply);
+        let part = bytes.as_slice().get(..length).ok_or("short")?;
+        replied(&rt, rt.alloc(), part, 4, false, reply);
+    }
+    Ok(())
+}
+
+/// The bytes of the sample with another byte at a place.
+fn spoiled(rt: &impl Abort, alloc: Global, at: usize, byte: u8) -> Result<Vec<u8>, Fail> {
+    let mut bytes = sample(alloc, 40)?;
+    assert!(rt; at < bytes.len());
+    bytes[at] = byte;
+    Ok(bytes)
+}
+
+#[test]
+fn spoiled_bytes_are_replied(rt: HostRuntime) -> Result<(), Fail> {
+    for (at, byte, reply) in [
+        (512 + 58, 0, "NO 15 NoHome\n"),
+        (512 * 6 + 12, 1, "NO 10 BadSum\n"),
+    ] {
+        let bytes = spoiled(&rt, rt.alloc(), at, byte)?;
+        replied(&rt, rt.alloc(), bytes.as_slice(), 4, false, reply);
     }
     Ok(())
 }

@@ -10,11 +10,13 @@ use ods_format_tests::volumes::{FileHeader, Variant, added, bytes_at, run, sampl
 use ods_mount::MountFault;
 use std::alloc::Global;
 use std::process::Abort;
+use std::sync::Wait;
 use std::test::Fail;
+use std::thread::Threads;
 
 /// Fails where the mount does not answer this fault, or the program not this line.
-fn refused(
-    rt: &impl Abort,
+fn refused<R: Threads + Wait + Sync + Abort>(
+    rt: &R,
     alloc: Global,
     volume: &Variant<'_>,
     wanted: MountFault,

@@ -7,18 +7,23 @@ use ods_base::{Block, Image};
 use ods_format_tests::persons::{badblk, c_dat, indexf};
 use ods_format_tests::volumes::{FileHeader, Variant, added, reserved, run, sample_of};
 use ods_header::Run;
-use ods_mount::{MountFault, mount};
+use ods_mount::{MountFault, Mounted, mount};
 use std::alloc::Global;
 use std::process::Abort;
+use std::sync::Wait;
 use std::test::Fail;
+use std::thread::Threads;
+
+/// The blocks and the numbers that are free.
+pub fn free(mounted: &Mounted) -> (u32, u32) {
+    let (image, layout) = (mounted.image(), mounted.layout());
+    (free_count(image, layout), number_count(image, layout))
+}
 
 /// The blocks and the numbers that are free, where the image is sound.
-pub fn counts(alloc: Global, image: Image) -> Result<(u32, u32), MountFault> {
+fn counts(alloc: Global, image: Image) -> Result<(u32, u32), MountFault> {
     match mount(alloc, image) {
-        Ok(mounted) => Ok((
-            free_count(mounted.image(), mounted.layout()),
-            number_count(mounted.image(), mounted.layout()),
-        )),
+        Ok(mounted) => Ok(free(&mounted)),
         Err((_, fault)) => Err(fault),
     }
 }
@@ -35,8 +40,8 @@ pub fn mounts(
 }
 
 /// Fails where the mount does not find so many blocks and numbers free, or the program does not print it.
-fn sound(
-    rt: &impl Abort,
+fn sound<R: Threads + Wait + Sync + Abort>(
+    rt: &R,
     alloc: Global,
     volume: &Variant<'_>,
     free: (u32, u32),

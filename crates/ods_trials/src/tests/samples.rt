@@ -80,45 +80,50 @@ const SAMPLE: [(u32, usize, &[u8]); 38] = [
     (39, 511, b"\x5a"),
 ];
 
+/// Puts bytes at a place of a block.
+fn put(rt: &impl Abort, image: &mut [u8], lbn: u32, at: usize, bytes: &[u8]) {
+    let place = (512 * lbn as usize).wrapping_add(at);
+    assert!(rt; place <= image.len() && bytes.len() <= image.len() - place);
+    image[place..place + bytes.len()].copy_from_slice(bytes);
+}
+
 /// The bytes of the sample of so many blocks. Where it has 512, the storage bits up to LBN 511 are set.
 fn published(rt: &impl Abort, alloc: Global, blocks: usize) -> Result<Vec<u8>, Fail> {
     let mut wanted = vec![in alloc; 0u8; 512 * 22]?;
     wanted.resize(512 * blocks.min(512), 0x5a)?;
     for (lbn, at, bytes) in &SAMPLE {
-        for (i, byte) in bytes.iter().enumerate() {
-            let place = (512 * *lbn as usize).wrapping_add(*at).wrapping_add(i);
-            assert!(rt; place < wanted.len());
-            wanted[place] = *byte;
-        }
+        put(rt, wanted.as_mut_slice(), *lbn, *at, bytes);
     }
     if blocks == 512 {
-        assert!(rt; 512 * 21 <= wanted.len());
-        wanted[512 * 20 + 5..512 * 20 + 64].copy_from_slice(&[0xff; 59]);
+        put(rt, wanted.as_mut_slice(), 20, 5, &[0xff; 59]);
     }
     Ok(wanted)
+}
+
+/// Both have the same bytes.
+fn same_bytes(rt: &impl Abort, found: &[u8], wanted: &[u8]) {
+    assert!(rt; found.len() == wanted.len());
+    for (at, (one, other)) in found.iter().zip(wanted.iter()).enumerate() {
+        assert!(rt; one == other, "byte {at}");
+    }
 }
 
 #[test]
 fn samples_have_their_bytes(rt: HostRuntime) -> Result<(), Fail> {
     for blocks in [40, 512] {
         let wanted = published(&rt, rt.alloc(), blocks as usize)?;
-        let found = sample(rt.alloc(), blocks)?;
-        assert_eq!(rt; found.len(), wanted.len());
-        for i in 0..wanted.len() {
-            assert!(rt; i < found.len());
-            assert!(rt; found[i] == wanted[i], "byte {i} of {blocks} blocks");
-        }
+        same_bytes(
+            &rt,
+            sample(rt.alloc(), blocks)?.as_slice(),
+            wanted.as_slice(),
+        );
     }
     Ok(())
 }
 
-#[test]
-fn sample_has_its_sums(rt: HostRuntime) -> Result<(), Fail> {
-    let bytes = sample(rt.alloc(), 40)?;
-    let image = Image::from_bytes(rt.alloc(), &bytes)
-        .ok()
-        .ok_or("no image")?;
-    assert_eq!(rt; image.len(), 40);
+/// The home block and the headers have these sums.
+fn has_sums(rt: &impl Abort, image: &Image) {
+    assert!(rt; image.len() == 40);
     for (lbn, words, total) in [
         (1, 29, 57_621),
         (1, 255, 11_408),
@@ -128,7 +133,13 @@ fn sample_has_its_sums(rt: HostRuntime) -> Result<(), Fail> {
         (6, 255, 31_411),
         (7, 255, 43_353),
     ] {
-        assert_eq!(rt; sum(image.block(lbn), words), total, "at {lbn}");
+        assert!(rt; sum(image.block(lbn), words) == total, "at {lbn}");
     }
+}
+
+#[test]
+fn sample_has_its_sums(rt: HostRuntime) -> Result<(), Fail> {
+    let bytes = sample(rt.alloc(), 40)?;
+    has_sums(&rt, &Image::from_bytes(rt.alloc(), &bytes)?);
     Ok(())
 }

@@ -1,33 +1,18 @@
 //! Requests with ample memory are served, at sizes that take more of it than the samples do.
-use super::rows::write_a;
-use super::trial::{Trial, does, has_entries, reads, shows, start};
+use super::rows::{bytes, read, set_user, shown, stat, write_a};
+use super::trial::{Trial, has_entries, played_on, plays, start};
 use ods_base::{Block, Image};
 use ods_format_tests::contiguous::{contiguous_file, contiguous_stat};
 use ods_format_tests::persons::{FIRST, PROTECTION, a_txt, letter_a, old_block};
-use ods_format_tests::volumes::{FileHeader, Variant, added, block_of, run, sample_of};
-use ods_request::Request;
+use ods_format_tests::volumes::{block_of, in_two_headers, run};
+use ods_request::Answer;
 use std::alloc::Global;
 use std::process::Abort;
 use std::test::Fail;
 
 /// The volume of 40 blocks with A.TXT, whose second header maps its blocks 3 and 4: LBN 30 and 31.
 fn two_headers(alloc: Global) -> Result<Image, Fail> {
-    let first = FileHeader {
-        next: 7,
-        ..added(6, a_txt())
-    };
-    let second = FileHeader {
-        segment: 1,
-        ..added(7, a_txt())
-    };
-    Variant {
-        headers: &[
-            (8, first.mapping(&[run(22, 2)])),
-            (9, second.mapping(&[run(30, 2)])),
-        ],
-        ..sample_of(40)
-    }
-    .image(alloc)
+    in_two_headers(alloc, a_txt(), &[run(22, 2)], &[run(30, 2)])
 }
 
 /// The volume is as that volume was, but for the letter A in LBN 31.
@@ -50,29 +35,25 @@ fn is_block(rt: &impl Abort, found: &Block, wanted: &Block, lbn: u32) {
 }
 
 /// Block 4 of A.TXT is written.
-fn writes_block_4(rt: &impl Abort, alloc: Global, it: &mut Trial) -> Result<(), Fail> {
-    reads(rt, alloc, it, FIRST, 4, old_block())?;
-    does(rt, alloc, it, write_a(FIRST, 4))?;
-    reads(rt, alloc, it, FIRST, 4, letter_a())
-}
-
 #[test]
 fn block_of_a_second_header_is_written(rt: HostRuntime) -> Result<(), Fail> {
-    let alloc = rt.alloc();
-    let mut it = start(&rt, alloc, two_headers(alloc)?, 4)?;
-    writes_block_4(&rt, alloc, &mut it)?;
-    only_31_is_written(&rt, alloc, it.volume.image())
+    let rows = [
+        (read(FIRST, 4), bytes(old_block())),
+        (write_a(FIRST, 4), Ok(Answer::Done)),
+        (read(FIRST, 4), bytes(letter_a())),
+    ];
+    let it = played_on(&rt, rt.alloc(), two_headers(rt.alloc())?, &rows)?;
+    only_31_is_written(&rt, rt.alloc(), it.volume.image())
 }
 
 /// SetUser of C.DAT with 32 bytes, each one more than the byte before, and Stat.
 fn set_and_show(rt: &impl Abort, alloc: Global, it: &mut Trial, first: u8) -> Result<(), Fail> {
     let attributes = attributes_from(first);
-    let set = Request::SetUser {
-        file: FIRST,
-        attributes,
-    };
-    does(rt, alloc, it, set)?;
-    shows(rt, alloc, it, FIRST, contiguous_stat(attributes))?;
+    let rows = [
+        (set_user(FIRST, attributes), Ok(Answer::Done)),
+        (stat(FIRST), shown(contiguous_stat(attributes))),
+    ];
+    plays(rt, alloc, it, &rows)?;
     // The last byte of the attributes in the header of C.DAT.
     let header = block_of(it.volume.image(), 8)?;
     assert!(rt; header.byte(45) == first.wrapping_add(31));
@@ -98,22 +79,19 @@ fn set_all(rt: &impl Abort, alloc: Global, it: &mut Trial) -> Result<(), Fail> {
 
 #[test]
 fn any_attributes_are_set(rt: HostRuntime) -> Result<(), Fail> {
-    let alloc = rt.alloc();
-    let mut it = start(&rt, alloc, contiguous_file(alloc, PROTECTION)?, 16)?;
-    set_all(&rt, alloc, &mut it)
+    let image = contiguous_file(rt.alloc(), PROTECTION)?;
+    set_all(&rt, rt.alloc(), &mut start(&rt, rt.alloc(), image, 16)?)
 }
 
 /// A block is read, and that is noted.
 fn reads_one(rt: &impl Abort, alloc: Global, it: &mut Trial) -> Result<(), Fail> {
-    reads(rt, alloc, it, FIRST, 1, old_block())?;
+    plays(rt, alloc, it, &[(read(FIRST, 1), bytes(old_block()))])?;
     has_entries(rt, it, 1);
     Ok(())
 }
 
 #[test]
 fn longest_list_is_made(rt: HostRuntime) -> Result<(), Fail> {
-    let alloc = rt.alloc();
-    let image = contiguous_file(alloc, PROTECTION)?;
-    let mut it = start(&rt, alloc, image, 65_536)?;
-    reads_one(&rt, alloc, &mut it)
+    let image = contiguous_file(rt.alloc(), PROTECTION)?;
+    reads_one(&rt, rt.alloc(), &mut start(&rt, rt.alloc(), image, 65_536)?)
 }

@@ -1,24 +1,25 @@
 //! Published sequences of Create, Extend and Delete.
-use super::rows::{a_txt, big_dat, create, dat, delete, extend, id, made_stat, plain, write_a};
-use super::trial::{
-    Trial, ask, ask_quickly, does, has_totals, makes, read, reads, refuses, same_catalogue, shows,
-    start,
+use super::rows::{
+    a_txt, big_dat, bytes, create, dat, delete, extend, id, made, made_stat, plain, read, set_user,
+    shown, stat, write_a,
 };
+use super::trial::{
+    Trial, ask, ask_quickly, ends_with, has_totals, on_sample, played, played_on, plays,
+    same_catalogue, start,
+};
+use Refusal::{BadCount, HeadersFull, NoSuchBlock, NoSuchFile, Reserved, VolumeFull};
 use ods_base::{Block, Image};
 use ods_format_tests::contiguous::{contiguous_file, contiguous_stat};
-use ods_format_tests::persons::{FIRST, MASTER, PROTECTION, SECOND, USER, letter_a};
-use ods_format_tests::volumes::{Variant, block_of, bytes_at, sample_of};
+use ods_format_tests::persons::{
+    FIRST, MASTER, PROTECTION, SECOND, USER, letter_a, other_attributes,
+};
+use ods_format_tests::volumes::{Variant, block_of, bytes_at, run, sample_of};
 use ods_header::{Header, Run, read_header};
-use ods_request::{Answer, Kind, Refusal, Request};
+use ods_request::{Answer, Kind, Refusal, Stat};
 use ods_space::locate;
 use std::alloc::Global;
 use std::process::Abort;
 use std::test::Fail;
-
-/// A trial on a sample of so many blocks.
-pub fn on_sample(rt: &impl Abort, alloc: Global, blocks: u32) -> Result<Trial, Fail> {
-    start(rt, alloc, sample_of(blocks).image(alloc)?, 4_096)
-}
 
 /// The fields of a header of an image whose headers 1 to 16 follow LBN 2.
 pub fn header_of(image: &Image, number: u16) -> Result<Header, Fail> {
@@ -29,73 +30,57 @@ pub fn header_of(image: &Image, number: u16) -> Result<Header, Fail> {
     }
 }
 
-/// A.TXT of three blocks over old bytes.
-fn makes_over_old_bytes(rt: &impl Abort, alloc: Global, it: &mut Trial) -> Result<(), Fail> {
-    makes(rt, alloc, it, a_txt(), 3, FIRST)?;
-    reads(rt, alloc, it, FIRST, 3, Block::zeros())?;
-    refuses(rt, alloc, it, read(FIRST, 0), Refusal::NoSuchBlock)?;
-    refuses(rt, alloc, it, read(FIRST, 4), Refusal::NoSuchBlock)?;
-    let shown = made_stat(FIRST, &a_txt(), plain(3));
-    shows(rt, alloc, it, FIRST, shown)?;
-    has_totals(rt, it, 3, 15, 10);
-    Ok(())
-}
-
 #[test]
 fn file_is_made_over_old_bytes(rt: HostRuntime) -> Result<(), Fail> {
-    let mut it = on_sample(&rt, rt.alloc(), 40)?;
-    makes_over_old_bytes(&rt, rt.alloc(), &mut it)
-}
-
-/// A.TXT is made, written and deleted.
-fn makes_and_deletes(rt: &impl Abort, alloc: Global, it: &mut Trial) -> Result<(), Fail> {
-    makes(rt, alloc, it, a_txt(), 1, FIRST)?;
-    does(rt, alloc, it, write_a(FIRST, 1))?;
-    reads(rt, alloc, it, FIRST, 1, letter_a())?;
-    does(rt, alloc, it, delete(FIRST))
-}
-
-/// It is made again.
-fn makes_again(rt: &impl Abort, alloc: Global, it: &mut Trial) -> Result<(), Fail> {
-    makes(rt, alloc, it, a_txt(), 1, id(6, 2))?;
-    refuses(rt, alloc, it, read(FIRST, 1), Refusal::NoSuchFile)?;
-    reads(rt, alloc, it, id(6, 2), 1, Block::zeros())?;
-    has_totals(rt, it, 6, 17, 10);
-    Ok(())
+    let rows = [
+        (create(&rt, a_txt(), 3), made(6, 1)),
+        (read(FIRST, 3), bytes(Block::zeros())),
+        (read(FIRST, 0), Err(NoSuchBlock)),
+        (read(FIRST, 4), Err(NoSuchBlock)),
+        (stat(FIRST), shown(made_stat(FIRST, &a_txt(), plain(3)))),
+    ];
+    ends_with(&rt, rt.alloc(), 40, &rows, (3, 15, 10))
 }
 
 #[test]
 fn number_comes_back_with_the_next_sequence(rt: HostRuntime) -> Result<(), Fail> {
-    let mut it = on_sample(&rt, rt.alloc(), 40)?;
-    makes_and_deletes(&rt, rt.alloc(), &mut it)?;
-    makes_again(&rt, rt.alloc(), &mut it)
-}
-
-/// B.DAT takes all blocks.
-fn fills(rt: &impl Abort, alloc: Global, it: &mut Trial) -> Result<(), Fail> {
-    makes(rt, alloc, it, dat(b'B'), 18, FIRST)?;
-    refuses(rt, alloc, it, extend(FIRST, 1), Refusal::VolumeFull)?;
-    reads(rt, alloc, it, FIRST, 18, Block::zeros())?;
-    refuses(rt, alloc, it, extend(FIRST, 0), Refusal::BadCount)?;
-    refuses(rt, alloc, it, extend(FIRST, 65_536), Refusal::BadCount)?;
-    has_totals(rt, it, 2, 0, 10);
-    Ok(())
+    let rows = [
+        (create(&rt, a_txt(), 1), made(6, 1)),
+        (write_a(FIRST, 1), Ok(Answer::Done)),
+        (read(FIRST, 1), bytes(letter_a())),
+        (delete(FIRST), Ok(Answer::Done)),
+        (create(&rt, a_txt(), 1), made(6, 2)),
+        (read(FIRST, 1), Err(NoSuchFile)),
+        (read(id(6, 2), 1), bytes(Block::zeros())),
+    ];
+    ends_with(&rt, rt.alloc(), 40, &rows, (6, 17, 10))
 }
 
 #[test]
 fn volume_is_full(rt: HostRuntime) -> Result<(), Fail> {
-    let mut it = on_sample(&rt, rt.alloc(), 40)?;
-    fills(&rt, rt.alloc(), &mut it)
+    let rows = [
+        (create(&rt, dat(b'B'), 18), made(6, 1)),
+        (extend(FIRST, 1), Err(VolumeFull)),
+        (read(FIRST, 18), bytes(Block::zeros())),
+        (extend(FIRST, 0), Err(BadCount)),
+        (extend(FIRST, 65_536), Err(BadCount)),
+    ];
+    ends_with(&rt, rt.alloc(), 40, &rows, (2, 0, 10))
 }
 
 /// Files take all numbers.
 fn takes_numbers(rt: &impl Abort, alloc: Global, it: &mut Trial) -> Result<(), Fail> {
     for number in 6..17 {
-        makes(rt, alloc, it, dat(b'B'), 0, id(number, 1))?;
+        let request = create(rt, dat(b'B'), 0);
+        ask(rt, alloc, it, USER, &request, &made(number, 1))?;
     }
-    let request = create(dat(b'B'), 0)?;
-    refuses(rt, alloc, it, request, Refusal::HeadersFull)?;
-    has_totals(rt, it, 11, 18, 0);
+    plays(
+        rt,
+        alloc,
+        it,
+        &[(create(rt, dat(b'B'), 0), Err(HeadersFull))],
+    )?;
+    has_totals(rt, it, (11, 18, 0));
     Ok(())
 }
 
@@ -105,23 +90,29 @@ fn index_is_full(rt: HostRuntime) -> Result<(), Fail> {
     takes_numbers(&rt, rt.alloc(), &mut it)
 }
 
+/// FIRST and SECOND are extended in turn by a block, to so many.
+fn grow_in_turn(rt: &impl Abort, it: &mut Trial, blocks: u32) -> Result<(), Fail> {
+    let grown = Ok(Answer::Extended(blocks));
+    ask_quickly(rt, it, USER, &extend(FIRST, 1), &grown)?;
+    ask_quickly(rt, it, USER, &extend(SECOND, 1), &grown)
+}
+
 /// P.DAT and Q.DAT get 103 runs each, which are extended in turn.
-fn grow_in_turn(rt: &impl Abort, alloc: Global, it: &mut Trial) -> Result<(), Fail> {
-    makes(rt, alloc, it, dat(b'P'), 0, FIRST)?;
-    makes(rt, alloc, it, dat(b'Q'), 0, SECOND)?;
-    for count in 1..104 {
-        for file in [FIRST, SECOND] {
-            let grown = Ok(Answer::Extended(count));
-            ask_quickly(rt, it, USER, extend(file, 1), grown)?;
-        }
+fn scatter(rt: &impl Abort, alloc: Global, it: &mut Trial) -> Result<(), Fail> {
+    for blocks in 1..104 {
+        grow_in_turn(rt, it, blocks)?;
     }
     same_catalogue(rt, alloc, it)
 }
 
 /// The volume of 512 blocks with two files of 103 runs each, which were extended in turn.
 pub fn two_in_turn(rt: &impl Abort, alloc: Global) -> Result<Trial, Fail> {
-    let mut it = on_sample(rt, alloc, 512)?;
-    grow_in_turn(rt, alloc, &mut it)?;
+    let rows = [
+        (create(rt, dat(b'P'), 0), made(6, 1)),
+        (create(rt, dat(b'Q'), 0), made(7, 1)),
+    ];
+    let mut it = played(rt, alloc, 512, &rows)?;
+    scatter(rt, alloc, &mut it)?;
     Ok(it)
 }
 
@@ -132,7 +123,7 @@ fn every_other(rt: &impl Abort, runs: &[Run], first: u32) {
             lbn: first.wrapping_add((2 * (k % 1_000)) as u32),
             count: 1,
         };
-        assert_eq!(rt; *run, wanted);
+        assert!(rt; *run == wanted, "run {k}");
     }
 }
 
@@ -176,141 +167,126 @@ fn is_extension(
 
 /// Both files have their last block, and an extension header.
 fn are_extended(rt: &impl Abort, alloc: Global, it: &mut Trial) -> Result<(), Fail> {
-    reads(rt, alloc, it, FIRST, 103, Block::zeros())?;
-    reads(rt, alloc, it, SECOND, 103, Block::zeros())?;
-    has_totals(rt, it, 210, 284, 7);
+    let rows = [
+        (read(FIRST, 103), bytes(Block::zeros())),
+        (read(SECOND, 103), bytes(Block::zeros())),
+    ];
+    plays(rt, alloc, it, &rows)?;
+    has_totals(rt, it, (210, 284, 7));
     is_extension(rt, it.volume.image(), 8, 6, 226)?;
     is_extension(rt, it.volume.image(), 9, 7, 227)
 }
 
 #[test]
 fn extension_headers_are_made(rt: HostRuntime) -> Result<(), Fail> {
-    let mut it = two_in_turn(&rt, rt.alloc())?;
-    are_extended(&rt, rt.alloc(), &mut it)
+    are_extended(&rt, rt.alloc(), &mut two_in_turn(&rt, rt.alloc())?)
 }
 
 /// Both files are deleted, and their four headers are given again.
 fn gives_back(rt: &impl Abort, alloc: Global, it: &mut Trial) -> Result<(), Fail> {
-    does(rt, alloc, it, delete(FIRST))?;
-    does(rt, alloc, it, delete(SECOND))?;
-    has_totals(rt, it, 210, 490, 11);
+    let deleted = [
+        (delete(FIRST), Ok(Answer::Done)),
+        (delete(SECOND), Ok(Answer::Done)),
+    ];
+    plays(rt, alloc, it, &deleted)?;
+    has_totals(rt, it, (210, 490, 11));
     for number in 6..9 {
-        makes(rt, alloc, it, dat(b'R'), 0, id(number, 2))?;
+        let request = create(rt, dat(b'R'), 0);
+        ask(rt, alloc, it, USER, &request, &made(number, 2))?;
     }
-    has_totals(rt, it, 213, 490, 8);
+    has_totals(rt, it, (213, 490, 8));
     Ok(())
 }
 
 #[test]
 fn extension_headers_are_given_back(rt: HostRuntime) -> Result<(), Fail> {
-    let mut it = two_in_turn(&rt, rt.alloc())?;
-    gives_back(&rt, rt.alloc(), &mut it)
+    gives_back(&rt, rt.alloc(), &mut two_in_turn(&rt, rt.alloc())?)
 }
 
-/// C.DAT is extended, and its attributes are set: it is contiguous no more.
-fn grows_apart(rt: &impl Abort, alloc: Global, it: &mut Trial) -> Result<(), Fail> {
-    shows(rt, alloc, it, FIRST, contiguous_stat([0; 32]))?;
-    ask(rt, alloc, it, extend(FIRST, 1), Ok(Answer::Extended(2)))?;
-    let mut attributes = [0; 32];
-    attributes[0] = 2;
-    let set = Request::SetUser {
-        file: FIRST,
-        attributes,
-    };
-    does(rt, alloc, it, set)?;
-    let mut now = contiguous_stat(attributes);
-    now.user_char = 0;
-    now.kind = Kind::Plain {
+/// What is shown of C.DAT when it has two blocks: it is contiguous no more.
+fn grown_stat(attributes: [u8; 32]) -> Stat {
+    let mut stat = contiguous_stat(attributes);
+    stat.user_char = 0;
+    stat.kind = Kind::Plain {
         blocks: 2,
         attributes,
     };
-    shows(rt, alloc, it, FIRST, now)?;
-    has_totals(rt, it, 4, 16, 10);
+    stat
+}
+
+/// C.DAT is extended, and its attributes are set.
+#[test]
+fn contiguous_file_is_extended(rt: HostRuntime) -> Result<(), Fail> {
+    let other = other_attributes();
+    let rows = [
+        (stat(FIRST), shown(contiguous_stat([0; 32]))),
+        (extend(FIRST, 1), Ok(Answer::Extended(2))),
+        (set_user(FIRST, other), Ok(Answer::Done)),
+        (stat(FIRST), shown(grown_stat(other))),
+    ];
+    let image = contiguous_file(rt.alloc(), PROTECTION)?;
+    has_totals(&rt, &played_on(&rt, rt.alloc(), image, &rows)?, (4, 16, 10));
     Ok(())
 }
 
-#[test]
-fn contiguous_file_is_extended(rt: HostRuntime) -> Result<(), Fail> {
-    let alloc = rt.alloc();
-    let mut it = start(&rt, alloc, contiguous_file(alloc, PROTECTION)?, 4_096)?;
-    grows_apart(&rt, alloc, &mut it)
-}
-
-/// BIG.DAT of 300 blocks is two runs.
-fn makes_two_runs(rt: &impl Abort, alloc: Global, it: &mut Trial) -> Result<(), Fail> {
-    makes(rt, alloc, it, big_dat(), 300, FIRST)?;
+/// The runs of BIG.DAT of 300 blocks, and where its second one begins.
+fn has_two_runs(rt: &impl Abort, it: &Trial) -> Result<(), Fail> {
     let header = header_of(it.volume.image(), 6)?;
-    let wanted = [
-        Run {
-            lbn: 22,
-            count: 256,
-        },
-        Run {
-            lbn: 278,
-            count: 44,
-        },
-    ];
+    let wanted = [run(22, 256), run(278, 44)];
     assert!(rt; header.runs().as_slice() == wanted.as_slice());
     let place = locate(it.volume.image(), it.volume.layout(), 6, 257);
     assert!(rt; place == Some(278));
-    has_totals(rt, it, 1, 190, 10);
+    has_totals(rt, it, (1, 190, 10));
     Ok(())
 }
 
 #[test]
 fn long_file_is_two_runs(rt: HostRuntime) -> Result<(), Fail> {
-    let mut it = on_sample(&rt, rt.alloc(), 512)?;
-    makes_two_runs(&rt, rt.alloc(), &mut it)
+    let rows = [(create(&rt, big_dat(), 300), made(6, 1))];
+    has_two_runs(&rt, &played(&rt, rt.alloc(), 512, &rows)?)
 }
 
-/// A trial on the sample volume of 40 blocks whose header 6 has this sequence word.
-fn worn(rt: &impl Abort, alloc: Global, low: u8, high: u8) -> Result<Trial, Fail> {
-    let variant = Variant {
+/// The sample volume of 40 blocks whose header 6 has this sequence word.
+fn worn(alloc: Global, low: u8, high: u8) -> Result<Image, Fail> {
+    Variant {
         bytes: &bytes_at(8, 4, &[low, high]),
         ..sample_of(40)
-    };
-    start(rt, alloc, variant.image(alloc)?, 4_096)
+    }
+    .image(alloc)
 }
 
 /// Number 6 is not free, and a new file gets number 7.
 fn passes_over(rt: &impl Abort, alloc: Global, it: &mut Trial) -> Result<(), Fail> {
-    has_totals(rt, it, 0, 18, 10);
-    makes(rt, alloc, it, a_txt(), 0, id(7, 1))
+    has_totals(rt, it, (0, 18, 10));
+    plays(rt, alloc, it, &[(create(rt, a_txt(), 0), made(7, 1))])
 }
 
 #[test]
 fn last_sequence_is_passed_over(rt: HostRuntime) -> Result<(), Fail> {
-    let mut it = worn(&rt, rt.alloc(), 0xff, 0xff)?;
-    passes_over(&rt, rt.alloc(), &mut it)
+    let image = worn(rt.alloc(), 0xff, 0xff)?;
+    passes_over(&rt, rt.alloc(), &mut start(&rt, rt.alloc(), image, 4)?)
 }
 
 /// Number 6 is given with the last sequence number, and then never again.
-fn gives_once(rt: &impl Abort, alloc: Global, it: &mut Trial) -> Result<(), Fail> {
-    makes(rt, alloc, it, a_txt(), 0, id(6, 65_535))?;
-    does(rt, alloc, it, delete(id(6, 65_535)))?;
-    makes(rt, alloc, it, a_txt(), 0, id(7, 1))?;
-    has_totals(rt, it, 3, 18, 9);
-    Ok(())
-}
-
 #[test]
 fn last_sequence_is_given_once(rt: HostRuntime) -> Result<(), Fail> {
-    let mut it = worn(&rt, rt.alloc(), 0xfe, 0xff)?;
-    gives_once(&rt, rt.alloc(), &mut it)
+    let rows = [
+        (create(&rt, a_txt(), 0), made(6, 65_535)),
+        (delete(id(6, 65_535)), Ok(Answer::Done)),
+        (create(&rt, a_txt(), 0), made(7, 1)),
+    ];
+    let it = played_on(&rt, rt.alloc(), worn(rt.alloc(), 0xfe, 0xff)?, &rows)?;
+    has_totals(&rt, &it, (3, 18, 9));
+    Ok(())
 }
 
 /// What is refused changes nothing.
-fn stays(rt: &impl Abort, alloc: Global, it: &mut Trial) -> Result<(), Fail> {
-    refuses(rt, alloc, it, delete(MASTER), Refusal::Reserved)?;
-    refuses(rt, alloc, it, extend(MASTER, 1), Refusal::Reserved)?;
-    let request = create(a_txt(), 65_536)?;
-    refuses(rt, alloc, it, request, Refusal::BadCount)?;
-    has_totals(rt, it, 0, 18, 11);
-    Ok(())
-}
-
 #[test]
 fn reserved_files_stay(rt: HostRuntime) -> Result<(), Fail> {
-    let mut it = on_sample(&rt, rt.alloc(), 40)?;
-    stays(&rt, rt.alloc(), &mut it)
+    let rows = [
+        (delete(MASTER), Err(Reserved)),
+        (extend(MASTER, 1), Err(Reserved)),
+        (create(&rt, a_txt(), 65_536), Err(BadCount)),
+    ];
+    ends_with(&rt, rt.alloc(), 40, &rows, (0, 18, 11))
 }

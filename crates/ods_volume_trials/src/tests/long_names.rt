@@ -1,12 +1,12 @@
 //! Random names in a directory of forty blocks in two headers, beside the plain program: the directory ends at byte 0 with old bytes behind
 //! it, in the midst of an entry, and past the blocks that it has.
 use super::random::{ask_freely, some_pick, some_version, times};
-use super::rows::{create, delete, enter, id, letter, look, made, remove, sub_dir};
-use super::trial::{Trial, ask, same_catalogue, start};
+use super::rows::{create, delete, enter, id, letter, list, look, made, remove, sub_dir};
+use super::trial::{Trial, plays, same_catalogue, start};
 use ods_base::{Block, FileId, Image, Name};
 use ods_format_tests::dice::Dice;
 use ods_format_tests::persons::{FIRST, MASTER, TXT, USER};
-use ods_format_tests::volumes::{FileHeader, Variant, added, run, sample_of};
+use ods_format_tests::volumes::{FileHeader, Variant, added, directory_attributes, run, sample_of};
 use ods_request::{Answer, Request};
 use std::alloc::Global;
 use std::process::Abort;
@@ -16,14 +16,8 @@ use std::test::Fail;
 /// The volume of 512 blocks with SUB.DIR, file 6, which has LBN 22 to 41 in its first header and LBN 60 to 79 in its second, header 7.
 /// It ends at this byte (F.FFBY) of this block (F.EFBK).
 fn long_directory(alloc: Global, block: u8, byte: u8) -> Result<Image, Fail> {
-    let mut attributes = [0; 32];
-    attributes[0] = 1;
-    attributes[2] = 16;
-    attributes[6] = 40;
-    attributes[10] = block;
-    attributes[12] = byte;
     let header = FileHeader {
-        attributes,
+        attributes: directory_attributes(40, block, byte),
         ..added(6, sub_dir())
     };
     Variant {
@@ -56,23 +50,34 @@ fn some_request(dice: &mut Dice) -> Request {
     match dice.roll(8) {
         0 => look(FIRST, name, some_pick(dice)),
         1 | 2 => remove(FIRST, name, some_pick(dice)),
-        3 => Request::List { dir: FIRST },
+        3 => list(FIRST),
         _ => enter(FIRST, name, some_version(dice), file),
     }
 }
 
-/// A file that is gone, whose ID names stay free to name.
-fn with_a_file_that_is_gone(rt: &impl Abort, alloc: Global, trial: &mut Trial) -> Result<(), Fail> {
-    ask(rt, alloc, trial, create(letter(9, TXT), 0)?, made(8, 1))?;
+/// Makes and deletes a file, whose ID names stay free to name.
+fn leave_a_name(rt: &impl Abort, alloc: Global, trial: &mut Trial) -> Result<(), Fail> {
     let kept = enter(FIRST, letter(9, TXT), None, id(8, 1));
-    ask(rt, alloc, trial, kept, Ok(Answer::Entered(1)))?;
-    ask(rt, alloc, trial, delete(id(8, 1)), Ok(Answer::Done))
+    let rows = [
+        (create(rt, letter(9, TXT), 0), made(8, 1)),
+        (kept, Ok(Answer::Entered(1))),
+        (delete(id(8, 1)), Ok(Answer::Done)),
+    ];
+    plays(rt, alloc, trial, &rows)
+}
+
+/// Makes ten random requests, and compares what the blocks show then.
+fn ask_ten(rt: &impl Abort, alloc: Global, it: &mut Trial, dice: &mut Dice) -> Result<(), Fail> {
+    for _k in 0..10 {
+        let request = some_request(dice);
+        ask_freely(rt, it, USER, &request)?;
+    }
+    same_catalogue(rt, alloc, it)
 }
 
 /// Makes random requests on a directory with this end.
 fn try_names(rt: &(impl Abort + Env), alloc: Global, image: Image, seed: u64) -> Result<(), Fail> {
     let mut trial = start(rt, alloc, image, 65_536)?;
-    with_a_file_that_is_gone(rt, alloc, &mut trial)?;
     ask_often(rt, alloc, &mut trial, seed)
 }
 
@@ -83,15 +88,12 @@ fn ask_often(
     trial: &mut Trial,
     seed: u64,
 ) -> Result<(), Fail> {
+    leave_a_name(rt, alloc, trial)?;
     let mut dice = Dice::from(seed);
-    for k in 0..150u32.saturating_mul(times(rt)) {
-        let request = some_request(&mut dice);
-        ask_freely(rt, trial, USER, request)?;
-        if k % 10 == 0 {
-            same_catalogue(rt, alloc, trial)?;
-        }
+    for _k in 0..15u32.saturating_mul(times(rt)) {
+        ask_ten(rt, alloc, trial, &mut dice)?;
     }
-    same_catalogue(rt, alloc, trial)
+    Ok(())
 }
 
 #[test]

@@ -2,7 +2,9 @@
 use crate::plain_catalogue;
 use ods_base::Image;
 use ods_format_tests::persons::{MASTER, NONE, USER, master, reserved_lines};
-use ods_format_tests::volumes::{FileHeader, Variant, reserved, run, sample_of};
+use ods_format_tests::volumes::{
+    FileHeader, Variant, directory_attributes, reserved, run, sample_of,
+};
 use ods_look::list;
 use ods_mount::mount;
 use ods_request::{Answer, Listing, Request};
@@ -12,14 +14,8 @@ use std::test::Fail;
 
 /// The sample volume whose master directory ends at this byte (F.FFBY) of this block (F.EFBK).
 fn ending_at(alloc: Global, block: u8, byte: u8) -> Result<Image, Fail> {
-    let mut attributes = [0; 32];
-    attributes[0] = 1;
-    attributes[2] = 16;
-    attributes[6] = 1;
-    attributes[10] = block;
-    attributes[12] = byte;
     let header = FileHeader {
-        attributes,
+        attributes: directory_attributes(1, block, byte),
         ..reserved(4, master())
     };
     Variant {

@@ -1,11 +1,14 @@
 //! Random requests of all kinds, beside the plain program: what each is answered, and what the blocks show after it.
 //! `bench/random_requests.sh` runs more of them: TRIALS says how many times as many.
-use super::growing::{on_sample, two_in_turn};
-use super::rows::{a_txt, create, dat, id, letter, made, stamp, sub_dir};
-use super::trial::{Trial, ask, can_be_asked, is_lack, same_catalogue, start};
+use super::growing::two_in_turn;
+use super::rows::{
+    Reply, a_txt, create, dat, delete, enter, extend, id, letter, list, look, made, read, remove,
+    set_user, stamp, stat, sub_dir, write,
+};
+use super::trial::{Trial, can_be_asked, is_lack, played, same_catalogue, start};
 use ods_base::{Block, FileId, Image, Name, Pick, Uic};
 use ods_format_tests::dice::Dice;
-use ods_format_tests::persons::{COLLEAGUE, DIR, MASTER, OWNER, STRANGER, SYSTEM, TXT, USER};
+use ods_format_tests::persons::{COLLEAGUE, DIR, MASTER, NONE, OWNER, STRANGER, SYSTEM, TXT, USER};
 use ods_format_tests::volumes::{Variant, sample_of};
 use ods_mount::mount;
 use ods_request::{Answer, Refusal, Request};
@@ -104,53 +107,40 @@ pub fn some_pick(dice: &mut Dice) -> Pick {
     }
 }
 
+/// A Create.
+fn some_create(rt: &impl Abort, dice: &mut Dice, name: Name) -> Request {
+    Request::Create {
+        name,
+        version: some_version(dice).unwrap_or(1),
+        blocks: some_count(dice),
+        stamp: stamp(rt),
+    }
+}
+
+/// A byte.
+fn some_byte(dice: &mut Dice) -> u8 {
+    dice.roll(256) as u8
+}
+
 /// A request.
-pub fn some_request(dice: &mut Dice, trial: &Trial) -> Result<Request, Fail> {
+fn some_request(rt: &impl Abort, dice: &mut Dice, trial: &Trial) -> Request {
     let file = some_file(dice, trial);
     let dir = some_directory(dice, trial);
     let name = some_name(dice);
     let vbn = dice.roll(5) as u32;
-    Ok(match dice.roll(25) {
-        0 | 1 | 2 | 3 | 4 => Request::Create {
-            name,
-            version: some_version(dice).unwrap_or(1),
-            blocks: some_count(dice),
-            stamp: stamp()?,
-        },
-        5 | 6 | 7 | 8 => Request::Extend {
-            file,
-            blocks: some_count(dice),
-        },
-        9 | 10 | 11 => Request::Delete { file },
-        12 | 13 | 14 | 15 | 16 => Request::Enter {
-            dir,
-            name,
-            version: some_version(dice),
-            file,
-        },
-        17 | 18 => Request::Remove {
-            dir,
-            name,
-            pick: some_pick(dice),
-        },
-        19 => Request::LookUp {
-            dir,
-            name,
-            pick: some_pick(dice),
-        },
-        20 => Request::Read { file, vbn },
-        21 => Request::Write {
-            file,
-            vbn,
-            block: Block::new([dice.roll(256) as u8; 512]),
-        },
-        22 => Request::SetUser {
-            file,
-            attributes: [dice.roll(256) as u8; 32],
-        },
-        23 => Request::List { dir },
-        _ => Request::Stat { file },
-    })
+    match dice.roll(25) {
+        0 | 1 | 2 | 3 | 4 => some_create(rt, dice, name),
+        5 | 6 | 7 | 8 => extend(file, some_count(dice)),
+        9 | 10 | 11 => delete(file),
+        12 | 13 | 14 | 15 | 16 => enter(dir, name, some_version(dice), file),
+        17 | 18 => remove(dir, name, some_pick(dice)),
+        19 => look(dir, name, some_pick(dice)),
+        20 => read(file, vbn),
+        21 => write(file, vbn, Block::new([some_byte(dice); 512])),
+        22 => set_user(file, [some_byte(dice); 32]),
+        23 => list(dir),
+        _ => stat(file),
+    }
 }
 
 /// How many blocks a request says that it wants.
@@ -167,40 +157,52 @@ pub fn ask_freely(
     rt: &impl Abort,
     trial: &mut Trial,
     who: Uic,
-    request: Request,
+    request: &Request,
 ) -> Result<(), Fail> {
-    assert!(rt; can_be_asked(&request));
+    assert!(rt; can_be_asked(request));
     trial.nth = trial.nth.wrapping_add(1);
     let free = trial.volume.free_count();
     let numbers = trial.volume.number_count();
-    let fault = trial.plain.fault(&who, &request);
-    let answer = trial.volume.request(2, trial.nth, who, request);
+    let fault = trial.plain.fault(&who, request);
+    let answer = trial.volume.request(2, trial.nth, who, *request);
     match &answer {
         Err(refusal) if is_lack(*refusal) => {
-            let is_short = free < wanted(&request);
-            is_so(rt, &request, &answer, fault.is_none());
+            let is_short = free < wanted(request);
             let is_full = *refusal == Refusal::VolumeFull;
-            is_so(rt, &request, &answer, is_full == is_short);
-            is_so(rt, &request, &answer, is_short || numbers < 4);
+            let is_right = fault.is_none() && is_full == is_short && (is_short || numbers < 4);
+            is_so(rt, request, &answer, is_right);
         }
-        Err(refusal) => is_so(rt, &request, &answer, fault == Some(*refusal)),
-        Ok(given) => {
-            let new = match given {
-                Answer::Created(new) => *new,
-                _ => id(0, 0),
-            };
-            let plain = trial.plain.step(who, &request, new);
-            is_so(rt, &request, &answer, plain.is_ok_and(|one| one == *given));
-            if new.number != 0 {
-                trial.given.push(new)?;
-            }
-        }
+        Err(refusal) => is_so(rt, request, &answer, fault == Some(*refusal)),
+        Ok(given) => accepted(rt, trial, who, request, given)?,
+    }
+    Ok(())
+}
+
+/// The plain program answers an accepted request so too. A new file has the ID that the volume gave it.
+fn accepted(
+    rt: &impl Abort,
+    trial: &mut Trial,
+    who: Uic,
+    request: &Request,
+    given: &Answer,
+) -> Result<(), Fail> {
+    let new = match given {
+        Answer::Created(new) => *new,
+        _ => NONE,
+    };
+    let plain = trial.plain.step(who, request, new);
+    assert!(rt;
+        plain.is_ok_and(|one| one == *given),
+        "{request:?} was answered {given:?}"
+    );
+    if new != NONE {
+        trial.given.push(new)?;
     }
     Ok(())
 }
 
 /// Fails where this is not so of a request that was answered so.
-fn is_so(rt: &impl Abort, request: &Request, answer: &Result<Answer, Refusal>, holds: bool) {
+fn is_so(rt: &impl Abort, request: &Request, answer: &Reply, holds: bool) {
     assert!(rt; holds, "{request:?} was answered {answer:?}");
 }
 
@@ -211,7 +213,14 @@ fn mounts(rt: &impl Abort, alloc: Global, image: &Image) -> Result<(), Fail> {
     Ok(())
 }
 
-/// Makes so many random requests.
+/// Makes a random request.
+pub fn ask_any(rt: &impl Abort, trial: &mut Trial, dice: &mut Dice) -> Result<(), Fail> {
+    let who = some_user(dice);
+    let request = some_request(rt, dice, trial);
+    ask_freely(rt, trial, who, &request)
+}
+
+/// Makes so many random requests, and compares all after each.
 fn try_many(
     rt: &impl Abort,
     alloc: Global,
@@ -221,70 +230,89 @@ fn try_many(
 ) -> Result<(), Fail> {
     let mut dice = Dice::from(seed);
     for _k in 0..requests {
-        let who = some_user(&mut dice);
-        let request = some_request(&mut dice, trial)?;
-        ask_freely(rt, trial, who, request)?;
+        ask_any(rt, trial, &mut dice)?;
         same_catalogue(rt, alloc, trial)?;
         mounts(rt, alloc, trial.volume.image())?;
     }
     Ok(())
 }
 
-/// A trial on a sample with room for a long list.
-fn long_trial(rt: &impl Abort, alloc: Global, blocks: u32) -> Result<Trial, Fail> {
-    start(rt, alloc, sample_of(blocks).image(alloc)?, 65_536)
+/// Where random requests begin.
+#[derive(Clone, Copy)]
+enum Ground {
+    /// A sample of so many blocks.
+    Sample(u32),
+    /// A sample of so many blocks, so many of which B.DAT has.
+    Filled(u32, u32),
+    /// Two files of two headers each.
+    TwoInTurn,
+    /// The sample whose free numbers are almost worn out.
+    WornOut,
+}
+
+/// A trial on this ground, with room for a long list where it begins with an empty one.
+fn trial_on(rt: &impl Abort, alloc: Global, ground: Ground) -> Result<Trial, Fail> {
+    match ground {
+        Ground::Sample(blocks) => start(rt, alloc, sample_of(blocks).image(alloc)?, 65_536),
+        Ground::Filled(blocks, held) => filled(rt, alloc, blocks, held),
+        Ground::TwoInTurn => two_in_turn(rt, alloc),
+        Ground::WornOut => start(rt, alloc, worn_out(alloc)?, 65_536),
+    }
+}
+
+/// A trial on a sample of so many blocks, so many of which B.DAT has.
+pub fn filled(rt: &impl Abort, alloc: Global, blocks: u32, held: u32) -> Result<Trial, Fail> {
+    played(
+        rt,
+        alloc,
+        blocks,
+        &[(create(rt, dat(b'B'), held), made(6, 1))],
+    )
+}
+
+/// Makes so many random requests on this ground, by this seed and the next ones.
+fn try_on(
+    rt: &(impl Abort + Env),
+    alloc: Global,
+    ground: Ground,
+    seed: u64,
+    requests: u32,
+) -> Result<(), Fail> {
+    for k in 0..times(rt) as u64 {
+        let mut trial = trial_on(rt, alloc, ground)?;
+        try_many(rt, alloc, &mut trial, seed.wrapping_add(k), requests)?;
+    }
+    Ok(())
 }
 
 #[test]
 fn small_volume(rt: HostRuntime) -> Result<(), Fail> {
-    let alloc = rt.alloc();
-    for seed in 0..times(&rt) as u64 {
-        let mut it = long_trial(&rt, alloc, 40)?;
-        try_many(&rt, alloc, &mut it, seed, 500)?;
-    }
-    Ok(())
+    try_on(&rt, rt.alloc(), Ground::Sample(40), 0, 500)
 }
 
 #[test]
 fn volume_of_512_blocks(rt: HostRuntime) -> Result<(), Fail> {
-    let alloc = rt.alloc();
-    for seed in 0..times(&rt) as u64 {
-        let mut it = long_trial(&rt, alloc, 512)?;
-        try_many(&rt, alloc, &mut it, 1_000 + seed, 200)?;
-    }
-    Ok(())
+    try_on(&rt, rt.alloc(), Ground::Sample(512), 1_000, 200)
 }
 
 #[test]
 fn files_of_several_headers(rt: HostRuntime) -> Result<(), Fail> {
-    let alloc = rt.alloc();
-    for seed in 0..times(&rt) as u64 {
-        let mut it = two_in_turn(&rt, alloc)?;
-        try_many(&rt, alloc, &mut it, 2_000 + seed, 100)?;
-    }
-    Ok(())
+    try_on(&rt, rt.alloc(), Ground::TwoInTurn, 2_000, 100)
 }
 
 #[test]
 fn almost_full_volume(rt: HostRuntime) -> Result<(), Fail> {
-    let alloc = rt.alloc();
-    for seed in 0..times(&rt) as u64 {
-        let mut it = on_sample(&rt, alloc, 512)?;
-        ask(&rt, alloc, &mut it, create(dat(b'B'), 480)?, made(6, 1))?;
-        try_many(&rt, alloc, &mut it, 3_000 + seed, 200)?;
-    }
-    Ok(())
+    try_on(&rt, rt.alloc(), Ground::Filled(512, 480), 3_000, 200)
 }
 
 #[test]
 fn large_volume(rt: HostRuntime) -> Result<(), Fail> {
-    let alloc = rt.alloc();
-    for seed in 0..times(&rt) as u64 {
-        let mut it = long_trial(&rt, alloc, 4_200)?;
-        ask(&rt, alloc, &mut it, create(dat(b'B'), 3_900)?, made(6, 1))?;
-        try_many(&rt, alloc, &mut it, 4_000 + seed, 30)?;
-    }
-    Ok(())
+    try_on(&rt, rt.alloc(), Ground::Filled(4_200, 3_900), 4_000, 30)
+}
+
+#[test]
+fn numbers_near_the_last_sequence(rt: HostRuntime) -> Result<(), Fail> {
+    try_on(&rt, rt.alloc(), Ground::WornOut, 5_000, 200)
 }
 
 /// The sample volume whose free headers have sequence words near the last.
@@ -299,14 +327,4 @@ fn worn_out(alloc: Global) -> Result<Image, Fail> {
         ..sample_of(40)
     }
     .image(alloc)
-}
-
-#[test]
-fn numbers_near_the_last_sequence(rt: HostRuntime) -> Result<(), Fail> {
-    let alloc = rt.alloc();
-    for seed in 0..times(&rt) as u64 {
-        let mut it = start(&rt, alloc, worn_out(alloc)?, 65_536)?;
-        try_many(&rt, alloc, &mut it, 5_000 + seed, 200)?;
-    }
-    Ok(())
 }

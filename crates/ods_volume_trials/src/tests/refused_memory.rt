@@ -1,8 +1,13 @@
 //! Refused memory: a mount and each request are answered as ever, or NoMemory with all as it was before, and NoMemory only where an
 //! allocation of that call was refused. `bench/refuse_memory.sh` runs these tests with each allocation refused in turn; it makes a file
 //! when it refuses one, and names it in REFUSED.
-use super::rows::{a_txt, create, delete, enter, extend, id, made, remove, sub_dir, write_a};
-use super::trial::{can_be_asked, look_for_bitmap, read, start};
+ghost use Rattle.ods_state.specs.Outcome.{CanBeAsked};
+
+use super::rows::{
+    Reply, Row, a_txt, bytes, create, delete, enter, extend, id, list, look_for_bitmap, made, read,
+    remove, set_user, shown, stat, sub_dir, write_a,
+};
+use super::trial::{can_be_asked, is_answered, on_sample, start};
 use ods_alloc::free_count;
 use ods_base::{Image, Pick};
 use ods_format_tests::contiguous::{contiguous_file, contiguous_stat};
@@ -12,7 +17,7 @@ use ods_format_tests::persons::{
 use ods_format_tests::settings::was_refused;
 use ods_format_tests::volumes::sample_of;
 use ods_mount::{MountFault, mount};
-use ods_request::{Answer, Listing, Refusal, Request};
+use ods_request::{Answer, Refusal, Request};
 use ods_volume::Volume;
 use std::process::Abort;
 use std::rt::{Env, Files};
@@ -53,14 +58,12 @@ fn is_as_before(rt: &impl Abort, volume: &Volume, image: &Image, mounted: &Image
     assert!(rt; volume.entries().len() == entries, "the list changed");
 }
 
-/// A request was answered as wanted.
-fn is_answered(
-    rt: &impl Abort,
-    request: &Request,
-    answer: &Result<Answer, Refusal>,
-    wanted: &Result<Answer, Refusal>,
-) {
-    assert!(rt; answer == wanted, "{request:?} was answered {answer:?}");
+/// The request is answered as it would be with ample memory.
+fn ask_again(rt: &impl Abort, volume: &mut Volume, request: &Request, wanted: &Reply)
+    requires { CanBeAsked request.now }
+{
+    let answer = volume.request(1, 1, USER, *request);
+    is_answered(rt, request, &answer, wanted);
 }
 
 /// Makes a request whose memory may be refused: it is answered as wanted; or refused for want of memory with the volume as it was, and
@@ -68,84 +71,85 @@ fn is_answered(
 fn ask_poor(
     rt: &(impl Abort + Env + Files),
     volume: &mut Volume,
-    request: Request,
-    wanted: Result<Answer, Refusal>,
+    request: &Request,
+    wanted: &Reply,
 ) -> Result<(), Fail> {
-    assert!(rt; can_be_asked(&request));
+    assert!(rt; can_be_asked(request));
     let image = volume.image().copy()?;
     let mounted = volume.mounted().copy()?;
     let entries = volume.entries().len();
     let before = was_refused(rt);
-    let answer = volume.request(1, 1, USER, request);
+    let answer = volume.request(1, 1, USER, *request);
     if answer == Err(Refusal::NoMemory) {
         assert!(rt; !before && was_refused(rt), "no allocation was refused");
         is_as_before(rt, volume, &image, &mounted, entries);
-        let answer = volume.request(1, 1, USER, request);
-        is_answered(rt, &request, &answer, &wanted);
+        ask_again(rt, volume, request, wanted);
     } else {
-        is_answered(rt, &request, &answer, &wanted);
+        is_answered(rt, request, &answer, wanted);
     }
     Ok(())
 }
 
-/// Looks at a file and a directory.
-fn look_poor(
+/// Makes the requests of rows whose memory may be refused, each with its answer.
+fn plays_poor(
     rt: &(impl Abort + Env + Files),
     volume: &mut Volume,
-    lines: Listing,
+    rows: &[Row],
 ) -> Result<(), Fail> {
-    let old = Answer::Bytes(old_block());
-    ask_poor(rt, volume, read(FIRST, 1), Ok(old))?;
-    ask_poor(rt, volume, read(FIRST, 2), Err(Refusal::NoSuchBlock))?;
-    let list = Request::List { dir: MASTER };
-    ask_poor(rt, volume, list, Ok(Answer::Names(lines)))?;
-    let stat = Request::Stat { file: FIRST };
-    let shown = Answer::Info(contiguous_stat([0; 32]));
-    ask_poor(rt, volume, stat, Ok(shown))?;
-    let found = Answer::Found(reserved_id(2), 1);
-    ask_poor(rt, volume, look_for_bitmap(), Ok(found))
+    for (request, wanted) in rows {
+        ask_poor(rt, volume, request, wanted)?;
+    }
+    Ok(())
 }
 
-/// Changes a file.
-fn change_poor(rt: &(impl Abort + Env + Files), volume: &mut Volume) -> Result<(), Fail> {
-    let set = Request::SetUser {
-        file: FIRST,
-        attributes: [2; 32],
-    };
-    ask_poor(rt, volume, set, Ok(Answer::Done))?;
-    ask_poor(rt, volume, write_a(FIRST, 1), Ok(Answer::Done))
-}
-
+/// Looks at a file and a directory, and changes the file.
 #[test]
 fn refused_memory_changes_nothing(rt: HostRuntime) -> Result<(), Fail> {
-    let alloc = rt.alloc();
-    let mut it = start(&rt, alloc, contiguous_file(alloc, PROTECTION)?, 4_096)?;
-    let lines = reserved_lines(alloc)?;
-    look_poor(&rt, &mut it.volume, lines)?;
-    change_poor(&rt, &mut it.volume)
+    let lines = Answer::Names(reserved_lines(rt.alloc())?);
+    let found = Answer::Found(reserved_id(2), 1);
+    let rows = [
+        (read(FIRST, 1), bytes(old_block())),
+        (read(FIRST, 2), Err(Refusal::NoSuchBlock)),
+        (list(MASTER), Ok(lines)),
+        (stat(FIRST), shown(contiguous_stat([0; 32]))),
+        (look_for_bitmap(), Ok(found)),
+        (set_user(FIRST, [2; 32]), Ok(Answer::Done)),
+        (write_a(FIRST, 1), Ok(Answer::Done)),
+    ];
+    let image = contiguous_file(rt.alloc(), PROTECTION)?;
+    let mut it = start(&rt, rt.alloc(), image, 4_096)?;
+    plays_poor(&rt, &mut it.volume, &rows)
+}
+
+/// Enters A.TXT in file 7,1 under the next version, which is this.
+fn entered(version: u16) -> Row {
+    let request = enter(id(7, 1), a_txt(), None, FIRST);
+    (request, Ok(Answer::Entered(version)))
 }
 
 /// A file of five blocks, and a directory that has no block when its first name comes.
 fn grow_poor(rt: &(impl Abort + Env + Files), volume: &mut Volume) -> Result<(), Fail> {
-    ask_poor(rt, volume, create(a_txt(), 2)?, made(6, 1))?;
-    ask_poor(rt, volume, extend(FIRST, 3), Ok(Answer::Extended(5)))?;
-    ask_poor(rt, volume, create(sub_dir(), 0)?, made(7, 1))?;
-    for version in 1..4 {
-        let request = enter(id(7, 1), a_txt(), None, FIRST);
-        ask_poor(rt, volume, request, Ok(Answer::Entered(version)))?;
-    }
-    Ok(())
+    let rows = [
+        (create(rt, a_txt(), 2), made(6, 1)),
+        (extend(FIRST, 3), Ok(Answer::Extended(5))),
+        (create(rt, sub_dir(), 0), made(7, 1)),
+        entered(1),
+        entered(2),
+        entered(3),
+    ];
+    plays_poor(rt, volume, &rows)
 }
 
 /// A name and the file go, the directory stays.
 fn shrink_poor(rt: &(impl Abort + Env + Files), volume: &mut Volume) -> Result<(), Fail> {
-    let request = remove(id(7, 1), a_txt(), Pick::Lowest);
-    ask_poor(rt, volume, request, Ok(Answer::Removed(FIRST, 1)))?;
-    let full = Err(Refusal::VolumeFull);
-    ask_poor(rt, volume, extend(FIRST, 13), full)?;
-    let denied = Err(Refusal::NotEmpty);
-    ask_poor(rt, volume, delete(id(7, 1)), denied)?;
-    ask_poor(rt, volume, delete(FIRST), Ok(Answer::Done))?;
+    let gone = remove(id(7, 1), a_txt(), Pick::Lowest);
+    let rows = [
+        (gone, Ok(Answer::Removed(FIRST, 1))),
+        (extend(FIRST, 13), Err(Refusal::VolumeFull)),
+        (delete(id(7, 1)), Err(Refusal::NotEmpty)),
+        (delete(FIRST), Ok(Answer::Done)),
+    ];
+    plays_poor(rt, volume, &rows)?;
     assert!(rt; volume.free_count() == 17 && volume.number_count() == 10);
     Ok(())
 }
@@ -153,8 +157,7 @@ fn shrink_poor(rt: &(impl Abort + Env + Files), volume: &mut Volume) -> Result<(
 /// Requests that take and give back blocks, headers and names.
 #[test]
 fn refused_memory_leaves_growth_undone(rt: HostRuntime) -> Result<(), Fail> {
-    let alloc = rt.alloc();
-    let mut it = start(&rt, alloc, sample_of(40).image(alloc)?, 4_096)?;
+    let mut it = on_sample(&rt, rt.alloc(), 40)?;
     grow_poor(&rt, &mut it.volume)?;
     shrink_poor(&rt, &mut it.volume)
 }

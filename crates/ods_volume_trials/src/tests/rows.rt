@@ -1,10 +1,10 @@
 //! The requests and answers that published rows are written with.
 ghost use Rattle.std.specs.Prelude.{◌<◌};
 
-use ods_base::{FileId, Name, Pick};
-use ods_format_tests::persons::{DAT, DIR, PROTECTION, TXT, USER};
+use ods_base::{Block, FileId, Name, Pick};
+use ods_format_tests::persons::{DAT, DIR, MASTER, PROTECTION, TXT, USER, bitmap, letter_a};
 use ods_request::{Answer, Kind, Refusal, Request, Stamp, Stat};
-use std::test::Fail;
+use std::process::Abort;
 
 /// The stamp of the rows.
 pub const STAMP: [u8; 13] = *b"01JAN80000000";
@@ -12,14 +12,17 @@ pub const STAMP: [u8; 13] = *b"01JAN80000000";
 /// What a request is answered, as `Volume::request` gives it.
 pub type Reply = Result<Answer, Refusal>;
 
+/// A row: a request, and what it is answered.
+pub type Row = (Request, Reply);
+
 /// A file ID.
 pub fn id(number: u16, sequence: u16) -> FileId {
     FileId { number, sequence }
 }
 
 /// The stamp of the rows, as a value.
-pub fn stamp() -> Result<Stamp, Fail> {
-    Ok(Stamp::parse(&STAMP).ok_or("a stamp")?)
+pub fn stamp(rt: &impl Abort) -> Stamp {
+    Stamp::parse(&STAMP).expect(rt, "a stamp")
 }
 
 /// A name of one letter, A for 1, and of this type.
@@ -45,13 +48,13 @@ pub fn big_dat() -> Name {
 }
 
 /// A Create of version 1.
-pub fn create(name: Name, blocks: u32) -> Result<Request, Fail> {
-    Ok(Request::Create {
+pub fn create(rt: &impl Abort, name: Name, blocks: u32) -> Request {
+    Request::Create {
         name,
         version: 1,
         blocks,
-        stamp: stamp()?,
-    })
+        stamp: stamp(rt),
+    }
 }
 
 /// An Extend.
@@ -62,6 +65,21 @@ pub fn extend(file: FileId, blocks: u32) -> Request {
 /// A Delete.
 pub fn delete(file: FileId) -> Request {
     Request::Delete { file }
+}
+
+/// A Stat.
+pub fn stat(file: FileId) -> Request {
+    Request::Stat { file }
+}
+
+/// A List.
+pub fn list(dir: FileId) -> Request {
+    Request::List { dir }
+}
+
+/// A SetUser.
+pub fn set_user(file: FileId, attributes: [u8; 32]) -> Request {
+    Request::SetUser { file, attributes }
 }
 
 /// An Enter of a file under a version, or under the next one.
@@ -84,18 +102,39 @@ pub fn remove(dir: FileId, name: Name, pick: Pick) -> Request {
     Request::Remove { dir, name, pick }
 }
 
+/// A LookUp of BITMAP.SYS in the master directory.
+pub fn look_for_bitmap() -> Request {
+    look(MASTER, bitmap(), Pick::Highest)
+}
+
+/// A Read.
+pub fn read(file: FileId, vbn: u32) -> Request {
+    Request::Read { file, vbn }
+}
+
+/// A Write.
+pub fn write(file: FileId, vbn: u32, block: Block) -> Request {
+    Request::Write { file, vbn, block }
+}
+
 /// A Write of the letter A.
 pub fn write_a(file: FileId, vbn: u32) -> Request {
-    Request::Write {
-        file,
-        vbn,
-        block: ods_format_tests::persons::letter_a(),
-    }
+    write(file, vbn, letter_a())
 }
 
 /// The answer to a Create.
 pub fn made(number: u16, sequence: u16) -> Reply {
     Ok(Answer::Created(id(number, sequence)))
+}
+
+/// The answer to a Read.
+pub fn bytes(block: Block) -> Reply {
+    Ok(Answer::Bytes(block))
+}
+
+/// The answer to a Stat.
+pub fn shown(stat: Stat) -> Reply {
+    Ok(Answer::Info(stat))
 }
 
 /// The ident area of a file that is made: its name, version 1, revision 1, the stamp twice, and 8 zeros.

@@ -1,6 +1,8 @@
 //! Loads of one kind of request, which `bench/requests.sh` times: TRIALS says how many times 60 requests are made.
 use super::random::times;
-use super::rows::{create, dat, delete, enter, extend, id, letter, look, remove, sub_dir};
+use super::rows::{
+    create, dat, delete, enter, extend, id, letter, look, read, remove, sub_dir, write_a,
+};
 use super::trial::can_be_asked;
 use ods_base::{FileId, Name, Pick};
 use ods_format_tests::persons::{FIRST, TXT, USER, letter_a};
@@ -35,7 +37,7 @@ fn accept(rt: &impl Abort, volume: &mut Volume, request: Request) -> Answer {
 
 /// The file that a Create makes.
 fn make(rt: &impl Abort, volume: &mut Volume, name: Name, blocks: u32) -> Result<FileId, Fail> {
-    match accept(rt, volume, create(name, blocks)?) {
+    match accept(rt, volume, create(rt, name, blocks)) {
         Answer::Created(file) => Ok(file),
         _ => Err("no file".into()),
     }
@@ -53,18 +55,23 @@ fn make_and_delete(rt: &(impl Abort + Env), volume: &mut Volume) -> Result<(), F
 
 #[test]
 fn creates_and_deletes(rt: HostRuntime) -> Result<(), Fail> {
-    let mut volume = volume_of(rt.alloc(), 512)?;
-    make_and_delete(&rt, &mut volume)
+    make_and_delete(&rt, &mut volume_of(rt.alloc(), 512)?)
 }
 
-/// Extends a file block by block.
+/// Makes a file, extends it block by block, and deletes it.
+fn extend_one(rt: &impl Abort, volume: &mut Volume) -> Result<(), Fail> {
+    let file = make(rt, volume, dat(b'X'), 0)?;
+    for _block in 0..58u32 {
+        accept(rt, volume, extend(file, 1));
+    }
+    accept(rt, volume, delete(file));
+    Ok(())
+}
+
+/// Extends a file block by block again and again.
 fn extend_often(rt: &(impl Abort + Env), volume: &mut Volume) -> Result<(), Fail> {
     for _k in 0..times(rt) {
-        let file = make(rt, volume, dat(b'X'), 0)?;
-        for _block in 0..58u32 {
-            accept(rt, volume, extend(file, 1));
-        }
-        accept(rt, volume, delete(file));
+        extend_one(rt, volume)?;
     }
     assert!(rt; volume.number_count() == 11);
     Ok(())
@@ -72,8 +79,7 @@ fn extend_often(rt: &(impl Abort + Env), volume: &mut Volume) -> Result<(), Fail
 
 #[test]
 fn extends(rt: HostRuntime) -> Result<(), Fail> {
-    let mut volume = volume_of(rt.alloc(), 4_200)?;
-    extend_often(&rt, &mut volume)
+    extend_often(&rt, &mut volume_of(rt.alloc(), 4_200)?)
 }
 
 /// Writes blocks of a file, and reads each.
@@ -81,19 +87,16 @@ fn read_and_write(rt: &(impl Abort + Env), volume: &mut Volume) -> Result<(), Fa
     let file = make(rt, volume, dat(b'X'), 1_000)?;
     for k in 0..30u32.saturating_mul(times(rt)) {
         let vbn = 1 + k % 1_000;
-        let block = letter_a();
-        let request = Request::Write { file, vbn, block };
-        accept(rt, volume, request);
-        let answer = accept(rt, volume, Request::Read { file, vbn });
-        assert!(rt; answer == Answer::Bytes(block));
+        accept(rt, volume, write_a(file, vbn));
+        let answer = accept(rt, volume, read(file, vbn));
+        assert!(rt; answer == Answer::Bytes(letter_a()));
     }
     Ok(())
 }
 
 #[test]
 fn reads_and_writes(rt: HostRuntime) -> Result<(), Fail> {
-    let mut volume = volume_of(rt.alloc(), 4_200)?;
-    read_and_write(&rt, &mut volume)
+    read_and_write(&rt, &mut volume_of(rt.alloc(), 4_200)?)
 }
 
 /// A directory with so many versions of A.TXT: 32 of them in a block.
@@ -123,6 +126,5 @@ fn name_often(rt: &(impl Abort + Env), volume: &mut Volume) -> Result<(), Fail> 
 
 #[test]
 fn names_of_a_long_directory(rt: HostRuntime) -> Result<(), Fail> {
-    let mut volume = volume_of(rt.alloc(), 4_200)?;
-    name_often(&rt, &mut volume)
+    name_often(&rt, &mut volume_of(rt.alloc(), 4_200)?)
 }

@@ -3,13 +3,14 @@
 ghost use Rattle.std.specs.Prelude.{◌≤◌, IsTrue};
 ghost use Rattle.ods_state.specs.Outcome.{CanBeAsked, IsVersionNumber};
 
-use super::rows::create;
+use super::rows::{Reply, Row};
 use crate::{plain_catalogue, plain_counts, plain_free_blocks, plain_free_numbers, plain_id};
-use ods_base::{Block, FileId, Image, Name, Pick, Uic};
-use ods_format_tests::persons::{MASTER, NONE, USER, bitmap};
+use ods_base::{FileId, Image, Uic};
+use ods_format_tests::persons::{NONE, USER};
+use ods_format_tests::volumes::sample_of;
 use ods_mount::mount;
 use ods_plain::{Body, Catalogue, File, StepError};
-use ods_request::{Answer, Refusal, Request, Stat};
+use ods_request::{Answer, Refusal, Request};
 use ods_volume::Volume;
 use std::alloc::Global;
 use std::process::Abort;
@@ -104,16 +105,37 @@ fn same_presence(rt: &impl Abort, given: &[FileId], shown: &Catalogue, plain: &C
     }
 }
 
-/// The blocks of the volume show the files that the plain program has, and no others, and as much is free as the reader counts.
-pub fn same_catalogue(rt: &impl Abort, alloc: Global, trial: &Trial) -> Result<(), Fail> {
+/// The blocks of the volume show the files that the plain program has, and no others.
+fn same_as_plain(rt: &impl Abort, alloc: Global, trial: &Trial) -> Result<(), Fail> {
     let image = trial.volume.image();
     let shown = plain_catalogue(alloc, image)?;
-    same_files(rt, alloc, image, &shown, &trial.plain)?;
     same_presence(rt, trial.given.as_slice(), &shown, &trial.plain);
-    let counts = plain_counts(alloc, image)?;
-    assert_eq!(rt; trial.volume.counts(), counts.as_slice());
-    assert_eq!(rt; trial.volume.free_count(), plain_free_blocks(alloc, image)?);
-    assert_eq!(rt; trial.volume.number_count(), plain_free_numbers(image));
+    same_files(rt, alloc, image, &shown, &trial.plain)
+}
+
+/// The volume counts by each block of its bitmap what is free by the bits.
+pub fn counts_bits(rt: &impl Abort, alloc: Global, trial: &Trial) -> Result<(), Fail> {
+    let counts = plain_counts(alloc, trial.volume.image())?;
+    has_counts(rt, trial, counts.as_slice());
+    Ok(())
+}
+
+/// The volume has these counts.
+pub fn has_counts(rt: &impl Abort, trial: &Trial, wanted: &[u32]) {
+    assert!(rt; trial.volume.counts() == wanted, "not {wanted:?}");
+}
+
+/// The blocks of the volume show what the plain program has, and as much is free as the reader counts.
+pub fn same_catalogue(rt: &impl Abort, alloc: Global, trial: &Trial) -> Result<(), Fail> {
+    let image = trial.volume.image();
+    same_as_plain(rt, alloc, trial)?;
+    counts_bits(rt, alloc, trial)?;
+    has_free(
+        rt,
+        trial,
+        plain_free_blocks(alloc, image)?,
+        plain_free_numbers(image),
+    );
     Ok(())
 }
 
@@ -143,7 +165,7 @@ fn plain_answer(
     plain: &mut Catalogue,
     who: Uic,
     request: &Request,
-    answer: &Result<Answer, Refusal>,
+    answer: &Reply,
 ) -> Result<Answer, StepError> {
     let new = match answer {
         Ok(Answer::Created(id)) => *id,
@@ -153,7 +175,7 @@ fn plain_answer(
 }
 
 /// The plain program answers as the volume has to. What a volume lacks it does not know: then it only has no fault.
-fn agree(plain: &Result<Answer, StepError>, wanted: &Result<Answer, Refusal>) -> bool {
+fn agree(plain: &Result<Answer, StepError>, wanted: &Reply) -> bool {
     match (plain, wanted) {
         (Ok(one), Ok(other)) => one == other,
         (Err(StepError::Refused(one)), Err(other)) => one == other,
@@ -169,12 +191,7 @@ pub fn is_lack(refusal: Refusal) -> bool {
 }
 
 /// The request was answered as wanted.
-fn is_answered(
-    rt: &impl Abort,
-    request: &Request,
-    answer: &Result<Answer, Refusal>,
-    wanted: &Result<Answer, Refusal>,
-) {
+pub fn is_answered(rt: &impl Abort, request: &Request, answer: &Reply, wanted: &Reply) {
     assert!(rt; answer == wanted, "{request:?} was answered {answer:?}");
 }
 
@@ -192,7 +209,7 @@ fn plain_agrees(
     plain: &mut Catalogue,
     who: Uic,
     request: &Request,
-    wanted: &Result<Answer, Refusal>,
+    wanted: &Reply,
 ) {
     let answer = plain_answer(plain, who, request, wanted);
     assert!(rt;
@@ -206,130 +223,98 @@ pub fn ask_quickly(
     rt: &impl Abort,
     trial: &mut Trial,
     who: Uic,
-    request: Request,
-    wanted: Result<Answer, Refusal>,
+    request: &Request,
+    wanted: &Reply,
 ) -> Result<(), Fail> {
-    assert!(rt; can_be_asked(&request));
+    assert!(rt; can_be_asked(request));
     trial.nth = trial.nth.wrapping_add(1);
     let before = trial.volume.entries().len();
-    let answer = trial.volume.request(1, trial.nth, who, request);
-    is_answered(rt, &request, &answer, &wanted);
+    let answer = trial.volume.request(1, trial.nth, who, *request);
+    is_answered(rt, request, &answer, wanted);
     has_entries(rt, trial, before.wrapping_add(usize::from(answer.is_ok())));
-    match &wanted {
+    match wanted {
         Err(Refusal::ListFull) => {}
-        Err(refusal) if is_lack(*refusal) => has_no_fault(rt, &trial.plain, who, &request),
-        _ => plain_agrees(rt, &mut trial.plain, who, &request, &wanted),
+        Err(refusal) if is_lack(*refusal) => has_no_fault(rt, &trial.plain, who, request),
+        _ => plain_agrees(rt, &mut trial.plain, who, request, wanted),
     }
-    if let Ok(Answer::Created(id)) = &wanted {
+    if let Ok(Answer::Created(id)) = wanted {
         trial.given.push(*id)?;
     }
     Ok(())
 }
 
 /// Makes a request of this user, and compares what the blocks show too.
-pub fn ask_as(
+pub fn ask(
     rt: &impl Abort,
     alloc: Global,
     trial: &mut Trial,
     who: Uic,
-    request: Request,
-    wanted: Result<Answer, Refusal>,
+    request: &Request,
+    wanted: &Reply,
 ) -> Result<(), Fail> {
     ask_quickly(rt, trial, who, request, wanted)?;
     same_catalogue(rt, alloc, trial)
 }
 
-/// Makes a request of a user of the system.
-pub fn ask(
+/// Makes the requests of rows in order, each of a user of the system and with its answer.
+pub fn plays(rt: &impl Abort, alloc: Global, it: &mut Trial, rows: &[Row]) -> Result<(), Fail> {
+    for (request, wanted) in rows {
+        ask(rt, alloc, it, USER, request, wanted)?;
+    }
+    Ok(())
+}
+
+/// A trial on a sample of so many blocks.
+pub fn on_sample(rt: &impl Abort, alloc: Global, blocks: u32) -> Result<Trial, Fail> {
+    start(rt, alloc, sample_of(blocks).image(alloc)?, 4_096)
+}
+
+/// A trial on this image, on which the requests of these rows were made.
+pub fn played_on(
     rt: &impl Abort,
     alloc: Global,
-    trial: &mut Trial,
-    request: Request,
-    wanted: Result<Answer, Refusal>,
+    image: Image,
+    rows: &[Row],
+) -> Result<Trial, Fail> {
+    let mut trial = start(rt, alloc, image, 4_096)?;
+    plays(rt, alloc, &mut trial, rows)?;
+    Ok(trial)
+}
+
+/// A trial on a sample of so many blocks, on which they were made.
+pub fn played(rt: &impl Abort, alloc: Global, blocks: u32, rows: &[Row]) -> Result<Trial, Fail> {
+    played_on(rt, alloc, sample_of(blocks).image(alloc)?, rows)
+}
+
+/// How many entries the list has, and how many blocks and numbers are free.
+pub type Totals = (usize, u32, u32);
+
+/// The requests of these rows on a sample of so many blocks end with these totals.
+pub fn ends_with(
+    rt: &impl Abort,
+    alloc: Global,
+    blocks: u32,
+    rows: &[Row],
+    totals: Totals,
 ) -> Result<(), Fail> {
-    ask_as(rt, alloc, trial, USER, request, wanted)
+    has_totals(rt, &played(rt, alloc, blocks, rows)?, totals);
+    Ok(())
 }
 
 /// The list has so many entries.
 pub fn has_entries(rt: &impl Abort, trial: &Trial, wanted: usize) {
-    assert_eq!(rt; trial.volume.entries().len(), wanted);
+    assert!(rt; trial.volume.entries().len() == wanted, "{wanted} entries");
 }
 
-/// The list has so many entries, and so many blocks and numbers are free.
-pub fn has_totals(rt: &impl Abort, trial: &Trial, entries: usize, blocks: u32, numbers: u32) {
+/// So many blocks and numbers are free.
+fn has_free(rt: &impl Abort, trial: &Trial, blocks: u32, numbers: u32) {
+    assert!(rt; trial.volume.free_count() == blocks, "{blocks} blocks");
+    assert!(rt; trial.volume.number_count() == numbers, "{numbers} numbers");
+}
+
+/// The trial has these totals.
+pub fn has_totals(rt: &impl Abort, trial: &Trial, totals: Totals) {
+    let (entries, blocks, numbers) = totals;
     has_entries(rt, trial, entries);
-    assert_eq!(rt; trial.volume.free_count(), blocks);
-    assert_eq!(rt; trial.volume.number_count(), numbers);
-}
-
-/// Makes a Create of version 1, which makes this file.
-pub fn makes(
-    rt: &impl Abort,
-    alloc: Global,
-    trial: &mut Trial,
-    name: Name,
-    blocks: u32,
-    file: FileId,
-) -> Result<(), Fail> {
-    let request = create(name, blocks)?;
-    ask(rt, alloc, trial, request, Ok(Answer::Created(file)))
-}
-
-/// Makes a request that is answered Done.
-pub fn does(
-    rt: &impl Abort,
-    alloc: Global,
-    trial: &mut Trial,
-    request: Request,
-) -> Result<(), Fail> {
-    ask(rt, alloc, trial, request, Ok(Answer::Done))
-}
-
-/// Makes a request that is refused so.
-pub fn refuses(
-    rt: &impl Abort,
-    alloc: Global,
-    trial: &mut Trial,
-    request: Request,
-    refusal: Refusal,
-) -> Result<(), Fail> {
-    ask(rt, alloc, trial, request, Err(refusal))
-}
-
-/// Reads a block, which has these bytes.
-pub fn reads(
-    rt: &impl Abort,
-    alloc: Global,
-    trial: &mut Trial,
-    file: FileId,
-    vbn: u32,
-    block: Block,
-) -> Result<(), Fail> {
-    ask(rt, alloc, trial, read(file, vbn), Ok(Answer::Bytes(block)))
-}
-
-/// Shows a file.
-pub fn shows(
-    rt: &impl Abort,
-    alloc: Global,
-    trial: &mut Trial,
-    file: FileId,
-    shown: Stat,
-) -> Result<(), Fail> {
-    let request = Request::Stat { file };
-    ask(rt, alloc, trial, request, Ok(Answer::Info(shown)))
-}
-
-/// A Read.
-pub fn read(file: FileId, vbn: u32) -> Request {
-    Request::Read { file, vbn }
-}
-
-/// A LookUp of BITMAP.SYS in the master directory.
-pub fn look_for_bitmap() -> Request {
-    Request::LookUp {
-        dir: MASTER,
-        name: bitmap(),
-        pick: Pick::Highest,
-    }
+    has_free(rt, trial, blocks, numbers);
 }

@@ -3,7 +3,7 @@ use Rattle.std.specs.List.{All}
 use Rattle.std.proofs.lemmas.Bool.{eqb-true}
 use Rattle.std.proofs.lemmas.List.Elements.{All-take, All-drop}
 use Rattle.ods_header.specs.declared.header.Run.{Run}
-use Rattle.ods_header.specs.Header.{IsFirstFault, IsRun, header_of, segment_of, room_of}
+use Rattle.ods_header.specs.Header.{IsRun, header_of, segment_of, room_of}
 use Rattle.ods_space.specs.Layout.{header_at}
 use Rattle.ods_space.specs.Draft.{applied}
 use Rattle.ods_alloc.specs.Extension.{MakesHeaders, WritesHeaders, first_number}
@@ -14,7 +14,7 @@ use Rattle.ods_alloc.proofs.headers.write_headers.Goals as goal
 use Rattle.ods_alloc.proofs.headers.write_headers.Goals.{In_ok-renew}
 
 -- behind the last header, as it is written, the new ones are made
-made_behind : (c : In_ok-renew) → let B = applied c.args.image.now c.args.old.now in let L = c.args.layout.now in let z = c.args.last in
+made_behind : (c : In_ok-renew) → let B = applied c.args.image.now c.args.old.now in let L = c.args.layout.now in let z = c.args.ends.now.number in
     (rest : List Run) (segment : ℕ) (J : List (List ℕ)) → rest ≡ drop (room_of (header_at B L z) / 2) c.args.runs.now → segment ≡ segment_of (header_at B L z)
     → MakesHeaders B (applied c.args.image.now c.renew.new.self) L (header_at B L c.args.number) (segment + 1) c.args.numbers.now rest (length c.args.numbers.now) J
     → WritesHeaders B L c.args.number z c.args.numbers.now c.args.runs.now J
@@ -22,7 +22,7 @@ made_behind c = λ rest segment J.
     let I = c.args.image.now in
     let L = c.args.layout.now in
     let B = applied I c.args.old.now in
-    let z = c.args.last in
+    let z = c.args.ends.now.number in
     let numbers = c.args.numbers.now in
     let runs = c.args.runs.now in
     let next = c.first_id-next.result in
@@ -33,14 +33,14 @@ made_behind c = λ rest segment J.
     headers_written I B J c.args.draft.now c.renew.new.self L c.args.number z c.in-Some.lbn numbers runs rest segment c.grown_last.result
     c.requires.places.places c.requires.apart (place_inside _ L z c.in-Some.lbn c.requires.places found) found
     (ap (applied I) c.requires.same) (c.in_ok-renew.ensures.ok I)
-    (subst R c.first_id-next.ensures.sequence (subst Q c.first_id-next.ensures.number (subst P c.header_block-block.ensures.value c.grown_last.ensures.grown)))
+    (subst R c.first_id-next.ensures.sequence (subst Q c.first_id-next.ensures.number (subst P c.requires.last.is c.grown_last.ensures.grown)))
 
 pub returns-then-is_empty : goal.returns-then-is_empty
 returns-then-is_empty c =
     let I = c.args.image.now in
     let L = c.args.layout.now in
     let B = applied I c.args.old.now in
-    let h = header_at B L c.args.last in
+    let h = header_at B L c.args.ends.now.number in
     let J = applied I c.renew.new.self in
     let rest = drop (room_of h / 2) c.args.runs.now in
     made_behind (goal.at.returns-then-is_empty c).In_ok-renew rest (segment_of h) J refl refl
@@ -48,8 +48,7 @@ returns-then-is_empty c =
 
 pub returns-in_default-read_header : goal.returns-in_default-read_header
 returns-in_default-read_header c =
-    let P : List ℕ → Type 0 = λ b. IsFirstFault b c.args.number c.in_default-read_header.field-0 in
-    absurd (no_fault _ c.args.number c.in_default-read_header.field-0 (subst P c.header_block.ensures.value c.in_default-read_header.ensures.err) c.requires.first)
+    absurd (no_fault _ c.args.number c.in_default-read_header.field-0 c.in_default-read_header.ensures.err c.requires.first.valid)
 
 pub write_extensions-requires-clause-runs : goal.write_extensions-requires-clause-runs
 write_extensions-requires-clause-runs c =
@@ -62,8 +61,8 @@ returns c =
     let I = c.args.image.now in
     let L = c.args.layout.now in
     let B = applied I c.args.old.now in
-    let first : header_of (header_at B L c.args.number) ≡ c.in-Ok.first = ap header_of (sym c.header_block.ensures.value) ∙ sym c.in-Ok.ensures.ok.1 in
+    let first : header_of (header_at B L c.args.number) ≡ c.in-Ok.first = ap header_of (sym c.requires.first.is) ∙ sym c.in-Ok.ensures.ok.1 in
     made_behind (goal.at.returns c).In_ok-renew c.piece-rest.result.now c.segment.result (applied I c.write_extensions.new.draft)
-    (c.piece-rest.ensures ∙ rest_of c.args.runs.now (room_of (header_at B L c.args.last) / 2) c.room.result (c.room.ensures ∙ ap (λ b. room_of b / 2) c.header_block-block.ensures.value))
-    (c.segment.ensures ∙ ap segment_of c.header_block-block.ensures.value)
+    (c.piece-rest.ensures ∙ rest_of c.args.runs.now (room_of (header_at B L c.args.ends.now.number) / 2) c.room.result (c.room.ensures ∙ ap (λ b. room_of b / 2) c.requires.last.is))
+    (c.segment.ensures ∙ ap segment_of c.requires.last.is)
     (c.in_ok-write_extensions.ensures (header_at B L c.args.number) first)

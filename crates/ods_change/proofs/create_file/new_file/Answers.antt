@@ -3,6 +3,7 @@ use Rattle.std.specs.Prelude.{is_some}
 use Rattle.ods_space.specs.Draft.{applied}
 use Rattle.ods_space.specs.Layout.{VolumeLayout}
 use Rattle.ods_space.proofs.Drafts.{applied_none, applied_over}
+use Rattle.ods_alloc.specs.Ends.{AreEnds}
 use Rattle.ods_alloc.specs.Extend.{CanExtend, Extends}
 use Rattle.ods_state.proofs.Bookkeeping.{well_placed}
 use Rattle.ods_state.proofs.GrowthReady.{ready_layout}
@@ -58,13 +59,15 @@ extend_from-requires c =
     let K : List (List ℕ) = applied I c.set.new.self in
     let n : ℕ = c.args.number in
     let count : ℕ = length c.args.blocks.now in
-    let at = ready (goal.at.extend_from-requires c).In_ok-set in (
+    let at = ready (goal.at.extend_from-requires c).In_ok-set in
+    let there = sym (header_written (written (goal.at.extend_from-requires c).In_ok-set)) in
+    let ends : AreEnds K L n [] _ = record { first = there; number = refl; last = there } in (
       ready_layout I K L c.requires.sound n [] [] count c.args.others.now c.requires.taking at,
       (
         well_placed I L c.requires.sound,
         (
           ready_chain I K L c.requires.sound n [] [] count c.args.others.now c.requires.taking at c.len.ensures.image,
-          (subst (λ bs. CanExtend K L n [] bs c.args.others.now) (sym c.requires.lowest) (can_extend I K L c.requires.sound n [] [] count c.args.others.now c.requires.taking at), refl),
+          (subst (λ bs. CanExtend K L n [] bs c.args.others.now) (sym c.requires.lowest) (can_extend I K L c.requires.sound n [] [] count c.args.others.now c.requires.taking at), ends),
         ),
       ),
     )

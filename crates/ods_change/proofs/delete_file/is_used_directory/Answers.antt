@@ -22,6 +22,6 @@ returns-then-not-is_directory c = λ held is.
 pub returns : goal.returns
 returns c = λ held is.
     let any : Body → Bool = λ b. not (len (names_of b) == 0) in
-    let seen = c.directory_at-directory.ensures in
+    let seen = c.of-directory.ensures in
     c.has_names.ensures ∙ sym (ap any (open_body seen))
     ∙ (λ i. any (body_of c.args.number (sym c.requires.header i) (contents_of c.args.image.now (blocks_are_one seen.held is i))))

@@ -6,9 +6,9 @@ use Rattle.ods_base.specs.declared.file_id.FileId.{FileId}
 use Rattle.ods_base.specs.declared.file_id.Uic.{Uic}
 use Rattle.ods_space.specs.Draft.{applied}
 use Rattle.ods_change.specs.Entering.{IsNewEntry}
-use Rattle.ods_change.proofs.ChainEnds.{last_walked}
+use Rattle.ods_change.proofs.ChainEnds.{ends_asked}
 use Rattle.ods_change.proofs.GrowingChain.{chain_before, has_headers}
-use Rattle.ods_change.proofs.GrowingDirectory.{IsGrowing, chain_ready, enter_behind, growing, one_taken, ready_is}
+use Rattle.ods_change.proofs.GrowingDirectory.{IsGrowing, chain_ready, enter_behind, growing, headers_ready, one_taken, ready_is}
 use Rattle.ods_change.proofs.enter_behind.with_block.Goals as goal
 use Rattle.ods_change.proofs.enter_behind.with_block.Goals.{In_ok-draft}
 
@@ -47,7 +47,20 @@ extend_from-requires c =
     let has = has_headers e.own.is.held in
     let before = chain_before I L c.args.dir.number headers e.own.is.lbns c.len-count.ensures.image c.requires.sound has in
     let ready = chain_ready c.requires.sound e c.requires.grows (grows_so s e) c.len-count.ensures.image (drafted s) before.0 before.1 (c.requires.taken headers e.own.is.lbns has).0 in
-    (ready.0, (ready.1, (ready.2, (ready.3, last_walked I L c.args.dir.number headers e.own.is.lbns c.args.last has c.requires.last before.0))))
+    let there = headers_ready c.requires.sound e c.requires.grows (grows_so s e) (drafted s) in
+    let ends = c.ends_with.ensures in (
+      ready.0,
+      (
+        ready.1,
+        (
+          ready.2,
+          (
+            ready.3,
+            ends_asked I (applied I c.in_ok-draft.draft) L c.args.dir.number headers e.own.is.lbns c.marked_header-header.result c.args.end.now c.ends_with.result has c.requires.end before.0 there ends.first ends.number ends.one ends.other,
+          ),
+        ),
+      ),
+    )
 
 pub returns : goal.returns
 returns c = λ who name given file e.

@@ -6,21 +6,21 @@ use Rattle.ods_state.proofs.Served.{refused_by_fault, refused_for_memory}
 use Rattle.ods_change.specs.Extending.{IsWanted}
 use Rattle.ods_change.proofs.ExtendingFile.{extend_is_step, has, refused_for_lack}
 use Rattle.ods_change.proofs.extend_file.extend.Goals as goal
-use Rattle.ods_change.proofs.extend_file.extend.Goals.{After-chain_end-end, In-Ok-take}
+use Rattle.ods_change.proofs.extend_file.extend.Goals.{After-of-end, In-Ok-take}
 
 pub returns-in-Err : goal.returns-in-Err
 returns-in-Err c = refused_by_fault c.args.image.now c.args.layout.now c.args.who (Extend c.args.file c.args.count) c.in-Err.refusal c.in-Err.ensures.err
 
-pub chain_end-end-requires-clause-whole : goal.chain_end-end-requires-clause-whole
-chain_end-end-requires-clause-whole c = let o = c.in-Ok.ensures.ok.0 in (_, o.lbns, has c.requires.sound o)
+pub of-end-requires-clause-whole : goal.of-end-requires-clause-whole
+of-end-requires-clause-whole c = let o = c.in-Ok.ensures.ok.0 in (_, o.lbns, has c.requires.sound o)
 
 -- how the chain of the file ends
-ends : (c : After-chain_end-end) → let o = c.in-Ok.ensures.ok.0 in
-    (length (c.args.file.number ∷ o.held.others) ≡ c.chain_end-end.result.headers) × (c.chain_end-end.result.blocks ≡ length o.lbns)
-    × (room_in c.args.image.now c.args.layout.now (c.args.file.number ∷ o.held.others) ≡ c.chain_end-end.result.room)
+ends : (c : After-of-end) → let o = c.in-Ok.ensures.ok.0 in
+    (length (c.args.file.number ∷ o.held.others) ≡ c.of-end.result.headers) × (c.of-end.result.blocks ≡ length o.lbns)
+    × (room_in c.args.image.now c.args.layout.now (c.args.file.number ∷ o.held.others) ≡ c.of-end.result.room)
 ends c =
     let o = c.in-Ok.ensures.ok.0 in
-    let end = c.chain_end-end.ensures.end (c.args.file.number ∷ o.held.others) o.lbns (has c.requires.sound o) in
+    let end = c.of-end.ensures.end (c.args.file.number ∷ o.held.others) o.lbns (has c.requires.sound o) in
     (sym end.0, end.1, sym end.2)
 
 pub returns-in-Err-take : goal.returns-in-Err-take
@@ -29,7 +29,7 @@ returns-in-Err-take c =
     let L = c.args.layout.now in
     let r = Extend c.args.file c.args.count in
     let o = c.in-Ok.ensures.ok.0 in
-    let end = ends (goal.at.returns-in-Err-take c).After-chain_end-end in
+    let end = ends (goal.at.returns-in-Err-take c).After-of-end in
     elim c.in-Err-take.ensures.err [
       | inl none ↦ subst (IsRefusalOf I L c.args.who r) (sym none) (refused_for_memory I L c.args.who r refl o.fine)
       | inr lacks ↦ refused_for_lack I L c.args.who r c.in-Err-take.refusal (record {
@@ -45,7 +45,7 @@ returns-in-Err-take c =
 wanted : (c : In-Ok-take) → let o = c.in-Ok.ensures.ok.0 in IsWanted c.args.image.now c.args.layout.now c.args.file.number (c.args.file.number ∷ o.held.others) o.lbns c.args.count c.in-Ok-take.taken
 wanted c =
     let o = c.in-Ok.ensures.ok.0 in
-    let end = c.chain_end-end.ensures.end (c.args.file.number ∷ o.held.others) o.lbns (has c.requires.sound o) in
+    let end = c.of-end.ensures.end (c.args.file.number ∷ o.held.others) o.lbns (has c.requires.sound o) in
     let got = c.in-Ok-take.ensures.ok (c.args.file.number ∷ o.held.others) (sym end.0) (sym end.2) in
     record { file = o.file.0; has = has c.requires.sound o; blocks = got.0; numbers = got.1; enough = got.2 }
 
@@ -57,9 +57,9 @@ grown-requires-clause-wanted c =
 pub returns-in-Ok-grown : goal.returns-in-Ok-grown
 returns-in-Ok-grown c =
     let o = c.in-Ok.ensures.ok.0 in
-    let end = ends (goal.at.returns-in-Ok-grown c).After-chain_end-end in
+    let end = ends (goal.at.returns-in-Ok-grown c).After-of-end in
     let w = wanted (goal.at.returns-in-Ok-grown c).In-Ok-take in
-    extend_is_step c.requires.sound o (c.in-Ok-grown.ensures (c.args.file.number ∷ o.held.others) o.lbns c.args.count w) (c.chain_end-end.result.blocks + c.args.count) (ap (λ k. k + c.args.count) end.1) w.enough
+    extend_is_step c.requires.sound o (c.in-Ok-grown.ensures (c.args.file.number ∷ o.held.others) o.lbns c.args.count w) (c.of-end.result.blocks + c.args.count) (ap (λ k. k + c.args.count) end.1) w.enough
 
 pub returns : goal.returns
 returns c = refused_for_memory c.args.image.now c.args.layout.now c.args.who (Extend c.args.file c.args.count) refl c.in-Ok.ensures.ok.0.fine

@@ -29,7 +29,7 @@ pub returns-clause-ok : goal.returns-clause-ok
 returns-clause-ok c =
     let id = c.args.dir in
     let known = c.in-Some.ensures.some in
-    let is = c.directory_at.ensures in
+    let is = c.of.ensures in
     record {
       file = known.0;
       is = is;

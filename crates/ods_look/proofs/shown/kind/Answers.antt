@@ -19,15 +19,15 @@ returns-then-number-le2 c = λ held is. sym (ap kind_of (system_body c.args.numb
 
 pub overflow_cast-result : goal.overflow_cast-result
 overflow_cast-result c =
-    let opened = c.directory_at-directory.result in
-    let is = c.directory_at-directory.ensures in
+    let opened = c.of-directory.result in
+    let is = c.of-directory.ensures in
     omega (arith, few_names opened.blocks opened.mark is.directory is.inside is.few, c.name_count.ensures)
 
 pub returns-then-is_directory : goal.returns-then-is_directory
 returns-then-is_directory c = λ held holds.
     let I = c.args.image.now in
     let n = c.args.number in
-    let is = c.directory_at-directory.ensures in
+    let is = c.of-directory.ensures in
     ap kind.Directory c.name_count.ensures
     ∙ sym (ap kind_of (open_body is))
     ∙ (λ i. kind_of (body_of n (sym c.requires.header i) (contents_of I (blocks_are_one is.held holds i))))

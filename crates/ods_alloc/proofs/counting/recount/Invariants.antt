@@ -1,0 +1,10 @@
+use Rattle.std.proofs.Common.{◌<◌, ◌≤◌, ◌-◌, length}
+use Rattle.ods_alloc.specs.Bitmaps.{place_in}
+use Rattle.ods_alloc.proofs.Recounted.{ArePartlyNew}
+use Rattle.ods_alloc.proofs.counting.recount.Given as goal
+
+abbrev pub invariant-loop-k : goal.invariant-loop-k
+invariant-loop-k l = record { partly : ArePartlyNew l.image l.draft l.layout l.bitmap l.k l.counts; within : l.k ≤ l.size; inside : l.k < l.size → place_in l.layout l.bitmap l.k < length l.image }
+
+abbrev pub decreases-loop-k : goal.decreases-loop-k
+decreases-loop-k l = l.size - l.k

@@ -1,0 +1,10 @@
+use Rattle.std.proofs.Common.{length}
+use Rattle.ods_space.specs.Chain.{headers_of}
+use Rattle.ods_change.proofs.ChainEnds.{IsPassed}
+use Rattle.ods_change.proofs.taking.ChainEnd.of.Given as goal
+
+abbrev pub invariant-loop-at : goal.invariant-loop-at
+invariant-loop-at l = IsPassed (l.number, l.first) (headers_of l.image l.layout l.number) l.headers l.count l.blocks (l.end, l.last)
+
+abbrev pub decreases-loop-at : goal.decreases-loop-at
+decreases-loop-at l = length l.headers

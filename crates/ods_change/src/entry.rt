@@ -1,0 +1,77 @@
+//! What an Enter finds out before it writes: its checks, and the entry.
+ghost use Rattle.std.specs.Prelude.{◌≡◌, MatchResult};
+ghost use Rattle.ods_mount.specs.Sound.{IsSoundBy};
+ghost use Rattle.ods_request.specs.declared.requests.Request.TheVariants.{Enter};
+ghost use Rattle.ods_state.specs.{Change.IsFaultBy, Outcome.CanBeAsked};
+ghost use Rattle.ods_change.specs.Entering.{IsNewEntry, refusal_of};
+
+use ods_base::{FileId, Image, Name, Uic};
+use ods_directory::{DirFault, Slot, enter};
+use ods_look::opening::{OpenDirectory, named_header, open_directory};
+use ods_request::{Refusal, Right};
+use ods_space::Layout;
+
+/// A name that can be entered in a directory: the volume, the directory, the name's version, its slot, and the bytes of its
+/// entry.
+#[derive(Drop)]
+pub struct NewEntry<'a> {
+    pub image: &'a Image,
+    pub layout: &'a Layout,
+    pub dir: FileId,
+    pub opened: OpenDirectory<'a>,
+    pub version: u16,
+    pub slot: Slot,
+    pub bytes: [u8; 16],
+}
+
+/// The entry that an Enter writes, or the first fault of entering the name. Where the slot grows, the directory needs
+/// a block more.
+pub(crate) fn new_entry<'a>(
+    image: &'a Image,
+    layout: &'a Layout,
+    who: Uic,
+    dir: FileId,
+    name: Name,
+    version: Option<u16>,
+    file: FileId,
+) -> Result<NewEntry<'a>, Refusal>
+    requires sound { IsSoundBy image.now layout.now }
+    requires asked { CanBeAsked (Enter dir name version file) }
+    ensures { MatchResult result (IsNewEntry image.now layout.now who dir name version file)
+        (IsFaultBy image.now layout.now who (Enter dir name version file)) }
+{
+    let Some(_) = named_header(image, layout, file) else {
+        return Err(Refusal::NoSuchFile);
+    };
+    let opened = match open_directory(image, layout, who, dir, Right::Write) {
+        Ok(opened) => opened,
+        Err(refusal) => return Err(refusal),
+    };
+    // A name has three words.
+    let _ = name.words();
+    let entered = match enter(&opened.blocks, opened.mark, &name, version, file) {
+        Ok(entered) => entered,
+        Err(fault) => return Err(refusal_of(fault)),
+    };
+    let bytes = entered.2;
+    Ok(NewEntry {
+        image,
+        layout,
+        dir,
+        opened,
+        version: entered.0,
+        slot: entered.1,
+        bytes,
+    })
+}
+
+/// The refusal of an Enter for a fault of its directory.
+fn refusal_of(fault: DirFault) -> Refusal
+    ensures { result ≡ refusal_of fault }
+{
+    match fault {
+        DirFault::NoSuchName => Refusal::NoSuchName,
+        DirFault::NameTaken => Refusal::NameTaken,
+        DirFault::VersionsFull => Refusal::VersionsFull,
+    }
+}

@@ -1,5 +1,0 @@
-use Rattle.ods_views.proofs.Begun.{admits}
-use Rattle.ods_share.proofs.seating.seated.Goals as goal
-
-pub reader-requires : goal.reader-requires
-reader-requires g c = admits g.J.Naming.mounted g.J.Naming.opening

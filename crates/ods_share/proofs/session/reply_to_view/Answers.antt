@@ -1,0 +1,17 @@
+use Rattle.std.specs.Prelude.{Ok, Err}
+use Rattle.std.proofs.Common.{sym, subst}
+use Rattle.ods_request.specs.declared.answers.Answer.{Answer}
+use Rattle.ods_views.specs.Viewers.{Asked}
+use Rattle.ods_request.specs.declared.refusals.Refusal.{Refusal}
+use Rattle.ods_views.specs.declared.viewer.ViewFault.{ViewFault}
+use Rattle.ods_views.specs.declared.viewer.ViewFault.TheVariants.{Refused}
+use Rattle.ods_share.proofs.session.reply_to_view.Goals as goal
+
+pub returns-in_ok-answer-in-Ok : goal.returns-in_ok-answer-in-Ok
+returns-in_ok-answer-in-Ok g c =
+    subst (λ (a : Answer). Asked g.J.Naming.mounted c.args.viewer.now c.ask.new.self c.args.who c.args.query (Ok a)) (sym c.in_ok-answer-in-Ok.ensures.ok) c.in-Ok.ensures.answer
+
+pub returns-in-Err-Refused : goal.returns-in-Err-Refused
+returns-in-Err-Refused g c =
+    let told : ViewFault → Type 0 = λ f. Asked g.J.Naming.mounted c.args.viewer.now c.ask.new.self c.args.who c.args.query (Err f) in
+    subst (λ (r : Refusal). told (Refused r)) (sym c.in-Err-Refused.refusal-is) (subst told c.in-Err-Refused.field-0-is c.in-Err-Refused.ensures.answer)

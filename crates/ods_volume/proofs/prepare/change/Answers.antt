@@ -1,0 +1,57 @@
+use Rattle.std.proofs.Common.{subst}
+use Rattle.ods_state.specs.Outcome.{CanBeAsked}
+use Rattle.ods_volume.proofs.Arms.{no_other, refused_as, step_as}
+use Rattle.ods_volume.proofs.prepare.change.Goals as goal
+
+pub unreachable-requires : goal.unreachable-requires
+unreachable-requires c =
+    no_other c.args.request.now c.requires.changes c.in_default.not-Create c.in_default.not-Extend c.in_default.not-Delete c.in_default.not-Enter
+    c.in_default.not-Write c.in_default.not-SetUser c.in_default.not-Remove
+
+pub returns-in-Ok-write : goal.returns-in-Ok-write
+returns-in-Ok-write c = step_as c.in-Write.is c.in-Ok-write.ensures
+
+pub returns-in-Err-write : goal.returns-in-Err-write
+returns-in-Err-write c = refused_as c.args.who c.in-Err-write.refusal c.in-Write.is c.in-Err-write.ensures
+
+pub returns-in-Ok-set_user : goal.returns-in-Ok-set_user
+returns-in-Ok-set_user c = step_as c.in-SetUser.is c.in-Ok-set_user.ensures
+
+pub returns-in-Err-set_user : goal.returns-in-Err-set_user
+returns-in-Err-set_user c = refused_as c.args.who c.in-Err-set_user.refusal c.in-SetUser.is c.in-Err-set_user.ensures
+
+pub returns-in-Ok-remove : goal.returns-in-Ok-remove
+returns-in-Ok-remove c = step_as c.in-Remove.is c.in-Ok-remove.ensures
+
+pub returns-in-Err-remove : goal.returns-in-Err-remove
+returns-in-Err-remove c = refused_as c.args.who c.in-Err-remove.refusal c.in-Remove.is c.in-Err-remove.ensures
+
+pub returns-in-Ok : goal.returns-in-Ok
+returns-in-Ok c = step_as c.in-Create.is c.in-Ok.ensures
+
+pub returns-in-Err : goal.returns-in-Err
+returns-in-Err c = refused_as c.args.who c.in-Err.refusal c.in-Create.is c.in-Err.ensures
+
+pub returns-in-Ok-extend : goal.returns-in-Ok-extend
+returns-in-Ok-extend c = step_as c.in-Extend.is c.in-Ok-extend.ensures
+
+pub returns-in-Err-extend : goal.returns-in-Err-extend
+returns-in-Err-extend c = refused_as c.args.who c.in-Err-extend.refusal c.in-Extend.is c.in-Err-extend.ensures
+
+pub returns-in-Ok-delete : goal.returns-in-Ok-delete
+returns-in-Ok-delete c = step_as c.in-Delete.is c.in-Ok-delete.ensures
+
+pub returns-in-Err-delete : goal.returns-in-Err-delete
+returns-in-Err-delete c = refused_as c.args.who c.in-Err-delete.refusal c.in-Delete.is c.in-Err-delete.ensures
+
+pub returns-in-Ok-enter : goal.returns-in-Ok-enter
+returns-in-Ok-enter c = step_as c.in-Enter.is c.in-Ok-enter.ensures
+
+pub returns-in-Err-enter : goal.returns-in-Err-enter
+returns-in-Err-enter c = refused_as c.args.who c.in-Err-enter.refusal c.in-Enter.is c.in-Err-enter.ensures
+
+pub create-requires-clause-asked : goal.create-requires-clause-asked
+create-requires-clause-asked c = subst CanBeAsked c.in-Create.is c.requires.asked
+
+pub enter-requires-clause-asked : goal.enter-requires-clause-asked
+enter-requires-clause-asked c = subst CanBeAsked c.in-Enter.is c.requires.asked
