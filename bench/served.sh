@@ -1,12 +1,13 @@
 #!/usr/bin/env bash
-# Measures scripts of f11: loads of 60,000 commands, beside debugfs of e2fsprogs with like operations on an ext2 image; and the reading
-# and writing of a large image, beside cat. Prints two tables and the targets.
+# Measures scripts of f11: loads of 60,000 commands, beside debugfs of e2fsprogs with like operations on an ext2 image, and one of them
+# beside a server in plain Rust that prints the same; and the reading and writing of a large image, beside cat. Prints two tables and the targets.
 #
 # usage: bench/served.sh
 #
 # Needs Python 3, and takes about 1.6 GB in TMPDIR. F11 names another program than ./f11, RUNS another count than 3, COUNT another
-# number of commands than 60000. Without debugfs its column is left out. A target that is missed is no failure, since other work on
-# the machine slows each run. Status 1: f11 refused a command of a load.
+# number of commands than 60000. Without debugfs its column is left out, without rustc the comparison with plain Rust. A target that is
+# missed is no failure, since other work on the machine slows each run. Status 1: f11 refused a command of a load, or plain Rust prints
+# something else.
 set -eu
 here=$(cd "$(dirname "${BASH_SOURCE[0]}")" && pwd)
 program=${F11:-$here/../f11}
@@ -35,6 +36,15 @@ make_volumes() {
     else
         say 'no e2fsprogs: debugfs is passed over'
     fi
+}
+
+# Compiles the plain server.
+make_plain_server() {
+    if ! command -v rustc >/dev/null; then
+        say 'no rustc: the plain server is passed over'
+        return 0
+    fi
+    rustc --edition 2021 -O -o "$folder/plain_server" "$here/plain_server.rs"
 }
 
 # A volume of so many blocks, with room for so many headers, one directory and one file: make_volume BLOCKS HEADERS HELD
@@ -67,6 +77,7 @@ load() {
     done
     for ((round = 0; round < runs; round++)); do
         measure "$name" "$program" "$folder/$volume" --limit 65536 "${scripts[@]}"
+        [ "$name" != creates-v512-1 ] || serve_plainly "$name"
     done
     if grep -q '^\(NO\|BAD\)' "$folder/$name.out"; then
         say "$name: refused: $(grep -m 1 '^\(NO\|BAD\)' "$folder/$name.out")"
@@ -80,6 +91,13 @@ load() {
         done
     fi
     row "$kind" "$volume" "$sessions"
+}
+
+# Runs the script of a load by the plain server, which has to print what f11 printed: serve_plainly NAME
+serve_plainly() {
+    [ -f "$folder/plain_server" ] || return 0
+    measure plain "$folder/plain_server" "$folder/v512" "$folder/$1.script"
+    cmp "$folder/plain.out" "$folder/$1.out" || bad=1
 }
 
 # One line of the table: row KIND VOLUME SESSIONS
@@ -104,6 +122,7 @@ ratio() {
 }
 
 make_volumes
+make_plain_server
 "$program" "$folder/v512" >/dev/null # proves and builds it where that is due
 echo 'STAT 1,1' >"$folder/one"
 measure idle-v512 "$program" "$folder/v512" "$folder/one"
@@ -112,6 +131,10 @@ measure idle-v65536 "$program" "$folder/v65536" "$folder/one"
 say 'measuring'
 printf '%-28s %8s %9s %9s %11s %9s %9s %7s\n' "best of $runs" seconds processor 'peak MiB' 'commands/s' KiB/each debugfs/s times
 load creates v512 1
+if [ -f "$folder/plain_server" ]; then
+    read -r plain_clock plain_processor peak <<<"$(figures plain)"
+    awk -v clock="$plain_clock" -v processor="$plain_processor" -v peak="$peak" 'BEGIN { printf "%-28s %8.3f %9.3f %9.1f\n", "the same in plain Rust", clock, processor, peak / 1024 }'
+fi
 load creates v65536 1
 load mixed v512 1
 load mixed v65536 1
@@ -124,6 +147,11 @@ load names v65536 1
 load creates v65536 8
 load mixed v65536 8
 echo 'wanted: over 200000 commands/s for one session of creates, mixed and blocks; at most 1.5 KiB each; over 100 times debugfs'
+if [ -f "$folder/plain_server" ]; then
+    read -r own_clock own_processor _ <<<"$(figures creates-v512-1)"
+    ratio "creates and deletes to plain Rust's seconds" "$own_clock" "$plain_clock" 1.0
+    ratio "the same by processor seconds" "$own_processor" "$plain_processor" 1.0
+fi
 
 for ((round = 0; round < runs; round++)); do
     measure cat sh -c 'exec cat "$1" >"$2"' sh "$folder/large" "$folder/copy"

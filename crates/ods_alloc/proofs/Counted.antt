@@ -44,6 +44,18 @@ word_more b few j word low left count left_is small word_is low_is before =
     let more : 64 * j + 64 ≡ 64 * (j + 1) = omega arith in
     omega (arith, before, ones, count_cut p (64 * j) 64) ∙ ap (λ n. length (filter p (range_with_len 0 n))) more
 
+-- and those of a word of which each bit counts
+pub whole_word : (b : List ℕ) (few j word count : ℕ) → 64 * (j + 1) ≤ few → word < 2 ^ 64 → IsWordOf (λ i. has_bit b (64 * j + i)) word
+    → count ≡ length (filter (is_low_bit few b) (range_with_len 0 (64 * j)))
+    → count + count_ones word ≡ length (filter (is_low_bit few b) (range_with_len 0 (64 * (j + 1))))
+whole_word b few j word count whole small word_is before =
+    word_more b few j word word (few - 64 * j) count refl small word_is
+    (λ i within. ap (λ t. t && nat_eq (bit_at word i) 1) (sym (lt-ltb i (few - 64 * j) (omega (arith, whole, within))))) before
+
+-- behind the first `few` bits none counts
+pub bits_end : (few : ℕ) (b : List ℕ) (n : ℕ) → few ≤ n → n ≤ 4096 → length (filter (is_low_bit few b) (range_with_len 0 n)) ≡ low_bits_set few b
+bits_end few b n all less = sym (count_all (is_low_bit few b) n 4096 less (λ k above. ap (λ t. t && has_bit b k) (le-ltb k few (omega (arith, all, above)))))
+
 pub few_bits : (few : ℕ) (b : List ℕ) (n : ℕ) → length (filter (is_low_bit few b) (range_with_len 0 n)) ≤ n
 few_bits few b n = filter_few (is_low_bit few b) 0 n
 
@@ -61,6 +73,25 @@ count_shift p q a b (suc n) same =
     by true false e rest = absurd (cc)
     by false true e rest = absurd (cc)
     by false false e rest = rest
+
+-- a word adds what is counted in its range
+pub word_range : (b : List ℕ) (few j : ℕ) → length (filter (is_low_bit few b) (range_with_len 0 (64 * (j + 1)))) ≡ length (filter (is_low_bit few b) (range_with_len 0 (64 * j))) + length (filter (is_low_bit few b) (range_with_len (64 * j) 64))
+word_range b few j =
+    let more : 64 * (j + 1) ≡ 64 * j + 64 = omega arith in
+    ap (λ n. length (filter (is_low_bit few b) (range_with_len 0 n))) more ∙ count_cut (is_low_bit few b) (64 * j) 64
+
+-- where two blocks have the same word, it adds the same to both
+pub same_word : (b c : List ℕ) (few j was is : ℕ) → was ≡ is → IsWordOf (λ i. has_bit b (64 * j + i)) was → IsWordOf (λ i. has_bit c (64 * j + i)) is
+    → length (filter (is_low_bit few b) (range_with_len (64 * j) 64)) ≡ length (filter (is_low_bit few c) (range_with_len (64 * j) 64))
+same_word b c few j was is same of_b of_c = count_shift (is_low_bit few b) (is_low_bit few c) (64 * j) (64 * j) 64
+    (λ i small. ap (λ t. nat_lt (64 * j + i) few && t) (sym (of_b i small) ∙ ap (λ w. nat_eq (bit_at w i) 1) same ∙ of_c i small))
+
+-- some words have no more bits than all
+pub some_bits : (few : ℕ) (b : List ℕ) (n : ℕ) → n ≤ 4096 → length (filter (is_low_bit few b) (range_with_len 0 n)) ≤ low_bits_set few b
+some_bits few b n within =
+    let all : 4096 ≡ n + (4096 - n) = omega arith in
+    let cut = ap (λ m. length (filter (is_low_bit few b) (range_with_len 0 m))) all ∙ count_cut (is_low_bit few b) n (4096 - n) in
+    omega (arith, cut)
 
 -- where none is counted, none passes
 pub none_counted : (p : ℕ → Bool) (a n : ℕ) → length (filter p (range_with_len a n)) ≡ 0 → NonePasses p a (a + n)

@@ -82,6 +82,11 @@ module _ (I : List (List ℕ)) (d : Changes) (L : VolumeLayout) (m : Bitmap) whe
   pub recount_begun : (first : ℕ) (xs : List ℕ) → xs ≡ counts_in I L m → IsNextChanged I (applied I d) L m 0 first → ArePartlyNew I d L m first xs
   recount_begun first xs are is = recount_passed 0 first xs (partly_none (count_in I L m) (count_in (applied I d) L m) (size_of L m) xs (are ∙ counts_are I L m)) is
 
+  -- a count that is left is one of the old block
+  pub count_left : (k len : ℕ) (xs b : List ℕ) → k < size_of L m → len ≡ length I → ArePartlyNew I d L m k xs → b ≡ block_at I (place_in L m k) → get_or xs k 0 ≡ counted len m k b
+  count_left k len xs b within size before read =
+      before.left k (omega arith) within ∙ count_is I L m k within ∙ ap (λ n. counted n m k (block_at I (place_in L m k))) (sym size) ∙ ap (counted len m k) (sym read)
+
   pub recounted : (k next len count : ℕ) (xs b : List ℕ) → k < size_of L m → len ≡ length I → ArePartlyNew I d L m k xs → b ≡ block_at (applied I d) (place_in L m k) → count ≡ counted len m k b
       → IsNextChanged I (applied I d) L m (k + 1) next → ArePartlyNew I d L m next (set xs k count)
   recounted k next len count xs b within size before read is =

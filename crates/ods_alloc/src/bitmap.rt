@@ -3,7 +3,7 @@ ghost use Rattle.std.specs.Prelude.{◌≡◌, ◌^◌, ◌<◌, ◌≤◌, leng
 ghost use Rattle.ods_space.specs.{Draft.applied, Free.is_covered};
 ghost use Rattle.ods_alloc.specs.Marks.{HasPlaces, Puts, IsBitOf, IsIndexed, MarksBlocks, MarksNumbers, block_bit as block_bit_of, number_bit as number_bit_of};
 
-use ods_base::{Image, bit, with_bit};
+use ods_base::{Image, bit};
 use ods_space::{Draft, Layout};
 use std::alloc::AllocError;
 
@@ -19,10 +19,9 @@ fn put_bit(
     ensures { OnOk result (Puts (applied image.now draft.old) found value (applied image.now draft.new)) }
 {
     if let Some((lbn, i)) = found {
-        let block = draft.block(image, lbn);
-        if bit(&block, i) != value {
+        if bit(draft.block(image, lbn), i) != value {
             // Many bits of one block are one change.
-            draft.renew(lbn, with_bit(&block, i, value))?;
+            draft.put_bit(image, lbn, i, value)?;
         }
     }
     Ok(())

@@ -79,7 +79,7 @@ fn new_sequence(image: &Image, layout: &Layout, draft: &Draft, number: u16) -> u
     ensures { result ≡ sequence_of (header_at (applied image.now draft.now) layout.now number) + 1 }
 {
     match drafted_header(image, layout, number, draft) {
-        Some(block) => file_sequence(&block) + 1,
+        Some(block) => file_sequence(block) + 1,
         None => 1,
     }
 }

@@ -16,9 +16,13 @@ use std::alloc::{AllocError, Global};
 fn bits_set(block: &Block, few: u32) -> u32
     ensures { result ≡ low_bits_set few block.now }
 {
+    let whole = few / 64;
     let mut count = 0;
-    for j in 0..64 {
-        count += low_bits(bit_word(block, j), few.saturating_sub(64 * j)).count_ones();
+    for j in 0..whole.min(64) {
+        count += bit_word(block, j).count_ones();
+    }
+    if whole < 64 {
+        count += low_bits(bit_word(block, whole), few % 64).count_ones();
     }
     count
 }
@@ -153,14 +157,33 @@ pub(crate) fn next_changed(
     size
 }
 
-/// What is counted in block `k` of a bitmap, on an image of `len` blocks: of the storage bitmap free blocks, of the index bitmap clear bits.
-fn count(len: u32, bitmap: Bitmap, k: usize, block: &Block) -> u32
-    requires { len ≤ 2 ^ 20 }
-    ensures { result ≡ counted len bitmap k block.now }
+/// How many of the first `few` bits of a new block are set, where so many of the old one are: only words that differ are counted.
+fn bits_after(old: &Block, new: &Block, few: u32, count: u32) -> u32
+    requires { count ≡ low_bits_set few old.now }
+    ensures { result ≡ low_bits_set few new.now }
+{
+    let mut count = count;
+    for j in 0..64 {
+        let (was, is) = (bit_word(old, j), bit_word(new, j));
+        if was != is {
+            let left = few.saturating_sub(64 * j);
+            count += low_bits(is, left).count_ones();
+            count -= low_bits(was, left).count_ones();
+        }
+    }
+    count
+}
+
+/// What is counted in block `k` of a bitmap once it is new, on an image of `len` blocks, where `count` was: of the storage bitmap free
+/// blocks, of the index bitmap clear bits.
+fn count_after(len: u32, bitmap: Bitmap, k: usize, count: u32, old: &Block, new: &Block) -> u32
+    requires len { len ≤ 2 ^ 20 }
+    requires count { count ≡ counted len bitmap k old.now }
+    ensures { result ≡ counted len bitmap k new.now }
 {
     match bitmap {
-        Bitmap::Storage => bits_set(block, few_of(len, k)),
-        Bitmap::Index => 4096 - bits_set(block, 4096),
+        Bitmap::Storage => bits_after(old, new, few_of(len, k), count),
+        Bitmap::Index => 4096 - bits_after(old, new, 4096, 4096 - count),
     }
 }
 
@@ -182,9 +205,9 @@ pub(crate) fn recount(
     let len = image.len();
     let mut k = first;
     while k < size {
-        let lbn = place_in(layout, bitmap, k);
-        let block = draft.block(image, lbn as u32);
-        counts[k] = count(len, bitmap, k, &block);
+        let lbn = place_in(layout, bitmap, k) as u32;
+        let (old, new) = (image.block(lbn), draft.block(image, lbn));
+        counts[k] = count_after(len, bitmap, k, counts[k], old, new);
         k = next_changed(image, layout, draft, bitmap, k + 1);
     }
 }

@@ -9,15 +9,15 @@ use ods_base::{Block, Image};
 use ods_space::{Draft, Layout};
 
 /// The block of a header, where it has a place.
-pub(crate) fn drafted_header(
-    image: &Image,
+pub(crate) fn drafted_header<'a>(
+    image: &'a Image,
     layout: &Layout,
     number: u16,
-    draft: &Draft,
-) -> Option<Block>
+    draft: &'a Draft,
+) -> Option<&'a Block>
     requires places { HasPlaces (length image.now) layout.now }
-    ensures some { IfSome result (λ block. block ≡ header_at (applied image.now draft.now) layout.now number) }
-    ensures block { IfSome result IsBlock }
+    ensures some { IfSome result (λ block. block.now ≡ header_at (applied image.now draft.now) layout.now number) }
+    ensures block { IfSome result (λ block. IsBlock block.now) }
     ensures none { IfNone result (place_of layout.now number ≡ None) }
 {
     match layout.place(number) {
@@ -34,7 +34,7 @@ pub(crate) fn header_block(image: &Image, layout: &Layout, number: u16, draft: &
     ensures block { IsBlock result }
 {
     match drafted_header(image, layout, number, draft) {
-        Some(block) => block,
+        Some(block) => *block,
         None => Block::zeros(),
     }
 }

@@ -15,8 +15,11 @@ use std::alloc::{AllocError, Global};
 /// The first header of a chain and its last, as a draft has them, with the number of the last. They may be one.
 #[derive(Clone, Copy)]
 pub struct ChainEnds<'a> {
+    /// The block of the first header.
     pub first: &'a Block,
+    /// The number of the last header.
     pub number: u16,
+    /// The block of the last header.
     pub last: &'a Block,
 }
 

@@ -66,7 +66,7 @@ fn delete_headers(
 {
     for number in numbers {
         if let Some(lbn) = layout.place(*number) {
-            let block = deleted_header(&old.block(image, lbn));
+            let block = deleted_header(old.block(image, lbn));
             draft.set(lbn, block)?;
         }
     }

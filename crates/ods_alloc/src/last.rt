@@ -35,8 +35,8 @@ fn next_of(image: &Image, layout: &Layout, number: u16, draft: &Draft) -> u16
     let Some(block) = drafted_header(image, layout, number, draft) else {
         return 0;
     };
-    if is_valid_header(&block, number) {
-        next_number(&block)
+    if is_valid_header(block, number) {
+        next_number(block)
     } else {
         0
     }

@@ -12,20 +12,18 @@ pub fn bit(block: &Block, i: u32) -> bool
     block.byte((i / 8) as usize) >> (i % 8) & 1 == 1
 }
 
-/// The block with bit `i` set or cleared.
-pub fn with_bit(block: &Block, i: u32, value: bool) -> Block
+/// Sets or clears bit `i` of a block.
+pub fn set_bit(block: &mut Block, i: u32, value: bool)
     requires { i < 4096 }
-    ensures block { IsBlock result }
-    ensures bits { HasBit block.now i value result }
+    ensures stays { IsBlock block.new }
+    ensures bits { HasBit block.old i value block.new }
 {
     let _ = block.bytes();
     let at = (i / 8) as usize;
     let old = block.byte(at);
     let mask = 1u8 << (i % 8);
     let byte = if value { old | mask } else { old & !mask };
-    let mut changed = *block;
-    changed.set_bytes(at, &[byte]);
-    changed
+    block.set_bytes(at, &[byte]);
 }
 
 /// The 64 bits of a block from bit `64 * k` on.

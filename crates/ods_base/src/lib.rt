@@ -15,7 +15,7 @@ mod read;
 mod refusal;
 mod write;
 
-pub use bits::{bit, bit_word, with_bit};
+pub use bits::{bit, bit_word, set_bit};
 pub use block::{Block, set_word, sum, word};
 pub use faults::{ImageError, NameFault, NoMemory, WriteFault};
 pub use file_id::{FileId, Uic};

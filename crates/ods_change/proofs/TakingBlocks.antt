@@ -14,7 +14,7 @@ use Rattle.ods_header.specs.Header.{run_blocks}
 use Rattle.ods_space.specs.Draft.{Changes, change_at, applied, zeroed}
 use Rattle.ods_space.specs.Free.{free_blocks, free_numbers}
 use Rattle.ods_space.specs.Layout.{VolumeLayout}
-use Rattle.ods_space.proofs.Drafts.{block_at-applied, change_at-zeros_inside, change_at-zeros_outside, length-applied, seen_at-append, zeros_from}
+use Rattle.ods_space.proofs.Drafts.{all_from, block_at-applied, change_at-inside, change_at-outside, length-applied, seen_at-append}
 use Rattle.ods_alloc.specs.declared.fault.SpaceFault.{SpaceFault}
 use Rattle.ods_alloc.specs.declared.fault.SpaceFault.TheVariants as fault
 use Rattle.ods_alloc.specs.Extend.{cut, cut_from}
@@ -100,14 +100,6 @@ pub wanted_is : (I : List (List ℕ)) (L : VolumeLayout) (hs : List ℕ) (room c
 wanted_is I L hs room count needed blocks runs is taken cuts counts =
     counts ∙ ap (λ r. new_headers hs r (length runs)) (sym is) ∙ ap (λ l. new_headers hs (room_in I L hs) (length l)) (cuts ∙ ap cut taken)
 
--- nothing is zeros yet
-pub zeroed_none : (I : List (List ℕ)) → IsZeroed I [] I
-zeroed_none I = record {
-  long = refl;
-  zero = λ x (k, less, is) inside. absurd (omega (arith, less));
-  elsewhere = λ x out. refl;
-}
-
 in_run : (r : Run) (x : ℕ) → r.lbn ≤ x → x < r.lbn + r.count → Contains (run_blocks r) x
 in_run r x low high =
     let small : x - r.lbn < r.count = omega arith in
@@ -120,10 +112,10 @@ of_run r x (k, less, is) =
     let at : r.lbn + k ≡ x = sym (get_or-range_with_len r.lbn r.count k x small) ∙ is in
     (omega arith, omega arith)
 
-seen_is : (I : List (List ℕ)) (d : Changes) (r : Run) (x : ℕ) → x < length I → block_at (applied I (zeroed r d)) x ≡ unwrap_or (change_at (zeros_from r.lbn r.count) x) (block_at (applied I d) x)
+seen_is : (I : List (List ℕ)) (d : Changes) (r : Run) (x : ℕ) → x < length I → block_at (applied I (zeroed r d)) x ≡ unwrap_or (change_at (all_from zeros r.lbn r.count) x) (block_at (applied I d) x)
 seen_is I d r x inside =
-    block_at-applied I (zeroed r d) x inside ∙ seen_at-append I (zeros_from r.lbn r.count) d x
-    ∙ ap (λ b. unwrap_or (change_at (zeros_from r.lbn r.count) x) b) (sym (block_at-applied I d x inside))
+    block_at-applied I (zeroed r d) x inside ∙ seen_at-append I (all_from zeros r.lbn r.count) d x
+    ∙ ap (λ b. unwrap_or (change_at (all_from zeros r.lbn r.count) x) b) (sym (block_at-applied I d x inside))
 
 -- what is past the end of an image is no block
 past_is : (J : List (List ℕ)) (x : ℕ) → length J ≤ x → block_at J x ≡ []
@@ -136,7 +128,7 @@ zeroed_more I J d blocks r same done = record {
   zero = λ x within inside. elim (cases_lt x r.lbn) [
     | inl low ↦ older x (omega (arith, same, inside)) (λ k small e. absurd (omega (arith, e))) (λ own. absurd (let at = (of_run r x own).0 in omega (arith, at))) within inside
     | inr high ↦ elim (cases_lt x (r.lbn + r.count)) [
-      | inl reached ↦ seen_is I d r x (omega (arith, same, inside)) ∙ ap (λ o. unwrap_or o (block_at (applied I d) x)) (change_at-zeros_inside r.lbn r.count x high reached)
+      | inl reached ↦ seen_is I d r x (omega (arith, same, inside)) ∙ ap (λ o. unwrap_or o (block_at (applied I d) x)) (change_at-inside zeros r.lbn r.count x high reached)
       | inr behind ↦ older x (omega (arith, same, inside)) (λ k small e. absurd (omega (arith, e))) (λ own. absurd (let at = (of_run r x own).1 in omega (arith, at))) within inside
     ]
   ];
@@ -147,7 +139,7 @@ zeroed_more I J d blocks r same done = record {
 }
   where
     stays : (x : ℕ) → x < length I → ((k : ℕ) → k < r.count → r.lbn + k ≢ x) → block_at (applied I (zeroed r d)) x ≡ block_at (applied I d) x
-    stays x inside apart = seen_is I d r x inside ∙ ap (λ o. unwrap_or o (block_at (applied I d) x)) (change_at-zeros_outside r.lbn r.count x apart)
+    stays x inside apart = seen_is I d r x inside ∙ ap (λ o. unwrap_or o (block_at (applied I d) x)) (change_at-outside zeros r.lbn r.count x apart)
 
     older : (x : ℕ) → x < length I → ((k : ℕ) → k < r.count → r.lbn + k ≢ x) → ¬ Contains (run_blocks r) x → Contains (blocks ++ run_blocks r) x → x < length J → block_at (applied I (zeroed r d)) x ≡ zeros
     older x inside apart out within here = elim (Contains-append_cases blocks (run_blocks r) x within) [

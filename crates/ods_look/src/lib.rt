@@ -11,6 +11,6 @@ mod shown;
 
 pub use blocks::DirectoryBlocks;
 pub use directory::{list, look_up};
-pub use query::look;
+pub use query::{look, look_into};
 pub use reading::read;
 pub use shown::stat;

@@ -1,32 +1,77 @@
 //! The answers of the requests that only look and take no memory.
-ghost use Rattle.std.specs.Prelude.{MatchResult};
+ghost use Rattle.std.specs.Prelude.{◌≡◌, MatchResult};
 ghost use Rattle.ods_state.specs.{Change.IsAnsweredBy, Served.IsRefusalOf, Outcome.request_of};
+ghost use Rattle.ods_request.specs.declared.answers.Answer.TheVariants.{Bytes};
 ghost use Rattle.ods_mount.specs.Sound.{IsSoundBy};
 
 use crate::directory::look_up;
-use crate::reading::read;
+use crate::reading::shown_block;
 use crate::shown::stat;
-use ods_base::{Image, Uic};
+use ods_base::{Block, Image, Uic};
 use ods_request::{Answer, Query, Refusal};
 use ods_space::Layout;
+
+/// Writes the answer of a query into this place, or gives its first fault and leaves the place as it is.
+pub fn look_into(
+    image: &Image,
+    layout: &Layout,
+    who: Uic,
+    query: Query,
+    answer: &mut Answer,
+) -> Result<(), Refusal>
+    requires { IsSoundBy image.now layout.now }
+    ensures { MatchResult result (λ _. IsAnsweredBy image.now layout.now who (request_of query) answer.new)
+        (λ f. IsRefusalOf image.now layout.now who (request_of query) f × (answer.new ≡ answer.old)) }
+{
+    match query {
+        Query::LookUp { dir, name, pick } => match look_up(image, layout, who, dir, name, pick) {
+            Ok(found) => {
+                *answer = Answer::Found(found.0, found.1);
+                Ok(())
+            }
+            Err(refusal) => Err(refusal),
+        },
+        Query::Read { file, vbn } => match shown_block(image, layout, who, file, vbn) {
+            Ok(block) => {
+                put_block(answer, block);
+                Ok(())
+            }
+            Err(refusal) => Err(refusal),
+        },
+        Query::Stat { file } => match stat(image, layout, file) {
+            Ok(stat) => {
+                *answer = Answer::Info(stat);
+                Ok(())
+            }
+            Err(refusal) => Err(refusal),
+        },
+    }
+}
+
+/// Writes a block into this place. One that has a block takes it without a second copy.
+fn put_block(answer: &mut Answer, block: &Block)
+    ensures { answer.new ≡ Bytes block.now }
+{
+    if !matches!(answer, Answer::Bytes(_)) {
+        *answer = Answer::Bytes(Block::zeros());
+    }
+    match answer {
+        Answer::Bytes(place) => *place = *block,
+        _ => unreachable!(),
+    }
+}
 
 /// The answer of a query, or its first fault.
 pub fn look(image: &Image, layout: &Layout, who: Uic, query: Query) -> Result<Answer, Refusal>
     requires { IsSoundBy image.now layout.now }
     ensures { MatchResult result (IsAnsweredBy image.now layout.now who (request_of query)) (IsRefusalOf image.now layout.now who (request_of query)) }
 {
-    match query {
-        Query::LookUp { dir, name, pick } => match look_up(image, layout, who, dir, name, pick) {
-            Ok(found) => Ok(Answer::Found(found.0, found.1)),
-            Err(refusal) => Err(refusal),
-        },
-        Query::Read { file, vbn } => match read(image, layout, who, file, vbn) {
-            Ok(block) => Ok(Answer::Bytes(block)),
-            Err(refusal) => Err(refusal),
-        },
-        Query::Stat { file } => match stat(image, layout, file) {
-            Ok(stat) => Ok(Answer::Info(stat)),
-            Err(refusal) => Err(refusal),
-        },
+    let mut result = Ok(Answer::Bytes(Block::zeros()));
+    let Ok(answer) = &mut result else {
+        unreachable!()
+    };
+    if let Err(refusal) = look_into(image, layout, who, query, answer) {
+        return Err(refusal);
     }
+    result
 }

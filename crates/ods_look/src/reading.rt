@@ -9,6 +9,24 @@ use ods_base::{Block, FileId, Image, Uic};
 use ods_request::{Refusal, Right};
 use ods_space::Layout;
 
+/// The block of a file with this virtual block number, counted from 1, where it stands in the image, or the first fault of reading it.
+pub(crate) fn shown_block<'a>(
+    image: &'a Image,
+    layout: &Layout,
+    who: Uic,
+    file: FileId,
+    vbn: u32,
+) -> Result<&'a Block, Refusal>
+    requires { IsSoundBy image.now layout.now }
+    ensures { MatchResult result (λ block. IsAnsweredBy image.now layout.now who (ReadRequest file vbn) (Bytes block.now))
+        (IsRefusalOf image.now layout.now who (ReadRequest file vbn)) }
+{
+    match open_block(image, layout, who, file, 2, Right::Read, vbn) {
+        Ok(lbn) => Ok(image.block(lbn)),
+        Err(refusal) => Err(refusal),
+    }
+}
+
 /// The block of a file with this virtual block number, counted from 1, or the first fault of reading it.
 pub fn read(
     image: &Image,
@@ -21,8 +39,8 @@ pub fn read(
     ensures { MatchResult result (λ block. IsAnsweredBy image.now layout.now who (ReadRequest file vbn) (Bytes block))
         (IsRefusalOf image.now layout.now who (ReadRequest file vbn)) }
 {
-    match open_block(image, layout, who, file, 2, Right::Read, vbn) {
-        Ok(lbn) => Ok(*image.block(lbn)),
+    match shown_block(image, layout, who, file, vbn) {
+        Ok(block) => Ok(*block),
         Err(refusal) => Err(refusal),
     }
 }

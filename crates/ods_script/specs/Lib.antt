@@ -3,4 +3,5 @@ pub mod Naming
 pub mod Numbered
 pub mod Said
 pub mod Spelling
+pub mod Spoken
 pub mod Texts

@@ -108,7 +108,7 @@ answer_text name (answer.Info stat) = 32 ∷ stat_text stat
 -- the reply to a command, with its line feed
 abbrev pub reply_text : Command → Reply → List ℕ
 reply_text c reply.User = codes "OK" ++ 10 ∷ []
-reply_text c (reply.Got a) = codes "OK" ++ answer_text (spoken_name c.action) a.value ++ 10 ∷ []
+reply_text c (reply.Got a) = codes "OK" ++ answer_text (spoken_name c.action) a ++ 10 ∷ []
 reply_text c (reply.No f) = refusal_line (refusal_row f).0 (refusal_row f).1
 reply_text c reply.Closed = refusal_line 61 (codes "Closed")
 reply_text c reply.Bad = codes "BAD " ++ decimal c.nth ++ 10 ∷ []

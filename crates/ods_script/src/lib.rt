@@ -13,12 +13,10 @@ mod numbers;
 mod replies;
 mod scripts;
 mod spelled;
-mod spoken;
 mod stats;
 mod verbs;
 
 pub use laws::{cuts_at_first, versions_are_versions};
-pub use lines::{parse_line, read_command};
+pub use lines::parse_line;
 pub use replies::{push_reply, sessions_text};
 pub use scripts::parse_script;
-pub use spoken::Spoken;

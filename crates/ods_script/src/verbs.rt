@@ -1,13 +1,32 @@
 //! The verbs: the word that each is written as, and what may stand behind it.
-ghost use Rattle.std.specs.Prelude.{◌≡◌, MatchOption, Some, None};
-ghost use Rattle.ods_script.specs.{Spelling.IsTheOne, Commands.verb_text, Commands.Behind, Commands.Begins, Commands.IsSplit, Commands.Viewed};
+ghost use Rattle.std.specs.Prelude.{◌≡◌, MatchOption, Some, None, IfOk};
+ghost use Rattle.ods_script.specs.declared.verbs.Verb.TheVariants.{Write as the_write};
+ghost use Rattle.ods_script.specs.{Spelling.IsTheOne, Commands.verb_text, Commands.Behind, Commands.Begins, Commands.IsSplit, Commands.Viewed, Said.said};
 
 use crate::cuts::cut_at;
 use crate::names::{GivenName, NewName, WantedName};
 use crate::spelled::Spelled;
-use crate::spoken::{Spoken, Verb};
 use ods_base::{Block, Uic};
-use ods_share::{Id, Look};
+use ods_share::{Action, Ask, Id, Look};
+use std::alloc::{AllocError, Global};
+
+/// The word that a command begins with.
+#[derive(Clone, Copy, Debug, PartialEq, Eq)]
+pub enum Verb {
+    User,
+    Create,
+    Extend,
+    Delete,
+    Enter,
+    LookUp,
+    Remove,
+    Read,
+    Write,
+    List,
+    Stat,
+    SetUser,
+    View,
+}
 
 /// The verb that a word is.
 fn read_verb(word: &[u8]) -> Option<Verb>
@@ -40,72 +59,112 @@ pub(crate) fn split_verb(text: &[u8]) -> Option<(Verb, &[u8])>
     Some((verb, args))
 }
 
-/// The command that the words behind a verb spell: a row for each verb.
-pub(crate) fn read_behind(verb: Verb, args: &[u8]) -> Option<Spoken>
-    ensures { IsTheOne (Behind verb args.now) result }
+/// What the words behind a verb command: a row for each verb. The error is for memory.
+pub(crate) fn read_behind(alloc: Global, verb: Verb, args: &[u8]) -> Result<Action, AllocError>
+    ensures { IfOk result (λ a. IsTheOne (Behind verb args.now) (said a)) }
 {
     match verb {
-        Verb::User => Uic::read(args).map(|who| Spoken::User(who)),
-        Verb::Create => <(NewName, u32)>::read(args).map(|(name, blocks)| Spoken::Create {
-            name: name.name,
-            version: name.version,
-            blocks,
-        }),
-        Verb::Extend => <(Id, u32)>::read(args).map(|(file, blocks)| Spoken::Extend {
-            file,
-            blocks,
-        }),
-        Verb::Delete => Id::read(args).map(|file| Spoken::Delete { file }),
-        Verb::Enter => <(Id, (GivenName, Id))>::read(args).map(|(dir, (name, file))| Spoken::Enter {
-            dir,
-            name: name.name,
-            version: name.version,
-            file,
-        }),
-        Verb::LookUp => <(Id, WantedName)>::read(args).map(|(dir, name)| Spoken::LookUp {
-            dir,
-            name: name.name,
-            pick: name.version,
-        }),
-        Verb::Remove => <(Id, WantedName)>::read(args).map(|(dir, name)| Spoken::Remove {
-            dir,
-            name: name.name,
-            pick: name.version,
-        }),
-        Verb::Read => <(Id, u32)>::read(args).map(|(file, vbn)| Spoken::Read { file, vbn }),
-        Verb::Write => <(Id, (u32, Block))>::read(args).map(|(file, (vbn, block))| Spoken::Write {
-            file,
-            vbn,
-            block,
-        }),
-        Verb::List => Id::read(args).map(|dir| Spoken::List { dir }),
-        Verb::Stat => Id::read(args).map(|file| Spoken::Stat { file }),
-        Verb::SetUser => <(Id, [u8; 32])>::read(args).map(|(file, attributes)| Spoken::SetUser {
-            file,
-            attributes,
-        }),
-        Verb::View => read_view(args),
-    }
-}
-
-/// The query that the words behind VIEW spell: a row for each verb that can be viewed.
-fn read_view(text: &[u8]) -> Option<Spoken>
-    ensures { IsTheOne (Begins Viewed text.now) result }
-{
-    let (verb, args) = split_verb(text)?;
-    match verb {
-        Verb::LookUp => <(Id, WantedName)>::read(args).map(|(dir, name)| Spoken::View(
-            Look::LookUp {
+        Verb::User => Ok(Uic::read(args).map_or(Action::Bad, |who| Action::User(who))),
+        Verb::Create => Ok(<(NewName, u32)>::read(args).map_or(
+            Action::Bad,
+            |(name, blocks)| Action::Submit(Ask::Create {
+                name: name.name,
+                version: name.version,
+                blocks,
+            }),
+        )),
+        Verb::Extend => Ok(<(Id, u32)>::read(args).map_or(
+            Action::Bad,
+            |(file, blocks)| Action::Submit(Ask::Extend { file, blocks }),
+        )),
+        Verb::Delete => Ok(Id::read(args).map_or(
+            Action::Bad,
+            |file| Action::Submit(Ask::Delete { file }),
+        )),
+        Verb::Enter => Ok(<(Id, (GivenName, Id))>::read(args).map_or(
+            Action::Bad,
+            |(dir, (name, file))| Action::Submit(Ask::Enter {
+                dir,
+                name: name.name,
+                version: name.version,
+                file,
+            }),
+        )),
+        Verb::LookUp => Ok(<(Id, WantedName)>::read(args).map_or(
+            Action::Bad,
+            |(dir, name)| Action::Submit(Ask::LookUp {
                 dir,
                 name: name.name,
                 pick: name.version,
-            },
+            }),
         )),
-        Verb::Read => <(Id, u32)>::read(args).map(|(file, vbn)| Spoken::View(Look::Read {
-            file,
-            vbn,
-        })),
-        Verb::Stat => Id::read(args).map(|file| Spoken::View(Look::Stat { file })),
-        _ => None,
+        Verb::Remove => Ok(<(Id, WantedName)>::read(args).map_or(
+            Action::Bad,
+            |(dir, name)| Action::Submit(Ask::Remove {
+                dir,
+                name: name.name,
+                pick: name.version,
+            }),
+        )),
+        Verb::Read => Ok(<(Id, u32)>::read(args).map_or(
+            Action::Bad,
+            |(file, vbn)| Action::Submit(Ask::Read { file, vbn }),
+        )),
+        Verb::Write => read_write(alloc, args),
+        Verb::List => Ok(Id::read(args).map_or(
+            Action::Bad,
+            |dir| Action::Submit(Ask::List { dir }),
+        )),
+        Verb::Stat => Ok(Id::read(args).map_or(
+            Action::Bad,
+            |file| Action::Submit(Ask::Stat { file }),
+        )),
+        Verb::SetUser => Ok(<(Id, [u8; 32])>::read(args).map_or(
+            Action::Bad,
+            |(file, attributes)| Action::Submit(Ask::SetUser { file, attributes }),
+        )),
+        Verb::View => Ok(read_view(args)),
+    }
+}
+
+/// The WRITE that the words spell, with its block in a box. It stands by itself, so that no other command pays for a block.
+fn read_write(alloc: Global, args: &[u8]) -> Result<Action, AllocError>
+    ensures { IfOk result (λ a. IsTheOne (Behind the_write args.now) (said a)) }
+{
+    let Some((file, written)) = <(Id, (u32, Block))>::read(args) else {
+        return Ok(Action::Bad);
+    };
+    let Ok(block) = Box::new(alloc, written.1) else {
+        return Err(AllocError);
+    };
+    Ok(Action::Submit(Ask::Write {
+        file,
+        vbn: written.0,
+        block,
+    }))
+}
+
+/// The query that the words behind VIEW spell: a row for each verb that can be viewed.
+fn read_view(text: &[u8]) -> Action
+    ensures { IsTheOne (Begins Viewed text.now) (said result) }
+{
+    let Some((verb, args)) = split_verb(text) else {
+        return Action::Bad;
+    };
+    match verb {
+        Verb::LookUp => <(Id, WantedName)>::read(args).map_or(
+            Action::Bad,
+            |(dir, name)| Action::View(Look::LookUp {
+                dir,
+                name: name.name,
+                pick: name.version,
+            }),
+        ),
+        Verb::Read => <(Id, u32)>::read(args).map_or(
+            Action::Bad,
+            |(file, vbn)| Action::View(Look::Read { file, vbn }),
+        ),
+        Verb::Stat => Id::read(args).map_or(Action::Bad, |file| Action::View(Look::Stat { file })),
+        _ => Action::Bad,
     }
 }

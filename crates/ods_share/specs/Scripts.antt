@@ -77,7 +77,7 @@ call_of nth who r a = record { nth = nth; who = who; request = r; answer = a }
 -- Where `$` stands for no file it is BAD. Else it is an accepted call, with the answer of the reply, or a refusal, which is no call.
 abbrev pub Submits : Sitting → ℕ → Option Request → Reply → Sitting → Type 0
 Submits s nth None r t = (r ≡ reply.Bad) × (t ≡ s)
-Submits s nth (Some q) (reply.Got a) t = t ≡ record { who = s.who; last = last_after s.last a.value; calls = s.calls ++ call_of nth s.who q a.value ∷ [] }
+Submits s nth (Some q) (reply.Got a) t = t ≡ record { who = s.who; last = last_after s.last a; calls = s.calls ++ call_of nth s.who q a ∷ [] }
 Submits s nth (Some q) (reply.No f) t = t ≡ s
 Submits s nth (Some q) reply.User t = ⊥
 Submits s nth (Some q) reply.Closed t = ⊥
@@ -86,7 +86,7 @@ Submits s nth (Some q) reply.Bad t = ⊥
 -- Where `$` stands for no file it is BAD. Else it is an answer, which `$` follows as after a request, a refusal, or Closed. It is no call.
 abbrev pub Views : Sitting → Option Query → Reply → Sitting → Type 0
 Views s None r t = (r ≡ reply.Bad) × (t ≡ s)
-Views s (Some q) (reply.Got a) t = t ≡ record { who = s.who; last = last_after s.last a.value; calls = s.calls }
+Views s (Some q) (reply.Got a) t = t ≡ record { who = s.who; last = last_after s.last a; calls = s.calls }
 Views s (Some q) (reply.No f) t = t ≡ s
 Views s (Some q) reply.Closed t = t ≡ s
 Views s (Some q) reply.User t = ⊥

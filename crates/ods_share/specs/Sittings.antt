@@ -1,5 +1,5 @@
 -- A session as its code keeps it: its context, and the room for what comes of its script.
-use Rattle.std.specs.Prelude.{◌≡◌, ◌+◌, ◌≤◌, ◌++◌, ◌∷◌, [], ℕ, List, Option, Some, None, Ok, Err, length, option_to_list}
+use Rattle.std.specs.Prelude.{◌≡◌, ◌+◌, ◌≤◌, ◌++◌, ◌∷◌, [], ℕ, List, Ok, Err, length}
 use Rattle.std.specs.List.{sum_by}
 use Rattle.std.specs.Vec.{vec_capacity}
 use Rattle.ods_base.specs.declared.file_id.Uic.{Uic}
@@ -21,25 +21,25 @@ use Rattle.ods_share.specs.Scripts.{Sitting, Tells, call_of}
 abbrev pub sitting : Context → List Call → Sitting
 sitting s calls = record { who = s.who; last = s.last; calls = calls }
 
--- an answer with its call, or a refusal with none
-abbrev pub IsReply : ℕ → Uic → Request → Reply → Option Call → Type 0
-IsReply nth who q (reply.Got a) c = c ≡ Some (call_of nth who q a.value)
-IsReply nth who q (reply.No f) c = c ≡ None
-IsReply nth who q reply.User c = ⊥
-IsReply nth who q reply.Closed c = ⊥
-IsReply nth who q reply.Bad c = ⊥
+-- an answer, with its call behind the others, or a refusal, which leaves them
+abbrev pub IsReply : ℕ → Uic → Request → Reply → List Call → List Call → Type 0
+IsReply nth who q (reply.Got a) was now = now ≡ was ++ call_of nth who q a ∷ []
+IsReply nth who q (reply.No f) was now = now ≡ was
+IsReply nth who q reply.User was now = ⊥
+IsReply nth who q reply.Closed was now = ⊥
+IsReply nth who q reply.Bad was now = ⊥
 
 -- the answer of a viewer, or why it gives none
 abbrev pub IsView : List (List ℕ) → Viewed → Viewed → Uic → Query → Reply → Type 0
-IsView mounted before after who q (reply.Got a) = Asked mounted before after who q (Ok a.value)
+IsView mounted before after who q (reply.Got a) = Asked mounted before after who q (Ok a)
 IsView mounted before after who q (reply.No f) = Asked mounted before after who q (Err (Refused f))
 IsView mounted before after who q reply.Closed = Asked mounted before after who q (Err Closed)
 IsView mounted before after who q reply.User = ⊥
 IsView mounted before after who q reply.Bad = ⊥
 
--- One command from context to context: this reply, and this call behind those that there were, if there is one.
-abbrev pub TellsContext : List ℕ → Command → Context → Reply → Option Call → Context → Type 0
-TellsContext stamp c s r call t = (calls : List Call) → Tells stamp (sitting s calls) c.nth c.action r (sitting t (calls ++ option_to_list call))
+-- One command from context to context, and from calls to calls, with this reply.
+abbrev pub TellsContext : List ℕ → Command → Context → List Call → Reply → Context → List Call → Type 0
+TellsContext stamp c s was r t now = Tells stamp (sitting s was) c.nth c.action r (sitting t now)
 
 -- One command from outcome to outcome: its reply is behind the others, and its call, if there is one.
 abbrev pub TellsMore : List ℕ → Command → Context → Outcome → Context → Outcome → Type 0

@@ -1,10 +1,10 @@
-//! Which request or query a command asks for, and what `$` stands for after its answer.
+//! Which request or query a command asks for.
 ghost use Rattle.std.specs.Prelude.{◌≡◌};
-ghost use Rattle.ods_share.specs.Scripts.{resolved as id_of, request_of, query_of, last_after};
+ghost use Rattle.ods_share.specs.Scripts.{resolved as id_of, request_of, query_of};
 
 use crate::script::{Ask, Id, Look};
 use ods_base::FileId;
-use ods_request::{Answer, Query, Request, Stamp};
+use ods_request::{Query, Request, Stamp};
 
 /// The file that is meant; none where `$` stands for none.
 fn resolve(last: Option<FileId>, id: Id) -> Option<FileId>
@@ -124,17 +124,5 @@ pub(crate) fn query_for(last: Option<FileId>, look: &Look) -> Option<Query>
             let file = resolve(last, *file)?;
             Some(Query::Stat { file })
         }
-    }
-}
-
-/// What `$` stands for after an answer.
-pub(crate) fn next_last(last: Option<FileId>, answer: &Answer) -> Option<FileId>
-    ensures { result ≡ last_after last answer.now }
-{
-    match answer {
-        Answer::Created(id) => Some(*id),
-        Answer::Found(file, _) => Some(*file),
-        Answer::Removed(file, _) => Some(*file),
-        _ => last,
     }
 }

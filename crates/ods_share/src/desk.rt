@@ -112,23 +112,25 @@ impl<J: Naming> Desk<J> {
         ensures grown { Begins self.old.entries result.1 }
     {
         match self.volume.prepare(session, nth, who, request) {
-            Ok(prepared) => {
-                let result = self.apply_and_show(rt, prepared);
-                (result, Told::of(&self.volume))
-            }
-            Err(refusal) => (Err(refusal), Told::of(&self.volume)),
+            Ok(prepared) => self.apply_and_show(rt, prepared),
+            Err(refusal) => (Err(refusal), self.tell()),
         }
     }
 
     /// Makes a change that was prepared, and shows the version to which it leads. All that may want memory comes before the volume changes:
-    /// the copy of the draft, and the writer's room for it.
-    fn apply_and_show<R: Wait>(&mut self, rt: &R, prepared: Prepared) -> Result<Answer, Refusal>
+    /// the copy of the draft, and the writer's room for it. What is told is made here, since each function on an answer's way moves it.
+    fn apply_and_show<R: Wait>(
+        &mut self,
+        rt: &R,
+        prepared: Prepared,
+    ) -> (Result<Answer, Refusal>, Told<J>)
         requires { IsLawfulPlan self.old prepared }
-        ensures accepted { IfOk result (λ a. Accepts self.old prepared.entry self.new × (a ≡ prepared.entry.answer)) }
-        ensures refused { IfErr result (λ f. (f ≡ Refusal.NoMemory) × (self.new ≡ self.old)) }
+        ensures accepted { IfOk result.0 (λ a. Accepts self.old prepared.entry self.new × (a ≡ prepared.entry.answer)) }
+        ensures refused { IfErr result.0 (λ f. (f ≡ Refusal.NoMemory) × (self.new ≡ self.old)) }
+        ensures told { result.1 ≡ self.new.entries }
     {
         let Ok(draft) = prepared.changes().copy() else {
-            return Err(Refusal::NoMemory);
+            return (Err(Refusal::NoMemory), self.tell());
         };
         let count = self.volume.entries().len() as u64 + 1;
         let writer = self.writer.take().unwrap();
@@ -136,14 +138,21 @@ impl<J: Naming> Desk<J> {
             Ok(writer) => writer,
             Err(writer) => {
                 put_back(&mut self.writer, writer);
-                return Err(Refusal::NoMemory);
+                return (Err(Refusal::NoMemory), self.tell());
             }
         };
         let plan = Snapshot::of(&prepared);
         let answer = store(&mut self.volume, prepared);
         let writer = publish_change::<J, Brand, R>(rt, writer, plan, &self.volume);
         put_back(&mut self.writer, writer);
-        Ok(answer)
+        (Ok(answer), self.tell())
+    }
+
+    /// The list as it stands.
+    fn tell(&self) -> Told<J>
+        ensures { result ≡ self.now.entries }
+    {
+        Told::of(&self.volume)
     }
 
     /// Gives the volume back, and shows nothing from now on. It is lawful, over the image that was mounted, and its list begins as it was

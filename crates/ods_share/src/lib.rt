@@ -2,6 +2,7 @@
 #![tactic(auto)]
 
 mod asking;
+mod compact;
 mod desk;
 mod faults;
 mod gate;
@@ -13,6 +14,7 @@ mod settlement;
 mod storing;
 mod threads;
 
+pub use compact::CompactAnswer;
 pub use desk::Desk;
 pub use faults::{RunFault, SettleFault};
 pub use gate::Gate;

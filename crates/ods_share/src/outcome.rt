@@ -1,8 +1,8 @@
 //! What comes of a script, and the room for it, which is taken before the first command.
-ghost use Rattle.std.specs.Prelude.{◌≡◌, ◌≤◌, ◌++◌, ◌∷◌, [], IfOk, length, option_to_list};
-ghost use Rattle.std.specs.Vec.{vec_capacity};
-ghost use Rattle.ods_share.specs.Sittings.{room_of, room_for, HasRoom, KeepsRoom};
+ghost use Rattle.std.specs.Prelude.{◌≡◌, ◌≤◌, [], IfOk, length};
+ghost use Rattle.ods_share.specs.Sittings.{room_for, HasRoom};
 
+use crate::compact::CompactAnswer;
 use crate::script::{Action, Command};
 use ods_base::Uic;
 use ods_request::{Answer, Refusal, Request};
@@ -13,8 +13,8 @@ use std::alloc::{AllocError, Global};
 pub enum Reply {
     /// The user changed.
     User,
-    /// The request was accepted, with this answer. It is in a box, so that other replies stay small.
-    Got(Box<Answer>),
+    /// The request was accepted, with this answer.
+    Got(CompactAnswer),
     /// The request was refused.
     No(Refusal),
     /// There is no version to look at any more.
@@ -64,23 +64,4 @@ pub(crate) fn reserve_outcome(alloc: Global, script: &[Command]) -> Result<Outco
     let calls = Vec::with_capacity(alloc, submit_count(script))?;
     let replies = Vec::with_capacity(alloc, script.len())?;
     Ok(Outcome { calls, replies })
-}
-
-/// Puts a command's call and reply behind the others. There is room for both, so it takes no memory.
-pub(crate) fn keep(outcome: &mut Outcome, call: Option<Call>, reply: Reply)
-    requires { HasRoom outcome.old (length (option_to_list call)) 1 }
-    ensures room { KeepsRoom outcome.old outcome.new }
-    ensures calls { outcome.new.calls.items ≡ outcome.old.calls.items ++ option_to_list call }
-    ensures replies { outcome.new.replies.items ≡ outcome.old.replies.items ++ reply ∷ [] }
-{
-    if let Some(call) = call {
-        match outcome.calls.push(call) {
-            Ok(()) => {}
-            Err(_) => unreachable!(),
-        }
-    }
-    match outcome.replies.push(reply) {
-        Ok(()) => {}
-        Err(_) => unreachable!(),
-    }
 }

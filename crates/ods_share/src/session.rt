@@ -1,12 +1,14 @@
 //! One session: its script is obeyed command by command.
-ghost use Rattle.std.specs.Prelude.{◌+◌, ◌≤◌, IfOk, length, option_to_list};
+ghost use Rattle.std.specs.Prelude.{◌≡◌, ◌+◌, ◌<◌, ◌≤◌, IfOk, length};
+ghost use Rattle.std.specs.Vec.{vec_capacity};
 ghost use Rattle.ods_state.specs.Outcome.{CanBeAsked};
 ghost use Rattle.ods_share.specs.{Scripts.CanBeObeyed, Scripts.CanBeRun, Scripts.IsOutcome, Sittings.room_of, Sittings.IsReply, Sittings.IsView, Sittings.TellsContext, Sittings.TellsMore, Sittings.HasRoom, Sittings.KeepsRoom};
 
-use crate::asking::{next_last, query_for, request_for};
+use crate::asking::{query_for, request_for};
+use crate::compact::CompactAnswer;
 use crate::desk::Desk;
 use crate::gate::Gate;
-use crate::outcome::{Call, Outcome, Reply, keep, reserve_outcome};
+use crate::outcome::{Call, Outcome, Reply, reserve_outcome};
 use crate::script::{Action, Command};
 use ods_base::{FileId, Uic};
 use ods_request::{Query, Request, Stamp};
@@ -34,15 +36,19 @@ pub(crate) struct Context {
 }
 
 impl<J: Naming, G: Gate, R: Wait> Session<'_, J, G, R> {
-    /// Makes a request of the desk. Nothing else is done under the lock.
+    /// Makes a request of the desk, and puts it behind the calls where it is accepted. Nothing else is done under the lock.
     fn submit(
         &self,
         nth: u32,
         who: Uic,
         request: &Request,
-    ) -> Result<(Reply, Option<Call>), AllocError>
-        requires { CanBeAsked request.now }
-        ensures { IfOk result (λ p. IsReply nth who request.now p.0 p.1) }
+        calls: &mut Vec<Call>,
+    ) -> Result<Reply, AllocError>
+        requires can { CanBeAsked request.now }
+        requires room { length calls.old.items < vec_capacity calls.old }
+        ensures tells { IfOk result (λ r. IsReply nth who request.now r calls.old.items calls.new.items) }
+        ensures few { IfOk result (λ _. length calls.new.items ≤ length calls.old.items + 1) }
+        ensures capacity { vec_capacity calls.new ≡ vec_capacity calls.old }
     {
         let mut guard = self.desk.lock(self.rt);
         self.gate.held(self.number, nth);
@@ -50,61 +56,64 @@ impl<J: Naming, G: Gate, R: Wait> Session<'_, J, G, R> {
         MutexGuard::unlock(guard);
         match result {
             Ok(answer) => {
-                let kept = answer.copy()?;
-                let call = Call {
+                let compact = CompactAnswer::of(self.alloc, &answer)?;
+                calls.push_reserved(Call {
                     nth,
                     who,
                     request: *request,
-                    answer: kept,
-                };
-                let answer = Box::new(self.alloc, answer)?;
-                Ok((Reply::Got(answer), Some(call)))
+                    answer,
+                });
+                Ok(Reply::Got(compact))
             }
-            Err(refusal) => Ok((Reply::No(refusal), None)),
+            Err(refusal) => Ok(Reply::No(refusal)),
         }
     }
 
-    /// Obeys one command.
+    /// Obeys one command, and puts its call, if it is one, behind the others.
     fn obey(
         &self,
         viewer: &mut Viewer<J>,
         context: &mut Context,
+        calls: &mut Vec<Call>,
         command: &Command,
-    ) -> Result<(Reply, Option<Call>), AllocError>
-        requires { CanBeObeyed command.now.action }
-        ensures tells { IfOk result (λ p. TellsContext self.now.stamp command.now context.old p.0 p.1 context.new) }
-        ensures few { IfOk result (λ p. length (option_to_list p.1) ≤ room_of command.now.action) }
+    ) -> Result<Reply, AllocError>
+        requires can { CanBeObeyed command.now.action }
+        requires room { length calls.old.items + room_of command.now.action ≤ vec_capacity calls.old }
+        ensures tells { IfOk result (λ r. TellsContext self.now.stamp command.now context.old calls.old.items r context.new calls.new.items) }
+        ensures few { IfOk result (λ _. length calls.new.items ≤ length calls.old.items + room_of command.now.action) }
+        ensures capacity { vec_capacity calls.new ≡ vec_capacity calls.old }
     {
         match &command.action {
             Action::User(who) => {
                 context.who = *who;
-                Ok((Reply::User, None))
+                Ok(Reply::User)
             }
             Action::Submit(ask) => {
-                let Some(request) = request_for(self.stamp, context.last, ask) else {
-                    return Ok((Reply::Bad, None));
+                let meant = request_for(self.stamp, context.last, ask);
+                let Some(request) = &meant else {
+                    return Ok(Reply::Bad);
                 };
-                let (reply, call) = self.submit(command.nth, context.who, &request)?;
+                let reply = self.submit(command.nth, context.who, request, calls)?;
                 if let Reply::Got(answer) = &reply {
-                    context.last = next_last(context.last, answer);
+                    context.last = answer.next_last(context.last);
                 }
-                Ok((reply, call))
+                Ok(reply)
             }
             Action::View(look) => {
                 let Some(query) = query_for(context.last, look) else {
-                    return Ok((Reply::Bad, None));
+                    return Ok(Reply::Bad);
                 };
                 let reply = reply_to_view(self.alloc, viewer, context.who, query)?;
                 if let Reply::Got(answer) = &reply {
-                    context.last = next_last(context.last, answer);
+                    context.last = answer.next_last(context.last);
                 }
-                Ok((reply, None))
+                Ok(reply)
             }
-            Action::Bad => Ok((Reply::Bad, None)),
+            Action::Bad => Ok(Reply::Bad),
         }
     }
 
-    /// One command, between the gate's calls.
+    /// One command, between the gate's calls. There is room for its call and its reply, so neither takes memory where it is put.
     fn take_turn(
         &self,
         viewer: &mut Viewer<J>,
@@ -119,14 +128,14 @@ impl<J: Naming, G: Gate, R: Wait> Session<'_, J, G, R> {
         ensures tells { IfOk result (λ _. TellsMore self.now.stamp command.now context.old outcome.old context.new outcome.new) }
     {
         self.gate.before(self.number, command.nth);
-        let (reply, call) = self.obey(viewer, context, command)?;
+        let reply = self.obey(viewer, context, &mut outcome.calls, command)?;
         self.gate.after(self.number, command.nth);
-        keep(outcome, call, reply);
+        outcome.replies.push_reserved(reply);
         Ok(())
     }
 
     /// Obeys a script, from its first command on, as user [1,1], with a viewer of its own. The lists of calls and of replies get all their
-    /// room before; what may want memory afterwards is what the desk takes, the copy of a directory's names, and the box of an answer.
+    /// room before; what may want memory afterwards is what the desk takes, the copy of a directory's names, and the box of a long answer.
     pub(crate) fn sit(&self, viewer: Viewer<J>, script: &[Command]) -> Result<Outcome, AllocError>
         requires { CanBeRun script.now }
         ensures { IfOk result (λ o. IsOutcome self.now.stamp script.now o) }
@@ -158,8 +167,8 @@ fn reply_to_view<J: Naming>(
 {
     match viewer.ask(who, query) {
         Ok(answer) => {
-            let answer = Box::new(alloc, answer)?;
-            Ok(Reply::Got(answer))
+            let compact = CompactAnswer::of(alloc, &answer)?;
+            Ok(Reply::Got(compact))
         }
         Err(ViewFault::Refused(refusal)) => Ok(Reply::No(refusal)),
         Err(ViewFault::Closed) => Ok(Reply::Closed),

@@ -1,5 +1,6 @@
 //! Tests of public calls, one idea a file.
 mod any_scripts;
+mod compact;
 mod created;
 mod desks;
 mod engine;

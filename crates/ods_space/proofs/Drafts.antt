@@ -2,16 +2,15 @@
 use Rattle.std.proofs.Common.{◌≡◌, ◌≢◌, ℕ, zero, suc, ◌+◌, ◌-◌, ◌<◌, ◌≤◌, Bool, true, false, cond, nat_eq, List, [], ◌∷◌, ◌++◌, map, length, set, get_or, take, Option, Some, None, refl, sym, ap, subst, ◌∙◌, arith, inl, inr}
 use Rattle.std.specs.Prelude.{◌⊎◌, unwrap_or, is_some}
 use Rattle.std.specs.List.{range_with_len}
-use Rattle.std.proofs.lemmas.Bool.{cases_lt, cases_eq, eq-eqb, eqb-true, eqb-false, ne_eqb}
-use Rattle.std.proofs.lemmas.List.{append-nil, take_more, length-set, get_or-set_same, get_or-set_other, set_past}
+use Rattle.std.proofs.lemmas.Bool.{cases_lt, cases_eq, eq-eqb, eqb-true, eqb-false}
+use Rattle.std.proofs.lemmas.List.{append-nil, take_more, length-set, get_or_default, get_or-set_same, get_or-set_other, set_past}
 use Rattle.std.proofs.lemmas.List.FromFn.{fill_by_all, length-map-range_with_len, get_or-map-range_with_len}
-use Rattle.ods_base.specs.Block.{zeros}
+use Rattle.ods_base.specs.Bits.{HasBit}
 use Rattle.ods_base.specs.Image.{block_at}
 use Rattle.ods_header.specs.declared.header.Run.{Run}
-use Rattle.ods_space.specs.Draft.{Changes, IsNextChange, change_at, seen_at, applied, zeroed}
-use Rattle.ods_space.specs.Changes.{IsSpan, changed, changes_after, changes_of}
+use Rattle.ods_space.specs.Draft.{Changes, ChangesBit, IsNextChange, change_at, seen_at, applied}
+use Rattle.ods_space.specs.Changes.{IsOf, changed, changes_after, changes_of, filled}
 use Rattle.ods_space.specs.declared.draft.Change.{Change}
-use Rattle.ods_space.specs.declared.draft.Change.TheVariants.{Set, Zero}
 
 -- what newer changes have, or else this
 abbrev pub or_older : Option (List ℕ) → Option (List ℕ) → Option (List ℕ)
@@ -73,90 +72,83 @@ applied_over I d lbn b = sym (applied-applied I ((lbn, b) ∷ []) d) ∙ sym (ap
 pub applied_past : (I : List (List ℕ)) (lbn : ℕ) (b : List ℕ) → length I ≤ lbn → I ≡ applied I ((lbn, b) ∷ [])
 applied_past I lbn b past = sym (set_past I lbn b past) ∙ applied_set I lbn b
 
--- the changes of one run of zeros
-abbrev pub zeros_from : ℕ → ℕ → Changes
-zeros_from a n = map (λ lbn. (lbn, zeros)) (range_with_len a n)
+-- the changes by which so many blocks become this one
+abbrev pub all_from : List ℕ → ℕ → ℕ → Changes
+all_from b a n = map (λ lbn. (lbn, b)) (range_with_len a n)
 
-pub change_at-zeros_inside : (a n lbn : ℕ) → a ≤ lbn → lbn < a + n → change_at (zeros_from a n) lbn ≡ Some zeros
-change_at-zeros_inside a zero lbn above below = absurd (omega arith)
-change_at-zeros_inside a (suc n) lbn above below = by (nat_eq a lbn) refl (λ higher. change_at-zeros_inside (a + 1) n lbn higher (omega arith))
+pub change_at-inside : (b : List ℕ) (a n lbn : ℕ) → a ≤ lbn → lbn < a + n → change_at (all_from b a n) lbn ≡ Some b
+change_at-inside b a zero lbn above below = absurd (omega arith)
+change_at-inside b a (suc n) lbn above below = by (nat_eq a lbn) refl (λ higher. change_at-inside b (a + 1) n lbn higher (omega arith))
   where
-    by : (t : Bool) → nat_eq a lbn ≡ t → (a + 1 ≤ lbn → change_at (zeros_from (a + 1) n) lbn ≡ Some zeros) → cond t (Some zeros) (change_at (zeros_from (a + 1) n) lbn) ≡ Some zeros
+    by : (t : Bool) → nat_eq a lbn ≡ t → (a + 1 ≤ lbn → change_at (all_from b (a + 1) n) lbn ≡ Some b) → cond t (Some b) (change_at (all_from b (a + 1) n) lbn) ≡ Some b
     by true e rest = refl
     by false e rest = let ne = eqb-false a lbn e in rest (omega arith)
 
--- a block that is none of the run is not changed
-pub change_at-zeros_outside : (a n lbn : ℕ) → ((k : ℕ) → k < n → a + k ≢ lbn) → change_at (zeros_from a n) lbn ≡ None
-change_at-zeros_outside a zero lbn apart = refl
-change_at-zeros_outside a (suc n) lbn apart = by (nat_eq a lbn) refl (change_at-zeros_outside (a + 1) n lbn (λ k small e. apart (suc k) (omega arith) (omega (arith, e))))
+-- a block that is none of them is not changed
+pub change_at-outside : (b : List ℕ) (a n lbn : ℕ) → ((k : ℕ) → k < n → a + k ≢ lbn) → change_at (all_from b a n) lbn ≡ None
+change_at-outside b a zero lbn apart = refl
+change_at-outside b a (suc n) lbn apart = by (nat_eq a lbn) refl (change_at-outside b (a + 1) n lbn (λ k small e. apart (suc k) (omega arith) (omega (arith, e))))
   where
-    by : (t : Bool) → nat_eq a lbn ≡ t → change_at (zeros_from (a + 1) n) lbn ≡ None → cond t (Some zeros) (change_at (zeros_from (a + 1) n) lbn) ≡ None
+    by : (t : Bool) → nat_eq a lbn ≡ t → change_at (all_from b (a + 1) n) lbn ≡ None → cond t (Some b) (change_at (all_from b (a + 1) n) lbn) ≡ None
     by true e rest = let same = eqb-true a lbn e in absurd (apart 0 (omega arith) (omega (arith, same)))
     by false e rest = rest
 
+-- what a run that is filled has for an LBN
+module _ (r : Run) (b : List ℕ) (lbn : ℕ) where
+  filled_inside : r.lbn ≤ lbn → lbn < r.lbn + r.count → change_at (filled r b []) lbn ≡ Some b
+  filled_inside above below = ap (λ d. change_at d lbn) (append-nil (all_from b r.lbn r.count)) ∙ change_at-inside b r.lbn r.count lbn above below
+
+  filled_outside : (lbn < r.lbn) ⊎ (r.lbn + r.count ≤ lbn) → change_at (filled r b []) lbn ≡ None
+  filled_outside away =
+      ap (λ d. change_at d lbn) (append-nil (all_from b r.lbn r.count))
+      ∙ change_at-outside b r.lbn r.count lbn (λ k small e. elim away [ inl low ↦ absurd (omega (arith, e)) | inr high ↦ absurd (omega (arith, e)) ])
+
 -- which blocks one change is of
-pub span_set : (c : Change) (lbn : ℕ) (b : List ℕ) → c ≡ Set lbn b → IsSpan (changed c []) lbn (lbn + 1)
-span_set c lbn b is =
-    let P : Change → Type 0 = λ x. IsSpan (changed x []) lbn (lbn + 1) in
-    let apart : (x : ℕ) → (x < lbn) ⊎ (lbn + 1 ≤ x) → lbn ≢ x = λ x away e. elim away [ inl low ↦ absurd (omega arith) | inr high ↦ absurd (omega arith) ] in
-    subst P (sym is) (record {
-      inside = λ x above below. let same : lbn ≡ x = omega arith in ap (λ t. is_some (cond t (Some b) None)) (eq-eqb lbn x same);
-      outside = λ x away. ap (λ t. cond t (Some b) None) (ne_eqb lbn x (apart x away));
-    })
+pub of_inside : (c : Change) (lbn : ℕ) → c.run.lbn ≤ lbn → lbn < c.run.lbn + c.run.count → change_at (changed c []) lbn ≡ Some c.block
+of_inside c lbn = filled_inside c.run c.block lbn
 
-pub span_zero : (c : Change) (r : Run) → c ≡ Zero r → IsSpan (changed c []) r.lbn (r.lbn + r.count)
-span_zero c r is =
-    let P : Change → Type 0 = λ x. IsSpan (changed x []) r.lbn (r.lbn + r.count) in
-    let bare : zeroed r [] ≡ zeros_from r.lbn r.count = append-nil (zeros_from r.lbn r.count) in
-    let apart : (x : ℕ) → (x < r.lbn) ⊎ (r.lbn + r.count ≤ x) → (k : ℕ) → k < r.count → r.lbn + k ≢ x = λ x away k small e. elim away [ inl low ↦ absurd (omega arith) | inr high ↦ absurd (omega arith) ] in
-    subst P (sym is) (record {
-      inside = λ x above below. ap (λ d. is_some (change_at d x)) bare ∙ ap is_some (change_at-zeros_inside r.lbn r.count x above below);
-      outside = λ x away. ap (λ d. change_at d x) bare ∙ change_at-zeros_outside r.lbn r.count x (apart x away);
-    })
+pub of_outside : (c : Change) (lbn : ℕ) → (lbn < c.run.lbn) ⊎ (c.run.lbn + c.run.count ≤ lbn) → change_at (changed c []) lbn ≡ None
+of_outside c lbn = filled_outside c.run c.block lbn
 
--- an image whose blocks of the run are zeros, and the others as they were
-pub record IsCleared (I J : List (List ℕ)) (from to : ℕ) : Type 0 where
+-- an image whose blocks of the run are this one, and the others as they were
+pub record IsFilled (I J : List (List ℕ)) (b : List ℕ) (from to : ℕ) : Type 0 where
   pub size : length J ≡ length I
-  pub inside : (k : ℕ) → from ≤ k → k < to → k < length I → block_at J k ≡ zeros
+  pub inside : (k : ℕ) → from ≤ k → k < to → k < length I → block_at J k ≡ b
   pub below : (k : ℕ) → k < from → block_at J k ≡ block_at I k
   pub above : (k : ℕ) → to ≤ k → block_at J k ≡ block_at I k
 
-pub cleared_none : (I : List (List ℕ)) (from : ℕ) → IsCleared I I from from
-cleared_none I from = record { size = refl; inside = λ k low high within. absurd (omega arith); below = λ k low. refl; above = λ k high. refl }
+pub filled_none : (I : List (List ℕ)) (b : List ℕ) (from : ℕ) → IsFilled I I b from from
+filled_none I b from = record { size = refl; inside = λ k low high within. absurd (omega arith); below = λ k low. refl; above = λ k high. refl }
 
-pub cleared_more : (I J : List (List ℕ)) (from to : ℕ) → from ≤ to → to < length J → IsCleared I J from to → IsCleared I (set J to zeros) from (to + 1)
-cleared_more I J from to order within done = record {
-  size = length-set J to zeros ∙ done.size;
+pub filled_more : (I J : List (List ℕ)) (b : List ℕ) (from to : ℕ) → from ≤ to → to < length J → IsFilled I J b from to → IsFilled I (set J to b) b from (to + 1)
+filled_more I J b from to order within done = record {
+  size = length-set J to b ∙ done.size;
   inside = λ k low high inside. elim (cases_eq k to) [
-    | inl e ↦ ap (λ n. get_or (set J to zeros) n []) e ∙ get_or-set_same J to zeros [] within
-    | inr n ↦ get_or-set_other J to k zeros [] n ∙ done.inside k low (omega arith) inside
+    | inl e ↦ ap (λ n. get_or (set J to b) n []) e ∙ get_or-set_same J to b [] within
+    | inr n ↦ get_or-set_other J to k b [] n ∙ done.inside k low (omega arith) inside
   ];
-  below = λ k low. let n : k ≡ to → ⊥ = λ e. absurd (omega arith) in get_or-set_other J to k zeros [] n ∙ done.below k low;
-  above = λ k high. let n : k ≡ to → ⊥ = λ e. absurd (omega arith) in get_or-set_other J to k zeros [] n ∙ done.above k (omega arith);
+  below = λ k low. let n : k ≡ to → ⊥ = λ e. absurd (omega arith) in get_or-set_other J to k b [] n ∙ done.below k low;
+  above = λ k high. let n : k ≡ to → ⊥ = λ e. absurd (omega arith) in get_or-set_other J to k b [] n ∙ done.above k (omega arith);
 }
 
--- a run is cleared as far as the image has its blocks
-pub cleared_all : (I J : List (List ℕ)) (r : Run) (to : ℕ) → IsCleared I J r.lbn to → to ≤ r.lbn + r.count → ((k : ℕ) → to ≤ k → k < r.lbn + r.count → length I ≤ k) → J ≡ applied I (zeroed r [])
-cleared_all I J r to done few rest = applied_is I J (zeroed r []) done.size each
+-- a run is filled as far as the image has its blocks
+pub filled_all : (I J : List (List ℕ)) (b : List ℕ) (r : Run) (to : ℕ) → IsFilled I J b r.lbn to → to ≤ r.lbn + r.count → ((k : ℕ) → to ≤ k → k < r.lbn + r.count → length I ≤ k) → J ≡ applied I (filled r b [])
+filled_all I J b r to done few rest = applied_is I J (filled r b []) done.size each
   where
-    same : change_at (zeroed r []) ≡ change_at (zeros_from r.lbn r.count)
-    same = ap change_at (append-nil (zeros_from r.lbn r.count))
-
-    each : (k : ℕ) → k < length I → block_at J k ≡ seen_at I (zeroed r []) k
+    each : (k : ℕ) → k < length I → block_at J k ≡ seen_at I (filled r b []) k
     each k within = elim (cases_lt k r.lbn) [
-      | inl low ↦ done.below k low ∙ sym (ap (λ f. unwrap_or (f k) (block_at I k)) same ∙ ap (λ o. unwrap_or o (block_at I k)) (change_at-zeros_outside r.lbn r.count k (λ j small e. absurd (omega (arith, e)))))
+      | inl low ↦ done.below k low ∙ sym (ap (λ o. unwrap_or o (block_at I k)) (filled_outside r b k (inl low)))
       | inr high ↦ elim (cases_lt k (r.lbn + r.count)) [
         | inl in_run ↦ elim (cases_lt k to) [
-          | inl reached ↦ done.inside k high reached within ∙ sym (ap (λ f. unwrap_or (f k) (block_at I k)) same ∙ ap (λ o. unwrap_or o (block_at I k)) (change_at-zeros_inside r.lbn r.count k high in_run))
+          | inl reached ↦ done.inside k high reached within ∙ sym (ap (λ o. unwrap_or o (block_at I k)) (filled_inside r b k high in_run))
           | inr left ↦ let past = rest k left in_run in absurd (omega arith)
         ]
-        | inr behind ↦ done.above k (omega arith) ∙ sym (ap (λ f. unwrap_or (f k) (block_at I k)) same ∙ ap (λ o. unwrap_or o (block_at I k)) (change_at-zeros_outside r.lbn r.count k (λ j small e. absurd (omega (arith, e)))))
+        | inr behind ↦ done.above k (omega arith) ∙ sym (ap (λ o. unwrap_or o (block_at I k)) (filled_outside r b k (inr behind)))
       ]
     ]
 
 pub changed_is : (c : Change) (d : Changes) → changed c d ≡ changed c [] ++ d
-changed_is (Set lbn b) d = refl
-changed_is (Zero r) d = ap (λ l. l ++ d) (sym (append-nil (zeros_from r.lbn r.count)))
+changed_is c d = ap (λ l. l ++ d) (sym (append-nil (all_from c.block c.run.lbn c.run.count)))
 
 changes_after_push : (d : Changes) (cs : List Change) (c : Change) → changes_after d (cs ++ c ∷ []) ≡ changed c (changes_after d cs)
 changes_after_push d [] c = refl
@@ -192,19 +184,11 @@ module _ (cs : List Change) (k lbn : ℕ) (c : Change) (some : 0 < k) (within : 
       ∙ ap (λ d. change_at d lbn) (changes_of_more cs (k - 1) c inside is)
       ∙ change_at-changed c (changes_of (take (k - 1) cs)) lbn
 
-  pub looked_up : (b : List ℕ) → Some b ≡ change_at (changed c []) lbn → change_at (changes_of cs) lbn ≡ Some b
-  looked_up b found = looked ∙ ap (λ o. or_older o (change_at (changes_of (take (k - 1) cs)) lbn)) (sym found)
+  pub looked_up : (b : List ℕ) → change_at (changed c []) lbn ≡ Some b → change_at (changes_of cs) lbn ≡ Some b
+  looked_up b found = looked ∙ ap (λ o. or_older o (change_at (changes_of (take (k - 1) cs)) lbn)) found
 
-  pub passed_over : None ≡ change_at (changed c []) lbn → change_at (changes_of cs) lbn ≡ change_at (changes_of (take (k - 1) cs)) lbn
-  passed_over none = looked ∙ ap (λ o. or_older o (change_at (changes_of (take (k - 1) cs)) lbn)) (sym none)
-
-  -- a block that change k is of is changed
-  pub touched : is_some (change_at (changed c []) lbn) ≡ true → is_some (change_at (changes_of cs) lbn) ≡ true
-  touched some = ap is_some looked ∙ by (change_at (changed c []) lbn) some
-    where
-      by : (o : Option (List ℕ)) → is_some o ≡ true → is_some (or_older o (change_at (changes_of (take (k - 1) cs)) lbn)) ≡ true
-      by None e = absurd (cc)
-      by (Some b) e = refl
+  pub passed_over : change_at (changed c []) lbn ≡ None → change_at (changes_of cs) lbn ≡ change_at (changes_of (take (k - 1) cs)) lbn
+  passed_over none = looked ∙ ap (λ o. or_older o (change_at (changes_of (take (k - 1) cs)) lbn)) none
 
 -- of two lookups one has something
 some_newer : (o p : Option (List ℕ)) → is_some o ≡ true → is_some (or_older o p) ≡ true
@@ -233,25 +217,29 @@ next_more cs k c from to at next within is before here =
       ];
     }
 
--- what is not there
-pub none_since : (o : Option (List ℕ)) → is_some o ≡ false → None ≡ o
-none_since None e = refl
-none_since (Some b) e = absurd (cc)
-
--- the changes of a list whose last one sets a block, and of the list with another block set there
-record EndsIn (d : Changes) (cs : List Change) (k lbn : ℕ) (old new : List ℕ) : Type 0 where
+-- the changes of a list, and of the list with another change in place of its last one
+record EndsIn (d : Changes) (cs : List Change) (k : ℕ) (old new : Change) : Type 0 where
   older : Changes
-  was : changes_after d cs ≡ (lbn, old) ∷ older
-  now : changes_after d (set cs k (Set lbn new)) ≡ (lbn, new) ∷ older
+  was : changes_after d cs ≡ changed old older
+  now : changes_after d (set cs k new) ≡ changed new older
 
-ends_in : (d : Changes) (cs : List Change) (k lbn : ℕ) (old new : List ℕ) (other : Change) → length cs ≡ suc k → get_or cs k other ≡ Set lbn old → EndsIn d cs k lbn old new
-ends_in d [] k lbn old new other size last = absurd (omega (arith, size))
-ends_in d (c ∷ []) zero lbn old new other size last = record { older = d; was = ap (λ x. changed x d) last; now = refl }
-ends_in d (c ∷ []) (suc k) lbn old new other size last = absurd (omega (arith, size))
-ends_in d (c ∷ e ∷ cs) zero lbn old new other size last = absurd (omega (arith, size))
-ends_in d (c ∷ e ∷ cs) (suc k) lbn old new other size last =
-    let rest = ends_in (changed c d) (e ∷ cs) k lbn old new other (omega (arith, size)) last in
+ends_in : (d : Changes) (cs : List Change) (k : ℕ) (old new other : Change) → length cs ≡ suc k → get_or cs k other ≡ old → EndsIn d cs k old new
+ends_in d [] k old new other size last = absurd (omega (arith, size))
+ends_in d (c ∷ []) zero old new other size last = record { older = d; was = ap (λ x. changed x d) last; now = refl }
+ends_in d (c ∷ []) (suc k) old new other size last = absurd (omega (arith, size))
+ends_in d (c ∷ e ∷ cs) zero old new other size last = absurd (omega (arith, size))
+ends_in d (c ∷ e ∷ cs) (suc k) old new other size last =
+    let rest = ends_in (changed c d) (e ∷ cs) k old new other (omega (arith, size)) last in
     record { older = rest.older; was = rest.was; now = rest.now }
+
+-- a change of one block
+pub changed_one : (c : Change) (lbn : ℕ) (d : Changes) → IsOf lbn c → changed c d ≡ (lbn, c.block) ∷ d
+changed_one c lbn d is =
+    ap (λ n. map (λ x. (x, c.block)) (range_with_len c.run.lbn n) ++ d) is.1
+    ∙ ap (λ a. (a, c.block) ∷ d) is.0
+
+pub pushed_one : (cs : List Change) (c : Change) (lbn : ℕ) → IsOf lbn c → changes_of (cs ++ c ∷ []) ≡ (lbn, c.block) ∷ changes_of cs
+pushed_one cs c lbn is = changes_of_push cs c ∙ changed_one c lbn (changes_of cs) is
 
 -- of two changes of one block the newer counts
 over_older : (I : List (List ℕ)) (d : Changes) (lbn : ℕ) (old new : List ℕ) (x : ℕ) → seen_at I ((lbn, new) ∷ d) x ≡ seen_at I ((lbn, new) ∷ (lbn, old) ∷ d) x
@@ -261,12 +249,32 @@ over_older I d lbn old new x = by (nat_eq lbn x)
     by true = refl
     by false = refl
 
--- where the last change sets a block, another one in its place is as good as one more
-pub renewed : (I : List (List ℕ)) (cs : List Change) (k lbn : ℕ) (old new : List ℕ) (other : Change) → length cs ≡ suc k → get_or cs k other ≡ Set lbn old
-    → applied I (changes_of (set cs k (Set lbn new))) ≡ applied I ((lbn, new) ∷ changes_of cs)
-unfolding applied
-renewed I cs k lbn old new other size last =
-    let ends = ends_in [] cs k lbn old new other size last in
-    ap (λ d. map (seen_at I d) (range_with_len 0 (length I))) ends.now
-    ∙ (λ i. map (λ x. over_older I ends.older lbn old new x i) (range_with_len 0 (length I)))
-    ∙ ap (λ d. map (seen_at I ((lbn, new) ∷ d)) (range_with_len 0 (length I))) (sym ends.was)
+-- where the last of n changes, which is read twice, is of one block
+module _ (cs : List Change) (n lbn : ℕ) (old again : Change) (some : 0 < n) (size : n ≡ length cs) (read : old ≡ get_or cs (n - 1) old) (reread : again ≡ get_or cs (n - 1) again) (was : IsOf lbn old) where
+  one : IsOf lbn again
+  one = subst (IsOf lbn) (read ∙ get_or_default cs (n - 1) old again (omega (arith, some, size)) ∙ sym reread) was
+
+  ends : (new : Change) → EndsIn [] cs (n - 1) again new
+  ends new = ends_in [] cs (n - 1) again new again (omega (arith, some, size)) (sym reread)
+
+  -- another block in its place is as good as one change more
+  pub renewed : (b : List ℕ) (I : List (List ℕ)) → applied I (changes_of (set cs (n - 1) (record { run = again.run; block = b }))) ≡ applied I ((lbn, b) ∷ changes_of cs)
+  unfolding applied
+  renewed b I =
+      let new : Change = record { run = again.run; block = b } in
+      let e = ends new in
+      ap (λ d. map (seen_at I d) (range_with_len 0 (length I))) (e.now ∙ changed_one new lbn e.older one)
+      ∙ (λ i. map (λ x. over_older I e.older lbn again.block b x i) (range_with_len 0 (length I)))
+      ∙ ap (λ d. map (seen_at I ((lbn, b) ∷ d)) (range_with_len 0 (length I))) (sym (e.was ∙ changed_one again lbn e.older one))
+
+  -- its block is the one that is seen
+  seen_last : (I : List (List ℕ)) → seen_at I (changes_of cs) lbn ≡ again.block
+  seen_last I =
+      let e = ends again in
+      ap (λ d. seen_at I d lbn) (e.was ∙ changed_one again lbn e.older one)
+      ∙ ap (λ t. unwrap_or (cond t (Some again.block) (change_at e.older lbn)) (block_at I lbn)) (eq-eqb lbn lbn refl)
+
+  -- a bit of it that is put is a bit of the draft
+  pub bit_renewed : (b : List ℕ) (I : List (List ℕ)) (i : ℕ) (value : Bool) → HasBit again.block i value b
+      → ChangesBit I (changes_of cs) lbn i value (changes_of (set cs (n - 1) (record { run = again.run; block = b })))
+  bit_renewed b I i value bits = record { block = b; bit = subst (λ l. HasBit l i value b) (sym (seen_last I)) bits; becomes = renewed b }

@@ -1,41 +1,27 @@
 //! Drafts: changes of single blocks, to be made all at once.
-use crate::clear::clear;
-use ods_base::{Block, Image};
+use crate::fill::fill;
+use ods_base::{Block, Image, set_bit};
 use ods_header::Run;
 use std::alloc::{AllocError, Global};
 use std::marker::Model;
 
-/// One change.
+/// One change: each block of the run becomes this one.
 #[derive(Clone, Copy)]
-enum Change {
-    Set(u32, Block),
-    Zero(Run),
+struct Change {
+    run: Run,
+    block: Block,
 }
 
 impl Change {
-    ghost use Rattle.std.specs.Prelude.{◌≡◌, ◌≤◌, true, [], IfSome, is_some};
+    ghost use Rattle.std.specs.Prelude.{◌≡◌, ◌≤◌, true, [], Some, None, IfSome, IfNone};
     ghost use Rattle.ods_base.specs.Block.{IsBlock};
-    ghost use Rattle.ods_space.specs.{Draft.change_at, Draft.applied, Draft.IsNextChange, Changes.IsSpan, Changes.changed, declared.draft.Change.TheVariants.Set};
-    ghost use Rattle.std.specs.Prelude.{ℕ, List};
+    ghost use Rattle.ods_space.specs.{Draft.change_at, Draft.applied, Draft.IsNextChange, Changes.IsOf, Changes.changed};
 
-    /// Whether this change sets the block at this LBN.
-    fn sets(&self, lbn: u32) -> bool
-        ensures { result ≡ true → (old : List ℕ) × (self.now ≡ Set lbn old) }
+    /// Whether this change is of the block at this LBN alone.
+    fn is_of(&self, lbn: u32) -> bool
+        ensures { result ≡ true → IsOf lbn self.now }
     {
-        match self {
-            Change::Set(at, _) => *at == lbn,
-            Change::Zero(_) => false,
-        }
-    }
-
-    /// The LBNs that this change is of: from the first on, below the second.
-    fn span(&self) -> (u64, u64)
-        ensures { IsSpan (changed self.now []) result.0 result.1 }
-    {
-        match self {
-            Change::Set(at, _) => (*at as u64, *at as u64 + 1),
-            Change::Zero(run) => (run.lbn as u64, run.lbn as u64 + run.count as u64),
-        }
+        self.run.lbn == lbn && self.run.count == 1
     }
 
     /// The least LBN from `from` on and below `to` that this change is of, or `to` for none.
@@ -43,38 +29,22 @@ impl Change {
         requires { from ≤ to }
         ensures { IsNextChange (changed self.now []) from to result }
     {
-        let (first, end) = self.span();
-        let at = first.max(from);
+        let end = self.run.lbn as u64 + self.run.count as u64;
+        let at = from.max(self.run.lbn as u64);
         if at < end { at.min(to) } else { to }
     }
 
-    /// Whether this change is of the block at this LBN.
-    fn touches(&self, lbn: u32) -> bool
-        ensures { result ≡ is_some (change_at (changed self.now []) lbn) }
-    {
-        match self {
-            Change::Set(at, _) => *at == lbn,
-            Change::Zero(run) => run.lbn <= lbn && lbn - run.lbn < run.count as u32,
-        }
-    }
-
     /// The block that stands at this LBN by this change.
-    fn block(&self, lbn: u32) -> Option<Block>
-        ensures value { result ≡ change_at (changed self.now []) lbn }
-        ensures block { IfSome result IsBlock }
+    fn block(&self, lbn: u32) -> Option<&Block>
+        ensures some { IfSome result (λ block. change_at (changed self.now []) lbn ≡ Some block.now) }
+        ensures block { IfSome result (λ block. IsBlock block.now) }
+        ensures none { IfNone result (change_at (changed self.now []) lbn ≡ None) }
     {
-        match self {
-            Change::Set(at, block) => {
-                let _ = block.bytes();
-                if *at == lbn { Some(*block) } else { None }
-            }
-            Change::Zero(run) => {
-                if run.lbn <= lbn && lbn - run.lbn < run.count as u32 {
-                    Some(Block::zeros())
-                } else {
-                    None
-                }
-            }
+        let _ = self.block.bytes();
+        if self.run.lbn <= lbn && lbn - self.run.lbn < self.run.count as u32 {
+            Some(&self.block)
+        } else {
+            None
         }
     }
 
@@ -82,14 +52,7 @@ impl Change {
     fn make(&self, image: &mut Image)
         ensures { image.new ≡ applied image.old (changed self.now []) }
     {
-        match self {
-            Change::Set(lbn, block) => {
-                if *lbn < image.len() {
-                    image.set_block(*lbn, *block);
-                }
-            }
-            Change::Zero(run) => clear(image, run),
-        }
+        fill(image, &self.run, &self.block);
     }
 }
 
@@ -111,9 +74,9 @@ impl Model for Draft {
 }
 
 impl Draft {
-    ghost use Rattle.std.specs.Prelude.{◌≡◌, ◌<◌, ◌≤◌, ◌∷◌, ℕ, List, [], length, is_some, IfOk, OnOk, OnErr};
+    ghost use Rattle.std.specs.Prelude.{◌≡◌, ◌<◌, ◌≤◌, ◌∷◌, ℕ, List, [], length, IfOk, OnOk, OnErr};
     ghost use Rattle.ods_base.specs.Block.{IsBlock};
-    ghost use Rattle.ods_space.specs.Draft.{IsNextChange, change_at, seen_at, applied, zeroed};
+    ghost use Rattle.ods_space.specs.Draft.{ChangesBit, IsNextChange, seen_at, applied, zeroed};
 
     /// A draft without a change.
     pub fn new(alloc: Global) -> Draft
@@ -125,29 +88,17 @@ impl Draft {
     }
 
     /// The block at this LBN, read through the draft: the newest change counts.
-    pub fn block(&self, image: &Image, lbn: u32) -> Block
+    pub fn block<'a>(&'a self, image: &'a Image, lbn: u32) -> &'a Block
         requires { lbn < length image.now }
-        ensures value { result ≡ seen_at image.now self.now lbn }
-        ensures block { IsBlock result }
+        ensures value { result.now ≡ seen_at image.now self.now lbn }
+        ensures block { IsBlock result.now }
     {
         for k in (0..self.changes.len()).rev() {
             if let Some(block) = self.changes[k].block(lbn) {
                 return block;
             }
         }
-        *image.block(lbn)
-    }
-
-    /// Whether a block changes.
-    pub fn changes(&self, lbn: u32) -> bool
-        ensures { result ≡ is_some (change_at self.now lbn) }
-    {
-        for k in (0..self.changes.len()).rev() {
-            if self.changes[k].touches(lbn) {
-                return true;
-            }
-        }
-        false
+        image.block(lbn)
     }
 
     /// The least LBN from `from` on and below `to` that changes, or `to` for none.
@@ -167,7 +118,9 @@ impl Draft {
         ensures ok { OnOk result (self.new ≡ (lbn, block) ∷ self.old) }
         ensures err { OnErr result (self.new ≡ self.old) }
     {
-        self.changes.push(Change::Set(lbn, block))?;
+        self.changes.reserve(1)?;
+        let run = Run { lbn, count: 1 };
+        self.changes.push_reserved(Change { run, block });
         Ok(())
     }
 
@@ -178,11 +131,48 @@ impl Draft {
         ensures err { OnErr result (self.new ≡ self.old) }
     {
         let count = self.changes.len();
-        if 0 < count && self.changes[count - 1].sets(lbn) {
-            self.changes[count - 1] = Change::Set(lbn, block);
+        if 0 < count && self.changes[count - 1].is_of(lbn) {
+            self.changes[count - 1].block = block;
             return Ok(());
         }
         self.set(lbn, block)
+    }
+
+    /// Sets or clears bit `i` of a block as the draft has it; where the newest change is of that block, in place. After an
+    /// `Err` the draft is as it was.
+    pub fn put_bit(
+        &mut self,
+        image: &Image,
+        lbn: u32,
+        i: u32,
+        value: bool,
+    ) -> Result<(), AllocError>
+        requires inside { lbn < length image.now }
+        requires bit { i < 4096 }
+        ensures ok { OnOk result (ChangesBit image.now self.old lbn i value self.new) }
+        ensures err { OnErr result (self.new ≡ self.old) }
+    {
+        let count = self.changes.len();
+        if 0 < count && self.changes[count - 1].is_of(lbn) {
+            set_bit(&mut self.changes[count - 1].block, i, value);
+            return Ok(());
+        }
+        self.add_bit(image, lbn, i, value)
+    }
+
+    /// Does what `put_bit` does, by one change more.
+    fn add_bit(&mut self, image: &Image, lbn: u32, i: u32, value: bool) -> Result<(), AllocError>
+        requires inside { lbn < length image.now }
+        requires bit { i < 4096 }
+        ensures ok { OnOk result (ChangesBit image.now self.old lbn i value self.new) }
+        ensures err { OnErr result (self.new ≡ self.old) }
+    {
+        let mut block = *self.block(image, lbn);
+        set_bit(&mut block, i, value);
+        let one = Run { lbn, count: 1 };
+        self.changes.reserve(1)?;
+        self.changes.push_reserved(Change { run: one, block });
+        Ok(())
     }
 
     /// The blocks of a run become zeros. After an `Err` the draft is as it was.
@@ -190,15 +180,19 @@ impl Draft {
         ensures ok { OnOk result (self.new ≡ zeroed run self.old) }
         ensures err { OnErr result (self.new ≡ self.old) }
     {
-        self.changes.push(Change::Zero(run))?;
+        self.changes.reserve(1)?;
+        let block = Block::zeros();
+        self.changes.push_reserved(Change { run, block });
         Ok(())
     }
 
-    /// An equal draft.
+    /// An equal draft, with room for what is mostly added to a copy: a header, and a block of each bitmap.
     pub fn copy(&self) -> Result<Draft, AllocError>
         ensures { IfOk result (λ copy. copy ≡ self.now) }
     {
-        let changes = Vec::from_slice(*self.changes.allocator(), &self.changes)?;
+        let room = self.changes.len().saturating_add(3);
+        let mut changes = Vec::with_capacity(*self.changes.allocator(), room)?;
+        changes.extend_from_slice(&self.changes)?;
         Ok(Draft { changes })
     }
 

@@ -2,11 +2,11 @@
 #![tactic(auto)]
 
 mod bits;
-mod clear;
 mod collect;
 mod draft;
 mod fault;
 mod files;
+mod fill;
 mod headers;
 mod laws;
 mod layout;

@@ -1,5 +1,5 @@
 //! Who looks beside the lock.
-ghost use Rattle.std.specs.Prelude.{◌≡◌, max, length, vec_len, All, IfOk, MatchResult};
+ghost use Rattle.std.specs.Prelude.{◌≡◌, max, length, vec_len, All, IfOk, MatchResult, Ok, Err};
 ghost use Rattle.left_right.specs.Sides.{view};
 ghost use Rattle.ods_request.specs.Lists.{Begins};
 ghost use Rattle.ods_views.specs.{Versions.LookedFrom, Viewers.Asked, Viewers.newly, Viewers.seen_by, Refusals.view_row};
@@ -10,8 +10,8 @@ use crate::told::Told;
 use crate::version::Version;
 use crate::writing::DeskWriter;
 use left_right::reader::{Reader, Reading};
-use ods_base::{Coded, Row, Uic};
-use ods_look::look;
+use ods_base::{Block, Coded, Row, Uic};
+use ods_look::look_into;
 use ods_request::{Answer, Query, Refusal};
 use std::alloc::{AllocError, Global};
 use std::marker::{Brand, Model};
@@ -79,12 +79,30 @@ impl<J: Naming> Viewer<J> {
         self.least = self.least.max(u64::from(told.entries()));
     }
 
-    /// Answers from the version that is published now. It waits for nobody and takes no memory. What it looked up is moved once, after the
-    /// version is left.
+    /// Answers from the version that is published now. It waits for nobody and takes no memory. The answer is moved once, when it is given back.
     pub fn ask(&mut self, who: Uic, query: Query) -> Result<Answer, ViewFault>
         ensures later { Begins self.old.seen self.new.seen }
         ensures least { self.new.least ≡ self.old.least }
         ensures answer { Asked J.mounted self.old self.new who query result }
+    {
+        let mut result = Ok(Answer::Bytes(Block::zeros()));
+        let Ok(answer) = &mut result else {
+            unreachable!()
+        };
+        if let Err(fault) = self.ask_into(who, query, answer) {
+            return Err(fault);
+        }
+        result
+    }
+
+    /// The same, with the answer written into its place, which stays as it was where there is none. Out of line it has no answer of its own;
+    /// within its caller LLVM makes room for two more.
+    #[inline(never)]
+    pub fn ask_into(&mut self, who: Uic, query: Query, answer: &mut Answer) -> Result<(), ViewFault>
+        ensures later { Begins self.old.seen self.new.seen }
+        ensures least { self.new.least ≡ self.old.least }
+        ensures answer { MatchResult result (λ _. Asked J.mounted self.old self.new who query (Ok answer.new))
+            (λ f. Asked J.mounted self.old self.new who query (Err f) × (answer.new ≡ answer.old)) }
     {
         let least = self.least;
         let reader = self.reader.take().unwrap();
@@ -95,10 +113,10 @@ impl<J: Naming> Viewer<J> {
                     self.reader = Some(reading.leave());
                     return Err(ViewFault::Closed);
                 }
-                let found = look(&version.image, &version.layout, who, query);
+                let found = look_into(&version.image, &version.layout, who, query, answer);
                 self.reader = Some(reading.leave());
                 match found {
-                    Ok(answer) => Ok(answer),
+                    Ok(()) => Ok(()),
                     Err(refusal) => Err(ViewFault::Refused(refusal)),
                 }
             }

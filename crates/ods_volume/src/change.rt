@@ -1,13 +1,14 @@
 //! Requests that are accepted: their change, and their entry in the list.
-ghost use Rattle.std.specs.Prelude.{◌≡◌, ◌≢◌, ◌<◌, false, length, IfOk, IfErr, IsErr, OnErr, Some, unwrap_or};
-ghost use Rattle.ods_request.specs.{declared.refusals.Refusal.Refusal, Catalogue.Catalogue, Faults.fault_of, Table.takes_memory};
+ghost use Rattle.std.specs.Prelude.{◌≡◌, ◌≢◌, ◌<◌, ◌++◌, ◌∷◌, [], List, false, length, IfOk, IfErr, IsErr, OnErr, Some, unwrap_or};
+ghost use Rattle.ods_request.specs.{declared.answers.Entry.Entry, declared.refusals.Refusal.Refusal, Catalogue.Catalogue, Faults.fault_of, Table.takes_memory};
 ghost use Rattle.ods_state.specs.{Version.IsPresent, Wants.Lacks, Outcome.Accepts, Outcome.CanBeAsked, Outcome.IsReason, Outcome.IsLawfulPlan, Outcome.carried_out, Outcome.entry_of};
+ghost use Rattle.ods_volume.specs.Kept.{AreLinesOf};
 
-use crate::planned::{Prepared, answer_with};
+use crate::planned::Prepared;
 use crate::volume::Volume;
 use ods_alloc::FreeCounts;
 use ods_base::Uic;
-use ods_request::{Answer, Refusal, Request};
+use ods_request::{Answer, Entry, Listing, Refusal, Request};
 
 /// The new counts take the place of those that are kept; where there are none, those stay.
 fn put_counts(kept: &mut FreeCounts, new: Option<FreeCounts>)
@@ -18,29 +19,49 @@ fn put_counts(kept: &mut FreeCounts, new: Option<FreeCounts>)
     }
 }
 
+/// The answer of the newest entry of a list.
+fn newest_answer(entries: &[Entry]) -> &Answer
+    requires { 0 < length entries.now }
+    ensures { (front : List Entry) (entry : Entry) → entries.now ≡ front ++ entry ∷ [] → result.now ≡ entry.answer }
+{
+    &entries[entries.len() - 1].answer
+}
+
 impl Volume {
     /// Makes a change that was prepared for this volume as it is, puts its entry into the list and gives its answer. It takes
-    /// no memory and never fails.
+    /// no memory and never fails. The answer is read from the list last, so that it is made in one place.
     pub fn apply(&mut self, prepared: Prepared) -> Answer
         requires { IsLawfulPlan self.old prepared }
         ensures changed { self.new ≡ carried_out self.old prepared }
         ensures answered { result ≡ prepared.entry.answer }
     {
-        let Prepared {
-            entry,
-            lines,
-            draft,
-            counts,
-        } = prepared;
-        let answer = answer_with(&entry.answer, lines);
-        match self.entries.push(entry) {
-            Ok(()) => {
-                draft.apply(&mut self.image);
-                put_counts(&mut self.counts, counts);
-                answer
-            }
-            Err(_) => unreachable!(),
+        if let Some(lines) = self.store(prepared) {
+            return Answer::Names(lines);
         }
+        match newest_answer(&self.entries) {
+            Answer::Created(file) => Answer::Created(*file),
+            Answer::Extended(count) => Answer::Extended(*count),
+            Answer::Done => Answer::Done,
+            Answer::Entered(version) => Answer::Entered(*version),
+            Answer::Found(file, version) => Answer::Found(*file, *version),
+            Answer::Removed(file, version) => Answer::Removed(*file, *version),
+            Answer::Bytes(block) => Answer::Bytes(*block),
+            Answer::Info(stat) => Answer::Info(*stat),
+            // Lines were given already.
+            Answer::Names(_) => unreachable!(),
+        }
+    }
+
+    /// Makes a change that was prepared, puts its entry into the list, and gives the lines of its answer, where it has lines.
+    fn store(&mut self, prepared: Prepared) -> Option<Listing>
+        requires { IsLawfulPlan self.old prepared }
+        ensures changed { self.new ≡ carried_out self.old prepared }
+        ensures lines { AreLinesOf prepared.entry.answer result }
+    {
+        self.entries.push_reserved(prepared.entry);
+        prepared.draft.apply(&mut self.image);
+        put_counts(&mut self.counts, prepared.counts);
+        prepared.lines
     }
 
     /// Prepares a request and makes its change.

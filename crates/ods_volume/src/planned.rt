@@ -33,7 +33,7 @@ impl Model for Prepared {
 }
 
 /// The lines of an answer once more, where it has lines. Only they take memory.
-fn lines_of(answer: &Answer) -> Result<Option<Listing>, AllocError>
+pub(crate) fn lines_of(answer: &Answer) -> Result<Option<Listing>, AllocError>
     ensures ok { IfOk result (AreLinesOf answer.now) }
     ensures err { OnErr result (HasLines answer.now) }
 {
@@ -46,52 +46,11 @@ fn lines_of(answer: &Answer) -> Result<Option<Listing>, AllocError>
     }
 }
 
-/// The answer with these lines, or, where there are none, its copy, which takes no memory.
-pub(crate) fn answer_with(answer: &Answer, lines: Option<Listing>) -> Answer
-    requires { AreLinesOf answer.now lines }
-    ensures { result ≡ answer.now }
-{
-    if let Some(lines) = lines {
-        return Answer::Names(lines);
-    }
-    match answer.copy() {
-        Ok(copy) => copy,
-        Err(_) => unreachable!(),
-    }
-}
-
 impl Prepared {
-    /// The accepted request of this entry, which changes these blocks and leaves these counts. Only the lines of a directory take memory.
-    pub(crate) fn new(
-        entry: Entry,
-        draft: Draft,
-        counts: Option<FreeCounts>,
-    ) -> Result<Prepared, AllocError>
-        ensures ok { IfOk result (λ p. p ≡ record { entry = entry; changes = draft; counts = counts }) }
-        ensures err { OnErr result (HasLines entry.answer) }
-    {
-        match lines_of(&entry.answer) {
-            Ok(lines) => Ok(Prepared {
-                entry,
-                lines,
-                draft,
-                counts,
-            }),
-            Err(error) => Err(error),
-        }
-    }
-
     /// The blocks that it changes.
     pub fn changes(&self) -> &Draft
         ensures { result.now ≡ self.now.changes }
     {
         &self.draft
-    }
-
-    /// What it is answered.
-    pub fn answer(&self) -> &Answer
-        ensures { result.now ≡ self.now.entry.answer }
-    {
-        &self.entry.answer
     }
 }

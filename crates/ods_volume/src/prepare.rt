@@ -4,52 +4,57 @@ ghost use Rattle.std.specs.Prelude.{◌≡◌, ◌≢◌, ◌<◌, false, true, 
 ghost use Rattle.ods_alloc.specs.Counts.{AreCountsAfter, counts_of};
 ghost use Rattle.ods_space.specs.Draft.{applied};
 ghost use Rattle.ods_mount.specs.Sound.{IsSoundBy};
-ghost use Rattle.ods_request.specs.{declared.answers.Answer.Answer, declared.refusals.Refusal.Refusal, declared.requests.Request.TheVariants.List as Lines, Catalogue.Catalogue, Faults.fault_of, Queries.request_of, Table.only_looks, Table.takes_memory};
+ghost use Rattle.ods_request.specs.{declared.refusals.Refusal.Refusal, declared.requests.Request.TheVariants.List as Lines, Catalogue.Catalogue, Faults.fault_of, Queries.request_of, Table.only_looks, Table.takes_memory};
 ghost use Rattle.ods_state.specs.{Version.IsPresent, Wants.Lacks, Served.IsStepOf, Served.IsRefusalOf, Outcome.CanBeAsked, Outcome.IsReason, Outcome.IsLawfulPlan, Outcome.entry_of};
 ghost use Rattle.ods_volume.specs.Made.{answer_of};
 
-use crate::planned::Prepared;
+use crate::planned::{Prepared, lines_of};
 use crate::volume::Volume;
 use ods_alloc::FreeCounts;
 use ods_base::{FileId, Image, Uic};
 use ods_change::{create, delete, enter, extend, remove, set_user, write};
-use ods_look::{list, look};
+use ods_look::{list, look_into};
 use ods_request::{Answer, Entry, Query, Refusal, Request};
 use ods_space::{Draft, Layout};
 use std::alloc::{AllocError, Global};
 
-/// What a query is answered. It changes no block.
+/// Writes the answer of a query into this place. It changes no block.
 fn look_only(
     alloc: Global,
     image: &Image,
     layout: &Layout,
     who: Uic,
     query: Query,
-) -> Result<(Answer, Draft), Refusal>
+    answer: &mut Answer,
+) -> Result<Draft, Refusal>
     requires { IsSoundBy image.now layout.now }
-    ensures { MatchResult result (λ p. IsStepOf image.now layout.now who (request_of query) p.0 (applied image.now p.1) layout.now)
+    ensures { MatchResult result (λ d. IsStepOf image.now layout.now who (request_of query) answer.new (applied image.now d) layout.now)
         (IsRefusalOf image.now layout.now who (request_of query)) }
 {
-    match look(image, layout, who, query) {
-        Ok(answer) => Ok((answer, Draft::new(alloc))),
+    match look_into(image, layout, who, query, answer) {
+        Ok(()) => Ok(Draft::new(alloc)),
         Err(refusal) => Err(refusal),
     }
 }
 
-/// What a List is answered. It changes no block.
+/// Writes the answer of a List into this place. It changes no block.
 fn list_only(
     alloc: Global,
     image: &Image,
     layout: &Layout,
     who: Uic,
     dir: FileId,
-) -> Result<(Answer, Draft), Refusal>
+    answer: &mut Answer,
+) -> Result<Draft, Refusal>
     requires { IsSoundBy image.now layout.now }
-    ensures { MatchResult result (λ p. IsStepOf image.now layout.now who (Lines dir) p.0 (applied image.now p.1) layout.now)
+    ensures { MatchResult result (λ d. IsStepOf image.now layout.now who (Lines dir) answer.new (applied image.now d) layout.now)
         (IsRefusalOf image.now layout.now who (Lines dir)) }
 {
     match list(alloc, image, layout, who, dir) {
-        Ok(lines) => Ok((Answer::Names(lines), Draft::new(alloc))),
+        Ok(lines) => {
+            *answer = Answer::Names(lines);
+            Ok(Draft::new(alloc))
+        }
         Err(refusal) => Err(refusal),
     }
 }
@@ -64,16 +69,16 @@ pub(crate) enum Made {
     Removed(FileId, u16),
 }
 
-/// The answer of a change.
-fn answer_of(made: Made) -> Answer
-    ensures { result ≡ answer_of made }
+/// Writes the answer of a change into this place.
+fn put_answer(answer: &mut Answer, made: Made)
+    ensures { answer.new ≡ answer_of made }
 {
     match made {
-        Made::Created(file) => Answer::Created(file),
-        Made::Extended(count) => Answer::Extended(count),
-        Made::Done => Answer::Done,
-        Made::Entered(version) => Answer::Entered(version),
-        Made::Removed(file, version) => Answer::Removed(file, version),
+        Made::Created(file) => *answer = Answer::Created(file),
+        Made::Extended(count) => *answer = Answer::Extended(count),
+        Made::Done => *answer = Answer::Done,
+        Made::Entered(version) => *answer = Answer::Entered(version),
+        Made::Removed(file, version) => *answer = Answer::Removed(file, version),
     }
 }
 
@@ -149,7 +154,7 @@ fn change(
     }
 }
 
-/// What a request is answered, and the blocks that it changes.
+/// Writes what a request is answered into this place, and gives the blocks that it changes.
 fn carry_out(
     alloc: Global,
     image: &Image,
@@ -157,21 +162,25 @@ fn carry_out(
     counts: &FreeCounts,
     who: Uic,
     request: &Request,
-) -> Result<(Answer, Draft), Refusal>
+    answer: &mut Answer,
+) -> Result<Draft, Refusal>
     requires asked { CanBeAsked request.now }
     requires sound { IsSoundBy image.now layout.now }
     requires counts { counts.now ≡ counts_of image.now layout.now }
-    ensures { MatchResult result (λ p. IsStepOf image.now layout.now who request.now p.0 (applied image.now p.1) layout.now)
+    ensures { MatchResult result (λ d. IsStepOf image.now layout.now who request.now answer.new (applied image.now d) layout.now)
         (IsRefusalOf image.now layout.now who request.now) }
 {
     if let Some(query) = request.as_query() {
-        return look_only(alloc, image, layout, who, query);
+        return look_only(alloc, image, layout, who, query, answer);
     }
     if let Request::List { dir } = request {
-        return list_only(alloc, image, layout, who, *dir);
+        return list_only(alloc, image, layout, who, *dir, answer);
     }
     match change(alloc, image, layout, counts, who, request) {
-        Ok((made, draft)) => Ok((answer_of(made), draft)),
+        Ok((made, draft)) => {
+            put_answer(answer, made);
+            Ok(draft)
+        }
         Err(refusal) => Err(refusal),
     }
 }
@@ -223,38 +232,37 @@ impl Volume {
             return Err(Refusal::ListFull);
         }
         let alloc = *self.entries.allocator();
-        match carry_out(
+        let mut answer = Answer::Done;
+        let draft = match carry_out(
             alloc,
             &self.image,
             &self.layout,
             &self.counts,
             who,
             &request,
+            &mut answer,
         ) {
-            Ok((answer, draft)) => {
-                let counts = match counts_after(
-                    &self.counts,
-                    &self.image,
-                    &self.layout,
-                    &request,
-                    &draft,
-                ) {
-                    Ok(counts) => counts,
-                    Err(_) => return Err(Refusal::NoMemory),
-                };
-                let entry = Entry {
-                    session,
-                    nth,
-                    who,
-                    request,
-                    answer,
-                };
-                match Prepared::new(entry, draft, counts) {
-                    Ok(prepared) => Ok(prepared),
-                    Err(_) => Err(Refusal::NoMemory),
-                }
-            }
-            Err(refusal) => Err(refusal),
-        }
+            Ok(draft) => draft,
+            Err(refusal) => return Err(refusal),
+        };
+        let Ok(counts) = counts_after(&self.counts, &self.image, &self.layout, &request, &draft)
+        else {
+            return Err(Refusal::NoMemory);
+        };
+        let Ok(lines) = lines_of(&answer) else {
+            return Err(Refusal::NoMemory);
+        };
+        Ok(Prepared {
+            entry: Entry {
+                session,
+                nth,
+                who,
+                request,
+                answer,
+            },
+            lines,
+            draft,
+            counts,
+        })
     }
 }

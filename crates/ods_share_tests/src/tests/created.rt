@@ -4,6 +4,7 @@ ghost use Rattle.ods_share.specs.Scripts.{CanBeRun};
 
 use super::runs::{Open, has_totals, run_on, run_settles, volume_of};
 use super::scripts::{add, both, create, read_last, script, write_last};
+use super::sessions::has_answer;
 use ods_base::{Block, FileId};
 use ods_format_tests::persons::{FIRST, SECOND, a_txt, b_txt, letter_a};
 use ods_format_tests::volumes::sample_of;
@@ -13,23 +14,9 @@ use std::alloc::Global;
 use std::process::Abort;
 use std::test::Fail;
 
-/// The file that the first of these replies says was made.
-fn made(replies: &[Reply]) -> Result<FileId, Fail> {
-    match replies.first() {
-        Some(Reply::Got(answer)) => match **answer {
-            Answer::Created(file) => Ok(file),
-            _ => Err("a new file".into()),
-        },
-        _ => Err("an answer".into()),
-    }
-}
-
-/// The reply is this block.
-fn is_block(reply: &Reply, block: Block) -> bool {
-    match reply {
-        Reply::Got(answer) => **answer == Answer::Bytes(block),
-        _ => false,
-    }
+/// The first of these replies says that this file was made.
+fn has_made(replies: &[Reply], file: FileId) -> bool {
+    has_answer(replies.first(), &Answer::Created(file))
 }
 
 /// Two scripts that create a file each; the first one writes its block, and both read it.
@@ -47,20 +34,23 @@ fn two_that_create(alloc: Global) -> Result<Vec<Script>, Fail>
 }
 
 /// Each session made a file of its own.
-fn made_two(rt: &impl Abort, one: &[Reply], other: &[Reply]) -> Result<(), Fail> {
-    let (first, second) = (made(one)?, made(other)?);
-    let is_in_order = first == FIRST && second == SECOND;
-    let is_turned = first == SECOND && second == FIRST;
-    assert!(rt; is_in_order || is_turned, "{first:?}, {second:?}");
-    Ok(())
+fn made_two(rt: &impl Abort, one: &[Reply], other: &[Reply]) {
+    let is_in_order = has_made(one, FIRST) && has_made(other, SECOND);
+    let is_turned = has_made(one, SECOND) && has_made(other, FIRST);
+    assert!(rt;
+        is_in_order || is_turned,
+        "{:?}, {:?}",
+        one.first(),
+        other.first()
+    );
 }
 
 /// The first session wrote its block and read it, the second read zeros.
 fn read_both(rt: &impl Abort, one: &[Reply], other: &[Reply]) {
     assert!(rt; one.len() == 3 && other.len() == 2);
     assert!(rt; matches!(&one[1], Reply::Got(_)));
-    assert!(rt; is_block(&one[2], letter_a()));
-    assert!(rt; is_block(&other[1], Block::zeros()));
+    assert!(rt; has_answer(one.get(2), &Answer::Bytes(letter_a())));
+    assert!(rt; has_answer(other.get(1), &Answer::Bytes(Block::zeros())));
 }
 
 #[test]
@@ -71,7 +61,7 @@ fn two_sessions_create(rt: HostRuntime) -> Result<(), Fail> {
     let ran = run_on(&rt, alloc, volume, scripts.as_slice(), &Open)?;
     match ran.outcomes.as_slice() {
         [one, other] => {
-            made_two(&rt, &one.replies, &other.replies)?;
+            made_two(&rt, &one.replies, &other.replies);
             read_both(&rt, &one.replies, &other.replies);
         }
         _ => assert!(rt; false, "two outcomes"),

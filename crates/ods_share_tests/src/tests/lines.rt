@@ -1,5 +1,5 @@
 //! Lines that are commands, and lines that are not.
-use ods_script::{Spoken, parse_script, read_command};
+use ods_script::{parse_line, parse_script};
 use ods_share::{Action, Ask, Id};
 use std::test::Fail;
 
@@ -55,17 +55,21 @@ VIEW LIST 4,4
 VIEW VIEW STAT 6,1";
 
 #[test]
-fn lines_are_commands(rt: HostRuntime) {
+fn lines_are_commands(rt: HostRuntime) -> Result<(), Fail> {
     for line in COMMANDS.split(|byte| *byte == b'\n') {
-        assert!(rt; read_command(line).is_some(), "{line:?}");
+        let action = parse_line(rt.alloc(), line)?;
+        assert!(rt; action != Action::Bad, "{line:?}");
     }
+    Ok(())
 }
 
 #[test]
-fn other_lines_are_none(rt: HostRuntime) {
+fn other_lines_are_none(rt: HostRuntime) -> Result<(), Fail> {
     for line in OTHERS.split(|byte| *byte == b'\n') {
-        assert!(rt; read_command(line).is_none(), "{line:?}");
+        let action = parse_line(rt.alloc(), line)?;
+        assert!(rt; action == Action::Bad, "{line:?}");
     }
+    Ok(())
 }
 
 #[test]
@@ -97,13 +101,14 @@ fn a_script_has_its_lines_numbers(rt: HostRuntime) -> Result<(), Fail> {
 }
 
 #[test]
-fn bytes_are_padded(rt: HostRuntime) {
-    match read_command(b"SETUSER 6,1 0280") {
-        Some(Spoken::SetUser { attributes, .. }) => {
+fn bytes_are_padded(rt: HostRuntime) -> Result<(), Fail> {
+    match &parse_line(rt.alloc(), b"SETUSER 6,1 0280")? {
+        Action::Submit(Ask::SetUser { attributes, .. }) => {
             assert_eq!(rt; attributes[0], 2);
             assert_eq!(rt; attributes[1], 128);
             assert_eq!(rt; attributes[31], 0);
         }
         _ => assert!(rt; false),
     }
+    Ok(())
 }

@@ -77,7 +77,7 @@ fn replies_are_answers(rt: &impl Abort, outcome: &Outcome) {
     for reply in &outcome.replies {
         if let Reply::Got(answer) = reply {
             let is_next = match calls.next() {
-                Some(call) => call.answer == **answer,
+                Some(call) => answer.is(&call.answer),
                 None => false,
             };
             assert!(rt; is_next, "a reply is no call's answer");

@@ -44,6 +44,14 @@ pub fn replied(rt: &impl Abort, replies: &[Reply], wanted: &[Short]) {
     }
 }
 
+/// Whether this reply has this answer.
+pub fn has_answer(reply: Option<&Reply>, wanted: &Answer) -> bool {
+    match reply {
+        Some(Reply::Got(answer)) => answer.is(wanted),
+        _ => false,
+    }
+}
+
 /// The answer to one of the calls of an outcome, which has this number.
 fn answered(rt: &impl Abort, outcome: &Outcome, call: usize, nth: u32, wanted: Answer) {
     match outcome.calls.as_slice().get(call) {

@@ -5,7 +5,7 @@ ghost use Rattle.ods_share.specs.Scripts.{CanBeObeyed, CanBeRun};
 use super::requests::{block_viewed, block_written, file_made};
 use super::runs::{replies_alone, run_on, stamp, two_file_volume, volume_of};
 use super::scripts::{add, both, create, read_last, script, write, write_last};
-use super::sessions::{Short, replied};
+use super::sessions::{Short, has_answer, replied};
 use ods_base::Pick;
 use ods_format_tests::persons::{
     FIRST, MASTER, NONE, USER, a_txt, corimg, letter_a, old_block, reserved_id,
@@ -35,10 +35,7 @@ fn view_last() -> Action
 
 /// This reply has this answer.
 fn shown(rt: &impl Abort, replies: &[Reply], reply: usize, wanted: &Answer) {
-    let is_shown = match replies.get(reply) {
-        Some(Reply::Got(answer)) => **answer == *wanted,
-        _ => false,
-    };
+    let is_shown = has_answer(replies.get(reply), wanted);
     assert!(rt; is_shown, "reply {reply} is not {wanted:?}");
 }
 

@@ -6,7 +6,7 @@ use ods_base::{FileId, Uic};
 use ods_format_tests::persons::{NONE, USER};
 use ods_plain::{Catalogue, StepError};
 use ods_request::{Answer, Entry, Request};
-use ods_share::{Action, Command, Id, Look, Outcome, Reply, Script};
+use ods_share::{Action, Command, CompactAnswer, Id, Look, Outcome, Reply, Script};
 use ods_volume::Volume;
 use ods_volume_trials::plain_catalogue;
 use std::alloc::Global;
@@ -37,7 +37,7 @@ impl<'a> Replay<'a> {
     /// Whether the plain program answers so now.
     fn is_answered(&mut self, query: &Request, reply: &Reply) -> bool {
         match (self.plain.step(self.who, query, NONE), reply) {
-            (Ok(answer), Reply::Got(other)) => answer == **other,
+            (Ok(answer), Reply::Got(other)) => other.is(&answer),
             (Err(StepError::Refused(refusal)), Reply::No(other)) => refusal == *other,
             _ => false,
         }
@@ -95,11 +95,14 @@ impl<'a> Replay<'a> {
 }
 
 /// The file that `$` stands for from this answer on, where it names one.
-fn named(answer: &Answer) -> Option<FileId> {
-    match answer {
-        Answer::Created(file) => Some(*file),
-        Answer::Found(file, _) => Some(*file),
-        Answer::Removed(file, _) => Some(*file),
+fn named(answer: &CompactAnswer) -> Option<FileId> {
+    if answer.boxed().is_some() {
+        return None;
+    }
+    match answer.unboxed() {
+        Answer::Created(file) => Some(file),
+        Answer::Found(file, _) => Some(file),
+        Answer::Removed(file, _) => Some(file),
         _ => None,
     }
 }

@@ -103,7 +103,7 @@ fn system_writes(rt: &impl Abort, alloc: Global, private: &Mounted) -> Result<()
     let (image, layout) = (private.image(), private.layout());
     let block = letter_a();
     let draft = write(alloc, image, layout, SYSTEM, FIRST, 1, &block)?;
-    assert!(rt; image.len() == 40 && draft.block(image, 22) == block);
+    assert!(rt; image.len() == 40 && *draft.block(image, 22) == block);
     Ok(())
 }
 

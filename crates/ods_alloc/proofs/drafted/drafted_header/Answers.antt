@@ -10,4 +10,4 @@ pub returns-in-Some-clause-some : goal.returns-in-Some-clause-some
 returns-in-Some-clause-some c =
     let L = c.args.layout.now in
     let found = sym c.place.ensures ∙ c.in-Some.is in
-    header_read c.args.image.now c.args.draft.now L c.args.number c.in-Some.lbn c.block.result (place_inside _ L c.args.number c.in-Some.lbn c.requires.places found) found c.block.ensures.value
+    header_read c.args.image.now c.args.draft.now L c.args.number c.in-Some.lbn c.block.result.now (place_inside _ L c.args.number c.in-Some.lbn c.requires.places found) found c.block.ensures.value

@@ -28,7 +28,7 @@ loop-number-preserved c =
     subst P (sym (take_more numbers k 0 c.loop-number-test.true)) (elim c.match-place.branch [
       | in-Some+in_ok-set w ↦
           let found : place_of L x ≡ Some w.in-Some.lbn = sym c.place.ensures ∙ w.in-Some.is in
-          subst Q (sym w.draft-is) (one_deleted I old c.loop-number.draft w.set.new.self L xs x w.in-Some.lbn w.block.result w.deleted_header-block.result
+          subst Q (sym w.draft-is) (one_deleted I old c.loop-number.draft w.set.new.self L xs x w.in-Some.lbn w.block.result.now w.deleted_header-block.result
           (place_inside _ L x w.in-Some.lbn c.requires.places found) found w.block.ensures.value w.deleted_header-block.ensures.value w.in_ok-set.ensures.ok c.loop-number.invariant)
       | in_default w ↦ subst Q (sym w.draft-is) (passed_by (applied I old) (applied I c.loop-number.draft) L xs x c.loop-number.invariant (sym c.place.ensures ∙ w.in_default.is))
     ])

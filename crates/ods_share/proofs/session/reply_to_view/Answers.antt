@@ -7,9 +7,9 @@ use Rattle.ods_views.specs.declared.viewer.ViewFault.{ViewFault}
 use Rattle.ods_views.specs.declared.viewer.ViewFault.TheVariants.{Refused}
 use Rattle.ods_share.proofs.session.reply_to_view.Goals as goal
 
-pub returns-in_ok-answer-in-Ok : goal.returns-in_ok-answer-in-Ok
-returns-in_ok-answer-in-Ok g c =
-    subst (λ (a : Answer). Asked g.J.Naming.mounted c.args.viewer.now c.ask.new.self c.args.who c.args.query (Ok a)) (sym c.in_ok-answer-in-Ok.ensures.ok) c.in-Ok.ensures.answer
+pub returns-in_ok-compact-in-Ok : goal.returns-in_ok-compact-in-Ok
+returns-in_ok-compact-in-Ok g c =
+    subst (λ (a : Answer). Asked g.J.Naming.mounted c.args.viewer.now c.ask.new.self c.args.who c.args.query (Ok a)) (sym c.in_ok-compact-in-Ok.ensures.ok) c.in-Ok.ensures.answer
 
 pub returns-in-Err-Refused : goal.returns-in-Err-Refused
 returns-in-Err-Refused g c =

@@ -1,26 +1,13 @@
-use Rattle.std.proofs.Common.{arith, sym, ap, ◌∙◌, Some, []}
-use Rattle.std.proofs.lemmas.List.{append-nil}
-use Rattle.ods_header.specs.declared.header.Run.{Run}
-use Rattle.ods_space.specs.Draft.{change_at}
-use Rattle.ods_space.specs.Changes.{changed}
-use Rattle.ods_space.proofs.Drafts.{zeros_from, change_at-zeros_inside, change_at-zeros_outside}
+use Rattle.std.proofs.Common.{arith, inl, inr}
+use Rattle.ods_space.proofs.Drafts.{of_inside, of_outside}
 use Rattle.ods_space.proofs.draft.Change.block.Goals as goal
-use Rattle.ods_space.proofs.draft.Change.block.Goals.{else-run-lbn-via-then-run-lbn+else-lbn-run, else-run-lbn-via-else-run-lbn}
+use Rattle.ods_space.proofs.draft.Change.block.Goals.{else-self-lbn-via-then-self-lbn+else-lbn-self, else-self-lbn-via-else-self-lbn}
 
-pub returns-then-lbn-run-clause-value : goal.returns-then-lbn-run-clause-value
-returns-then-lbn-run-clause-value c =
-    let r : Run = c.in-Zero.run' in
-    let n = c.args.lbn in
-    ap Some c.zeros.ensures.value
-    ∙ sym (ap (λ x. change_at (changed x []) n) c.in-Zero.is ∙ ap (λ d. change_at d n) (append-nil (zeros_from r.lbn r.count))
-    ∙ change_at-zeros_inside r.lbn r.count n (omega arith) (omega arith))
+pub returns-then-lbn-self-clause-some : goal.returns-then-lbn-self-clause-some
+returns-then-lbn-self-clause-some c = of_inside c.args.self.now c.args.lbn c.if-self-lbn.true (omega (arith, c.if-self-lbn.true, c.if-lbn-self.true))
 
-pub returns-else-run-lbn-clause-value : goal.returns-else-run-lbn-clause-value
-returns-else-run-lbn-clause-value c =
-    let r : Run = c.in-Zero.run' in
-    let n = c.args.lbn in
-    let opened = ap (λ x. change_at (changed x []) n) c.in-Zero.is ∙ ap (λ d. change_at d n) (append-nil (zeros_from r.lbn r.count)) in
-    elim c.else-run-lbn.branch [
-      | else-run-lbn-via-then-run-lbn+else-lbn-run w ↦ sym (opened ∙ change_at-zeros_outside r.lbn r.count n (λ j small e. absurd (omega (arith, e))))
-      | else-run-lbn-via-else-run-lbn w ↦ sym (opened ∙ change_at-zeros_outside r.lbn r.count n (λ j small e. absurd (omega (arith, e))))
-    ]
+pub returns-else-self-lbn-clause-none : goal.returns-else-self-lbn-clause-none
+returns-else-self-lbn-clause-none c = of_outside c.args.self.now c.args.lbn (elim c.else-self-lbn.branch [
+  | else-self-lbn-via-then-self-lbn+else-lbn-self w ↦ inr (omega (arith, w.if-self-lbn.true, w.if-lbn-self.false))
+  | else-self-lbn-via-else-self-lbn w ↦ inl (omega (arith, w.if-self-lbn.false))
+])

@@ -1,10 +1,13 @@
-use Rattle.std.proofs.Common.{◌∷◌, ap, ◌∙◌}
+use Rattle.std.proofs.Common.{◌++◌, ◌∷◌, [], refl, ap, ◌∙◌}
 use Rattle.ods_space.specs.Changes.{changes_of}
-use Rattle.ods_space.specs.declared.draft.Change.TheVariants.{Set}
-use Rattle.ods_space.proofs.Drafts.{changes_of_push}
+use Rattle.ods_space.specs.declared.draft.Change.{Change}
+use Rattle.ods_space.proofs.Drafts.{pushed_one}
 use Rattle.ods_space.proofs.draft.Draft.set.Goals as goal
 
 pub returns-clause-ok : goal.returns-clause-ok
 returns-clause-ok c =
-    ap changes_of c.in_ok-push.ensures.items ∙ changes_of_push c.self.inside.changes.items (Set c.args.lbn c.args.block)
-    ∙ ap (λ d. (c.args.lbn, c.args.block) ∷ d) c.self.view_is
+    let lbn = c.args.lbn in
+    let b = c.args.block in
+    let new : Change = record { run = record { lbn = lbn; count = 1 }; block = b } in
+    ap changes_of (c.push_reserved.ensures.items ∙ ap (λ cs. cs ++ new ∷ []) c.in_ok-reserve.ensures.items)
+    ∙ pushed_one c.self.inside.changes.items new lbn (refl, refl) ∙ ap (λ d. (lbn, b) ∷ d) c.self.view_is

@@ -1,10 +1,14 @@
-use Rattle.std.proofs.Common.{ap, ◌∙◌}
+use Rattle.std.proofs.Common.{◌++◌, ◌∷◌, [], ap, ◌∙◌}
 use Rattle.ods_space.specs.Draft.{zeroed}
-use Rattle.ods_space.specs.Changes.{changes_of}
-use Rattle.ods_space.specs.declared.draft.Change.TheVariants.{Zero}
+use Rattle.ods_space.specs.Changes.{changes_of, filled}
+use Rattle.ods_space.specs.declared.draft.Change.{Change}
 use Rattle.ods_space.proofs.Drafts.{changes_of_push}
 use Rattle.ods_space.proofs.draft.Draft.zero.Goals as goal
 
 pub returns-clause-ok : goal.returns-clause-ok
 returns-clause-ok c =
-    ap changes_of c.in_ok-push.ensures.items ∙ changes_of_push c.self.inside.changes.items (Zero c.args.run) ∙ ap (zeroed c.args.run) c.self.view_is
+    let r = c.args.run in
+    let cs = c.self.inside.changes.items in
+    let new : Change = record { run = r; block = c.zeros-block.result } in
+    ap changes_of (c.push_reserved.ensures.items ∙ ap (λ xs. xs ++ new ∷ []) c.in_ok-reserve.ensures.items) ∙ changes_of_push cs new
+    ∙ ap (λ b. filled r b (changes_of cs)) c.zeros-block.ensures.value ∙ ap (zeroed r) c.self.view_is

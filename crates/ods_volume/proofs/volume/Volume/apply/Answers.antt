@@ -1,31 +1,27 @@
-use Rattle.std.proofs.Common.{sym, ◌∙◌, subst, arith}
-use Rattle.ods_space.specs.Draft.{applied}
-use Rattle.ods_alloc.specs.Counts.{AreCountsAfter, counts_of}
-use Rattle.ods_state.specs.Version.{IsLawful}
-use Rattle.ods_state.specs.Outcome.{Plan, carried_out}
+use Rattle.std.proofs.Common.{sym, ◌∙◌}
 use Rattle.ods_volume.specs.Kept.{state_of}
-use Rattle.ods_volume.proofs.Carried.{carried_is}
-use Rattle.ods_volume.proofs.Counted.{after_of, put_in_place}
+use Rattle.ods_volume.proofs.Carried.{newest_is}
+use Rattle.ods_volume.proofs.volume.Volume.apply.Goals.{in-Created, in-Extended, in-Done, in-Entered, in-Found, in-Removed, in-Bytes, in-Info}
 use Rattle.ods_volume.proofs.volume.Volume.apply.Goals as goal
 
-pub invariant_of-self : goal.invariant_of-self
-invariant_of-self c =
-    let p : Plan = record { entry = c.prepared.inside.entry; changes = c.prepared.inside.draft; counts = c.prepared.inside.counts } in
-    let now = carried_is (state_of c.self.inside) p c.push.new.self.items c.apply.new.image c.in-Ok.ensures.items c.apply.ensures in
-    let I = c.self.inside.image in
-    let L = c.self.inside.layout in
-    let J = applied I c.prepared.inside.draft in
-    let after : AreCountsAfter I J L c.prepared.inside.counts = after_of (state_of c.self.inside) c.args.self.now p c.args.prepared c.self.view_is c.prepared.view_is c.requires.counted in
-    record {
-      lawful = subst IsLawful (sym (now ∙ (λ i. carried_out (c.self.view_is i) (c.prepared.view_is i)))) c.requires.lawful;
-      low = c.self.invariant.low;
-      high = c.self.invariant.high;
-      reserved = omega (arith, c.self.invariant.reserved, c.in-Ok.ensures.capacity);
-      counted = c.put_counts.ensures ∙ (put_in_place I J L c.self.inside.counts c.prepared.inside.counts c.self.invariant.counted after ∙ (λ i. counts_of (sym c.apply.ensures i) L));
-    }
+pub unreachable-requires : goal.unreachable-requires
+unreachable-requires c =
+    let newest = newest_is (state_of c.self.inside) c.args.self.now c.args.prepared c.deref.result.now c.newest_answer.result.now c.newest_answer.ensures c.deref.ensures.value (c.self.view_is ∙ c.in_default.ensures.changed) in
+    c.in_default.ensures.lines (c.in-Names.field-0, sym newest ∙ c.in-Names.is)
 
-pub returns-clause-changed : goal.returns-clause-changed
-returns-clause-changed c =
-    let p : Plan = record { entry = c.prepared.inside.entry; changes = c.prepared.inside.draft; counts = c.prepared.inside.counts } in
-    carried_is (state_of c.self.inside) p c.push.new.self.items c.apply.new.image c.in-Ok.ensures.items c.apply.ensures
-    ∙ (λ i. carried_out (c.self.view_is i) (c.prepared.view_is i))
+pub same-self-2 : goal.same-self-2
+same-self-2 c = elim c.match-newest_answer.branch [ in-Created w ↦ w.self-inside-is | in-Extended w ↦ w.self-inside-is | in-Done w ↦ w.self-inside-is | in-Entered w ↦ w.self-inside-is | in-Found w ↦ w.self-inside-is | in-Removed w ↦ w.self-inside-is | in-Bytes w ↦ w.self-inside-is | in-Info w ↦ w.self-inside-is ]
+
+pub returns-clause-answered : goal.returns-clause-answered
+returns-clause-answered c =
+    let newest = newest_is (state_of c.self.inside) c.args.self.now c.args.prepared c.deref.result.now c.newest_answer.result.now c.newest_answer.ensures c.deref.ensures.value (c.self.view_is ∙ c.in_default.ensures.changed) in
+    elim c.match-newest_answer.branch [
+      | in-Created w ↦ w.result-is ∙ (sym w.in-Created.is ∙ newest)
+      | in-Extended w ↦ w.result-is ∙ (sym w.in-Extended.is ∙ newest)
+      | in-Done w ↦ w.result-is ∙ (sym w.in-Done.is ∙ newest)
+      | in-Entered w ↦ w.result-is ∙ (sym w.in-Entered.is ∙ newest)
+      | in-Found w ↦ w.result-is ∙ (sym w.in-Found.is ∙ newest)
+      | in-Removed w ↦ w.result-is ∙ (sym w.in-Removed.is ∙ newest)
+      | in-Bytes w ↦ w.result-is ∙ (sym w.in-Bytes.is ∙ newest)
+      | in-Info w ↦ w.result-is ∙ (sym w.in-Info.is ∙ newest)
+    ]

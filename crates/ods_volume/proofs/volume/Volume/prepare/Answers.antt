@@ -1,11 +1,10 @@
-use Rattle.std.proofs.Common.{◌≡◌, ◌<◌, length, false, true, ap, sym, ◌∙◌, subst, arith, Err}
-use Rattle.ods_request.specs.declared.answers.Entry.{Entry}
+use Rattle.std.proofs.Common.{◌≡◌, ◌<◌, length, false, true, refl, ap, sym, ◌∙◌, subst, arith, Err}
 use Rattle.ods_request.specs.declared.refusals.Refusal.TheVariants as refusal
 use Rattle.ods_request.specs.Table.{takes_memory}
 use Rattle.ods_space.specs.Draft.{applied}
 use Rattle.ods_state.specs.Version.{State, IsPresent}
 use Rattle.ods_state.specs.Wants.{Lacks}
-use Rattle.ods_state.specs.Outcome.{IsReason, IsLawfulPlan, Plan, entry_of, list_full, no_memory}
+use Rattle.ods_state.specs.Outcome.{IsReason, IsLawfulPlan, entry_of, list_full, no_memory}
 use Rattle.ods_volume.specs.Kept.{state_of}
 use Rattle.ods_volume.proofs.Lawful.{plan_is_lawful}
 use Rattle.ods_volume.proofs.Reasons.{step_has_none, copy_takes_memory, refusal_is_first, refusal_is_reason, refusal_is_other}
@@ -16,45 +15,40 @@ returns-then-len-self-clause-reason c =
     subst (λ v. IsReason v c.args.who c.args.request refusal.ListFull) c.self.view_is
     (list_full (omega (arith, c.self.invariant.lawful.room)))
 
-pub returns-in-Ok-new-clause-refused : goal.returns-in-Ok-new-clause-refused
-returns-in-Ok-new-clause-refused c = λ C f room present e.
-    absurd (step_has_none (state_of c.self.inside) c.self.invariant.lawful c.args.who c.args.request c.in-Ok.answer (applied c.self.inside.image c.in-Ok.draft) c.self.inside.layout c.in-Ok.ensures C f (subst (λ w. IsPresent w C) (sym c.self.view_is) present) e)
+pub returns-clause-refused : goal.returns-clause-refused
+returns-clause-refused c = λ C f room present e.
+    absurd (step_has_none (state_of c.self.inside) c.self.invariant.lawful c.args.who c.args.request c.carry_out.new.answer (applied c.self.inside.image c.in-Ok.draft) c.self.inside.layout c.in-Ok.ensures C f (subst (λ w. IsPresent w C) (sym c.self.view_is) present) e)
 
-pub returns-in-Ok-new-clause-plan : goal.returns-in-Ok-new-clause-plan
-returns-in-Ok-new-clause-plan c =
+pub returns-clause-plan : goal.returns-clause-plan
+returns-clause-plan c =
     let room : length c.self.inside.entries.items < c.self.inside.limit = omega arith in
-    let made = c.in-Ok-new.ensures.ok in
-    let lawful = plan_is_lawful (state_of c.self.inside) c.self.invariant.lawful c.args.session c.args.nth c.args.who c.args.request c.in-Ok.answer c.in-Ok.draft c.in-Ok-counts_after.counts room c.in-Ok.ensures c.in-Ok-counts_after.ensures.ok in
-    let here : IsLawfulPlan (state_of c.self.inside) c.in-Ok-new.prepared = subst (IsLawfulPlan (state_of c.self.inside)) (sym made) lawful in
-    let entered = ap (λ (p : Plan). p.entry) made in (
-      subst (λ w. IsLawfulPlan w c.in-Ok-new.prepared) c.self.view_is here,
-      entered ∙ ap (entry_of c.args.session c.args.nth c.args.who c.args.request) (ap (λ (e : Entry). e.answer) (sym entered)),
-    )
+    let lawful = plan_is_lawful (state_of c.self.inside) c.self.invariant.lawful c.args.session c.args.nth c.args.who c.args.request c.carry_out.new.answer c.in-Ok.draft c.in-Ok-counts_after.counts room c.in-Ok.ensures c.in-Ok-counts_after.ensures.ok in
+    (subst (λ w. IsLawfulPlan w (record { entry = entry_of c.args.session c.args.nth c.args.who c.args.request c.carry_out.new.answer; changes = c.in-Ok.draft; counts = c.in-Ok-counts_after.counts })) c.self.view_is lawful, refl)
 
-pub returns-in-Ok-new-clause-lacking : goal.returns-in-Ok-new-clause-lacking
-returns-in-Ok-new-clause-lacking c = λ f lacks.
+pub returns-clause-lacking : goal.returns-clause-lacking
+returns-clause-lacking c = λ f lacks.
     absurd (c.in-Ok.ensures.enough f (subst (λ (w : State). Lacks w.image w.layout c.args.request f) (sym c.self.view_is) lacks))
 
-pub returns-in-Err-new-clause-refused : goal.returns-in-Err-new-clause-refused
-returns-in-Err-new-clause-refused c = λ C f room present e.
-    absurd (step_has_none (state_of c.self.inside) c.self.invariant.lawful c.args.who c.args.request c.in-Ok.answer (applied c.self.inside.image c.in-Ok.draft) c.self.inside.layout c.in-Ok.ensures C f (subst (λ w. IsPresent w C) (sym c.self.view_is) present) e)
+pub returns-in_default-lines_of-clause-refused : goal.returns-in_default-lines_of-clause-refused
+returns-in_default-lines_of-clause-refused c = λ C f room present e.
+    absurd (step_has_none (state_of c.self.inside) c.self.invariant.lawful c.args.who c.args.request c.carry_out.new.answer (applied c.self.inside.image c.in-Ok.draft) c.self.inside.layout c.in-Ok.ensures C f (subst (λ w. IsPresent w C) (sym c.self.view_is) present) e)
 
-pub returns-in-Err-new-clause-reason : goal.returns-in-Err-new-clause-reason
-returns-in-Err-new-clause-reason c =
-    no_memory (copy_takes_memory (state_of c.self.inside) c.self.invariant.lawful c.args.who c.args.request c.in-Ok.answer (applied c.self.inside.image c.in-Ok.draft) c.self.inside.layout c.in-Ok.ensures c.in-Err-new.ensures.err)
+pub returns-in_default-lines_of-clause-reason : goal.returns-in_default-lines_of-clause-reason
+returns-in_default-lines_of-clause-reason c =
+    no_memory (copy_takes_memory (state_of c.self.inside) c.self.invariant.lawful c.args.who c.args.request c.carry_out.new.answer (applied c.self.inside.image c.in-Ok.draft) c.self.inside.layout c.in-Ok.ensures c.in_default-lines_of.ensures.err)
 
-pub returns-in-Err-new-clause-memory : goal.returns-in-Err-new-clause-memory
-returns-in-Err-new-clause-memory c = λ none same.
-    let takes : takes_memory c.args.request ≡ true = copy_takes_memory (state_of c.self.inside) c.self.invariant.lawful c.args.who c.args.request c.in-Ok.answer (applied c.self.inside.image c.in-Ok.draft) c.self.inside.layout c.in-Ok.ensures c.in-Err-new.ensures.err in
+pub returns-in_default-lines_of-clause-memory : goal.returns-in_default-lines_of-clause-memory
+returns-in_default-lines_of-clause-memory c = λ none same.
+    let takes : takes_memory c.args.request ≡ true = copy_takes_memory (state_of c.self.inside) c.self.invariant.lawful c.args.who c.args.request c.carry_out.new.answer (applied c.self.inside.image c.in-Ok.draft) c.self.inside.layout c.in-Ok.ensures c.in_default-lines_of.ensures.err in
     let wrong : false ≡ true = sym none ∙ takes in
     absurd (cc)
 
-pub returns-in-Err-counts_after-clause-refused : goal.returns-in-Err-counts_after-clause-refused
-returns-in-Err-counts_after-clause-refused c = λ C f room present e.
-    absurd (step_has_none (state_of c.self.inside) c.self.invariant.lawful c.args.who c.args.request c.in-Ok.answer (applied c.self.inside.image c.in-Ok.draft) c.self.inside.layout c.in-Ok.ensures C f (subst (λ w. IsPresent w C) (sym c.self.view_is) present) e)
+pub returns-in_default-clause-refused : goal.returns-in_default-clause-refused
+returns-in_default-clause-refused c = λ C f room present e.
+    absurd (step_has_none (state_of c.self.inside) c.self.invariant.lawful c.args.who c.args.request c.carry_out.new.answer (applied c.self.inside.image c.in-Ok.draft) c.self.inside.layout c.in-Ok.ensures C f (subst (λ w. IsPresent w C) (sym c.self.view_is) present) e)
 
-pub returns-in-Err-counts_after-clause-reason : goal.returns-in-Err-counts_after-clause-reason
-returns-in-Err-counts_after-clause-reason c = no_memory c.in-Err-counts_after.ensures.err
+pub returns-in_default-clause-reason : goal.returns-in_default-clause-reason
+returns-in_default-clause-reason c = no_memory c.in_default.ensures.err
 
 pub returns-in-Err-clause-refused : goal.returns-in-Err-clause-refused
 returns-in-Err-clause-refused c = λ C f room present e.
