@@ -1,5 +1,5 @@
 //! Chains that grow: a file gets blocks, and headers where its own have no room for their pointers, all in a draft.
-ghost use Rattle.std.specs.Prelude.{◌≡◌, List, ℕ, OnOk, OnErr};
+ghost use Rattle.std.specs.Prelude.{◌≡◌, List, ℕ, IfOk, OnOk, OnErr};
 ghost use Rattle.ods_space.specs.{Chain.IsChain, Files.IsLayoutOf, Draft.applied};
 ghost use Rattle.ods_alloc.specs.{Ends.AreEnds, Extend.IsWellPlaced, Extend.CanExtend, Extend.Extends, Extend.with_in_use};
 
@@ -51,11 +51,15 @@ pub fn extend_chain(
         number: end,
         last: &last,
     };
-    extend_from(alloc, image, layout, number, &ends, blocks, numbers, draft)
+    let changed = draft.copy()?;
+    *draft = extend_from(
+        alloc, image, layout, number, &ends, blocks, numbers, changed,
+    )?;
+    Ok(())
 }
 
 /// Does what `extend_chain` does where the first header of the chain and its last are at hand: of the headers that
-/// are there it reads none again. After an `Err` the draft is as it was.
+/// are there it reads none again. It is handed the draft, and hands it back unless there is no memory.
 pub fn extend_from(
     alloc: Global,
     image: &Image,
@@ -64,33 +68,21 @@ pub fn extend_from(
     ends: &ChainEnds<'_>,
     blocks: &[u32],
     numbers: &[u16],
-    draft: &mut Draft,
-) -> Result<(), AllocError>
+    mut draft: Draft,
+) -> Result<Draft, AllocError>
     ghost chain: { List ℕ × List ℕ }
-    requires layout { IsLayoutOf (applied image.now draft.old) layout.now }
+    requires layout { IsLayoutOf (applied image.now draft) layout.now }
     requires places { IsWellPlaced layout.now }
-    requires chain { IsChain (with_in_use (applied image.now draft.old) layout.now.home number) layout.now number chain.0 chain.1 }
-    requires grows { CanExtend (applied image.now draft.old) layout.now number chain.0 blocks.now numbers.now }
-    requires ends { AreEnds (applied image.now draft.old) layout.now number chain.0 ends.now }
-    ensures ok { OnOk result (Extends (applied image.now draft.old) layout.now number chain.0 chain.1 blocks.now numbers.now (applied image.now draft.new)) }
-    ensures err { OnErr result (draft.new ≡ draft.old) }
+    requires chain { IsChain (with_in_use (applied image.now draft) layout.now.home number) layout.now number chain.0 chain.1 }
+    requires grows { CanExtend (applied image.now draft) layout.now number chain.0 blocks.now numbers.now }
+    requires ends { AreEnds (applied image.now draft) layout.now number chain.0 ends.now }
+    ensures { IfOk result (λ d. Extends (applied image.now draft) layout.now number chain.0 chain.1 blocks.now numbers.now (applied image.now d)) }
 {
     let _ = image.len();
     let runs = runs_of_blocks(alloc, blocks)?;
-    let mut changed = draft.copy()?;
-    write_headers(
-        image,
-        layout,
-        number,
-        ends,
-        numbers,
-        &runs,
-        draft,
-        &mut changed,
-    )?;
-    mark_numbers(image, layout, numbers, true, &mut changed)?;
-    mark_numbers(image, layout, &[number], true, &mut changed)?;
-    mark_blocks(image, layout, blocks, false, &mut changed)?;
-    *draft = changed;
-    Ok(())
+    write_headers(image, layout, number, ends, numbers, &runs, &mut draft)?;
+    mark_numbers(image, layout, numbers, true, &mut draft)?;
+    mark_numbers(image, layout, &[number], true, &mut draft)?;
+    mark_blocks(image, layout, blocks, false, &mut draft)?;
+    Ok(draft)
 }

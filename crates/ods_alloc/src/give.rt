@@ -1,5 +1,5 @@
 //! Blocks and headers that are given back.
-ghost use Rattle.std.specs.Prelude.{◌≡◌, length, [], OnOk, OnErr};
+ghost use Rattle.std.specs.Prelude.{◌≡◌, length, [], IfOk, OnOk, OnErr};
 ghost use Rattle.ods_space.specs.{Files.IsLayoutOf, Draft.applied};
 ghost use Rattle.ods_alloc.specs.{Extend.ChangesOnly, Extend.GivesBack, Extend.GivesBits, Extend.IsWellPlaced, Marks.HasPlaces, Marks.Deletes};
 
@@ -26,30 +26,26 @@ pub fn give_back(
 {
     let mut changed = draft.copy()?;
     delete_headers(image, layout, numbers, draft, &mut changed)?;
-    mark_free(image, layout, blocks, numbers, &mut changed)?;
-    *draft = changed;
+    *draft = mark_free(image, layout, blocks, numbers, changed)?;
     Ok(())
 }
 
 /// Marks blocks and numbers as free in both bitmaps, as far as these cover them, in a draft; nothing else changes.
-/// After an `Err` the draft is as it was.
+/// It is handed the draft, and hands it back unless there is no memory.
 pub fn mark_free(
     image: &Image,
     layout: &Layout,
     blocks: &[u32],
     numbers: &[u16],
-    draft: &mut Draft,
-) -> Result<(), AllocError>
+    mut draft: Draft,
+) -> Result<Draft, AllocError>
     requires places { HasPlaces (length image.now) layout.now }
-    ensures bits { OnOk result (GivesBits (applied image.now draft.old) layout.now blocks.now numbers.now (applied image.now draft.new)) }
-    ensures only { OnOk result (ChangesOnly (applied image.now draft.old) layout.now [] (applied image.now draft.new)) }
-    ensures err { OnErr result (draft.new ≡ draft.old) }
+    ensures bits { IfOk result (λ d. GivesBits (applied image.now draft) layout.now blocks.now numbers.now (applied image.now d)) }
+    ensures only { IfOk result (λ d. ChangesOnly (applied image.now draft) layout.now [] (applied image.now d)) }
 {
-    let mut changed = draft.copy()?;
-    mark_numbers(image, layout, numbers, false, &mut changed)?;
-    mark_blocks(image, layout, blocks, true, &mut changed)?;
-    *draft = changed;
-    Ok(())
+    mark_numbers(image, layout, numbers, false, &mut draft)?;
+    mark_blocks(image, layout, blocks, true, &mut draft)?;
+    Ok(draft)
 }
 
 /// Deletes headers: each is read through the old draft, so that one that is listed twice is deleted once.

@@ -1,5 +1,5 @@
 //! The headers of a chain that grows: the last one that it has, and those behind it.
-ghost use Rattle.std.specs.Prelude.{◌≡◌, ◌+◌, ◌≤◌, length, IsTrue, OnOk};
+ghost use Rattle.std.specs.Prelude.{◌+◌, ◌≤◌, length, IsTrue, OnOk};
 ghost use Rattle.std.specs.List.{All, Contains};
 ghost use Rattle.std.specs.List.Sorted.{IsStrictlyIncreasing};
 ghost use Rattle.ods_header.specs.Header.{IsRun, segment_of};
@@ -14,7 +14,8 @@ use ods_space::{Draft, Layout};
 use std::alloc::AllocError;
 
 /// Writes the headers of file `number` whose chain grows by these runs: as many as have room stand in its last
-/// header, and the others in new headers. What stood where these come to stand is read through the old draft.
+/// header, and the others in new headers. What stood where these come to stand is read through a copy of the draft,
+/// which is made only where there are new headers.
 pub(crate) fn write_headers(
     image: &Image,
     layout: &Layout,
@@ -22,29 +23,30 @@ pub(crate) fn write_headers(
     ends: &ChainEnds<'_>,
     numbers: &[u16],
     runs: &[Run],
-    old: &Draft,
     draft: &mut Draft,
 ) -> Result<(), AllocError>
     requires places { HasPlaces (length image.now) layout.now }
-    requires first { IsHeaderAt (applied image.now old.now) layout.now number ends.now.first.now }
-    requires last { IsHeaderAt (applied image.now old.now) layout.now ends.now.number ends.now.last.now }
+    requires first { IsHeaderAt (applied image.now draft.old) layout.now number ends.now.first.now }
+    requires last { IsHeaderAt (applied image.now draft.old) layout.now ends.now.number ends.now.last.now }
     requires apart { ¬ Contains numbers.now ends.now.number }
-    requires free { All (λ m. IsTrue (is_free_number (applied image.now old.now) layout.now m)) numbers.now }
+    requires free { All (λ m. IsTrue (is_free_number (applied image.now draft.old) layout.now m)) numbers.now }
     requires rising { IsStrictlyIncreasing numbers.now }
-    requires segments { segment_of (header_at (applied image.now old.now) layout.now ends.now.number) + length numbers.now ≤ 255 }
+    requires segments { segment_of (header_at (applied image.now draft.old) layout.now ends.now.number) + length numbers.now ≤ 255 }
     requires runs { All IsRun runs.now }
-    requires same { draft.old ≡ old.now }
-    ensures { OnOk result (WritesHeaders (applied image.now old.now) layout.now number ends.now.number numbers.now runs.now (applied image.now draft.new)) }
+    ensures { OnOk result (WritesHeaders (applied image.now draft.old) layout.now number ends.now.number numbers.now runs.now (applied image.now draft.new)) }
 {
-    let next = first_id(image, layout, old, numbers);
+    let next = first_id(image, layout, draft, numbers);
     let Some(lbn) = layout.place(ends.number) else {
         return Ok(());
     };
+    let grown = grown_last(ends.last, ends.number, runs, next);
     // Where the newest change of the draft is of this header, both are one.
-    draft.renew(lbn, grown_last(ends.last, ends.number, runs, next))?;
     if numbers.is_empty() {
+        draft.renew(lbn, grown)?;
         return Ok(());
     }
+    let old = draft.copy()?;
+    draft.renew(lbn, grown)?;
     let Ok(first) = read_header(ends.first, number) else {
         return Ok(());
     };
@@ -56,7 +58,7 @@ pub(crate) fn write_headers(
         segment(ends.last),
         numbers,
         rest,
-        old,
+        &old,
         draft,
     )?;
     Ok(())

@@ -6,7 +6,7 @@ use Rattle.std.proofs.lemmas.Grind.{flat_map-append}
 use Rattle.ods_base.specs.Image.{IsImage}
 use Rattle.ods_header.specs.Header.{IsLaidOut, blocks_of}
 use Rattle.ods_space.specs.Layout.{VolumeLayout, header_at}
-use Rattle.ods_space.specs.Chain.{chain_blocks, IsChain, headers_of, index_for, named_by, numbers_of}
+use Rattle.ods_space.specs.Chain.{chain_blocks, IsChain, headers_of, index_for, named_by}
 use Rattle.ods_space.specs.Files.{IsLayoutOf}
 use Rattle.ods_space.proofs.Chains.{length_of}
 use Rattle.ods_space.proofs.Sizes.{chain_size}

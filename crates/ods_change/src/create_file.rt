@@ -101,10 +101,8 @@ fn new_file(
         number,
         last: &header,
     };
-    extend_from(
-        alloc, image, layout, number, &ends, blocks, others, &mut draft,
-    )?;
-    Ok(draft)
+    let grown = extend_from(alloc, image, layout, number, &ends, blocks, others, draft)?;
+    Ok(grown)
 }
 
 /// The first header of a new file, before its chain has grown.

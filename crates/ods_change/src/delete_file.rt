@@ -100,8 +100,8 @@ fn without_file(
 {
     let mut draft = Draft::new(alloc);
     let held = delete_chain(alloc, image, layout, number, first, &mut draft)?;
-    mark_free(image, layout, &held.lbns, &held.numbers, &mut draft)?;
-    Ok(draft)
+    let given = mark_free(image, layout, &held.lbns, &held.numbers, draft)?;
+    Ok(given)
 }
 
 /// What a file has: the LBNs of its blocks and the numbers of its headers, both in order.

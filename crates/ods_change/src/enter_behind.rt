@@ -75,8 +75,8 @@ fn with_block(
     let count = entry.opened.blocks.count() + 1;
     let header = marked_header(entry.opened.header, entry.slot.mark, count);
     let first = layout.place(dir.number).unwrap();
-    let mut draft = two_blocks(alloc, blocks[0], block, first, header)?;
-    extend_from(
+    let draft = two_blocks(alloc, blocks[0], block, first, header)?;
+    let grown = extend_from(
         alloc,
         image,
         layout,
@@ -84,7 +84,7 @@ fn with_block(
         &ends_with(dir.number, &header, end.number, end.last),
         blocks,
         numbers,
-        &mut draft,
+        draft,
     )?;
-    Ok(draft)
+    Ok(grown)
 }

@@ -87,7 +87,7 @@ fn grown(
     let lbn = layout.place(number).unwrap();
     let header = without_contiguous(first);
     draft.set(lbn, header)?;
-    extend_from(
+    let grown = extend_from(
         alloc,
         image,
         layout,
@@ -95,9 +95,9 @@ fn grown(
         &ends_with(number, &header, end.number, end.last),
         &taken.blocks,
         &taken.numbers,
-        &mut draft,
+        draft,
     )?;
-    Ok(draft)
+    Ok(grown)
 }
 
 /// The draft that puts this many blocks of zeros behind a file's own, with the count that it has then, or why that is

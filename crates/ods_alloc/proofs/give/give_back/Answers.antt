@@ -12,5 +12,5 @@ mark_free-requires c = record { places = has_places c.args.image.now c.args.draf
 pub returns-clause-ok : goal.returns-clause-ok
 returns-clause-ok c =
     let I = c.args.image.now in
-    gives_back (applied I c.args.draft.now) (applied I c.delete_headers.new.draft) (applied I c.mark_free.new.draft) c.args.layout.now c.args.blocks.now c.args.numbers.now
-    c.requires.places c.in_ok-delete_headers.ensures c.in_ok-mark_free.ensures.bits c.in_ok-mark_free.ensures.only
+    gives_back (applied I c.args.draft.now) (applied I c.delete_headers.new.draft) (applied I c.in_ok-draft.field-0) c.args.layout.now c.args.blocks.now c.args.numbers.now
+    c.requires.places c.in_ok-delete_headers.ensures c.in_ok-draft.ensures.bits c.in_ok-draft.ensures.only

@@ -84,5 +84,5 @@ returns c =
       is_ready = ready at;
       first = header_written (written at);
       zeroed = λ y own. taken_written (written at) y own ∙ (zeroed at).zero y own (taken_inside I L (length c.args.blocks.now) y own);
-      extended = subst (λ bs. Extends K L n [] [] bs c.args.others.now (applied I c.extend_from.new.draft)) c.requires.lowest c.in_ok-extend_from.ensures.ok;
+      extended = subst (λ bs. Extends K L n [] [] bs c.args.others.now (applied I c.in_ok-grown.grown)) c.requires.lowest c.in_ok-grown.ensures;
     }

@@ -21,5 +21,5 @@ returns c = λ others all whole.
     let I = c.args.image.now in
     let L = c.args.layout.now in
     let own = c.in_ok-held.ensures.held others all whole.chain in
-    given_along I (applied I c.delete_chain.new.draft) (applied I c.mark_free.new.draft) L _ c.deref.result.now c.deref-2.result.now all (c.args.number ∷ others) (well_placed I L c.requires.sound)
-    c.in_ok-held.ensures.deleted (c.deref.ensures.value ∙ own.0) c.deref-2.ensures.value own.1 c.in_ok-mark_free.ensures.bits c.in_ok-mark_free.ensures.only
+    given_along I (applied I c.delete_chain.new.draft) (applied I c.in_ok-given.given) L _ c.deref.result.now c.deref-2.result.now all (c.args.number ∷ others) (well_placed I L c.requires.sound)
+    c.in_ok-held.ensures.deleted (c.deref.ensures.value ∙ own.0) c.deref-2.ensures.value own.1 c.in_ok-given.ensures.bits c.in_ok-given.ensures.only

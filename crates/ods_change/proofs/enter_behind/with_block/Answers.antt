@@ -68,4 +68,4 @@ returns c = λ who name given file e.
     let headers : List ℕ = c.args.dir.number ∷ e.own.is.held.others in
     let has = has_headers e.own.is.held in
     let before = chain_before c.args.image.now c.args.layout.now c.args.dir.number headers e.own.is.lbns c.len-count.ensures.image c.requires.sound has in
-    enter_behind c.requires.sound e c.requires.grows (grows_so s e) (drafted s) before.0 before.1 (c.requires.taken headers e.own.is.lbns has).0 c.in_ok-extend_from.ensures.ok
+    enter_behind c.requires.sound e c.requires.grows (grows_so s e) (drafted s) before.0 before.1 (c.requires.taken headers e.own.is.lbns has).0 c.in_ok-grown.ensures

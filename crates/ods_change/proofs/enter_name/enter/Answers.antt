@@ -1,8 +1,7 @@
-use Rattle.std.proofs.Common.{sym, subst, Result}
+use Rattle.std.proofs.Common.{sym, subst}
 use Rattle.ods_request.specs.declared.answers.Answer.TheVariants.{Entered}
-use Rattle.ods_request.specs.declared.refusals.Refusal.{Refusal}
 use Rattle.ods_request.specs.declared.requests.Request.TheVariants.{Enter}
-use Rattle.ods_space.specs.Draft.{Changes, applied}
+use Rattle.ods_space.specs.Draft.{applied}
 use Rattle.ods_state.specs.Served.{IsRefusalOf, IsStepOf}
 use Rattle.ods_state.proofs.Served.{refused_by_fault}
 use Rattle.ods_change.specs.Entering.{IsOwnEntering}

@@ -73,5 +73,5 @@ returns c = λ headers old count w.
     let K = applied I c.set.new.self in
     let walk = walked_as I L n headers old c.len.ensures.image c.requires.sound.layout w.has in
     has_grown I Z K L c.requires.sound n c.unwrap-lbn.result c.without_contiguous-header.result (place_is s) (changed s) (fields s) headers old count c.args.taken.now c.requires.above w (zeroed s) (set s)
-    (applied I c.extend_from.new.draft) (drop 1 (numbers_of (headers_of I L n))) (named_by (headers_of I L n)) c.deref-2.result.now c.deref-3.result.now walk.0 walk.1 c.deref-2.ensures.value c.deref-3.ensures.value
-    c.in_ok-extend_from.ensures.ok
+    (applied I c.in_ok-grown.grown) (drop 1 (numbers_of (headers_of I L n))) (named_by (headers_of I L n)) c.deref-2.result.now c.deref-3.result.now walk.0 walk.1 c.deref-2.ensures.value c.deref-3.ensures.value
+    c.in_ok-grown.ensures
