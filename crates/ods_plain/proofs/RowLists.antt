@@ -15,7 +15,7 @@ use Rattle.ods_base.specs.declared.file_id.FileId.{FileId}
 use Rattle.ods_request.specs.Catalogue.{Catalogue, File, file_cmp}
 use Rattle.ods_request.specs.Equal.{same_id}
 use Rattle.ods_request.proofs.Orders.{file_cmp-total, file_cmp-antisymmetric}
-use Rattle.ods_request.proofs.AnswerTests.{equal_by, tells_id, knows_id}
+use Rattle.ods_request.specs.AnswerTests.{equal_by, tells_id, knows_id}
 use Rattle.ods_request.proofs.FrameLaws.{is_id, is_id-equal, is_id-itself}
 use Rattle.ods_request.specs.Steps.{is_new, is_used}
 use Rattle.ods_plain.specs.Rows.{catalogue_in, place_of}

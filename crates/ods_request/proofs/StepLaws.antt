@@ -13,7 +13,7 @@ use Rattle.ods_request.specs.Faults.{fault_of}
 use Rattle.ods_request.specs.Equal.{same_answer}
 use Rattle.ods_request.specs.Steps.{step, change, replay, after, answer_of, create, created, created_id, new_file, is_new}
 use Rattle.ods_request.specs.Laws.{creates, only_looks, AnswerIsDetermined, AnswerIsStep, AnswersAgree, ReplayGoesOn, LookingChangesNothing, RefusedHasNoStep}
-use Rattle.ods_request.proofs.AnswerTests.{equal_by, tells_answer, knows_answer}
+use Rattle.ods_request.specs.AnswerTests.{equal_by, tells_answer, knows_answer}
 
 pub chosen : {A : Type 0} (b : Bool) (x y : A) → IsTrue b → cond b x y ≡ x
 chosen true x y h = refl

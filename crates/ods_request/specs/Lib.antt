@@ -11,3 +11,8 @@ pub mod Lists
 pub mod Refusals
 pub mod Same
 pub mod Lines
+pub mod CompactRequest
+pub mod RequestForms
+pub mod Deciding
+pub mod AnswerTests
+pub mod RequestTests

@@ -2,7 +2,7 @@
 ghost use Rattle.std.specs.Prelude.{◌≡◌, ◌↔◌, IsTrue, IfOk, OnErr};
 ghost use Rattle.ods_request.specs.Lines.{HasLines};
 
-use crate::requests::Request;
+use crate::compact_request::CompactRequest;
 use ods_base::{Block, FileId, Listed, Uic};
 use std::alloc::AllocError;
 use std::marker::Model;
@@ -162,7 +162,8 @@ pub struct Entry {
     pub nth: u32,
     /// The user for whom it asked.
     pub who: Uic,
-    pub request: Request,
+    /// The request, in little room.
+    pub request: CompactRequest,
     pub answer: Answer,
 }
 

@@ -2,6 +2,7 @@
 #![tactic(auto)]
 
 mod answers;
+mod compact_request;
 mod idents;
 mod laws;
 mod refusals;
@@ -10,6 +11,7 @@ mod rights;
 mod stamps;
 
 pub use answers::{Answer, Entry, Kind, Listing, Stat};
+pub use compact_request::CompactRequest;
 pub use idents::new_ident;
 pub use laws::{
     answer_is_determined, answer_is_step, answers_agree, created_is_new, default_stays,

@@ -2,8 +2,8 @@
 use Rattle.std.proofs.Common.{◌≡◌, ◌↔◌, IsTrue, Bool, ◌∙◌, sym}
 use Rattle.ods_request.specs.declared.answers.Answer.{Answer}
 use Rattle.ods_request.specs.Equal.{same_answer}
-use Rattle.ods_request.proofs.RequestTests.{answers_decide}
-use Rattle.ods_share.specs.Same.{alike}
+use Rattle.ods_request.specs.RequestTests.{answers_decide}
+use Rattle.ods_request.specs.Deciding.{alike}
 
 pub is_the_test : (r : Bool) (a b c : Answer) → IsTrue r ↔ (a ≡ b) → b ≡ c → r ≡ same_answer a c
 is_the_test r a b c told same =

@@ -5,7 +5,7 @@ ghost use Rattle.ods_share.specs.Sittings.{room_for, HasRoom};
 use crate::compact::CompactAnswer;
 use crate::script::{Action, Command};
 use ods_base::Uic;
-use ods_request::{Answer, Refusal, Request};
+use ods_request::{CompactRequest, Refusal};
 use std::alloc::{AllocError, Global};
 
 /// What a command is replied.
@@ -31,9 +31,9 @@ pub struct Call {
     /// The user in force.
     pub who: Uic,
     /// The request, as `$` and the stamp made it.
-    pub request: Request,
+    pub request: CompactRequest,
     /// What the desk answered.
-    pub answer: Answer,
+    pub answer: CompactAnswer,
 }
 
 /// What comes of a script: its accepted requests in order, and a reply for each command.

@@ -11,7 +11,7 @@ use crate::gate::Gate;
 use crate::outcome::{Call, Outcome, Reply, reserve_outcome};
 use crate::script::{Action, Command};
 use ods_base::{FileId, Uic};
-use ods_request::{Query, Request, Stamp};
+use ods_request::{CompactRequest, Query, Request, Stamp};
 use ods_views::{Naming, ViewFault, Viewer};
 use std::alloc::{AllocError, Global};
 use std::sync::{Mutex, MutexGuard, Wait};
@@ -60,8 +60,8 @@ impl<J: Naming, G: Gate, R: Wait> Session<'_, J, G, R> {
                 calls.push_reserved(Call {
                     nth,
                     who,
-                    request: *request,
-                    answer,
+                    request: CompactRequest::of(self.alloc, request)?,
+                    answer: CompactAnswer::of(self.alloc, &answer)?,
                 });
                 Ok(Reply::Got(compact))
             }
@@ -135,7 +135,8 @@ impl<J: Naming, G: Gate, R: Wait> Session<'_, J, G, R> {
     }
 
     /// Obeys a script, from its first command on, as user [1,1], with a viewer of its own. The lists of calls and of replies get all their
-    /// room before; what may want memory afterwards is what the desk takes, the copy of a directory's names, and the box of a long answer.
+    /// room before; what may want memory afterwards is what the desk takes, the copy of a directory's names, and the boxes of long answers
+    /// and of Writes.
     pub(crate) fn sit(&self, viewer: Viewer<J>, script: &[Command]) -> Result<Outcome, AllocError>
         requires { CanBeRun script.now }
         ensures { IfOk result (λ o. IsOutcome self.now.stamp script.now o) }

@@ -26,7 +26,7 @@ fn is_entry(call: &Call, entry: &Entry) -> bool
     call.nth == entry.nth
         && call.who == entry.who
         && call.request.is_same(&entry.request)
-        && call.answer.is_same(&entry.answer)
+        && call.answer.is(&entry.answer)
 }
 
 /// Whether the entries of a session are these calls.

@@ -1,12 +1,12 @@
 //! A request that is accepted, before its change is made.
-ghost use Rattle.std.specs.Prelude.{◌≡◌, IfOk, OnErr};
-ghost use Rattle.ods_request.specs.Lines.{HasLines};
+ghost use Rattle.std.specs.Prelude.{◌≡◌, IfOk, OnErr, true};
+ghost use Rattle.ods_request.specs.{Lines.HasLines, Table.takes_memory};
 ghost use Rattle.ods_volume.specs.Kept.{AreLinesOf};
 
 use ods_alloc::FreeCounts;
-use ods_request::{Answer, Entry, Listing};
+use ods_request::{Answer, CompactRequest, Entry, Listing, Request};
 use ods_space::Draft;
-use std::alloc::AllocError;
+use std::alloc::{AllocError, Global};
 use std::marker::Model;
 
 /// A request that is accepted, with its answer, the blocks that it changes, and the counts of the bitmaps afterwards, where they are
@@ -44,6 +44,14 @@ pub(crate) fn lines_of(answer: &Answer) -> Result<Option<Listing>, AllocError>
         },
         _ => Ok(None),
     }
+}
+
+/// The request as the list keeps it. Only a Write takes memory for that.
+pub(crate) fn kept(alloc: Global, request: &Request) -> Result<CompactRequest, AllocError>
+    ensures ok { IfOk result (λ kept. kept ≡ request.now) }
+    ensures err { OnErr result (takes_memory request.now ≡ true) }
+{
+    CompactRequest::of(alloc, request)
 }
 
 impl Prepared {

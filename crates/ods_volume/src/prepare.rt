@@ -8,7 +8,7 @@ ghost use Rattle.ods_request.specs.{declared.refusals.Refusal.Refusal, declared.
 ghost use Rattle.ods_state.specs.{Version.IsPresent, Wants.Lacks, Served.IsStepOf, Served.IsRefusalOf, Outcome.CanBeAsked, Outcome.IsReason, Outcome.IsLawfulPlan, Outcome.entry_of};
 ghost use Rattle.ods_volume.specs.Made.{answer_of};
 
-use crate::planned::{Prepared, lines_of};
+use crate::planned::{Prepared, kept, lines_of};
 use crate::volume::Volume;
 use ods_alloc::FreeCounts;
 use ods_base::{FileId, Image, Uic};
@@ -252,12 +252,15 @@ impl Volume {
         let Ok(lines) = lines_of(&answer) else {
             return Err(Refusal::NoMemory);
         };
+        let Ok(kept) = kept(alloc, &request) else {
+            return Err(Refusal::NoMemory);
+        };
         Ok(Prepared {
             entry: Entry {
                 session,
                 nth,
                 who,
-                request,
+                request: kept,
                 answer,
             },
             lines,

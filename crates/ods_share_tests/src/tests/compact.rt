@@ -1,6 +1,11 @@
-//! Answers in little room.
-use ods_format_tests::persons::{FIRST, SECOND, index_stat, letter_a, reserved_lines};
-use ods_request::Answer;
+//! Answers and requests in little room.
+use super::requests::{block_read, block_written, file_made};
+use super::runs::stamp;
+use ods_base::Pick;
+use ods_format_tests::persons::{
+    FIRST, MASTER, SECOND, a_txt, b_txt, index_stat, letter_a, other_attributes, reserved_lines,
+};
+use ods_request::{Answer, CompactRequest, Request};
 use ods_share::CompactAnswer;
 use std::alloc::Global;
 use std::test::Fail;
@@ -40,6 +45,67 @@ fn compact_answers_are_their_answers(rt: HostRuntime) -> Result<(), Fail> {
             assert!(rt;
                 is_same == (j == k) && compact.is(other) == (j == k),
                 "{answer:?}, {other:?}"
+            );
+        }
+    }
+    Ok(())
+}
+
+/// Requests that differ, of each kind, the Writes last.
+fn requests(alloc: Global) -> Result<Vec<Request>, Fail> {
+    let file = FIRST;
+    let dir = MASTER;
+    let name = a_txt();
+    let pick = Pick::Highest;
+    let mut requests = Vec::new(alloc);
+    requests.push(file_made(stamp()?))?;
+    requests.push(Request::Extend { file, blocks: 1 })?;
+    requests.push(Request::Extend { file, blocks: 2 })?;
+    requests.push(Request::Delete { file })?;
+    requests.push(Request::Enter {
+        dir,
+        name,
+        version: Some(1),
+        file,
+    })?;
+    requests.push(Request::Enter {
+        dir,
+        name,
+        version: None,
+        file,
+    })?;
+    requests.push(Request::LookUp { dir, name, pick })?;
+    requests.push(Request::LookUp {
+        dir,
+        name: b_txt(),
+        pick,
+    })?;
+    requests.push(Request::Remove { dir, name, pick })?;
+    requests.push(block_read())?;
+    requests.push(Request::List { dir })?;
+    requests.push(Request::Stat { file })?;
+    requests.push(Request::Stat { file: SECOND })?;
+    requests.push(Request::SetUser {
+        file,
+        attributes: other_attributes(),
+    })?;
+    requests.push(block_written(1))?;
+    requests.push(block_written(2))?;
+    Ok(requests)
+}
+
+#[test]
+fn compact_requests_are_their_requests(rt: HostRuntime) -> Result<(), Fail> {
+    let alloc = rt.alloc();
+    let requests = requests(alloc)?;
+    for (k, request) in requests.iter().enumerate() {
+        let compact = CompactRequest::of(alloc, request)?;
+        assert!(rt; compact.get() == *request, "{request:?}");
+        for (j, other) in requests.iter().enumerate() {
+            let is_same = compact == CompactRequest::of(alloc, other)?;
+            assert!(rt;
+                is_same == (j == k) && compact.is(other) == (j == k),
+                "{request:?}, {other:?}"
             );
         }
     }

@@ -5,8 +5,8 @@ ghost use Rattle.ods_state.specs.Outcome.{CanBeAsked};
 use super::runs::{two_file_volume, two_files, volume_of};
 use ods_base::FileId;
 use ods_format_tests::persons::{FIRST, NONE, USER};
-use ods_request::{Answer, Refusal, Request};
-use ods_share::{Call, Desk, Naming, SettleFault, settle};
+use ods_request::{Answer, CompactRequest, Refusal, Request};
+use ods_share::{Call, CompactAnswer, Desk, Naming, SettleFault, settle};
 use ods_volume::Volume;
 use std::alloc::{AllocError, Global};
 use std::marker::Brand;
@@ -38,8 +38,8 @@ fn asks<J: Naming, R: Abort + Wait>(
         calls.push(Call {
             nth: 1,
             who: USER,
-            request: first_block(FIRST),
-            answer,
+            request: CompactRequest::of(alloc, &first_block(FIRST))?,
+            answer: CompactAnswer::of(alloc, &answer)?,
         })?;
     }
     Ok(calls)

@@ -10,7 +10,7 @@ use ods_base::Image;
 use ods_format_tests::persons::{FIRST, MASTER, USER, letter_a, reserved_lines};
 use ods_format_tests::settings::was_refused;
 use ods_format_tests::volumes::sample_of;
-use ods_request::{Answer, Entry, Refusal, Request, Stamp};
+use ods_request::{Answer, CompactRequest, Entry, Refusal, Request, Stamp};
 use ods_share::{Desk, Naming, ViewFault, Viewer};
 use ods_volume::Volume;
 use std::alloc::Global;
@@ -48,7 +48,7 @@ fn as_it_is(alloc: Global, volume: &Volume) -> Result<Noted, Fail> {
             session: entry.session,
             nth: entry.nth,
             who: entry.who,
-            request: entry.request,
+            request: CompactRequest::of(alloc, &entry.request.get())?,
             answer: entry.answer.copy()?,
         })?;
     }

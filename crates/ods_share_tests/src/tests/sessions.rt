@@ -55,7 +55,7 @@ pub fn has_answer(reply: Option<&Reply>, wanted: &Answer) -> bool {
 /// The answer to one of the calls of an outcome, which has this number.
 fn answered(rt: &impl Abort, outcome: &Outcome, call: usize, nth: u32, wanted: Answer) {
     match outcome.calls.as_slice().get(call) {
-        Some(call) => assert!(rt; call.nth == nth && call.answer == wanted, "{call:?}"),
+        Some(call) => assert!(rt; call.nth == nth && call.answer.is(&wanted), "{call:?}"),
         None => assert!(rt; false, "no call {call}"),
     }
 }

@@ -1,6 +1,6 @@
 use Rattle.std.proofs.Common.{◌≡◌, sym, ◌∙◌, rules}
 use Rattle.ods_request.specs.Equal.{same_answer}
-use Rattle.ods_request.proofs.RequestTests.{answers_decide}
+use Rattle.ods_request.specs.RequestTests.{answers_decide}
 use Rattle.ods_request.proofs.answers.Answer.is_same.Goals as goal
 
 pub returns : goal.returns

@@ -1,6 +1,6 @@
 use Rattle.std.proofs.Common.{◌≡◌, sym, ◌∙◌, rules}
 use Rattle.ods_request.specs.Equal.{same_request}
-use Rattle.ods_request.proofs.RequestTests.{requests_decide}
+use Rattle.ods_request.specs.RequestTests.{requests_decide}
 use Rattle.ods_request.proofs.requests.Request.is_same.Goals as goal
 
 pub returns : goal.returns

@@ -3,7 +3,7 @@ use Rattle.std.proofs.Common.{◌≡◌, subst, true, arith}
 use Rattle.ods_request.specs.declared.requests.Request.{Request}
 use Rattle.ods_request.specs.declared.answers.Answer.{Answer}
 use Rattle.ods_request.specs.Equal.{same_given, same_pick, same_request, same_answer}
-use Rattle.ods_request.proofs.AnswerTests.{Tells, Knows, equal_by, tells_bytes, knows_bytes, tells_id, knows_id, tells_name, knows_name, tells_answer, knows_answer}
+use Rattle.ods_request.specs.AnswerTests.{Tells, Knows, equal_by, tells_bytes, knows_bytes, tells_id, knows_id, tells_name, knows_name, tells_answer, knows_answer}
 
 tells_given : Tells same_given
 tells_given a b = grind arith
