@@ -1,5 +1,5 @@
-//! The measure for scripts: serves one script of CREATE and DELETE of plain files as `f11` does, in plain Rust with the same types, and
-//! prints the same. A session in a thread of its own asks a desk under a lock. The desk has the list of accepted requests, the image as it
+//! The measure for scripts: serves one script of CREATE and DELETE of plain files as `f11` does, in plain Rust, with requests and answers that
+//! hold a block in place, and prints the same. A session in a thread of its own asks a desk under a lock. The desk has the list of accepted requests, the image as it
 //! was mounted and as it is, and two versions for readers, of which one is shown; at the end the list is compared with the session's calls.
 //! It checks of an image and of a line what this load needs, and knows no headers past 16 and no chains.
 //!
