@@ -1,11 +1,12 @@
-"""What a check of an edited crate says of its edits."""
+"""What a check of an edited crate says of its edits: which goals of the edited function are not met, and of which clause each is."""
 import re
 
 # An error that says only that a name is missing or was not admitted: what an edit took away, or what depends on another error.
 MISSING = re.compile(r"has no field|is not in scope|has no `|was not admitted|was rejected, (?:was|were) not checked")
-GOAL = re.compile(r"note: (src/\S+?):(\d+):\d+: it is not proved that")
-OPEN = re.compile(r"fn \w+::(\S+): (?!proved).*did not prove")
-WRONG = re.compile(r"\S*?\bproofs/(\S+)/\w+\.antt(?::\d+:\d+)?: error: ")
+GOAL = re.compile(r"note: (src/\S+?):(\d+):\d+: it is not proved that .* \(`([^`]+)`\)")
+OPEN = re.compile(r"fn \w+::(\S+): (?!proved).*did not prove (`[^;]*)")
+WRONG = re.compile(r"\S*?\bproofs/(\S+)/\w+\.antt(?::\d+:\d+)?: error: `([^`]+)`: ")
+DECLARED = re.compile(r"^ *(?:pub |abbrev |unfoldable )*([^\s:(){}]+) :(?= |$)", re.M)
 
 
 def is_of(name, edit):
@@ -14,51 +15,109 @@ def is_of(name, edit):
     return any(name.startswith(f"{key}::") for it in edit.functions for key in it.keys)
 
 
-class Said:
-    """The lines of `rt check` in a crate with edits."""
+def is_of_clause(goal, edit):
+    """Returns whether a goal, by the name that the check gives it, is of the clause that the edit names."""
+    function, _, word = edit.clause.partition(" ")
+    if goal.startswith("returns"):
+        clause = re.search(r"-clause-(\w+)", goal)
+        return word == "trait" or word == (clause[1] if clause else word) and word not in ("safe", "ends", "loop", "invariant", "requires")
+    if re.search(r"-(init|preserved)$", goal):
+        return word == "loop"
+    if goal.endswith("-smaller") or goal.startswith("decreases"):
+        return word == "ends"
+    if goal.startswith("invariant_of-"):
+        return word == "invariant"
+    if "-requires" in goal:
+        return word == "safe" or goal.startswith(function) and not is_edited(function, edit)
+    return word == "safe"
 
-    def __init__(self, crate, text):
+
+def is_edited(name, edit):
+    """Returns whether the edit is in the body of a function of this name."""
+    return any(it.name.rpartition("::")[2] == name for it in edit.functions)
+
+
+def behind(lemma, folder):
+    """Returns what stands on this lemma in the files of a proof folder, by the names that they mention; the lemma itself too."""
+    parts = {}
+    for file in folder.glob("*.antt"):
+        said = DECLARED.split(file.read_text("utf-8"))
+        for name, body in zip(said[1::2], said[2::2]):
+            parts[name] = parts.get(name, "") + body
+    found, more = set(), {lemma}
+    while more:
+        found |= more
+        said = re.compile(rf"(?<![\w.-])(?:{'|'.join(map(re.escape, more))})(?![\w-])")
+        more = {name for name, body in parts.items() if said.search(body)} - found
+    return found
+
+
+class Said:
+    """The lines of `rt check` in the folder of a crate with edits."""
+
+    def __init__(self, crate, text, folder):
+        self.folder = folder
         self.lines = [it for it in text.split("\n") if it and not it.startswith(" ")]
         self.functions = dict(it.groups() for it in re.finditer(rf"^fn {crate}::(\S+): (.*)$", text, re.M))
         self.unproved = {name: rest for name, rest in self.functions.items() if not rest.startswith("proved")}
-        self.verdict = next((it for it in self.lines if it.startswith("logic=")), "")
+        self.verdict = next((it for it in self.lines if it.startswith(("logic=", "only="))), "")
         self.reached_all = bool(self.functions and self.verdict)
 
-    def own_line(self, edit, with_names):
-        """Returns the first line that is the own of a function of the edit; with_names also one about a missing name."""
+    def goals(self, edit):
+        """Returns the goals of the edit's functions that are not met, each with its line. An error that only says that a name is missing
+        is none; where a lemma of the function's own is wrong, the goals that depend on it are its goals."""
+        found = {}
         for line in self.lines:
-            goal, is_open, wrong = GOAL.match(line), OPEN.match(line), WRONG.match(line)
-            if goal and any(goal[1] == it.file and it.first <= int(goal[2]) <= it.last for it in edit.functions):
-                return line
-            if wrong and is_of(wrong[1], edit) and (with_names or not MISSING.search(line)):
-                return line
-            if is_open and is_of(is_open[1], edit):
-                return line
-        return None
+            if (it := GOAL.match(line)) and any(it[1] == by.file and by.first <= int(it[2]) <= by.last for by in edit.functions):
+                found.setdefault(it[3], line)
+            elif (it := OPEN.match(line)) and is_of(it[1], edit):
+                for goal in re.findall("`([^`]+)`", it[2].partition("; it calls")[0]):
+                    found.setdefault(goal, line)
+            elif (it := WRONG.match(line)) and is_of(it[1], edit) and not MISSING.search(line):
+                for goal in behind(it[2], self.folder / "proofs" / it[1]):
+                    found.setdefault(goal, line)
+        return found
 
     def judge(self, edit, is_alone):
-        """Returns whether the edit is refused, or None where that cannot be told beside others, and the line for it."""
+        """Returns whether the edit is refused at its clause, or None where that cannot be told beside others, and the line for it."""
         if edit.functions is None:
             return self.judge_outside_bodies(edit)
-        line = self.own_line(edit, with_names=is_alone)
-        is_unproved = any(is_of(it, edit) for it in self.unproved)
-        if line and (is_unproved or is_alone and self.verdict and not self.functions):
-            return True, line
-        if self.reached_all and not is_unproved:
-            told = [f"{name}: {rest}" for name, rest in self.functions.items() if is_of(name, edit)]
+        goals = self.goals(edit)
+        of_clause = [line for goal, line in goals.items() if is_of_clause(goal, edit)]
+        if of_clause:
+            return True, of_clause[0]
+        if not is_alone and self.waits_for(edit):
+            return None, "tried again, apart from what it calls"
+        if goals:
+            return False, f"REFUSED ELSEWHERE: not at {edit.clause}, but at {', '.join(goals)}"
+        told = [f"{name}: {rest}" for name, rest in self.functions.items() if is_of(name, edit)]
+        if self.reached_all and not any(is_of(it, edit) for it in self.unproved):
             told.append(f"the check does not mention {edit.functions[0].name}")
             return False, f"LET THROUGH: {told[0]}"
-        return (False, f"NOT JUDGED: {' / '.join(self.lines[-5:])}") if is_alone else (None, "tried again alone")
+        lost = [it for it in self.lines if (said := WRONG.match(it)) and is_of(said[1], edit)]
+        return False, f"NOT JUDGED: {(lost or told or [' / '.join(self.lines[-5:])])[0]}"
+
+    def waits_for(self, edit):
+        """Returns what is not proved and is called, itself or by what it calls, by a function of the edit, of which some goals may not have been
+        tried for that."""
+        found, more = set(), {it for it in self.unproved if is_of(it, edit)}
+        while more:
+            rest = " ".join(self.unproved.get(it, "").partition("it calls ")[2] for it in more)
+            more = {it.partition("::")[2] for it in re.findall(r"`(\S+?)`", rest)} - found
+            found |= more
+        return {it for it in found if not is_of(it, edit)}
 
     def judge_outside_bodies(self, edit):
-        """The same of an edit of a contract, a type, a definition or a lemma, which is tried alone, as `rt must-fail` does."""
+        """The same of an edit of a contract, a type, a definition or a lemma, which is tried alone, as `rt must-fail` does: the function that it
+        names has to be among those that are not proved."""
         files = "|".join(["src/", "specs/", *(re.escape(it[0]) for it in edit.changes)])
         unread = rf"(\S*/)??({files})\S*: error: (?!`[^`]*`: (?!.*(not in scope|has no field|no name|is missing|expected the end)))"
         bad = [it for it in self.lines if re.match(unread, it)]
         if bad or not self.reached_all:
             return False, f"BAD EDIT: {(bad or self.lines[-1:])[0]}"
-        found = [it for it in self.lines if re.match(r"note: src/\S+: it is not proved|\S*proofs/\S+: error: ", it)]
-        return bool(found), (found or ["LET THROUGH: no goal and no proof fails"])[0]
+        name = edit.clause.partition(" ")[0]
+        found = [f"{it}: {rest}" for it, rest in self.unproved.items() if it.rpartition("::")[2] == name]
+        return bool(found), (found or [f"LET THROUGH: {name} is proved"])[0]
 
     def strays(self, edits):
         """Returns what is not proved though it is neither edited nor, by its line, calls what is."""

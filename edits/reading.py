@@ -2,8 +2,11 @@
 
 An edit is a file in rt's format (`rt --help`): a line `file:`, then pairs of lines `old:` and `new:`. rt passes over any other
 line, so each edit here ends with one that says what refuses it:
-    clause: FUNCTION NAME        the clause NAME of that function; `ensures` or `requires` where the clause has no name of its own,
-                                 `safe` or `ends` where what fails is that it is safe or ends, `trait` for a contract of a trait
+    clause: FUNCTION NAME        the clause NAME of that function, in whose body the edit is; `ensures` where it has no name of its own,
+                                 `trait` for a contract of a trait; `loop` where the edit is in the body of a loop, of which only its
+                                 invariant speaks, `invariant` for that of a type; `safe` where what fails is that it is safe (a sum,
+                                 a place, what a callee asks for), `ends` where it is that it ends
+    clause: FUNCTION requires    what that function asks for, which the edited one calls; or the name of that clause
 """
 import collections
 import functools
@@ -13,9 +16,9 @@ import re
 # have (that name, and the ring of calls that it is in), and its lines, from 1: the first, the one that opens the body, the last.
 Function = collections.namedtuple("Function", "file name keys first body last")
 
-# Its path, the clause that refuses it, its changes (file, from, to, text), and the functions in whose bodies they are,
-# or None where one is outside of bodies.
-Edit = collections.namedtuple("Edit", "label clause changes functions")
+# Its path, the clause that refuses it, its changes (file, from, to, text), the functions in whose bodies they are, or None where
+# one is outside of bodies, and the names of the functions that have to be proved in a round with it.
+Edit = collections.namedtuple("Edit", "label clause changes functions waits")
 
 IMPL = re.compile(r"(?:unsafe )?impl(?:<.*?>)? (?:(.*) for )?(\w+)")
 FUNCTION = re.compile(r"( *)(?:pub(?:\(.*?\))? )?(?:const |unsafe )*fn (\w+)")
@@ -79,7 +82,7 @@ def clause_fault(clause, top):
         text, folder = file.read_text("utf-8"), top.joinpath(*file.relative_to(top).parts[:2])
         for it in functions_of(folder, str(file.relative_to(folder))) if f"fn {name}" in text else []:
             contract = "\n".join(text.split("\n")[it.first - 1 : it.body])
-            is_there = word in ("ends", "safe", "trait") or re.search(rf" ({word}|ensures {word}|requires {word}) {{", contract)
+            is_there = word in ("ends", "safe", "trait", "loop", "invariant") or re.search(rf" ({word}|ensures {word}|requires {word}) {{", contract)
             if is_there and name == it.name.rpartition("::")[2]:
                 return None
     return f"no function {name} has a clause {word}" if clause else "it has no line 'clause:'"
@@ -102,4 +105,4 @@ def read_edit(file, folder, top):
         return f"{label}: BAD EDIT: it is not made of 'old:' lines with 'new:' lines right below"
     clause = "".join(re.findall(r"^clause: (.*)$", said, re.M)[:1])
     fault = clause_fault(clause, top)
-    return f"{label}: BAD EDIT: {fault}" if fault else Edit(label, clause, changes, None if None in functions else functions)
+    return f"{label}: BAD EDIT: {fault}" if fault else Edit(label, clause, changes, None if None in functions else functions, frozenset())
