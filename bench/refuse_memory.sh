@@ -4,7 +4,7 @@
 #
 # usage: bench/refuse_memory.sh PROGRAM [WORD..]
 #   bench/refuse_memory.sh crates/f11/out/f11 volume.dsk
-#   bench/refuse_memory.sh crates/ods_volume_trials/out/ods_volume_trials_tests tests::refused_memory::refused_memory_changes_nothing     (after rt ci)
+#   bench/refuse_memory.sh $(bench/tests_program requests) requests::refused_memory::refused_memory_changes_nothing
 #
 # Needs a C compiler, and a program that takes its memory from the C library, as those that LLVM builds do.
 set -eu

@@ -2,9 +2,9 @@
 # Times views and compares them with targets: 8 viewers answer at least 3 times as many views a second as one does, each time beside a thread
 # that writes; a view takes at most twice as long as a look with no viewer; f11 takes at most 4.2 times the image to serve a script.
 #
-# usage: bench/views.sh [TIMES]     (after rt ci or rt test; 100 looks each, TIMES times, by default 10,000)
+# usage: bench/views.sh [TIMES]     (100 looks each, TIMES times, by default 10,000)
 #
-# The first two are the tests `timed_views` of `ods_share_tests` as the gate built them, which read TRIALS and VIEWERS. RUNS runs of each are
+# The first two are the tests `sessions::timed_views`, proved and built, which read TRIALS and VIEWERS. RUNS runs of each are
 # made, 5 by default, and the best counts; BLOCKS is the size of the third's image, 262,144 by default, and F11 another program than ./f11.
 #
 # 8 viewers and a writer are 9 threads. On 4 processors a viewer is set aside now and then within a view, the writer then waits for it, awake,
@@ -13,7 +13,7 @@
 # processor, to 1. A target that is missed is no failure.
 set -eu
 here=$(cd "$(dirname "${BASH_SOURCE[0]}")" && pwd)
-tests=$here/../crates/ods_share_tests/out/ods_share_tests_tests
+tests=$("$here/tests_program" sessions)
 program=${F11:-$here/../f11}
 times=${1:-10000}
 runs=${RUNS:-5}
@@ -22,7 +22,7 @@ trap 'rm -rf "$folder"' EXIT
 
 # What a test printed that matches, as numbers: printed TEST TIMES VIEWERS PATTERN
 printed() {
-    TRIALS=$2 VIEWERS=$3 "$tests" "tests::timed_views::$1" | grep -o "$4" | tr -cs '0-9\n' ' '
+    TRIALS=$2 VIEWERS=$3 "$tests" "sessions::timed_views::$1" | grep -o "$4" | tr -cs '0-9\n' ' '
 }
 
 # How a figure stands to its target: target TEXT FIGURE RELATION WANTED

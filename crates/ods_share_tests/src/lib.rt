@@ -1,5 +1,0 @@
-//! Tests of desks, sessions and settlements.
-#![tactic(auto)]
-
-#[cfg(test)]
-mod tests;

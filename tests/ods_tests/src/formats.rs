@@ -1,0 +1,15 @@
+//! From blocks and names up to requests, one idea a file.
+mod beside_map;
+mod bitmaps;
+mod catalogue;
+mod chains;
+mod directories;
+mod drafts;
+mod headers;
+mod home;
+mod images;
+mod kept;
+mod layouts;
+mod names;
+mod requests;
+mod words;

@@ -1,0 +1,18 @@
+//! Tests that are run and not proved: of the formats, of mounted images and the program's engine, of requests on a volume, and of sessions. What
+//! they share stands beside them: the volumes that they are made on, the users, files and names that they ask about, and a plain, slow reader.
+#![tactic(auto)]
+
+pub mod contiguous;
+pub mod dice;
+#[cfg(test)]
+mod formats;
+#[cfg(test)]
+mod mounted;
+pub mod persons;
+pub mod reader;
+#[cfg(test)]
+mod requests;
+#[cfg(test)]
+mod sessions;
+pub mod settings;
+pub mod volumes;

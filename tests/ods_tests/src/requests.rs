@@ -1,0 +1,13 @@
+//! Requests on a volume, one idea a file: published sequences and random ones, beside a plain reader and a plain program.
+mod ample;
+mod counted;
+mod growing;
+mod long_names;
+mod naming;
+mod plain_reader;
+mod random;
+mod refused_memory;
+mod rows;
+mod sequences;
+mod timed;
+mod trial;

@@ -1,0 +1,113 @@
+//! Answers and requests in little room.
+use super::requests::{block_read, block_written, file_made};
+use super::runs::stamp;
+use crate::persons::{
+    FIRST, MASTER, SECOND, a_txt, b_txt, index_stat, letter_a, other_attributes, reserved_lines,
+};
+use ods_base::Pick;
+use ods_request::{Answer, CompactRequest, Request};
+use ods_share::CompactAnswer;
+use std::alloc::Global;
+use std::test::Fail;
+
+/// How many of the answers are short.
+const SHORT: usize = 8;
+
+/// Answers that differ, the short ones first.
+fn answers(alloc: Global) -> Result<Vec<Answer>, Fail> {
+    let mut answers = Vec::new(alloc);
+    answers.push(Answer::Created(FIRST))?;
+    answers.push(Answer::Created(SECOND))?;
+    answers.push(Answer::Extended(3))?;
+    answers.push(Answer::Done)?;
+    answers.push(Answer::Entered(3))?;
+    answers.push(Answer::Found(FIRST, 1))?;
+    answers.push(Answer::Found(FIRST, 2))?;
+    answers.push(Answer::Removed(FIRST, 1))?;
+    answers.push(Answer::Bytes(letter_a()))?;
+    answers.push(Answer::Names(reserved_lines(alloc)?))?;
+    answers.push(Answer::Info(index_stat()))?;
+    Ok(answers)
+}
+
+#[test]
+fn compact_answers_are_their_answers(rt: HostRuntime) -> Result<(), Fail> {
+    let alloc = rt.alloc();
+    let answers = answers(alloc)?;
+    for (k, answer) in answers.iter().enumerate() {
+        let Ok(compact) = CompactAnswer::of(alloc, answer) else {
+            assert!(rt; SHORT <= k, "{answer:?} wanted memory");
+            return Err("memory for a long answer".into());
+        };
+        assert!(rt; compact.boxed().is_some() == (SHORT <= k), "{answer:?}");
+        for (j, other) in answers.iter().enumerate() {
+            let is_same = compact == CompactAnswer::of(alloc, other)?;
+            assert!(rt;
+                is_same == (j == k) && compact.is(other) == (j == k),
+                "{answer:?}, {other:?}"
+            );
+        }
+    }
+    Ok(())
+}
+
+/// Requests that differ, of each kind, the Writes last.
+fn requests(alloc: Global) -> Result<Vec<Request>, Fail> {
+    let file = FIRST;
+    let dir = MASTER;
+    let name = a_txt();
+    let pick = Pick::Highest;
+    let mut requests = Vec::new(alloc);
+    requests.push(file_made(stamp()?))?;
+    requests.push(Request::Extend { file, blocks: 1 })?;
+    requests.push(Request::Extend { file, blocks: 2 })?;
+    requests.push(Request::Delete { file })?;
+    requests.push(Request::Enter {
+        dir,
+        name,
+        version: Some(1),
+        file,
+    })?;
+    requests.push(Request::Enter {
+        dir,
+        name,
+        version: None,
+        file,
+    })?;
+    requests.push(Request::LookUp { dir, name, pick })?;
+    requests.push(Request::LookUp {
+        dir,
+        name: b_txt(),
+        pick,
+    })?;
+    requests.push(Request::Remove { dir, name, pick })?;
+    requests.push(block_read())?;
+    requests.push(Request::List { dir })?;
+    requests.push(Request::Stat { file })?;
+    requests.push(Request::Stat { file: SECOND })?;
+    requests.push(Request::SetUser {
+        file,
+        attributes: other_attributes(),
+    })?;
+    requests.push(block_written(1))?;
+    requests.push(block_written(2))?;
+    Ok(requests)
+}
+
+#[test]
+fn compact_requests_are_their_requests(rt: HostRuntime) -> Result<(), Fail> {
+    let alloc = rt.alloc();
+    let requests = requests(alloc)?;
+    for (k, request) in requests.iter().enumerate() {
+        let compact = CompactRequest::of(alloc, request)?;
+        assert!(rt; compact.get() == *request, "{request:?}");
+        for (j, other) in requests.iter().enumerate() {
+            let is_same = compact == CompactRequest::of(alloc, other)?;
+            assert!(rt;
+                is_same == (j == k) && compact.is(other) == (j == k),
+                "{request:?}, {other:?}"
+            );
+        }
+    }
+    Ok(())
+}

@@ -1,0 +1,129 @@
+//! Desks, by callers who hold one themselves.
+ghost use Rattle.std.specs.Prelude.{◌≡◌, []};
+ghost use Rattle.ods_state.specs.Outcome.{CanBeAsked};
+
+use super::runs::{two_file_volume, two_files, volume_of};
+use crate::persons::{FIRST, NONE, USER};
+use ods_base::FileId;
+use ods_request::{Answer, CompactRequest, Refusal, Request};
+use ods_share::{Call, CompactAnswer, Desk, Naming, SettleFault, settle};
+use ods_volume::Volume;
+use std::alloc::{AllocError, Global};
+use std::marker::Brand;
+use std::mem;
+use std::process::Abort;
+use std::sync::{Mutex, MutexGuard, Wait};
+use std::test::Fail;
+
+/// A Read of the first block of a file.
+fn first_block(file: FileId) -> Request
+    ensures { CanBeAsked result }
+{
+    Request::Read { file, vbn: 1 }
+}
+
+/// Makes a Read at a desk: the session's calls.
+fn asks<J: Naming, R: Abort + Wait>(
+    rt: &R,
+    alloc: Global,
+    desk: &Mutex<Desk<J>>,
+    session: u16,
+) -> Result<Vec<Call>, AllocError> {
+    let mut guard = desk.lock(rt);
+    let (result, told) = guard.submit(rt, session, 1, USER, first_block(FIRST));
+    assert!(rt; told.entries() as usize == guard.volume().entries().len());
+    MutexGuard::unlock(guard);
+    let mut calls = Vec::new(alloc);
+    if let Ok(answer) = result {
+        calls.push(Call {
+            nth: 1,
+            who: USER,
+            request: CompactRequest::of(alloc, &first_block(FIRST))?,
+            answer: CompactAnswer::of(alloc, &answer)?,
+        })?;
+    }
+    Ok(calls)
+}
+
+/// Makes two requests of session 1, and tells how long the list was after each.
+fn tells<J: Naming, R: Abort + Wait>(rt: &R, alloc: Global, volume: Volume) -> Result<Volume, Fail>
+    requires mounted { volume.mounted ≡ J.mounted }
+    requires opening { volume.entries ≡ J.opening }
+{
+    match Desk::<J>::new(rt, alloc, volume, 1) {
+        Ok((mut desk, viewers)) => {
+            assert!(rt; viewers.len() == 1);
+            let (result, told) = desk.submit(rt, 1, 1, USER, first_block(FIRST));
+            assert!(rt; matches!(result, Ok(Answer::Bytes(_))));
+            assert!(rt; told.entries() == 1);
+            let (result, told) = desk.submit(rt, 1, 2, USER, first_block(NONE));
+            assert!(rt; matches!(result, Err(Refusal::NoSuchFile)));
+            assert!(rt; told.entries() == 1);
+            assert!(rt; desk.volume().entries().len() == 1);
+            Ok(desk.close(rt))
+        }
+        Err(_) => Err("memory for a desk".into()),
+    }
+}
+
+#[test]
+fn desk_tells_how_long_its_list_is(rt: HostRuntime) -> Result<(), Fail> {
+    let alloc = rt.alloc();
+    let volume = two_file_volume(&rt, alloc, 4_096)?;
+    let volume = tells::<Brand, _>(&rt, alloc, volume)?;
+    assert!(rt; volume.entries().len() == 1);
+    Ok(())
+}
+
+/// Puts another desk under the lock.
+fn swap_in<J: Naming, R: Wait>(rt: &R, desk: &Mutex<Desk<J>>, other: Desk<J>) {
+    let mut guard = desk.lock(rt);
+    let taken = mem::replace(&mut *guard, other);
+    MutexGuard::unlock(guard);
+    taken.close(rt);
+}
+
+/// Sessions 1 and 2 make a request each, and in between another lawful volume of the same image is put under the lock.
+fn swapped<J: Naming, R: Abort + Wait>(
+    rt: &R,
+    alloc: Global,
+    volume: Volume,
+    other: Volume,
+) -> Result<(Volume, Vec<Vec<Call>>), Fail>
+    requires mounted { volume.mounted ≡ J.mounted }
+    requires opening { volume.entries ≡ J.opening }
+    requires other_mounted { other.mounted ≡ J.mounted }
+    requires other_opening { other.entries ≡ J.opening }
+{
+    let Ok((desk, _)) = Desk::<J>::new(rt, alloc, volume, 2) else {
+        return Err("memory for a desk".into());
+    };
+    let lock = Mutex::new(desk);
+    let Ok((other, _)) = Desk::<J>::new(rt, alloc, other, 2) else {
+        lock.into_inner().close(rt);
+        return Err("memory for a desk".into());
+    };
+    let first = asks(rt, alloc, &lock, 1);
+    swap_in(rt, &lock, other);
+    let second = asks(rt, alloc, &lock, 2);
+    let volume = lock.into_inner().close(rt);
+    let mut calls = Vec::new(alloc);
+    calls.push(first?)?;
+    calls.push(second?)?;
+    Ok((volume, calls))
+}
+
+#[test]
+fn swapped_volume_is_unmatched(rt: HostRuntime) -> Result<(), Fail> {
+    let alloc = rt.alloc();
+    let image = two_files(alloc)?;
+    let same = image.copy()?;
+    let volume = volume_of(&rt, alloc, image, 4_096)?;
+    let other = volume_of(&rt, alloc, same, 4_096)?;
+    let (volume, calls) = swapped::<Brand, _>(&rt, alloc, volume, other)?;
+    assert!(rt; calls.iter().all(|list| list.len() == 1));
+    assert!(rt; volume.entries().len() == 1);
+    let settled = settle(alloc, volume.mounted(), &volume, calls.as_slice());
+    assert!(rt; matches!(settled, Err(SettleFault::Unmatched)));
+    Ok(())
+}

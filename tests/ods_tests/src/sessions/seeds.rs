@@ -1,0 +1,133 @@
+//! Eight sessions of commands by seeds: each run settles, and its list, replayed by the plain program, gives what the blocks show.
+use super::any_scripts::{Mix, eight_scripts};
+use super::runs::{Open, Ran, calls_of, run_on, two_file_volume};
+use crate::persons::{NONE, USER};
+use crate::reader::plain_catalogue;
+use ods_base::FileId;
+use ods_plain::Catalogue;
+use ods_request::{Answer, Entry, Request};
+use ods_share::{Outcome, Reply, Script, settle};
+use ods_volume::Volume;
+use std::alloc::Global;
+use std::process::Abort;
+use std::sync::Wait;
+use std::test::Fail;
+use std::thread::Threads;
+
+/// How many runs there are.
+const RUNS: u64 = 20;
+
+/// 500 commands in each script, and no views.
+const MIX: Mix = Mix {
+    commands: 500,
+    has_views: false,
+};
+
+/// The scripts of a seed, and what came of them.
+#[derive(Drop)]
+pub struct RanBySeed {
+    pub scripts: Vec<Script>,
+    pub ran: Ran,
+}
+
+/// Runs the eight scripts of a seed on the volume with two files: each command has a reply.
+pub fn run_by_seed<R: Abort + Threads + Wait + Sync>(
+    rt: &R,
+    alloc: Global,
+    seed: u64,
+    mix: Mix,
+) -> Result<RanBySeed, Fail> {
+    let volume = two_file_volume(rt, alloc, 4_096)?;
+    let scripts = eight_scripts(alloc, seed, mix)?;
+    let ran = run_on(rt, alloc, volume, scripts.as_slice(), &Open)?;
+    assert!(rt; ran.outcomes.len() == 8);
+    for outcome in &ran.outcomes {
+        assert!(rt; outcome.replies.len() == mix.commands as usize);
+    }
+    Ok(RanBySeed { scripts, ran })
+}
+
+/// The list of a run is settled with its calls.
+pub fn seed_settles(rt: &impl Abort, alloc: Global, seed: u64, ran: Ran) -> Result<(), Fail> {
+    let Ran { volume, outcomes } = ran;
+    let calls = calls_of(alloc, outcomes)?;
+    let is_settled = settle(alloc, volume.mounted(), &volume, &calls).is_ok();
+    assert!(rt; is_settled, "seed {seed}");
+    Ok(())
+}
+
+/// Makes the step of an entry: the plain program answers it as the volume did.
+pub fn replay(rt: &impl Abort, plain: &mut Catalogue, entry: &Entry) -> Result<(), Fail> {
+    let new = match &entry.answer {
+        Answer::Created(file) => *file,
+        _ => NONE,
+    };
+    match plain.step(entry.who, &entry.request.get(), new) {
+        Ok(answer) => {
+            assert!(rt; answer == entry.answer, "{:?}", entry.request);
+            Ok(())
+        }
+        Err(_) => Err("no step of the plain program".into()),
+    }
+}
+
+/// The answers among the replies are those of the calls.
+fn replies_are_answers(rt: &impl Abort, outcome: &Outcome) {
+    let mut calls = outcome.calls.iter();
+    for reply in &outcome.replies {
+        if let Reply::Got(answer) = reply {
+            let is_next = match calls.next() {
+                Some(call) => *answer == call.answer,
+                None => false,
+            };
+            assert!(rt; is_next, "a reply is no call's answer");
+        }
+    }
+    assert!(rt; calls.next().is_none(), "a call has no reply");
+}
+
+/// Both catalogues show the same of a file.
+fn same_file(rt: &impl Abort, shown: &mut Catalogue, plain: &mut Catalogue, file: FileId) {
+    for request in [
+        Request::Stat { file },
+        Request::List { dir: file },
+        Request::Read { file, vbn: 1 },
+        Request::Read { file, vbn: 2 },
+        Request::Read { file, vbn: 3 },
+    ] {
+        let answer = shown.step(USER, &request, NONE);
+        assert!(rt;
+            answer == plain.step(USER, &request, NONE),
+            "{request:?} is {answer:?}"
+        );
+    }
+}
+
+/// The blocks show what the plain program makes of the list.
+fn is_replayed(rt: &impl Abort, alloc: Global, volume: &Volume) -> Result<(), Fail> {
+    let mut plain = plain_catalogue(alloc, volume.mounted())?;
+    for entry in volume.entries() {
+        replay(rt, &mut plain, entry)?;
+    }
+    let mut shown = plain_catalogue(alloc, volume.image())?;
+    for number in 1..17 {
+        for sequence in 1..17 {
+            same_file(rt, &mut shown, &mut plain, FileId { number, sequence });
+        }
+    }
+    Ok(())
+}
+
+#[test]
+fn eight_sessions_settle(rt: HostRuntime) -> Result<(), Fail> {
+    let alloc = rt.alloc();
+    for seed in 0..RUNS {
+        let RanBySeed { ran, .. } = run_by_seed(&rt, alloc, seed, MIX)?;
+        for outcome in &ran.outcomes {
+            replies_are_answers(&rt, outcome);
+        }
+        is_replayed(&rt, alloc, &ran.volume)?;
+        seed_settles(&rt, alloc, seed, ran)?;
+    }
+    Ok(())
+}
