@@ -7,6 +7,7 @@ GOAL = re.compile(r"note: (src/\S+?):(\d+):\d+: it is not proved that .* \(`([^`
 OPEN = re.compile(r"fn \w+::(\S+): (?!proved).*did not prove (`[^;]*)")
 WRONG = re.compile(r"\S*?\bproofs/(\S+)/\w+\.antt(?::\d+:\d+)?: error: `([^`]+)`: ")
 DECLARED = re.compile(r"^ *(?:pub |abbrev |unfoldable )*([^\s:(){}]+) :(?= |$)", re.M)
+NO_CLAUSES = ("safe", "ends", "loop", "invariant", "requires")
 
 
 def is_of(name, edit):
@@ -20,7 +21,7 @@ def is_of_clause(goal, edit):
     function, _, word = edit.clause.partition(" ")
     if goal.startswith("returns"):
         clause = re.search(r"-clause-(\w+)", goal)
-        return word == "trait" or word == (clause[1] if clause else word) and word not in ("safe", "ends", "loop", "invariant", "requires")
+        return word == "trait" or word in ([clause[1], f"ensures {clause[1]}"] if clause else [word] if word not in NO_CLAUSES else [])
     if re.search(r"-(init|preserved)$", goal):
         return word == "loop"
     if goal.endswith("-smaller") or goal.startswith("decreases"):
