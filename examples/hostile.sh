@@ -14,6 +14,7 @@ f11 good.dsk feeds
 { cat long; printf A; } >longer
 f11 good.dsk longer
 f11 missing.dsk longer
+f11 <longer
 
 echo '# every byte on lines of their own, behind a command'
 byte=0

@@ -2,7 +2,8 @@
 # Runs each row of rows/ and compares what comes of it. A row is one file:
 #
 #     what it shows, in one line
-#     == image        how its image is made: lines of sh, where v40 and v512 make the samples
+#     == image        how its image is made: lines of sh, where v40 and v512 make the samples; they may also write long
+#                     scripts and outputs, into script.1, output.1 and so on
 #     == words ..     words for f11 beside the image and the scripts
 #     == script       a script; more of these are sessions at once
 #     == output       what f11 prints; where there are more, any of them will do
@@ -46,6 +47,7 @@ is_wanted() {
 
 # Runs the row that was cut; says what is wrong.
 run_row() {
+    rm -f "$image"
     . ./image
     words=
     [ ! -f words ] || words=$(cat words)

@@ -7,6 +7,7 @@ mod command_words;
 mod creations;
 mod cut_images;
 mod deletes;
+mod devices;
 mod header_runs;
 mod looks;
 mod mount_faults;

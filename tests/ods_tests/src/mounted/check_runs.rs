@@ -13,7 +13,7 @@ use std::thread::Threads;
 
 /// Keeps nobody, since no script has a session.
 #[derive(Drop)]
-struct NoGate;
+pub struct NoGate;
 
 impl Gate for NoGate {
     fn before(&self, _session: u16, _nth: u32) {}

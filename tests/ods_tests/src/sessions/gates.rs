@@ -3,7 +3,7 @@ ghost use Rattle.std.specs.Prelude.{IfOk};
 ghost use Rattle.ods_share.specs.Scripts.{CanBeRun};
 
 use super::runs::{run_on, two_file_volume, two_scripts};
-use super::scripts::{add, read, script, stat_last};
+use super::scripts::{add, both, read, script, stat_last};
 use crate::persons::{FIRST, MASTER, STRANGER, corimg};
 use ods_base::Pick;
 use ods_share::{Action, Gate, Id, Look, Script};
@@ -165,4 +165,87 @@ fn view_is_never_held(rt: HostRuntime) -> Result<(), Fail> {
     let mut script = five_commands(rt.alloc())?;
     four_views(&mut script)?;
     is_counted(&rt, rt.alloc(), script, 0x111_1111_1110, 0x100_0011_0000)
+}
+
+/// Notes where a session is: 0 outside, 1 before a request, 2 under the lock. Each call of the gate has to find its session where it should
+/// be, and none two sessions under the lock; the first that is there stays for a while, and the other comes to the lock only then.
+#[derive(Drop)]
+struct Order {
+    first: AtomicU64,
+    second: AtomicU64,
+    under_lock: AtomicU64,
+    was_held: AtomicBool,
+    is_wrong: AtomicBool,
+}
+
+impl Order {
+    /// The session goes from one of its places to another.
+    fn go(&self, session: u16, from: u64, to: u64) {
+        let place = if session == 1 {
+            &self.first
+        } else {
+            &self.second
+        };
+        if place.swap(to, Ordering::SeqCst) != from {
+            self.is_wrong.store(true, Ordering::SeqCst);
+        }
+    }
+}
+
+impl Gate for Order {
+    fn before(&self, session: u16, _nth: u32) {
+        self.go(session, 0, 1);
+        if session == 2 {
+            for _ in 0..50_000_000u32 {
+                if self.was_held.load(Ordering::SeqCst) {
+                    return;
+                }
+            }
+            self.is_wrong.store(true, Ordering::SeqCst);
+        }
+    }
+
+    fn held(&self, session: u16, _nth: u32) {
+        self.go(session, 1, 2);
+        self.under_lock.fetch_add(1, Ordering::SeqCst);
+        self.was_held.store(true, Ordering::SeqCst);
+        for _ in 0..1_000_000u32 {
+            if self.under_lock.load(Ordering::SeqCst) != 1 {
+                self.is_wrong.store(true, Ordering::SeqCst);
+            }
+        }
+        self.under_lock.fetch_sub(1, Ordering::SeqCst);
+    }
+
+    fn after(&self, session: u16, _nth: u32) {
+        self.go(session, 2, 0);
+    }
+}
+
+/// A script of two requests.
+fn two_reads(alloc: Global) -> Result<Script, Fail>
+    ensures { IfOk result (λ s. CanBeRun s.commands.items) }
+{
+    let mut script = script(alloc);
+    add(&mut script, read(FIRST, 1))?;
+    add(&mut script, read(FIRST, 1))?;
+    Ok(script)
+}
+
+#[test]
+fn gate_is_called_in_order_and_under_the_lock(rt: HostRuntime) -> Result<(), Fail> {
+    let alloc = rt.alloc();
+    let gate = Order {
+        first: AtomicU64::new(0),
+        second: AtomicU64::new(0),
+        under_lock: AtomicU64::new(0),
+        was_held: AtomicBool::new(false),
+        is_wrong: AtomicBool::new(false),
+    };
+    let scripts = both(alloc, two_reads(alloc)?, two_reads(alloc)?)?;
+    let volume = two_file_volume(&rt, alloc, 4_096)?;
+    let ran = run_on(&rt, alloc, volume, &scripts, &gate)?;
+    assert!(rt; !gate.is_wrong.load(Ordering::SeqCst));
+    assert!(rt; ran.volume.entries().len() == 4);
+    Ok(())
 }

@@ -162,24 +162,37 @@ fn viewer_shows_what_it_learned(rt: HostRuntime) -> Result<(), Fail> {
     Ok(())
 }
 
-/// Keeps the request of session 1 under the lock until the view of session 2 is answered, and gives up at last.
+/// Keeps the view of session 2 until session 1 has the lock, and its request under the lock until the view is answered; gives up at last.
 #[derive(Drop)]
 struct Held {
+    is_held: AtomicBool,
     answered: AtomicBool,
     gave_up: AtomicBool,
 }
 
+impl Held {
+    /// Waits until this is so.
+    fn wait_for(&self, flag: &AtomicBool) {
+        for _ in 0..50_000_000u32 {
+            if flag.load(Ordering::SeqCst) {
+                return;
+            }
+        }
+        self.gave_up.store(true, Ordering::SeqCst);
+    }
+}
+
 impl Gate for Held {
-    fn before(&self, _session: u16, _nth: u32) {}
+    fn before(&self, session: u16, _nth: u32) {
+        if session == 2 {
+            self.wait_for(&self.is_held);
+        }
+    }
 
     fn held(&self, session: u16, _nth: u32) {
         if session == 1 {
-            for _ in 0..50_000_000u32 {
-                if self.answered.load(Ordering::SeqCst) {
-                    return;
-                }
-            }
-            self.gave_up.store(true, Ordering::SeqCst);
+            self.is_held.store(true, Ordering::SeqCst);
+            self.wait_for(&self.answered);
         }
     }
 
@@ -209,6 +222,7 @@ fn written_and_viewed(alloc: Global) -> Result<Vec<Script>, Fail>
 fn view_needs_no_lock(rt: HostRuntime) -> Result<(), Fail> {
     let alloc = rt.alloc();
     let gate = Held {
+        is_held: AtomicBool::new(false),
         answered: AtomicBool::new(false),
         gave_up: AtomicBool::new(false),
     };
