@@ -6,7 +6,7 @@
 set -eu
 here=$(cd "$(dirname "${BASH_SOURCE[0]}")/.." && pwd)
 times=${1:-17}
-program=$("$here/bench/tests_program" requests)
+program=$("$here/bench/tests_program" requests random)
 for name in small_volume volume_of_512_blocks files_of_several_headers almost_full_volume large_volume numbers_near_the_last_sequence; do
     began=$(date +%s)
     TRIALS=$times "$program" "requests::random::$name"

@@ -13,7 +13,7 @@
 # processor, to 1. A target that is missed is no failure.
 set -eu
 here=$(cd "$(dirname "${BASH_SOURCE[0]}")" && pwd)
-tests=$("$here/tests_program" sessions)
+tests=$("$here/tests_program" sessions timed_views)
 program=${F11:-$here/../f11}
 times=${1:-10000}
 runs=${RUNS:-5}

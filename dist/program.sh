@@ -60,6 +60,11 @@ is_shipped() {
         (cd "$top/dist" && sha256sum --check --status SHA256SUMS)
 }
 
+# The program that is here and made of these sums, as it was built or in dist/, if there is one: ready SUMS
+ready() {
+    if is_built "$1"; then echo "$program"; elif is_shipped "$1"; then echo "$shipped"; else return 1; fi
+}
+
 # What a green gate leaves in out/check/green: what the program was made of, and the sum of the program.
 green() {
     sources
