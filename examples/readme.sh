@@ -5,7 +5,7 @@ here=$(cd "$(dirname "$0")" && pwd)
 
 printf '#!/bin/sh\nexec "%s/f11" "$@"\n' "$top" >f11
 chmod +x f11
-sed -n '/^## If you hold/,/^The first run/s/^    //p' "$top/README.md" | sed 's/ *# .*//' >commands
+sed -n '/^## If you hold/,/^## If you want/s/^    //p' "$top/README.md" | sed 's/ *# .*//' >commands
 while read -r command; do
     printf '$ %s\n' "$command"
     eval "$command" </dev/null
