@@ -7,6 +7,7 @@ pub mod NameParsing
 pub mod NameTexts
 pub mod NameVersions
 pub mod OneBit
+pub mod Overlays
 pub mod Picks
 pub mod Pieces
 pub mod Reading

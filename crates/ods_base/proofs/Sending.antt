@@ -1,7 +1,7 @@
 -- An image on its way to a writer: what is sent, and what a piece holds back.
 use Rattle.std.proofs.Common.{◌≡◌, ℕ, zero, suc, ◌+◌, ◌*◌, ◌%◌, ◌<◌, ◌≤◌, List, [], ◌∷◌, ◌++◌, length, take, get_or, Option, refl, sym, ap, ◌∙◌, subst, arith, append_assoc, length-append, length-take-le}
 use Rattle.std.proofs.Math.Seq.{take-append_seam, take-append-add}
-use Rattle.std.proofs.lemmas.List.{take-take, append-nil, get_or_read}
+use Rattle.std.proofs.lemmas.List.{take-take, append-nil}
 use Rattle.std.proofs.KnownBytes.{Appends-trans}
 use Rattle.std.specs.Io.KnownBytes.{Appends}
 use Rattle.std.specs.List.{All, concat}
@@ -37,11 +37,9 @@ pub not_begun : (I : List (List ℕ)) → IsUnderWay I 0 0 []
 not_begun I = record { held = refl; count = omega arith; blocks = omega arith }
 
 -- the piece takes one block more
-pub one_more_held : (I items : List (List ℕ)) (i written : ℕ) (piece b grown : List ℕ) → All IsBlock I → items ≡ I → i < length items → b ≡ get_or items i b →
-    grown ≡ piece ++ b → IsUnderWay I i written piece → IsUnderWay I (i + 1) written grown
-one_more_held I items i written piece b grown each same within found is way =
-    let inside : i < length I = omega (arith, ap length same) in
-    let here : b ≡ get_or I i [] = get_or_read items i b within found [] ∙ ap (λ bs. get_or bs i []) same in
+pub one_more_held : (I : List (List ℕ)) (i written : ℕ) (piece b grown : List ℕ) → All IsBlock I → i < length I → b ≡ get_or I i [] → grown ≡ piece ++ b → IsUnderWay I i written piece →
+    IsUnderWay I (i + 1) written grown
+one_more_held I i written piece b grown each inside here is way =
     let size : length b ≡ 512 = ap length here ∙ (each i [] inside).size in
     let long : length grown ≡ length piece + 512 = ap length is ∙ length-append piece b ∙ ap (λ n. length piece + n) size in
     let count = way.count in

@@ -9,6 +9,7 @@ mod image;
 mod laws;
 mod listed;
 mod name;
+mod overlay;
 mod parse;
 mod print;
 mod read;

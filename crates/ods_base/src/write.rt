@@ -19,8 +19,8 @@ impl Image {
     {
         let mut piece: ArrayVec<u8, PIECE> = ArrayVec::new();
         let mut written: u64 = 0;
-        for block in &self.blocks {
-            hold_back(&mut piece, block);
+        for lbn in 0..self.len() {
+            hold_back(&mut piece, self.block(lbn));
             if piece.is_full() {
                 written = write_piece(writer, &piece, written)?;
                 piece.clear();

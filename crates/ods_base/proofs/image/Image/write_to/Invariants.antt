@@ -5,9 +5,9 @@ use Rattle.ods_base.proofs.Sending.{IsUnderWay}
 use Rattle.ods_base.proofs.image.Image.write_to.Given as goal
 
 -- the writer took the first bytes, the piece has the others of the blocks so far, and room for a block more
-abbrev pub invariant-loop-block : goal.invariant-loop-block
-invariant-loop-block g l = record {
-  way : IsUnderWay l.self l.block-index l.written l.piece.items;
+abbrev pub invariant-loop-lbn : goal.invariant-loop-lbn
+invariant-loop-lbn g l = record {
+  way : IsUnderWay l.self l.lbn l.written l.piece.items;
   room : length l.piece.items < 65536;
   sent : Appends (g.W.Write.contents l.initial.writer) (g.W.Write.contents l.writer) (take l.written (concat l.self));
 }
