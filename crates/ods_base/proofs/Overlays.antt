@@ -1,10 +1,10 @@
--- Images over a base that copies share: what each block is, and what a changed block leaves.
+-- Images over blocks that others share: what each block is, and what a changed block leaves.
 use Rattle.std.proofs.Common.{◌≡◌, ◌≢◌, ℕ, zero, suc, ◌+◌, ◌-◌, ◌<◌, ◌≤◌, ◌==◌, cond, List, [], ◌∷◌, ◌++◌, length, set, get_or, refl, sym, ap, subst, ◌∙◌, arith, inl, inr}
 use Rattle.std.specs.Prelude.{slice_index}
 use Rattle.std.proofs.lemmas.Bool.{cases_eq, ne_eqb}
 use Rattle.std.proofs.lemmas.List.{length-set, length_push, get_or-set_same, get_or-set_other, get_or_append_left, get_or_push}
 use Rattle.std.proofs.lemmas.List.FromFn.{fill_by_all, length-map-range_with_len, get_or-map-range_with_len}
-use Rattle.ods_base.specs.Block.{IsBlock}
+use Rattle.ods_base.specs.Block.{IsBlock, zeros}
 use Rattle.ods_base.specs.Image.{IsImage, block_at}
 use Rattle.ods_base.specs.Overlay.{overlaid, overlaid_at, used, IsOverlay, HasReached, IsHeld}
 
@@ -22,30 +22,44 @@ unfolding overlaid
 overlaid_is B P C J size each = fill_by_all (overlaid_at B P C) J (length B) [] size each
 
 -- nothing changed yet
-pub overlaid_none : (B : List (List ℕ)) → B ≡ overlaid B [] []
-overlaid_none B = overlaid_is B [] [] B refl (λ k inside. refl)
+pub overlaid_none : (B C : List (List ℕ)) → B ≡ overlaid B [] C
+overlaid_none B C = overlaid_is B [] C B refl (λ k inside. refl)
 
 -- how many seats are in use
 used-le : (P : List ℕ) → used P ≤ length P
 used-le [] = omega arith
 used-le (zero ∷ ps) = let rest = used-le ps in omega arith
-used-le (suc p ∷ ps) = let rest = used-le ps in omega arith
+used-le (suc zero ∷ ps) = let rest = used-le ps in omega arith
+used-le (suc (suc p) ∷ ps) = let rest = used-le ps in omega arith
 
 used-push : (P : List ℕ) → used (P ++ 0 ∷ []) ≡ used P
 used-push [] = refl
 used-push (zero ∷ ps) = used-push ps
-used-push (suc p ∷ ps) = ap suc (used-push ps)
+used-push (suc zero ∷ ps) = used-push ps
+used-push (suc (suc p) ∷ ps) = ap suc (used-push ps)
 
-used-set : (P : List ℕ) (k v : ℕ) → k < length P → slice_index P k ≡ 0 → used (set P k (suc v)) ≡ suc (used P)
+-- a seat that is taken, and one that goes on as that of the zeros
+used-set : (P : List ℕ) (k v : ℕ) → k < length P → slice_index P k < 2 → used (set P k (suc (suc v))) ≡ suc (used P)
 used-set [] k v inside free = absurd (omega (arith, inside))
 used-set (zero ∷ ps) zero v inside free = refl
-used-set (suc p ∷ ps) zero v inside free = absurd (omega (arith, free))
+used-set (suc zero ∷ ps) zero v inside free = refl
+used-set (suc (suc p) ∷ ps) zero v inside free = absurd (omega (arith, free))
 used-set (zero ∷ ps) (suc k) v inside free = used-set ps k v (omega arith) free
-used-set (suc p ∷ ps) (suc k) v inside free = ap suc (used-set ps k v (omega arith) free)
+used-set (suc zero ∷ ps) (suc k) v inside free = used-set ps k v (omega arith) free
+used-set (suc (suc p) ∷ ps) (suc k) v inside free = ap suc (used-set ps k v (omega arith) free)
+
+used-one : (P : List ℕ) (k : ℕ) → k < length P → slice_index P k < 2 → used (set P k 1) ≡ used P
+used-one [] k inside free = refl
+used-one (zero ∷ ps) zero inside free = refl
+used-one (suc zero ∷ ps) zero inside free = refl
+used-one (suc (suc p) ∷ ps) zero inside free = absurd (omega (arith, free))
+used-one (zero ∷ ps) (suc k) inside free = used-one ps k (omega arith) free
+used-one (suc zero ∷ ps) (suc k) inside free = used-one ps k (omega arith) free
+used-one (suc (suc p) ∷ ps) (suc k) inside free = ap suc (used-one ps k (omega arith) free)
 
 -- where a seat is free, there are fewer in use than there are
-used-room : (P : List ℕ) (k : ℕ) → k < length P → slice_index P k ≡ 0 → used P < length P
-used-room P k inside free = omega (arith, used-set P k 0 inside free, used-le (set P k 1), length-set P k 1)
+used-room : (P : List ℕ) (k : ℕ) → k < length P → slice_index P k < 2 → used P < length P
+used-room P k inside free = omega (arith, used-set P k 0 inside free, used-le (set P k 2), length-set P k 2)
 
 index-push : (Q : List ℕ) (k : ℕ) → slice_index (Q ++ 0 ∷ []) k ≡ slice_index Q k
 index-push [] zero = refl
@@ -98,14 +112,14 @@ module _ (n : ℕ) (P Q : List ℕ) (C : List (List ℕ)) (at : ℕ) (b : List �
   few : length Q ≤ n
   few = reached.few n (omega arith) old.few
 
-  count : length C ≡ used Q
-  count = old.count ∙ sym reached.count
+  count : length C ≡ suc (used Q)
+  count = old.count ∙ ap suc (sym reached.count)
 
   each : (k : ℕ) → slice_index Q k ≤ length C
   each k = rw (reached.same k) (old.within k)
 
-  apart : (i k : ℕ) → slice_index Q i ≡ slice_index Q k → 0 < slice_index Q i → i ≡ k
-  apart i k e some = old.apart i k (sym (reached.same i) ∙ e ∙ reached.same k) (subst (λ x. 0 < x) (reached.same i) some)
+  apart : (i k : ℕ) → slice_index Q i ≡ slice_index Q k → 1 < slice_index Q i → i ≡ k
+  apart i k e some = old.apart i k (sym (reached.same i) ∙ e ∙ reached.same k) (subst (λ x. 1 < x) (reached.same i) some)
 
   -- the block at another LBN, as it was
   was : (B : List (List ℕ)) (k : ℕ) → k < length B → k ≢ at → block_at (set (overlaid B P C) at b) k ≡ chosen B C (slice_index Q k) k
@@ -122,13 +136,13 @@ module _ (n : ℕ) (P Q : List ℕ) (C : List (List ℕ)) (at : ℕ) (b : List �
   size : (B : List (List ℕ)) → length (set (overlaid B P C) at b) ≡ length B
   size B = length-set (overlaid B P C) at b ∙ length-overlaid B P C
 
-  -- a block that did not change before
-  module _ (free : slice_index Q at ≡ 0) where
-    -- there is room for it
-    pub has_room : length C < n
+  -- a block with no seat of its own
+  module _ (free : slice_index Q at < 2) where
+    -- there is room for one
+    pub has_room : length C ≤ n
     has_room = omega (arith, count, used-room Q at within free, few)
 
-  module _ (free : slice_index Q at ≡ 0) (v : ℕ) (last : v ≡ suc (length C)) where
+  module _ (free : slice_index Q at < 2) (v : ℕ) (last : v ≡ suc (length C)) where
     at_other : (k : ℕ) → k ≢ at → slice_index (set Q at v) k ≡ slice_index Q k
     at_other k other = get_or-set_other Q at k v 0 other
 
@@ -138,7 +152,9 @@ module _ (n : ℕ) (P Q : List ℕ) (C : List (List ℕ)) (at : ℕ) (b : List �
     pub pushed_overlay : IsOverlay n (set Q at v) (C ++ b ∷ [])
     pushed_overlay = record {
       few = omega (arith, length-set Q at v, few);
-      count = length_push C b ∙ omega (arith, count, used-set Q at (length C) within free, ap (λ x. used (set Q at x)) last);
+      first = get_or_append_left C (b ∷ []) [] 0 (omega (arith, count)) ∙ old.first;
+      count =
+          length_push C b ∙ omega (arith, count, used-set Q at (used Q) within free, ap (λ x. used (set Q at x)) (last ∙ ap suc count));
       within = λ k. let more = length_push C b in elim (cases_eq k at) [
         | inl e ↦ let s = at_same k e in omega (arith, s, more)
         | inr other ↦ let s = at_other k other in let w = each k in omega (arith, s, w, more)
@@ -150,7 +166,7 @@ module _ (n : ℕ) (P Q : List ℕ) (C : List (List ℕ)) (at : ℕ) (b : List �
         ]
         | inr ni ↦ elim (cases_eq k at) [
           | inl ek ↦ let s = at_same k ek in let t = at_other i ni in let w = each i in absurd (omega (arith, s, t, w, e))
-          | inr nk ↦ apart i k (sym (at_other i ni) ∙ e ∙ at_other k nk) (subst (λ x. 0 < x) (at_other i ni) some)
+          | inr nk ↦ apart i k (sym (at_other i ni) ∙ e ∙ at_other k nk) (subst (λ x. 1 < x) (at_other i ni) some)
         ]
       ];
     }
@@ -164,15 +180,56 @@ module _ (n : ℕ) (P Q : List ℕ) (C : List (List ℕ)) (at : ℕ) (b : List �
           | inr other ↦ was B k small other ∙ sym (chosen_more B C b (slice_index Q k) k (each k)) ∙ ap (λ p. chosen B (C ++ b ∷ []) p k) (sym (at_other k other))
         ]
 
-  -- a block that changed before
-  module _ (some : 0 < slice_index Q at) where
+  -- a block that gets the seat of the zeros
+  module _ (free : slice_index Q at < 2) where
+    one_other : (k : ℕ) → k ≢ at → slice_index (set Q at 1) k ≡ slice_index Q k
+    one_other k other = get_or-set_other Q at k 1 0 other
+
+    one_same : (k : ℕ) → k ≡ at → slice_index (set Q at 1) k ≡ 1
+    one_same k e = ap (λ x. slice_index (set Q at 1) x) e ∙ get_or-set_same Q at 1 0 within
+
+    pub zeroed_overlay : IsOverlay n (set Q at 1) C
+    zeroed_overlay = record {
+      few = omega (arith, length-set Q at 1, few);
+      first = old.first;
+      count = count ∙ ap suc (sym (used-one Q at within free));
+      within = λ k. elim (cases_eq k at) [
+        | inl e ↦ let s = one_same k e in omega (arith, s, count)
+        | inr other ↦ let s = one_other k other in let w = each k in omega (arith, s, w)
+      ];
+      apart = λ i k e some. elim (cases_eq i at) [
+        | inl ei ↦ let s = one_same i ei in absurd (omega (arith, s, some))
+        | inr ni ↦ elim (cases_eq k at) [
+          | inl ek ↦ let s = one_same k ek in absurd (omega (arith, s, e, some))
+          | inr nk ↦ apart i k (sym (one_other i ni) ∙ e ∙ one_other k nk) (subst (λ x. 1 < x) (one_other i ni) some)
+        ]
+      ];
+    }
+
+    pub zeroed_changed : (B : List (List ℕ)) → b ≡ zeros → overlaid B (set Q at 1) C ≡ set (overlaid B P C) at b
+    zeroed_changed B z = sym (overlaid_is B (set Q at 1) C (set (overlaid B P C) at b) (size B) at_each)
+      where
+        at_each : (k : ℕ) → k < length B → block_at (set (overlaid B P C) at b) k ≡ overlaid_at B (set Q at 1) C k
+        at_each k small = elim (cases_eq k at) [
+          | inl e ↦ now B k small e ∙ z ∙ sym old.first ∙ sym (ap (λ p. chosen B C p k) (one_same k e))
+          | inr other ↦ was B k small other ∙ ap (λ p. chosen B C p k) (sym (one_other k other))
+        ]
+
+  -- a block with a seat of its own
+  module _ (some : 1 < slice_index Q at) where
     pub in_place : slice_index Q at - 1 < length C
     in_place = omega (arith, each at, some)
 
     pub renewed_overlay : IsOverlay n Q (set C (slice_index Q at - 1) b)
     renewed_overlay =
         let same = length-set C (slice_index Q at - 1) b in
-        record { few = few; count = same ∙ count; within = λ k. let w = each k in omega (arith, same, w); apart = apart }
+        record {
+          few = few;
+          first = get_or-set_other C (slice_index Q at - 1) 0 b [] (λ e. absurd (omega (arith, e, some))) ∙ old.first;
+          count = same ∙ count;
+          within = λ k. let w = each k in omega (arith, same, w);
+          apart = apart;
+        }
 
     pub renewed_changed : (B : List (List ℕ)) → overlaid B Q (set C (slice_index Q at - 1) b) ≡ set (overlaid B P C) at b
     renewed_changed B = sym (overlaid_is B Q (set C (slice_index Q at - 1) b) (set (overlaid B P C) at b) (size B) at_each)
@@ -182,18 +239,18 @@ module _ (n : ℕ) (P Q : List ℕ) (C : List (List ℕ)) (at : ℕ) (b : List �
           | inl e ↦
               now B k small e
               ∙ sym (ap (λ x. chosen B (set C (slice_index Q at - 1) b) (slice_index Q x) x) e
-              ∙ chosen_own B (set C (slice_index Q at - 1) b) (slice_index Q at) at some
+              ∙ chosen_own B (set C (slice_index Q at - 1) b) (slice_index Q at) at (omega (arith, some))
               ∙ get_or-set_same C (slice_index Q at - 1) b [] in_place)
           | inr other ↦
               was B k small other
-              ∙ sym (chosen_other B C b (slice_index Q at) (slice_index Q k) k (λ e more. other (apart k at e more)) some)
+              ∙ sym (chosen_other B C b (slice_index Q at) (slice_index Q k) k (λ e more. other (apart k at e (omega (arith, e, some)))) (omega (arith, some)))
         ]
 
 -- an image of these blocks, with nothing changed
-pub held_new : (B A : List (List ℕ)) (P : List ℕ) (C : List (List ℕ)) (seats own : ℕ) → IsImage B → A ≡ B → P ≡ [] → C ≡ [] → length B ≤ seats → length B ≤ own → IsHeld A P C seats own
-held_new B A P C seats own image a p c seat_room room = rw (a, p, c) (record {
-  image = subst IsImage (overlaid_none B) image;
-  overlay = record { few = omega arith; count = refl; within = λ k. omega arith; apart = λ i k e some. absurd (omega (arith, some)) };
+pub held_new : (B : List (List ℕ)) (P : List ℕ) (C : List (List ℕ)) (seats own : ℕ) → IsImage B → P ≡ [] → C ≡ zeros ∷ [] → length B ≤ seats → length B < own → IsHeld B P C seats own
+held_new B P C seats own image p c seat_room room = rw (p, c) (record {
+  image = subst IsImage (overlaid_none B (zeros ∷ [])) image;
+  overlay = record { few = omega arith; first = refl; count = refl; within = λ k. omega arith; apart = λ i k e some. absurd (omega (arith, some)) };
   seat_room = seat_room;
   room = room;
 })

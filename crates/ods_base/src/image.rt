@@ -1,36 +1,39 @@
 //! Images: the blocks of a volume, in order.
-ghost use Rattle.std.specs.Prelude.{◌≡◌, ◌<◌, ◌==◌, length, slice_set, IfOk, IfErr, MatchBool, ◌≢◌};
-ghost use Rattle.ods_base.specs.{Block.IsBlock, Image.IsImage, Image.IsNoImage, Image.block_at, Image.image_bytes};
+ghost use Rattle.std.specs.Prelude.{◌≡◌, ◌≢◌, ◌^◌, ◌<◌, ◌≤◌, ◌==◌, [], ◌∷◌, length, slice_set, IfOk, IfErr, MatchBool};
+ghost use Rattle.std.specs.Vec.{vec_capacity};
+ghost use Rattle.ods_base.specs.{Block.IsBlock, Block.zeros, Image.IsImage, Image.IsNoImage, Image.block_at, Image.image_bytes};
 
-use crate::overlay::{put_block, seat_of};
+use crate::overlay::Overlay;
 use crate::read::store_whole_blocks;
-use crate::{Block, ImageError};
+use crate::{Block, FixedImage, ImageError};
 use std::alloc::{AllocError, Global};
 use std::marker::Model;
-use std::sync::Arc;
 
-/// An image: at most 1,048,576 blocks, numbered from 0. The number of a block is its LBN. Copies of an image share the blocks that
-/// none of them changed; each has room of its own for those that it changes, which is taken when it is made, so that a change takes none.
+/// An image: at most 1,048,576 blocks, numbered from 0. The number of a block is its LBN.
 #[derive(Drop)]
 pub struct Image {
-    /// The blocks as they were read, which never change.
-    base: Arc<Vec<Block>>,
-    /// Where each block that changed stands in `own`, counted from 1; 0, or nothing, for one that did not.
-    seats: Vec<u32>,
-    /// The blocks that changed, as they are now.
-    own: Vec<Block>,
+    kept: Kept,
+}
+
+/// The blocks of an image.
+#[derive(Drop)]
+enum Kept {
+    /// In a list of its own, where they change in place.
+    Alone(Vec<Block>),
+    /// Over blocks that others share.
+    Over(Overlay),
 }
 
 impl Model for Image {
     ghost use Rattle.std.specs.Prelude.{List, ℕ};
-    ghost use Rattle.std.specs.Vec.{vec_capacity};
-    ghost use Rattle.ods_base.specs.Overlay.{overlaid, IsHeld};
+    ghost use Rattle.ods_base.specs.Image.{IsImage};
+    ghost use Rattle.ods_base.specs.Kept.{blocks_of};
 
     ghost Value = { List (List ℕ) };
 
-    ghost view = { λ i. overlaid i.base.value.items i.seats.items i.own.items };
+    ghost view = { λ i. blocks_of i.kept };
 
-    ghost invariant = { λ i. IsHeld i.base.value.items i.seats.items i.own.items (vec_capacity i.seats) (vec_capacity i.own) };
+    ghost invariant = { λ i. IsImage (blocks_of i.kept) };
 }
 
 /// The bytes of the largest image: 1,048,576 blocks.
@@ -50,19 +53,25 @@ impl Image {
         }
         let mut blocks = Vec::with_capacity(alloc, bytes.len() / 512)?;
         store_whole_blocks(&mut blocks, bytes)?;
-        Ok(Image::of(blocks)?)
+        Ok(Image::alone(blocks))
     }
 
-    /// The image of these blocks.
-    pub(crate) fn of(blocks: Vec<Block>) -> Result<Image, AllocError>
+    /// The image of these blocks, alone with them.
+    pub(crate) fn alone(blocks: Vec<Block>) -> Image
         requires { IsImage blocks.items }
-        ensures { IfOk result (λ image. image ≡ blocks.items) }
+        ensures { result ≡ blocks.items }
     {
-        let alloc = *blocks.allocator();
-        let seats = Vec::with_capacity(alloc, blocks.len())?;
-        let own = Vec::with_capacity(alloc, blocks.len())?;
-        let base = Arc::new(alloc, blocks)?;
-        Ok(Image { base, seats, own })
+        let kept = Kept::Alone(blocks);
+        Image { kept }
+    }
+
+    /// The image over shared blocks.
+    fn over(overlay: Overlay) -> Image
+        ensures { result ≡ overlay }
+    {
+        let _ = overlay.len();
+        let kept = Kept::Over(overlay);
+        Image { kept }
     }
 
     /// The number of blocks.
@@ -70,14 +79,17 @@ impl Image {
         ensures value { result ≡ length self.now }
         ensures image { IsImage self.now }
     {
-        self.base.len() as u32
+        match &self.kept {
+            Kept::Alone(blocks) => blocks.len() as u32,
+            Kept::Over(overlay) => overlay.len(),
+        }
     }
 
     /// Whether there is no block.
     pub fn is_empty(&self) -> bool
         ensures { result ≡ (length self.now == 0) }
     {
-        self.base.is_empty()
+        self.len() == 0
     }
 
     /// The block at this LBN.
@@ -86,12 +98,9 @@ impl Image {
         ensures value { result.now ≡ block_at self.now lbn }
         ensures block { IsBlock result.now }
     {
-        let at = lbn as usize;
-        let seat = seat_of(&self.seats, at);
-        if seat == 0 {
-            &self.base[at]
-        } else {
-            &self.own[seat - 1]
+        match &self.kept {
+            Kept::Alone(blocks) => &blocks[lbn as usize],
+            Kept::Over(overlay) => overlay.block(lbn),
         }
     }
 
@@ -101,21 +110,73 @@ impl Image {
         ensures { self.new ≡ slice_set self.old lbn block }
     {
         let _ = block.bytes();
-        let count = self.len();
-        put_block(&mut self.seats, &mut self.own, count, lbn as usize, block);
+        match &mut self.kept {
+            Kept::Alone(blocks) => blocks[lbn as usize] = block,
+            Kept::Over(overlay) => overlay.set_block(lbn, block),
+        }
     }
 
-    /// An equal image, which shares what never changed, and has room of its own for changes.
+    /// The block at this LBN becomes zeros. An image over shared blocks keeps one block for all that did.
+    pub fn set_zeros(&mut self, lbn: u32)
+        requires { lbn < length self.old }
+        ensures { self.new ≡ slice_set self.old lbn zeros }
+    {
+        let block = Block::zeros();
+        match &mut self.kept {
+            Kept::Alone(blocks) => blocks[lbn as usize] = block,
+            Kept::Over(overlay) => overlay.set_zeros(lbn),
+        }
+    }
+
+    /// An equal image: over the same blocks where this one shares them, and else in memory of its own.
     pub fn copy(&self) -> Result<Image, AllocError>
         ensures { IfOk result (λ image. image ≡ self.now) }
     {
-        let alloc = *self.own.allocator();
-        let mut seats = Vec::with_capacity(alloc, self.base.len())?;
-        seats.extend_from_slice(&self.seats)?;
-        let mut own = Vec::with_capacity(alloc, self.base.len())?;
-        own.extend_from_slice(&self.own)?;
-        let base = Arc::try_clone(&self.base)?;
-        Ok(Image { base, seats, own })
+        match &self.kept {
+            Kept::Alone(blocks) => {
+                let copied = Vec::from_slice(*blocks.allocator(), blocks)?;
+                Ok(Image::alone(copied))
+            }
+            Kept::Over(overlay) => {
+                let copied = overlay.copy()?;
+                Ok(Image::over(copied))
+            }
+        }
+    }
+
+    /// The image as it is, to be changed no more, and an equal one over the same blocks, with room for each of them to be changed.
+    /// After a refusal the image comes back.
+    pub fn split(self) -> Result<(FixedImage, Image), Image>
+        ensures ok { IfOk result (λ two. (two.0 ≡ self) × (two.1 ≡ self)) }
+        ensures err { IfErr result (λ image. image ≡ self) }
+    {
+        let blocks = self.into_blocks()?;
+        let Ok((seats, own)) = room_for(*blocks.allocator(), blocks.len()) else {
+            return Err(Image::alone(blocks));
+        };
+        match FixedImage::new(blocks) {
+            Ok(base) => match base.another() {
+                Ok(fixed) => Ok((fixed, Image::over(Overlay::new(base, seats, own)))),
+                Err(_) => Err(Image::over(Overlay::new(base, seats, own))),
+            },
+            Err(blocks) => Err(Image::alone(blocks)),
+        }
+    }
+
+    /// The blocks, in a list of their own. After a refusal the image comes back.
+    fn into_blocks(self) -> Result<Vec<Block>, Image>
+        ensures ok { IfOk result (λ blocks. blocks.items ≡ self) }
+        ensures image { IsImage self }
+        ensures err { IfErr result (λ image. image ≡ self) }
+    {
+        let _ = self.len();
+        match self.kept {
+            Kept::Alone(blocks) => Ok(blocks),
+            Kept::Over(overlay) => match overlay.gather() {
+                Ok(blocks) => Ok(blocks),
+                Err(_) => Err(Image::over(overlay)),
+            },
+        }
     }
 }
 
@@ -147,4 +208,16 @@ fn same_blocks(one: &Image, other: &Image) -> bool
         }
     }
     true
+}
+
+/// Room for each of so many blocks to be changed: no seat, and a block of zeros.
+fn room_for(alloc: Global, count: usize) -> Result<(Vec<u32>, Vec<Block>), AllocError>
+    requires { count ≤ 2 ^ 20 }
+    ensures seats { IfOk result (λ room. (room.0.items ≡ []) × (count ≤ vec_capacity room.0)) }
+    ensures own { IfOk result (λ room. (room.1.items ≡ zeros ∷ []) × (count < vec_capacity room.1)) }
+{
+    let seats = Vec::with_capacity(alloc, count)?;
+    let mut own = Vec::with_capacity(alloc, count + 1)?;
+    own.push_reserved(Block::zeros());
+    Ok((seats, own))
 }

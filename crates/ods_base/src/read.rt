@@ -23,7 +23,7 @@ impl Image {
         let mut piece = zeroed(alloc, PIECE)?;
         let mut blocks = Vec::new(alloc);
         read_blocks(reader, &mut piece, &mut blocks)?;
-        Ok(Image::of(blocks)?)
+        Ok(Image::alone(blocks))
     }
 }
 

@@ -5,17 +5,15 @@ use Rattle.ods_base.specs.Block.{IsBlock}
 use Rattle.ods_base.specs.Image.{IsImage, block_at}
 use Rattle.ods_base.specs.Overlay.{overlaid}
 use Rattle.ods_base.proofs.Overlays.{length-overlaid, reads_base, reads_own}
-use Rattle.ods_base.proofs.image.Image.block.Goals as goal
+use Rattle.ods_base.proofs.overlay.Overlay.block.Goals as goal
 
 -- the block at this LBN, by its seat
 module _ (B : List (List ℕ)) (P : List ℕ) (C I : List (List ℕ)) (lbn seat : ℕ) (b : List ℕ) (view : overlaid B P C ≡ I) (requires : lbn < length I) (is : seat ≡ slice_index P lbn) where
   inside : lbn < length B
   inside = omega (arith, length-overlaid B P C, ap length view, requires)
 
-  from_base : (A : List (List ℕ)) → A ≡ B → seat ≡ 0 → b ≡ get_or A lbn b → b ≡ block_at I lbn
-  from_base A same zero read =
-      let here : b ≡ get_or B lbn b = read ∙ ap (λ a. get_or a lbn b) same in
-      get_or_read B lbn b inside here [] ∙ sym (reads_base B P C lbn inside (sym is ∙ zero)) ∙ ap (λ J. block_at J lbn) view
+  from_base : seat ≡ 0 → b ≡ block_at B lbn → b ≡ block_at I lbn
+  from_base zero read = read ∙ sym (reads_base B P C lbn inside (sym is ∙ zero)) ∙ ap (λ J. block_at J lbn) view
 
   from_own : ((k : ℕ) → slice_index P k ≤ length C) → 0 < seat → b ≡ get_or C (seat - 1) b → b ≡ block_at I lbn
   from_own within some read =
@@ -25,33 +23,23 @@ module _ (B : List (List ℕ)) (P : List ℕ) (C I : List (List ℕ)) (lbn seat 
   whole : IsImage (overlaid B P C) → b ≡ block_at I lbn → IsBlock b
   whole image here = subst IsBlock (ap (λ J. block_at J lbn) view ∙ sym here) (image.blocks lbn [] (omega (arith, ap length view, requires)))
 
-pub index-requires : goal.index-requires
-index-requires c =
-    let inside = c.self.inside in
-    let size = sym (length-overlaid inside.base.value.items inside.seats.items inside.own.items) ∙ ap length c.self.view_is in
-    search (rules, size)
+pub block-requires : goal.block-requires
+block-requires c =
+    let i = c.self.inside in
+    inside i.base i.seats.items i.own.items c.args.self.now c.args.lbn c.seat_of-seat.result [] c.self.view_is c.requires (search (rules))
 
 pub returns-then-seat-eq0-clause-value : goal.returns-then-seat-eq0-clause-value
 returns-then-seat-eq0-clause-value c =
     let i = c.self.inside in
-    let read = c.index.ensures in
-    from_base i.base.value.items i.seats.items i.own.items c.args.self.now c.args.lbn c.seat_of-seat.result c.index.result.now c.self.view_is c.requires (search (rules))
-    _ (ap (λ v. v.items) c.deref-then-seat-eq0.ensures) c.if-seat-eq0.true read
-
-pub returns-then-seat-eq0-clause-block : goal.returns-then-seat-eq0-clause-block
-returns-then-seat-eq0-clause-block c =
-    let i = c.self.inside in
-    whole i.base.value.items i.seats.items i.own.items c.args.self.now c.args.lbn c.seat_of-seat.result c.index.result.now c.self.view_is c.requires (search (rules))
-    c.self.invariant.image (returns-then-seat-eq0-clause-value c)
+    from_base i.base i.seats.items i.own.items c.args.self.now c.args.lbn c.seat_of-seat.result c.block.result.now c.self.view_is c.requires (search (rules)) c.if-seat-eq0.true c.block.ensures.value
 
 pub returns-else-seat-eq0-clause-value : goal.returns-else-seat-eq0-clause-value
 returns-else-seat-eq0-clause-value c =
     let i = c.self.inside in
-    from_own i.base.value.items i.seats.items i.own.items c.args.self.now c.args.lbn c.seat_of-seat.result c.index-else-seat-eq0.result.now c.self.view_is c.requires (search (rules))
-    c.self.invariant.overlay.within (search (rules)) c.index-else-seat-eq0.ensures
+    from_own i.base i.seats.items i.own.items c.args.self.now c.args.lbn c.seat_of-seat.result c.index.result.now c.self.view_is c.requires (search (rules)) c.self.invariant.overlay.within (search (rules)) c.index.ensures
 
 pub returns-else-seat-eq0-clause-block : goal.returns-else-seat-eq0-clause-block
 returns-else-seat-eq0-clause-block c =
     let i = c.self.inside in
-    whole i.base.value.items i.seats.items i.own.items c.args.self.now c.args.lbn c.seat_of-seat.result c.index-else-seat-eq0.result.now c.self.view_is c.requires (search (rules))
+    whole i.base i.seats.items i.own.items c.args.self.now c.args.lbn c.seat_of-seat.result c.index.result.now c.self.view_is c.requires (search (rules))
     c.self.invariant.image (returns-else-seat-eq0-clause-value c)

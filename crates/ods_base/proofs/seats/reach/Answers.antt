@@ -2,7 +2,7 @@ use Rattle.std.proofs.Common.{◌∙◌, ◌+◌, ◌<◌, length, ap, sym, subs
 use Rattle.std.proofs.lemmas.List.{length_push}
 use Rattle.ods_base.specs.Overlay.{HasReached}
 use Rattle.ods_base.proofs.Overlays.{reached_more}
-use Rattle.ods_base.proofs.overlay.reach.Goals as goal
+use Rattle.ods_base.proofs.seats.reach.Goals as goal
 
 pub loop-k-preserved : goal.loop-k-preserved
 loop-k-preserved c =
