@@ -1,8 +1,8 @@
 //! A sound image with its layout.
-ghost use Rattle.std.specs.Prelude.{◌≡◌};
+ghost use Rattle.std.specs.Prelude.{◌≡◌, IfOk, IfErr};
 ghost use Rattle.ods_mount.specs.Sound.{IsSoundBy};
 
-use ods_base::Image;
+use ods_base::{FixedImage, Image};
 use ods_space::Layout;
 use std::marker::Model;
 
@@ -58,5 +58,21 @@ impl Mounted {
         ensures sound { IsSoundBy self.image self.layout }
     {
         (self.image, self.layout)
+    }
+
+    /// The image as it is, to be changed no more, an equal one over the same blocks, with room for each of them to be changed, and
+    /// the layout. After a refusal all comes back.
+    pub fn split(self) -> Result<(FixedImage, Image, Layout), Mounted>
+        ensures ok { IfOk result (λ parts. (parts.0 ≡ self.image) × (parts.1 ≡ self.image) × (parts.2 ≡ self.layout)) }
+        ensures sound { IsSoundBy self.image self.layout }
+        ensures err { IfErr result (λ mounted. mounted ≡ self) }
+    {
+        match self.image.split() {
+            Ok((fixed, image)) => Ok((fixed, image, self.layout)),
+            Err(image) => Err(Mounted {
+                image,
+                layout: self.layout,
+            }),
+        }
     }
 }
