@@ -12,7 +12,7 @@ use ods_alloc::{free_count, number_count};
 use ods_mount::Mounted;
 use ods_script::sessions_text;
 use ods_share::{
-    Call, Gate, Outcome, Reply, Report, RunFault, Script, SettleFault, run_scripts, settle,
+    Call, Gate, Outcome, Reply, Report, RunFault, Script, SettleFault, run_scripts, settle_mounted,
 };
 use ods_volume::Volume;
 use std::alloc::{AllocError, Global};
@@ -126,7 +126,7 @@ fn report_of(
     ensures limit { IfOk result (λ r. r.entries ≤ limit) }
     ensures err { IfErr result IsServingFault }
 {
-    match settle(alloc, volume.mounted(), volume, calls.as_slice()) {
+    match settle_mounted(alloc, volume, calls.as_slice()) {
         Ok(report) => {
             if report.entries > limit {
                 return Err(ServeFault::Unmatched);

@@ -22,4 +22,4 @@ pub use ods_views::{Naming, Told, ViewFault, Viewer};
 pub use outcome::{Call, Outcome, Reply};
 pub use run::{run_scripts, run_sessions};
 pub use script::{Action, Ask, Command, Id, Look, Script};
-pub use settlement::{Report, settle};
+pub use settlement::{Report, settle, settle_mounted};

@@ -75,16 +75,13 @@ fn in_range(entries: &[Entry], sessions: usize) -> bool
 fn is_mounted(image: &Image, volume: &Volume) -> bool
     ensures { IsTrue result ↔ (image.now ≡ volume.now.mounted) }
 {
-    image == volume.mounted()
+    volume.mounted().is(image)
 }
 
-/// Whether the list is settled.
-fn is_settled(image: &Image, volume: &Volume, calls: &[Vec<Call>]) -> bool
-    ensures { IsTrue result ↔ IsSettled image.now volume.now calls.now }
+/// Whether the list is settled with an image that is the mounted one.
+fn follows(volume: &Volume, calls: &[Vec<Call>]) -> bool
+    ensures { IsTrue result ↔ IsSettled volume.now.mounted volume.now calls.now }
 {
-    if !is_mounted(image, volume) {
-        return false;
-    }
     if !in_range(volume.entries(), calls.len()) {
         return false;
     }
@@ -117,7 +114,21 @@ pub fn settle(
 ) -> Result<Report, SettleFault>
     ensures { SettlesAs image.now volume.now calls.now result }
 {
-    if !is_settled(image, volume, calls) {
+    if !is_mounted(image, volume) {
+        return Err(SettleFault::Unmatched);
+    }
+    settle_mounted(alloc, volume, calls)
+}
+
+/// Compares a volume's list with the calls of the sessions as `settle` does where the image is the mounted one, and looks at no block.
+pub fn settle_mounted(
+    alloc: Global,
+    volume: &Volume,
+    calls: &[Vec<Call>],
+) -> Result<Report, SettleFault>
+    ensures { SettlesAs volume.now.mounted volume.now calls.now result }
+{
+    if !follows(volume, calls) {
         return Err(SettleFault::Unmatched);
     }
     let entries = entry_count(volume);

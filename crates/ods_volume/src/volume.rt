@@ -7,7 +7,7 @@ ghost use Rattle.ods_request.specs.Catalogue.{Catalogue};
 ghost use Rattle.ods_state.specs.Version.{IsVersionBy, IsPresent, IsLawful};
 
 use ods_alloc::FreeCounts;
-use ods_base::{Image, NoMemory};
+use ods_base::{FixedImage, Image, NoMemory};
 use ods_mount::Mounted;
 use ods_request::Entry;
 use ods_space::Layout;
@@ -18,7 +18,7 @@ use std::marker::Model;
 /// each block of the bitmaps, so that a request reads none of which nothing is left.
 #[derive(Drop)]
 pub struct Volume {
-    pub(crate) mounted: Image,
+    pub(crate) mounted: FixedImage,
     pub(crate) image: Image,
     pub(crate) layout: Layout,
     pub(crate) entries: Vec<Entry>,
@@ -48,10 +48,6 @@ impl Volume {
         ensures ok { IfOk result (λ v. v ≡ record { mounted = mounted.image; entries = []; image = mounted.image; layout = mounted.layout; limit = limit }) }
         ensures err { IfErr result (λ e. e.0 ≡ mounted) }
     {
-        let now = match mounted.image().copy() {
-            Ok(now) => now,
-            Err(_) => return Err((mounted, NoMemory)),
-        };
         let entries = match Vec::with_capacity(alloc, limit as usize) {
             Ok(entries) => entries,
             Err(_) => return Err((mounted, NoMemory)),
@@ -60,15 +56,17 @@ impl Volume {
             Ok(counts) => counts,
             Err(_) => return Err((mounted, NoMemory)),
         };
-        let (image, layout) = mounted.into_parts();
-        Ok(Volume {
-            mounted: image,
-            image: now,
-            layout,
-            entries,
-            limit,
-            counts,
-        })
+        match mounted.split() {
+            Ok((mounted, image, layout)) => Ok(Volume {
+                mounted,
+                image,
+                layout,
+                entries,
+                limit,
+                counts,
+            }),
+            Err(mounted) => Err((mounted, NoMemory)),
+        }
     }
 
     /// Each volume has a catalogue now.
@@ -109,7 +107,7 @@ impl Volume {
     }
 
     /// The image as it was mounted.
-    pub fn mounted(&self) -> &Image
+    pub fn mounted(&self) -> &FixedImage
         ensures { result.now ≡ self.now.mounted }
     {
         &self.mounted

@@ -1,6 +1,6 @@
 //! A plain and slow reader of small volumes: the catalogue that the blocks show, byte by byte, with no call of the layers that serve
 //! requests. It is right for sound volumes of at most 16 files whose index bitmap is LBN 2 alone, as the samples are.
-use ods_base::{Block, FileId, Image, Name, Uic};
+use ods_base::{Block, FileId, FixedImage, Image, ImageError, Name, Uic};
 use ods_plain::{Body, Catalogue, File, Names};
 use std::alloc::{AllocError, Global};
 
@@ -168,6 +168,15 @@ fn file_of(alloc: Global, image: &Image, number: u16) -> Result<File, AllocError
         ident: bytes(image, header, 2 * byte(image, header, 0) as usize),
         body: body_of(alloc, image, number)?,
     })
+}
+
+/// The image that a fixed one is, in memory of its own.
+pub fn image_of(alloc: Global, fixed: &FixedImage) -> Result<Image, ImageError> {
+    let mut bytes = Vec::new(alloc);
+    for lbn in 0..fixed.len() {
+        bytes.extend_from_slice(fixed.block(lbn).bytes())?;
+    }
+    Image::from_bytes(alloc, &bytes)
 }
 
 /// The catalogue of a sound small volume. The protection of new files is that of LBN 1, the home block.

@@ -52,7 +52,7 @@ fn refused_memory_hands_the_image_back(rt: HostRuntime) -> Result<(), Fail> {
 /// The volume has this image, so many entries, and that mounted image.
 fn is_as_before(rt: &impl Abort, volume: &Volume, image: &Image, mounted: &Image, entries: usize) {
     assert!(rt; *volume.image() == *image, "the image changed");
-    assert!(rt; *volume.mounted() == *mounted, "the mounted image changed");
+    assert!(rt; volume.mounted().is(mounted), "the mounted image changed");
     assert!(rt; volume.entries().len() == entries, "the list changed");
 }
 
@@ -69,18 +69,18 @@ fn ask_again(rt: &impl Abort, volume: &mut Volume, request: &Request, wanted: &R
 fn ask_poor(
     rt: &(impl Abort + Env + Files),
     volume: &mut Volume,
+    mounted: &Image,
     request: &Request,
     wanted: &Reply,
 ) -> Result<(), Fail> {
     assert!(rt; can_be_asked(request));
     let image = volume.image().copy()?;
-    let mounted = volume.mounted().copy()?;
     let entries = volume.entries().len();
     let before = was_refused(rt);
     let answer = volume.request(1, 1, USER, *request);
     if answer == Err(Refusal::NoMemory) {
         assert!(rt; !before && was_refused(rt), "no allocation was refused");
-        is_as_before(rt, volume, &image, &mounted, entries);
+        is_as_before(rt, volume, &image, mounted, entries);
         ask_again(rt, volume, request, wanted);
     } else {
         is_answered(rt, request, &answer, wanted);
@@ -92,10 +92,11 @@ fn ask_poor(
 fn plays_poor(
     rt: &(impl Abort + Env + Files),
     volume: &mut Volume,
+    mounted: &Image,
     rows: &[Row],
 ) -> Result<(), Fail> {
     for (request, wanted) in rows {
-        ask_poor(rt, volume, request, wanted)?;
+        ask_poor(rt, volume, mounted, request, wanted)?;
     }
     Ok(())
 }
@@ -116,7 +117,8 @@ fn refused_memory_changes_nothing(rt: HostRuntime) -> Result<(), Fail> {
     ];
     let image = contiguous_file(rt.alloc(), PROTECTION)?;
     let mut it = start(&rt, rt.alloc(), image, 4_096)?;
-    plays_poor(&rt, &mut it.volume, &rows)
+    let mounted = it.volume.image().copy()?;
+    plays_poor(&rt, &mut it.volume, &mounted, &rows)
 }
 
 /// Enters A.TXT in file 7,1 under the next version, which is this.
@@ -126,7 +128,11 @@ fn entered(version: u16) -> Row {
 }
 
 /// A file of five blocks, and a directory that has no block when its first name comes.
-fn grow_poor(rt: &(impl Abort + Env + Files), volume: &mut Volume) -> Result<(), Fail> {
+fn grow_poor(
+    rt: &(impl Abort + Env + Files),
+    volume: &mut Volume,
+    mounted: &Image,
+) -> Result<(), Fail> {
     let rows = [
         (create(rt, a_txt(), 2), made(6, 1)),
         (extend(FIRST, 3), Ok(Answer::Extended(5))),
@@ -135,11 +141,15 @@ fn grow_poor(rt: &(impl Abort + Env + Files), volume: &mut Volume) -> Result<(),
         entered(2),
         entered(3),
     ];
-    plays_poor(rt, volume, &rows)
+    plays_poor(rt, volume, mounted, &rows)
 }
 
 /// A name and the file go, the directory stays.
-fn shrink_poor(rt: &(impl Abort + Env + Files), volume: &mut Volume) -> Result<(), Fail> {
+fn shrink_poor(
+    rt: &(impl Abort + Env + Files),
+    volume: &mut Volume,
+    mounted: &Image,
+) -> Result<(), Fail> {
     let gone = remove(id(7, 1), a_txt(), Pick::Lowest);
     let rows = [
         (gone, Ok(Answer::Removed(FIRST, 1))),
@@ -147,7 +157,7 @@ fn shrink_poor(rt: &(impl Abort + Env + Files), volume: &mut Volume) -> Result<(
         (delete(id(7, 1)), Err(Refusal::NotEmpty)),
         (delete(FIRST), Ok(Answer::Done)),
     ];
-    plays_poor(rt, volume, &rows)?;
+    plays_poor(rt, volume, mounted, &rows)?;
     assert!(rt; volume.free_count() == 17 && volume.number_count() == 10);
     Ok(())
 }
@@ -156,6 +166,7 @@ fn shrink_poor(rt: &(impl Abort + Env + Files), volume: &mut Volume) -> Result<(
 #[test]
 fn refused_memory_leaves_growth_undone(rt: HostRuntime) -> Result<(), Fail> {
     let mut it = on_sample(&rt, rt.alloc(), 40)?;
-    grow_poor(&rt, &mut it.volume)?;
-    shrink_poor(&rt, &mut it.volume)
+    let mounted = it.volume.image().copy()?;
+    grow_poor(&rt, &mut it.volume, &mounted)?;
+    shrink_poor(&rt, &mut it.volume, &mounted)
 }

@@ -39,7 +39,7 @@ fn writes(rt: &impl Abort, alloc: Global, it: &mut Trial) -> Result<(), Fail> {
 /// The mounted image is as it was.
 fn keeps_mounted(rt: &impl Abort, alloc: Global, it: &Trial) -> Result<(), Fail> {
     let wanted = contiguous_file(alloc, PROTECTION)?;
-    assert!(rt; *it.volume.mounted() == wanted);
+    assert!(rt; it.volume.mounted().is(&wanted));
     Ok(())
 }
 

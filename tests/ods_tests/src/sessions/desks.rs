@@ -6,7 +6,7 @@ use super::runs::{two_file_volume, two_files, volume_of};
 use crate::persons::{FIRST, NONE, USER};
 use ods_base::FileId;
 use ods_request::{Answer, CompactRequest, Refusal, Request};
-use ods_share::{Call, CompactAnswer, Desk, Naming, SettleFault, settle};
+use ods_share::{Call, CompactAnswer, Desk, Naming, SettleFault, settle_mounted};
 use ods_volume::Volume;
 use std::alloc::{AllocError, Global};
 use std::marker::Brand;
@@ -123,7 +123,7 @@ fn swapped_volume_is_unmatched(rt: HostRuntime) -> Result<(), Fail> {
     let (volume, calls) = swapped::<Brand, _>(&rt, alloc, volume, other)?;
     assert!(rt; calls.iter().all(|list| list.len() == 1));
     assert!(rt; volume.entries().len() == 1);
-    let settled = settle(alloc, volume.mounted(), &volume, calls.as_slice());
+    let settled = settle_mounted(alloc, &volume, calls.as_slice());
     assert!(rt; matches!(settled, Err(SettleFault::Unmatched)));
     Ok(())
 }

@@ -7,6 +7,7 @@ ghost use Rattle.ods_state.specs.Outcome.{CanBeAsked};
 use super::requests::{block_read, block_viewed, block_written, file_made};
 use super::runs::{stamp, volume_of};
 use crate::persons::{FIRST, MASTER, USER, letter_a, reserved_lines};
+use crate::reader::image_of;
 use crate::settings::was_refused;
 use crate::volumes::sample_of;
 use ods_base::Image;
@@ -54,7 +55,7 @@ fn as_it_is(alloc: Global, volume: &Volume) -> Result<Noted, Fail> {
     }
     Ok(Noted {
         image: volume.image().copy()?,
-        mounted: volume.mounted().copy()?,
+        mounted: image_of(alloc, volume.mounted())?,
         entries,
     })
 }
@@ -63,7 +64,7 @@ fn as_it_is(alloc: Global, volume: &Volume) -> Result<Noted, Fail> {
 fn is_as_noted(rt: &impl Abort, volume: &Volume, noted: &Noted) {
     assert!(rt; *volume.image() == noted.image, "the image changed");
     assert!(rt;
-        *volume.mounted() == noted.mounted,
+        volume.mounted().is(&noted.mounted),
         "the mounted image changed"
     );
     assert!(rt;

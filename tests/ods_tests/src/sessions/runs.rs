@@ -8,7 +8,9 @@ use crate::volumes::{Variant, added, run, sample_of};
 use ods_base::Image;
 use ods_mount::mount;
 use ods_request::Stamp;
-use ods_share::{Call, Gate, Outcome, Reply, Report, Script, SettleFault, run_scripts, settle};
+use ods_share::{
+    Call, Gate, Outcome, Reply, Report, Script, SettleFault, run_scripts, settle_mounted,
+};
 use ods_volume::Volume;
 use std::alloc::{AllocError, Global};
 use std::process::Abort;
@@ -182,7 +184,7 @@ pub fn settles(
     calls: &[Vec<Call>],
     lengths: &[u32],
 ) -> Result<(), Fail> {
-    match settle(alloc, volume.mounted(), volume, calls) {
+    match settle_mounted(alloc, volume, calls) {
         Ok(
             Report {
                 entries,

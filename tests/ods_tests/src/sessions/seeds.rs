@@ -2,11 +2,11 @@
 use super::any_scripts::{Mix, eight_scripts};
 use super::runs::{Open, Ran, calls_of, run_on, two_file_volume};
 use crate::persons::{NONE, USER};
-use crate::reader::plain_catalogue;
+use crate::reader::{image_of, plain_catalogue};
 use ods_base::FileId;
 use ods_plain::Catalogue;
 use ods_request::{Answer, Entry, Request};
-use ods_share::{Outcome, Reply, Script, settle};
+use ods_share::{Outcome, Reply, Script, settle_mounted};
 use ods_volume::Volume;
 use std::alloc::Global;
 use std::process::Abort;
@@ -51,7 +51,7 @@ pub fn run_by_seed<R: Abort + Threads + Wait + Sync>(
 pub fn seed_settles(rt: &impl Abort, alloc: Global, seed: u64, ran: Ran) -> Result<(), Fail> {
     let Ran { volume, outcomes } = ran;
     let calls = calls_of(alloc, outcomes)?;
-    let is_settled = settle(alloc, volume.mounted(), &volume, &calls).is_ok();
+    let is_settled = settle_mounted(alloc, &volume, &calls).is_ok();
     assert!(rt; is_settled, "seed {seed}");
     Ok(())
 }
@@ -105,7 +105,8 @@ fn same_file(rt: &impl Abort, shown: &mut Catalogue, plain: &mut Catalogue, file
 
 /// The blocks show what the plain program makes of the list.
 fn is_replayed(rt: &impl Abort, alloc: Global, volume: &Volume) -> Result<(), Fail> {
-    let mut plain = plain_catalogue(alloc, volume.mounted())?;
+    let mounted = image_of(alloc, volume.mounted())?;
+    let mut plain = plain_catalogue(alloc, &mounted)?;
     for entry in volume.entries() {
         replay(rt, &mut plain, entry)?;
     }

@@ -3,6 +3,7 @@ use super::runs::{
     Open, Ran, calls_of, run_on, settles, two_file_volume, two_files, two_ran, two_scripts,
 };
 use crate::persons::{FIRST, USER};
+use crate::reader::image_of;
 use ods_base::{Coded, Image};
 use ods_request::Request;
 use ods_share::{Call, RunFault, SettleFault, settle};
@@ -41,7 +42,8 @@ fn swapped_lists_are_unmatched(rt: HostRuntime) -> Result<(), Fail> {
     let mut calls = calls_of(alloc, outcomes)?;
     assert_eq!(rt; calls.as_slice().len(), 2);
     calls.as_mut_slice().swap(0, 1);
-    is_unmatched(&rt, alloc, volume.mounted(), &volume, calls.as_slice());
+    let mounted = image_of(alloc, volume.mounted())?;
+    is_unmatched(&rt, alloc, &mounted, &volume, calls.as_slice());
     Ok(())
 }
 
@@ -59,14 +61,15 @@ fn lacks_calls(
     volume: &Volume,
     calls: Vec<Vec<Call>>,
 ) -> Result<(), Fail> {
+    let mounted = image_of(alloc, volume.mounted())?;
     let mut calls = calls;
     let Some(mut second) = calls.pop() else {
         return Err("two lists".into());
     };
-    is_unmatched(rt, alloc, volume.mounted(), volume, calls.as_slice());
+    is_unmatched(rt, alloc, &mounted, volume, calls.as_slice());
     assert!(rt; second.pop().is_some());
     calls.push(second)?;
-    is_unmatched(rt, alloc, volume.mounted(), volume, calls.as_slice());
+    is_unmatched(rt, alloc, &mounted, volume, calls.as_slice());
     Ok(())
 }
 
@@ -100,13 +103,8 @@ fn request_that_no_script_has_is_found(rt: HostRuntime) -> Result<(), Fail> {
     let scripts = two_scripts(alloc)?;
     let ran = run_on(&rt, alloc, volume, scripts.as_slice(), &Open)?;
     let calls = calls_of(alloc, ran.outcomes)?;
-    is_unmatched(
-        &rt,
-        alloc,
-        ran.volume.mounted(),
-        &ran.volume,
-        calls.as_slice(),
-    );
+    let mounted = image_of(alloc, ran.volume.mounted())?;
+    is_unmatched(&rt, alloc, &mounted, &ran.volume, calls.as_slice());
     Ok(())
 }
 

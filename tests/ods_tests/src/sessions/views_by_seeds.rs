@@ -3,7 +3,7 @@
 use super::any_scripts::Mix;
 use super::seeds::{RanBySeed, replay, run_by_seed, seed_settles};
 use crate::persons::{NONE, USER};
-use crate::reader::plain_catalogue;
+use crate::reader::{image_of, plain_catalogue};
 use ods_base::{FileId, Uic};
 use ods_plain::{Catalogue, StepError};
 use ods_request::{Answer, Entry, Request};
@@ -142,10 +142,11 @@ fn is_shown_in_order(
     script: &Script,
     outcome: &Outcome,
 ) -> Result<(), Fail> {
+    let mounted = image_of(alloc, volume.mounted())?;
     let mut replay = Replay {
         entries: volume.entries(),
         session,
-        plain: plain_catalogue(alloc, volume.mounted())?,
+        plain: plain_catalogue(alloc, &mounted)?,
         made: 0,
         who: USER,
         last: None,

@@ -7,14 +7,13 @@ use Rattle.ods_volume.proofs.volume.Volume.new.Goals as goal
 pub invariant_of-result : goal.invariant_of-result
 invariant_of-result c =
     let m = c.args.mounted in
-    let none = c.in-Ok-with_capacity.ensures.items in
-    let parts = c.into_parts-image.ensures.value in
-    let copied = c.in-Ok.ensures ∙ c.image.ensures.value in
+    let none = c.in-Ok.ensures.items in
+    let parts = c.in-Ok-split.ensures.ok in
     record {
-      lawful = subst IsLawful (λ i. record { mounted = sym parts.0 i; entries = sym none i; image = sym copied i; layout = sym parts.1 i; limit = c.args.limit })
-          (new_is_lawful m.image m.layout c.into_parts-image.ensures.sound c.args.limit);
+      lawful = subst IsLawful (λ i. record { mounted = sym parts.0 i; entries = sym none i; image = sym parts.1 i; layout = sym parts.2 i; limit = c.args.limit })
+          (new_is_lawful m.image m.layout c.in-Ok-split.ensures.sound c.args.limit);
       low = c.requires.low;
       high = c.requires.high;
-      reserved = omega (arith, c.in-Ok-with_capacity.ensures.exact);
-      counted = c.in-Ok-of.ensures ∙ ((λ i. counts_of (c.image-2.ensures.value i) (c.layout.ensures.value i)) ∙ (λ i. counts_of (sym copied i) (sym parts.1 i)));
+      reserved = omega (arith, c.in-Ok.ensures.exact);
+      counted = c.in-Ok-of.ensures ∙ ((λ i. counts_of (c.image.ensures.value i) (c.layout.ensures.value i)) ∙ (λ i. counts_of (sym parts.1 i) (sym parts.2 i)));
     }
