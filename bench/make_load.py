@@ -4,7 +4,7 @@
 A script of f11 has at most 1,048,576 bytes, so names are short. What debugfs does stands in its own words for the same:
 a file made and taken away, a file that grows, a block written and read, a name made, looked up and taken away.
 
-usage: make_load.py KIND COUNT [--debugfs SOURCE]     KIND: creates mixed extends blocks names
+usage: make_load.py KIND COUNT [--debugfs SOURCE]     KIND: creates mixed extends blocks names fills spread
 SOURCE is the file that debugfs copies from.
 """
 
@@ -51,6 +51,15 @@ def names(count):
     return rounds(count, opening, lambda k: ["ENTER 8,1 Z.D 9,1", "LOOK 8,1 Z.D", "REMOVE 8,1 Z.D"])
 
 
+def fills(count):
+    return rounds(count, [], lambda k: ["CREATE X.DAT 65535"])
+
+
+def spread(count):
+    # Over eleven files of the most blocks that a Create gives, as many writes to each, one at each twelfth block.
+    return rounds(count, [], lambda k: ["CREATE X.DAT 65535"] + [f"WRITE $ {1 + 12 * j} 41" for j in range(count // 11)])
+
+
 def debugfs_creates(count, source):
     return rounds(count, [], lambda k: [f"write {source} x", "rm x"])
 
@@ -87,6 +96,8 @@ KINDS = {
     "extends": (extends, debugfs_extends),
     "blocks": (blocks, debugfs_blocks),
     "names": (names, debugfs_names),
+    "fills": (fills, None),
+    "spread": (spread, None),
 }
 
 
@@ -97,6 +108,8 @@ def main():
     parser.add_argument("--debugfs", metavar="SOURCE")
     words = parser.parse_args()
     ours, theirs = KINDS[words.kind]
+    if words.debugfs and not theirs:
+        parser.error(f"{words.kind}: debugfs has nothing like it")
     lines = theirs(words.count, words.debugfs) if words.debugfs else ours(words.count)
     print("\n".join(lines))
 

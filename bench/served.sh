@@ -125,6 +125,9 @@ make_volumes
 make_plain_server
 "$program" "$folder/v512" >/dev/null # proves and builds it where that is due
 echo 'STAT 1,1' >"$folder/one"
+printf 'CREATE A.TXT;1 1\nWRITE $ 1 48690d0a\nENTER 4,4 A.TXT $\n' >"$folder/three"
+python3 "$here/make_load.py" fills 11 >"$folder/fills"
+python3 "$here/make_load.py" spread "$count" >"$folder/spread"
 measure idle-v512 "$program" "$folder/v512" "$folder/one"
 measure idle-v65536 "$program" "$folder/v65536" "$folder/one"
 
@@ -160,10 +163,17 @@ for ((round = 0; round < runs; round++)); do
     measure written "$program" "$folder/large" --out "$folder/copy"
     cmp "$folder/large" "$folder/copy" || bad=1
     rm -f "$folder/copy"
-    measure served "$program" "$folder/large" "$folder/one"
+    measure served "$program" "$folder/large" "$folder/three"
+    measure kept "$program" "$folder/large" "$folder/three" --out "$folder/copy"
+    rm -f "$folder/copy"
+    measure filled "$program" "$folder/large" "$folder/fills"
+    measure spread "$program" "$folder/large" --limit 65536 "$folder/spread"
+done
+for name in served kept filled spread; do
+    ! grep -q '^\(NO\|BAD\)' "$folder/$name.out" || bad=1
 done
 printf '%-28s %8s %9s %9s\n' 'an image of 512 MiB' seconds processor 'peak MiB'
-for name in cat checked written served; do
+for name in cat checked written served kept filled spread; do
     figures "$name" | awk -v text="$name" '{ printf "%-28s %8.3f %9.3f %9.1f\n", text, $1, $2, $3 / 1024 }'
 done
 size=$(($(wc -c <"$folder/large") / 1024))
@@ -172,6 +182,14 @@ read -r clock processor peak <<<"$(figures written)"
 ratio "reading and writing to cat's seconds" "$clock" "$cat_clock" 1.2
 ratio "the same by processor seconds" "$processor" "$cat_processor" 1.2
 ratio "peak to the image's size, with no script" "$peak" "$size" 1.1
-read -r _ _ peak <<<"$(figures served)"
-ratio "peak to the image's size, with a script" "$peak" "$size" 4.2
+read -r _ checked _ <<<"$(figures checked)"
+read -r _ processor peak <<<"$(figures served)"
+ratio "a script of three lines to a check, by processor seconds" "$processor" "$checked" 1.3
+ratio "peak to the image's size, with a script of three lines" "$peak" "$size" 1.1
+read -r _ processor peak <<<"$(figures kept)"
+ratio "the same, and written" "$peak" "$size" 1.1
+read -r _ processor peak <<<"$(figures filled)"
+ratio "peak to the image's size, where 69 percent of the blocks become zeros" "$peak" "$size" 1.1
+read -r _ processor peak <<<"$(figures spread)"
+ratio "peak to the image's size, and $count writes spread over them" "$peak" "$size" 1.6
 exit $bad

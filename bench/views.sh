@@ -1,6 +1,6 @@
 #!/usr/bin/env bash
 # Times views and compares them with targets: 8 viewers answer at least 3 times as many views a second as one does, each time beside a thread
-# that writes; a view takes at most twice as long as a look with no viewer; f11 takes at most 4.2 times the image to serve a script.
+# that writes; a view takes at most twice as long as a look with no viewer; f11 takes at most 1.1 times the image to serve a script.
 #
 # usage: bench/views.sh [TIMES]     (100 looks each, TIMES times, by default 10,000)
 #
@@ -82,4 +82,4 @@ python3 "$here/make_image.py" --blocks "$blocks" --held "$((blocks / 4))" "$fold
 echo 'STAT 1,1' >"$folder/script"
 read -r clock _ peak status <<<"$(python3 "$here/measure.py" "$folder/out" "$program" "$folder/image" "$folder/script")"
 printf 'f11 IMAGE SCRIPT: %s s, %d KiB, status %d\n' "$clock" "$peak" "$status"
-target "f11's peak to the image's size" "$(ratio "$peak" "$((blocks / 2))")" most 4.2
+target "f11's peak to the image's size" "$(ratio "$peak" "$((blocks / 2))")" most 1.1
