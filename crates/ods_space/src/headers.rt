@@ -1,7 +1,7 @@
 //! Where headers stand.
 ghost use Rattle.std.specs.Prelude.{◌≡◌, ◌+◌, ◌^◌, ◌<◌, ◌≤◌, [], IfSome, IfNone};
 ghost use Rattle.ods_header.specs.Header.{sequence_of};
-ghost use Rattle.ods_space.specs.Layout.{place_by, header_by, header_at, last_number as last_of};
+ghost use Rattle.ods_space.specs.Layout.{place_by, header_by, header_at, last_number as last_of, most_index_blocks as most_blocks};
 
 use crate::Layout;
 use ods_base::{Block, Image};
@@ -57,6 +57,15 @@ pub fn sequence(image: &Image, layout: &Layout, number: u16) -> u16
         Some(block) => file_sequence(block),
         None => 0,
     }
+}
+
+/// How many blocks INDEXF.SYS may ever have: two, the index bitmap, and a header for each number that H.FMAX and the bitmap allow.
+pub(crate) fn most_index_blocks(home: &Home) -> usize
+    ensures value { result ≡ most_blocks home.now }
+    ensures few { result ≤ 2 ^ 18 }
+{
+    let size = home.index_bitmap_size as usize;
+    2 + size + (home.max_files as usize).min(4096 * size)
 }
 
 /// The greatest file number.

@@ -1,16 +1,17 @@
 //! Where a volume's structures lie.
 ghost use Rattle.std.specs.Prelude.{◌≡◌};
-ghost use Rattle.ods_space.specs.Layout.{place_of};
+ghost use Rattle.ods_space.specs.Layout.{place_of, with_places};
 
 use crate::LayoutFault;
-use crate::headers::place;
+use crate::headers::{most_index_blocks, place};
 use crate::system::{read_bitmap, read_index};
 use ods_base::Image;
 use ods_header::Home;
 use std::alloc::{AllocError, Global};
 use std::marker::Model;
 
-/// The home block's fields, and the blocks of INDEXF.SYS and BITMAP.SYS.
+/// The home block's fields, and the blocks of INDEXF.SYS and BITMAP.SYS. It keeps room for all blocks that INDEXF.SYS may ever have, 4
+/// bytes each and 512 KiB at most, so that it grows without taking memory.
 #[derive(Drop)]
 pub struct Layout {
     home: Home,
@@ -20,14 +21,15 @@ pub struct Layout {
 
 impl Model for Layout {
     ghost use Rattle.std.specs.Prelude.{List, ℕ, ◌+◌, ◌≤◌, ◌^◌};
-    ghost use Rattle.ods_space.specs.Layout.{VolumeLayout};
+    ghost use Rattle.std.specs.Vec.{vec_capacity};
+    ghost use Rattle.ods_space.specs.Layout.{VolumeLayout, most_index_blocks};
 
     ghost Value = { VolumeLayout };
 
     ghost view = { λ l. record { home = l.home; index = l.index.items; bitmap = l.bitmap.items } };
 
-    // Header 1 stands in an image.
-    ghost invariant = { λ l. l.home.index_bitmap_lbn + l.home.index_bitmap_size ≤ 2 ^ 20 };
+    // Header 1 stands in an image; and there is room for the most blocks of INDEXF.SYS.
+    ghost invariant = { λ l. (l.home.index_bitmap_lbn + l.home.index_bitmap_size ≤ 2 ^ 20) × (most_index_blocks l.home ≤ vec_capacity l.index) };
 }
 
 impl Layout {
@@ -35,16 +37,20 @@ impl Layout {
     ghost use Rattle.ods_header.specs.Home.{IsHomeOf};
     ghost use Rattle.ods_space.specs.{Files.IsLayoutOf, Faults.IsLayoutFault};
 
-    /// The home block's fields with the blocks of INDEXF.SYS and BITMAP.SYS.
+    /// The home block's fields with the blocks of INDEXF.SYS and BITMAP.SYS, and room for the most blocks that INDEXF.SYS may ever have.
     pub fn read(alloc: Global, image: &Image, home: Home) -> Result<Layout, LayoutFault>
         requires { IsHomeOf image.now home }
         ensures ok { IfOk result (λ layout. IsLayoutOf image.now layout × (layout.home ≡ home)) }
         ensures err { IfErr result (IsLayoutFault image.now home) }
     {
-        let index = match read_index(alloc, image, &home) {
+        let mut index = match read_index(alloc, image, &home) {
             Ok(index) => index,
             Err(fault) => return Err(fault),
         };
+        let room = most_index_blocks(&home).saturating_sub(index.len());
+        if index.reserve_exact(room).is_err() {
+            return Err(LayoutFault::NoMemory);
+        }
         match read_bitmap(alloc, image, &home, &index) {
             Ok(bitmap) => Ok(Layout {
                 home,
@@ -55,11 +61,13 @@ impl Layout {
         }
     }
 
-    /// An equal layout.
+    /// An equal layout, with room of its own.
     pub fn copy(&self) -> Result<Layout, AllocError>
         ensures { IfOk result (λ copy. copy ≡ self.now) }
     {
-        let index = Vec::from_slice(*self.index.allocator(), &self.index)?;
+        let room = most_index_blocks(&self.home).max(self.index.len());
+        let mut index = Vec::with_capacity(*self.index.allocator(), room)?;
+        index.extend_from_slice(&self.index)?;
         let bitmap = Vec::from_slice(*self.bitmap.allocator(), &self.bitmap)?;
         Ok(Layout {
             home: self.home,
@@ -87,6 +95,19 @@ impl Layout {
         ensures { result.now ≡ self.now.bitmap }
     {
         self.bitmap.as_slice()
+    }
+
+    /// Puts these blocks, as LBNs, behind those of INDEXF.SYS, in their order. Those past the most that it may ever have are passed over; for
+    /// the others there is room, so it takes no memory and never fails.
+    pub fn grow(&mut self, places: &[u32])
+        ensures { self.new ≡ with_places self.old places.now }
+    {
+        let room = most_index_blocks(&self.home).saturating_sub(self.index.len());
+        let few = places.len().min(room);
+        match self.index.extend_from_slice(&places[..few]) {
+            Ok(()) => {}
+            Err(_) => unreachable!(),
+        }
     }
 
     /// Where header `number` stands.

@@ -6,7 +6,7 @@ use crate::persons::a_txt;
 use crate::volumes::{Variant, added, run, sample_of};
 use ods_base::Image;
 use ods_header::find_home;
-use ods_space::Layout;
+use ods_space::{Layout, last_number};
 use std::alloc::Global;
 use std::process::Abort;
 use std::test::Fail;
@@ -56,5 +56,35 @@ fn small_volume(rt: HostRuntime) -> Result<(), Fail> {
     let layout = layout_of(rt.alloc(), &image)?;
     is_small(&rt, &layout);
     is_small(&rt, &layout.copy()?);
+    Ok(())
+}
+
+/// With H.FMAX 18 the sample has headers for 16 numbers, so INDEXF.SYS may get two blocks more.
+#[test]
+fn layout_grows_up_to_its_most(rt: HostRuntime) -> Result<(), Fail> {
+    let image = Variant {
+        most_files: 18,
+        ..sample_of(40)
+    }
+    .image(rt.alloc())?;
+    let mut layout = layout_of(rt.alloc(), &image)?;
+    layout.grow(&[22]);
+    layout.grow(&[]);
+    layout.grow(&[24, 25]);
+    assert!(rt; layout.index().len() == 21);
+    assert!(rt; layout.bitmap() == [19, 20].as_slice());
+    for (number, place) in [(16, Some(18)), (17, Some(22)), (18, Some(24)), (19, None)] {
+        assert!(rt; layout.place(number) == place, "header {number}");
+    }
+    assert!(rt; last_number(&layout) == 18);
+    Ok(())
+}
+
+#[test]
+fn layout_that_is_full_stays(rt: HostRuntime) -> Result<(), Fail> {
+    let image = sample_of(40).image(rt.alloc())?;
+    let mut layout = layout_of(rt.alloc(), &image)?;
+    layout.grow(&[22]);
+    is_small(&rt, &layout);
     Ok(())
 }
