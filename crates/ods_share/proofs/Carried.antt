@@ -2,6 +2,7 @@
 use Rattle.std.proofs.Common.{◌≡◌, List, [], ◌∷◌, ◌++◌, ap, ◌∙◌, append_assoc}
 use Rattle.std.specs.Prelude.{Result, Ok, Err, IfOk, OnErr}
 use Rattle.ods_space.specs.Draft.{applied}
+use Rattle.ods_space.specs.Layout.{with_places}
 use Rattle.ods_request.specs.declared.answers.Answer.{Answer}
 use Rattle.ods_request.specs.declared.answers.Entry.{Entry}
 use Rattle.ods_request.specs.declared.refusals.Refusal.{Refusal}
@@ -14,7 +15,7 @@ pub carried_image : (v w : State) (p : Plan) → w ≡ carried_out v p → w.ima
 unfolding carried_out
 carried_image v w p is = ap (λ (s : State). s.image) is
 
-pub carried_layout : (v w : State) (p : Plan) → w ≡ carried_out v p → w.layout ≡ v.layout
+pub carried_layout : (v w : State) (p : Plan) → w ≡ carried_out v p → w.layout ≡ with_places v.layout p.places
 unfolding carried_out
 carried_layout v w p is = ap (λ (s : State). s.layout) is
 

@@ -118,7 +118,7 @@ impl<J: Naming> Desk<J> {
     }
 
     /// Makes a change that was prepared, and shows the version to which it leads. All that may want memory comes before the volume changes:
-    /// the copy of the draft, and the writer's room for it. What is told is made here, since each function on an answer's way moves it.
+    /// the copies of the draft and of the places, and the writer's room for it. What is told is made here, since each function on an answer's way moves it.
     fn apply_and_show<R: Wait>(
         &mut self,
         rt: &R,
@@ -132,9 +132,19 @@ impl<J: Naming> Desk<J> {
         let Ok(draft) = prepared.changes().copy() else {
             return (Err(Refusal::NoMemory), self.tell());
         };
+        let Ok(places) = prepared.copy_places() else {
+            return (Err(Refusal::NoMemory), self.tell());
+        };
         let count = self.volume.entries().len() as u64 + 1;
         let writer = self.writer.take().unwrap();
-        let writer = match add_change(writer, Change { draft, count }) {
+        let writer = match add_change(
+            writer,
+            Change {
+                draft,
+                places,
+                count,
+            },
+        ) {
             Ok(writer) => writer,
             Err(writer) => {
                 put_back(&mut self.writer, writer);

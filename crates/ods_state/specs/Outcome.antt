@@ -1,9 +1,9 @@
 -- What a request makes of a volume, and why it is refused.
-use Rattle.std.specs.Prelude.{◌≡◌, ℕ, ◌<◌, ◌≤◌, true, [], ◌∷◌, ◌++◌, length, IsSome, MatchOption, Option, Some}
+use Rattle.std.specs.Prelude.{◌≡◌, ℕ, ◌<◌, ◌≤◌, true, List, [], ◌∷◌, ◌++◌, length, IsSome, MatchOption, Option, Some}
 use Rattle.ods_base.specs.declared.file_id.Uic.{Uic}
 use Rattle.ods_space.specs.Draft.{Changes, applied}
 use Rattle.ods_request.specs.declared.requests.Request.{Request}
-use Rattle.ods_space.specs.Layout.{Disk}
+use Rattle.ods_space.specs.Layout.{Disk, with_places}
 use Rattle.ods_alloc.specs.Counts.{Counts, AreCountsAfter}
 use Rattle.ods_request.specs.declared.answers.Answer.{Answer}
 use Rattle.ods_request.specs.declared.answers.Entry.{Entry}
@@ -38,10 +38,11 @@ pub data IsReason (v : State) (who : Uic) (r : Request) : Refusal → Type 0 whe
   lacks : (f : Refusal) → Lacks v.image v.layout r f → IsReason v who r f
   no_memory : takes_memory r ≡ true → IsReason v who r refusal.NoMemory
 
--- a request that is accepted, with its answer, the blocks that it changes, and the counts of the bitmaps afterwards, where they are made anew
+-- a request that is accepted, with its answer, the blocks that it changes, those that INDEXF.SYS gets, and the counts of the bitmaps afterwards, where they are made anew
 pub record Plan : Type 0 where
   pub entry : Entry
   pub changes : Changes
+  pub places : List ℕ
   pub counts : Option Counts
 
 -- the volume with the plan made
@@ -50,7 +51,7 @@ carried_out v p = record {
   mounted = v.mounted;
   entries = v.entries ++ p.entry ∷ [];
   image = applied v.image p.changes;
-  layout = v.layout;
+  layout = with_places v.layout p.places;
   limit = v.limit;
 }
 

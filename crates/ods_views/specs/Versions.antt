@@ -4,7 +4,7 @@ use mathlib.Core.Option.{some}
 use lib.ListN.{get_elem?}
 use Rattle.ods_base.specs.declared.file_id.Uic.{Uic}
 use Rattle.ods_space.specs.Draft.{applied}
-use Rattle.ods_space.specs.Layout.{VolumeLayout}
+use Rattle.ods_space.specs.Layout.{VolumeLayout, with_places}
 use Rattle.ods_request.specs.declared.answers.Answer.{Answer}
 use Rattle.ods_request.specs.declared.answers.Entry.{Entry}
 use Rattle.ods_request.specs.declared.refusals.Refusal.{Refusal}
@@ -25,7 +25,7 @@ use Rattle.ods_views.specs.declared.rule.View.{View}
 
 -- the version that a change leads to
 abbrev pub led_on : Version → Change → Version
-led_on v c = record { image = applied v.image c.draft; layout = v.layout; count = c.count }
+led_on v c = record { image = applied v.image c.draft; layout = with_places v.layout c.places.items; count = c.count }
 
 -- what a new place knows
 abbrev pub newcomer : List Entry → View

@@ -15,10 +15,11 @@ pub struct Version {
     pub count: u64,
 }
 
-/// The change of one accepted entry: the blocks that it changes, and how many entries there are with it.
+/// The change of one accepted entry: the blocks that it changes, those that INDEXF.SYS gets, and how many entries there are with it.
 #[derive(Drop)]
 pub struct Change {
     pub draft: Draft,
+    pub places: Vec<u32>,
     pub count: u64,
 }
 
@@ -33,6 +34,7 @@ impl Absorb<Change> for Version {
 
     fn absorb_first(&mut self, operation: &Change, _other: &Version) -> Result<(), AllocError> {
         operation.draft.apply(&mut self.image);
+        self.layout.grow(&operation.places);
         self.count = operation.count;
         Ok(())
     }

@@ -60,6 +60,7 @@ impl Volume {
     {
         self.entries.push_reserved(prepared.entry);
         prepared.draft.apply(&mut self.image);
+        self.layout.grow(&prepared.places);
         put_counts(&mut self.counts, prepared.counts);
         prepared.lines
     }

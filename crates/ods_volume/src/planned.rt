@@ -9,13 +9,14 @@ use ods_space::Draft;
 use std::alloc::{AllocError, Global};
 use std::marker::Model;
 
-/// A request that is accepted, with its answer, the blocks that it changes, and the counts of the bitmaps afterwards, where they are
-/// made anew. The lines of a directory are there twice, once for the list and once for the caller, so that making the change takes no memory.
+/// A request that is accepted, with its answer, the blocks that it changes, those that INDEXF.SYS gets, and the counts of the bitmaps
+/// afterwards, where they are made anew. The lines of a directory are there twice, once for the list and once for the caller, so that making the change takes no memory.
 #[derive(Drop)]
 pub struct Prepared {
     pub(crate) entry: Entry,
     pub(crate) lines: Option<Listing>,
     pub(crate) draft: Draft,
+    pub(crate) places: Vec<u32>,
     pub(crate) counts: Option<FreeCounts>,
 }
 
@@ -25,7 +26,7 @@ impl Model for Prepared {
 
     ghost Value = { Plan };
 
-    ghost view = { λ p. record { entry = p.entry; changes = p.draft; counts = p.counts } };
+    ghost view = { λ p. record { entry = p.entry; changes = p.draft; places = p.places.items; counts = p.counts } };
 
     ghost use Rattle.ods_volume.specs.Kept.{AreLinesOf};
 
@@ -60,5 +61,19 @@ impl Prepared {
         ensures { result.now ≡ self.now.changes }
     {
         &self.draft
+    }
+
+    /// The blocks that INDEXF.SYS gets behind its own.
+    pub fn places(&self) -> &[u32]
+        ensures { result.now ≡ self.now.places }
+    {
+        self.places.as_slice()
+    }
+
+    /// These blocks once more, in memory of their own.
+    pub fn copy_places(&self) -> Result<Vec<u32>, AllocError>
+        ensures { IfOk result (λ places. places.items ≡ self.now.places) }
+    {
+        Vec::from_slice(*self.places.allocator(), &self.places)
     }
 }

@@ -265,6 +265,7 @@ impl Volume {
             },
             lines,
             draft,
+            places: Vec::new(alloc),
             counts,
         })
     }

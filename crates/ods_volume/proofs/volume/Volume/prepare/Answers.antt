@@ -1,4 +1,4 @@
-use Rattle.std.proofs.Common.{◌≡◌, ◌<◌, length, false, true, ap, sym, ◌∙◌, subst, arith, Err}
+use Rattle.std.proofs.Common.{◌≡◌, ◌<◌, List, ℕ, [], length, false, true, ap, sym, ◌∙◌, subst, arith, Err}
 use Rattle.ods_request.specs.declared.requests.Request.{Request}
 use Rattle.ods_request.specs.declared.answers.Entry.{Entry}
 use Rattle.ods_request.specs.declared.refusals.Refusal.TheVariants as refusal
@@ -26,9 +26,9 @@ returns-clause-plan c =
     let room : length c.self.inside.entries.items < c.self.inside.limit = omega arith in
     let lawful = plan_is_lawful (state_of c.self.inside) c.self.invariant.lawful c.args.session c.args.nth c.args.who c.args.request c.carry_out.new.answer c.in-Ok.draft c.in-Ok-counts_after.counts room c.in-Ok.ensures c.in-Ok-counts_after.ensures.ok in
     let entry : Request → Entry = λ r. entry_of c.args.session c.args.nth c.args.who r c.carry_out.new.answer in
-    let plan : Request → Plan = λ r. record { entry = entry r; changes = c.in-Ok.draft; counts = c.in-Ok-counts_after.counts } in
-    let here : IsLawfulPlan c.args.self.now (plan c.args.request) = subst (λ w. IsLawfulPlan w (plan c.args.request)) c.self.view_is lawful in (
-      subst (λ r. IsLawfulPlan c.args.self.now (plan r)) (sym c.in-Ok-kept.ensures.ok) here,
+    let plan : List ℕ → Request → Plan = λ places r. record { entry = entry r; changes = c.in-Ok.draft; places = places; counts = c.in-Ok-counts_after.counts } in
+    let here : IsLawfulPlan c.args.self.now (plan [] c.args.request) = subst (λ w. IsLawfulPlan w (plan [] c.args.request)) c.self.view_is lawful in (
+      subst (λ places. IsLawfulPlan c.args.self.now (plan places c.in-Ok-kept.kept)) (sym c.new.ensures.items) (subst (λ r. IsLawfulPlan c.args.self.now (plan [] r)) (sym c.in-Ok-kept.ensures.ok) here),
       ap entry c.in-Ok-kept.ensures.ok,
     )
 
