@@ -20,7 +20,7 @@ use Rattle.ods_share.specs.declared.settlement.Report.{Report}
 use Rattle.ods_share.specs.declared.outcome.Reply.{Reply}
 use Rattle.ods_script.specs.Texts.{replied_text, replies_in, sessions_text}
 use Rattle.ods_cli.specs.Reply.{AreImageBytes, IsReplyFault}
-use Rattle.ods_cli.specs.Serve.{AreSound, AreRefused, EndsServe, EndsWriting, IsFaultOf, IsRefusedWith, IsServedTo, IsServingFault, IsSoundImage, IsUntouched, Wrote, calls_in, totals_text, wrote}
+use Rattle.ods_cli.specs.Serve.{AreSound, AreRefused, EndsServe, EndsWriting, IsFaultOf, IsRefusedWith, IsReportFault, IsServedTo, IsServingFault, IsSoundImage, IsUntouched, Wrote, calls_in, totals_text, wrote}
 use Rattle.ods_cli.specs.declared.fault.ServeFault.{ServeFault}
 use Rattle.ods_cli.specs.declared.fault.ServeFault.TheVariants as fault
 use Rattle.ods_cli.proofs.Replies.{most_of_image}
@@ -50,7 +50,7 @@ by_replies k (s ∷ ss) (o ∷ os) = let rest = by_replies (k + 1) ss os in cc
 
 -- a volume whose list is settled was served so
 pub served_to : (stamp : List ℕ) (scripts : List Script) (v : State) (os : List Outcome) (lists : List Calls) (replies : List (Vec Reply Global)) (r : Report) (text : List ℕ) →
-    IsLawful v → 1 ≤ length scripts → length os ≡ length scripts → EachOutcome stamp scripts os → lists ≡ calls_in os → replies ≡ replies_in os →
+    IsLawful v → 1 ≤ length scripts → length os ≡ length scripts → EachOutcome v.mounted stamp scripts os → lists ≡ calls_in os → replies ≡ replies_in os →
     IsSettled v.mounted v lists × AreLengths v.entries lists r →
     text ≡ replied_text 1 scripts replies ++ totals_text (length v.entries) (length (free_blocks v.image v.layout)) (length (free_numbers v.image v.layout)) →
     IsServedTo stamp scripts v.mounted v.image r text
@@ -66,6 +66,26 @@ served_to stamp scripts v os lists replies r text lawful some count each same al
   lines = rw (alike, by_replies 1 scripts os) at lines;
   unchanged = λ none. absurd (omega (arith, some, none));
 }
+
+-- a volume whose list is not said is why the run is not served to the end
+pub not_said : (stamp : List ℕ) (scripts : List Script) (v : State) (os : List Outcome) (lists : List Calls) (limit : ℕ) (f : ServeFault) →
+    IsLawful v → length os ≡ length scripts → EachOutcome v.mounted stamp scripts os → lists ≡ calls_in os →
+    IsReportFault v lists limit f → IsServingFault stamp scripts v.mounted limit f
+not_said stamp scripts v os lists limit fault.NoMemory lawful count each same why = tt
+not_said stamp scripts v os lists limit fault.Unmatched lawful count each same why = record {
+  volume = v;
+  mounted = refl;
+  lawful = lawful;
+  outcomes = os;
+  count = count;
+  each = each;
+  wrong = subst (λ (cs : List Calls). IsReportFault v cs limit fault.Unmatched) same why;
+}
+not_said stamp scripts v os lists limit fault.NoThread lawful count each same why = absurd why
+not_said stamp scripts v os lists limit fault.Read lawful count each same why = absurd why
+not_said stamp scripts v os lists limit fault.Write lawful count each same why = absurd why
+not_said stamp scripts v os lists limit (fault.WriteOut part) lawful count each same why = absurd why
+not_said stamp scripts v os lists limit (fault.Refused number) lawful count each same why = absurd why
 
 -- what `no script` means
 none_of : (ss : List Script) → length ss ≡ 0 → ss ≡ []
@@ -107,41 +127,41 @@ of_image image_of number line (Err e) bytes rest I read found only =
     let P : ServeFault → Type 0 = λ f. IsReplyFault bytes f in subst P (sym only) (most_of_image bytes rest I read)
 
 -- a run that could not be served writes nothing
-pub failed : (stamp : List ℕ) (scripts : List Script) (bytes : List ℕ) (rest old : Option (List ℕ)) (out : Option Wrote) (I : List (List ℕ)) (f : ServeFault) →
-    AreSound bytes rest I → IsServingFault f → IsUntouched out → EndsServe stamp scripts bytes rest (record { old = old; new = old }) out (Err f)
-failed stamp scripts bytes rest old out I fault.NoMemory sound why same = (most_of_image bytes rest I sound.read, Keeps-refl old, same)
-failed stamp scripts bytes rest old out I fault.NoThread sound why same = (Keeps-refl old, same)
-failed stamp scripts bytes rest old out I fault.Unmatched sound why same = (Keeps-refl old, same)
-failed stamp scripts bytes rest old out I fault.Read sound why same = absurd why
-failed stamp scripts bytes rest old out I fault.Write sound why same = absurd why
-failed stamp scripts bytes rest old out I (fault.WriteOut part) sound why same = absurd why
-failed stamp scripts bytes rest old out I (fault.Refused number) sound why same = absurd why
+pub failed : (stamp : List ℕ) (scripts : List Script) (limit : ℕ) (bytes : List ℕ) (rest old : Option (List ℕ)) (out : Option Wrote) (I : List (List ℕ)) (f : ServeFault) →
+    AreSound bytes rest I → IsServingFault stamp scripts I limit f → IsUntouched out → EndsServe stamp scripts limit bytes rest (record { old = old; new = old }) out (Err f)
+failed stamp scripts limit bytes rest old out I fault.NoMemory sound why same = (most_of_image bytes rest I sound.read, Keeps-refl old, same)
+failed stamp scripts limit bytes rest old out I fault.NoThread sound why same = (Keeps-refl old, same)
+failed stamp scripts limit bytes rest old out I fault.Unmatched sound why same = ((I, sound, why), Keeps-refl old, same)
+failed stamp scripts limit bytes rest old out I fault.Read sound why same = absurd why
+failed stamp scripts limit bytes rest old out I fault.Write sound why same = absurd why
+failed stamp scripts limit bytes rest old out I (fault.WriteOut part) sound why same = absurd why
+failed stamp scripts limit bytes rest old out I (fault.Refused number) sound why same = absurd why
 
 -- a run that was served ends as its writing does
-pub delivered : (stamp : List ℕ) (scripts : List Script) (bytes : List ℕ) (rest : Option (List ℕ)) (replies : Wrote) (out : Option Wrote)
+pub delivered : (stamp : List ℕ) (scripts : List Script) (limit : ℕ) (bytes : List ℕ) (rest : Option (List ℕ)) (replies : Wrote) (out : Option Wrote)
     (I J : List (List ℕ)) (report : Report) (text : List ℕ) (r : Result Report ServeFault) →
-    AreSound bytes rest I → IsServedTo stamp scripts I J report text → EndsWriting report text J replies out r → EndsServe stamp scripts bytes rest replies out r
-delivered stamp scripts bytes rest replies out I J report text (Ok r) sound served wrote =
+    AreSound bytes rest I → IsServedTo stamp scripts I J report text → EndsWriting report text J replies out r → EndsServe stamp scripts limit bytes rest replies out r
+delivered stamp scripts limit bytes rest replies out I J report text (Ok r) sound served wrote =
     let P : Report → Type 0 = λ x. IsServedTo stamp scripts I J x text in
     (J, text, record { image = I; sound = sound; served = subst P (sym wrote.0) served }, wrote.1, wrote.2)
-delivered stamp scripts bytes rest replies out I J report text (Err fault.Write) sound served wrote =
+delivered stamp scripts limit bytes rest replies out I J report text (Err fault.Write) sound served wrote =
     (text, wrote.0.0, inl (J, report, record { image = I; sound = sound; served = served }), wrote.0.1, wrote.1)
-delivered stamp scripts bytes rest replies out I J report text (Err (fault.WriteOut part)) sound served wrote =
+delivered stamp scripts limit bytes rest replies out I J report text (Err (fault.WriteOut part)) sound served wrote =
     (J, report, text, record { image = I; sound = sound; served = served }, wrote.0, wrote.1)
-delivered stamp scripts bytes rest replies out I J report text (Err fault.Read) sound served wrote = absurd wrote
-delivered stamp scripts bytes rest replies out I J report text (Err fault.NoMemory) sound served wrote = absurd wrote
-delivered stamp scripts bytes rest replies out I J report text (Err fault.NoThread) sound served wrote = absurd wrote
-delivered stamp scripts bytes rest replies out I J report text (Err fault.Unmatched) sound served wrote = absurd wrote
-delivered stamp scripts bytes rest replies out I J report text (Err (fault.Refused number)) sound served wrote = absurd wrote
+delivered stamp scripts limit bytes rest replies out I J report text (Err fault.Read) sound served wrote = absurd wrote
+delivered stamp scripts limit bytes rest replies out I J report text (Err fault.NoMemory) sound served wrote = absurd wrote
+delivered stamp scripts limit bytes rest replies out I J report text (Err fault.NoThread) sound served wrote = absurd wrote
+delivered stamp scripts limit bytes rest replies out I J report text (Err fault.Unmatched) sound served wrote = absurd wrote
+delivered stamp scripts limit bytes rest replies out I J report text (Err (fault.Refused number)) sound served wrote = absurd wrote
 
 -- a run that is refused writes the line of the refusal
-pub turned_away : (stamp : List ℕ) (scripts : List Script) (bytes : List ℕ) (rest : Option (List ℕ)) (replies : Wrote) (out : Option Wrote) (number : ℕ) (line : List ℕ) (f : ServeFault) →
-    AreRefused bytes rest number line → IsRefusedWith number line replies f → IsUntouched out → EndsServe stamp scripts bytes rest replies out (Err f)
-turned_away stamp scripts bytes rest replies out number line (fault.Refused n) are wrote same =
+pub turned_away : (stamp : List ℕ) (scripts : List Script) (limit : ℕ) (bytes : List ℕ) (rest : Option (List ℕ)) (replies : Wrote) (out : Option Wrote) (number : ℕ) (line : List ℕ) (f : ServeFault) →
+    AreRefused bytes rest number line → IsRefusedWith number line replies f → IsUntouched out → EndsServe stamp scripts limit bytes rest replies out (Err f)
+turned_away stamp scripts limit bytes rest replies out number line (fault.Refused n) are wrote same =
     let P : ℕ → Type 0 = λ k. AreRefused bytes rest k line in (line, subst P (sym wrote.0) are, wrote.1, same)
-turned_away stamp scripts bytes rest replies out number line fault.Write are wrote same = (line, wrote.0, inr (number, are), wrote.1, same)
-turned_away stamp scripts bytes rest replies out number line fault.Read are wrote same = absurd wrote
-turned_away stamp scripts bytes rest replies out number line fault.NoMemory are wrote same = absurd wrote
-turned_away stamp scripts bytes rest replies out number line fault.NoThread are wrote same = absurd wrote
-turned_away stamp scripts bytes rest replies out number line fault.Unmatched are wrote same = absurd wrote
-turned_away stamp scripts bytes rest replies out number line (fault.WriteOut part) are wrote same = absurd wrote
+turned_away stamp scripts limit bytes rest replies out number line fault.Write are wrote same = (line, wrote.0, inr (number, are), wrote.1, same)
+turned_away stamp scripts limit bytes rest replies out number line fault.Read are wrote same = absurd wrote
+turned_away stamp scripts limit bytes rest replies out number line fault.NoMemory are wrote same = absurd wrote
+turned_away stamp scripts limit bytes rest replies out number line fault.NoThread are wrote same = absurd wrote
+turned_away stamp scripts limit bytes rest replies out number line fault.Unmatched are wrote same = absurd wrote
+turned_away stamp scripts limit bytes rest replies out number line (fault.WriteOut part) are wrote same = absurd wrote

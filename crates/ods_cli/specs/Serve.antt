@@ -1,5 +1,5 @@
 -- How a run that serves scripts ends: what was read, what went out, and which list of requests stands behind it.
-use Rattle.std.specs.Prelude.{◌≡◌, ℕ, ◌⊎◌, List, ◌∷◌, ◌++◌, length, map, codes, Option, None, Some, Result, Ok, Err}
+use Rattle.std.specs.Prelude.{◌≡◌, ℕ, ◌<◌, ◌⊎◌, List, ◌∷◌, ◌++◌, length, map, codes, Option, None, Some, Result, Ok, Err}
 use Rattle.std.specs.Fmt.{decimal}
 use Rattle.std.specs.Io.KnownBytes.{Appends, Keeps}
 use Rattle.ods_base.specs.Image.{TookBytes, image_bytes}
@@ -10,12 +10,12 @@ use Rattle.ods_mount.specs.Refusals.{mount_row}
 use Rattle.ods_mount.specs.Faults.{FaultIsTrue}
 use Rattle.ods_mount.specs.Sound.{IsSoundBy}
 use Rattle.ods_request.specs.declared.answers.Entry.{Entry}
-use Rattle.ods_state.specs.Version.{IsVersionBy}
+use Rattle.ods_state.specs.Version.{State, IsLawful, IsVersionBy}
 use Rattle.ods_share.specs.declared.script.Script.{Script}
 use Rattle.ods_share.specs.declared.outcome.Outcome.{Outcome}
 use Rattle.ods_share.specs.declared.settlement.Report.{Report}
 use Rattle.ods_share.specs.Scripts.{EachOutcome}
-use Rattle.ods_share.specs.Settles.{Calls, AreCalls, AreLengths}
+use Rattle.ods_share.specs.Settles.{Calls, AreCalls, AreLengths, IsSettled}
 use Rattle.ods_script.specs.Texts.{sessions_text}
 use Rattle.ods_cli.specs.Reply.{AreImageBytes, AreNoImage, IsReplyFault}
 use Rattle.ods_cli.specs.ImageLines.{count_lines, fault_line}
@@ -39,7 +39,7 @@ pub record IsServedTo (stamp : List ℕ) (scripts : List Script) (I J : List (Li
   pub version : IsVersionBy I entries J layout
   pub outcomes : List Outcome
   pub count : length outcomes ≡ length scripts
-  pub each : EachOutcome stamp scripts outcomes
+  pub each : EachOutcome I stamp scripts outcomes
   pub calls : AreCalls entries (calls_in outcomes)
   pub report : AreLengths entries (calls_in outcomes) r
   pub lines : text ≡ sessions_text 1 scripts outcomes ++ totals_text (length entries) (length (free_blocks J layout)) (length (free_numbers J layout))
@@ -90,15 +90,35 @@ IsRefusedWith number line replies NoMemory = ⊥
 IsRefusedWith number line replies NoThread = ⊥
 IsRefusedWith number line replies Unmatched = ⊥
 
--- why a sound image is not served to the end: memory, threads, or a list that is not the sessions'
-abbrev pub IsServingFault : ServeFault → Type 0
-IsServingFault NoMemory = Unit {0}
-IsServingFault NoThread = Unit {0}
-IsServingFault Unmatched = Unit {0}
-IsServingFault (Refused number) = ⊥
-IsServingFault Read = ⊥
-IsServingFault Write = ⊥
-IsServingFault (WriteOut fault) = ⊥
+-- why a volume's list is not said, where these are the calls: it is not settled by them, or longer than the limit
+abbrev pub IsReportFault : State → List Calls → ℕ → ServeFault → Type 0
+IsReportFault v lists limit Unmatched = IsSettled v.mounted v lists → limit < length v.entries
+IsReportFault v lists limit NoMemory = Unit {0}
+IsReportFault v lists limit NoThread = ⊥
+IsReportFault v lists limit (Refused number) = ⊥
+IsReportFault v lists limit Read = ⊥
+IsReportFault v lists limit Write = ⊥
+IsReportFault v lists limit (WriteOut fault) = ⊥
+
+-- The scripts ran on the image I, and the list of the volume that came back is not settled by their calls, or is longer than the limit.
+pub record IsUnmatched (stamp : List ℕ) (scripts : List Script) (I : List (List ℕ)) (limit : ℕ) : Type 0 where
+  pub volume : State
+  pub mounted : volume.mounted ≡ I
+  pub lawful : IsLawful volume
+  pub outcomes : List Outcome
+  pub count : length outcomes ≡ length scripts
+  pub each : EachOutcome I stamp scripts outcomes
+  pub wrong : IsReportFault volume (calls_in outcomes) limit Unmatched
+
+-- why the sound image I is not served to the end: memory, threads, or a list that is not the sessions'
+abbrev pub IsServingFault : List ℕ → List Script → List (List ℕ) → ℕ → ServeFault → Type 0
+IsServingFault stamp scripts I limit NoMemory = Unit {0}
+IsServingFault stamp scripts I limit NoThread = Unit {0}
+IsServingFault stamp scripts I limit Unmatched = IsUnmatched stamp scripts I limit
+IsServingFault stamp scripts I limit (Refused number) = ⊥
+IsServingFault stamp scripts I limit Read = ⊥
+IsServingFault stamp scripts I limit Write = ⊥
+IsServingFault stamp scripts I limit (WriteOut fault) = ⊥
 
 -- what a writer wrote that may be there, by what is known of its bytes before and after
 abbrev pub wrote : {W : Type 0} → (W → Option (List ℕ)) → Option W → Option W → Option Wrote
@@ -133,25 +153,27 @@ EndsWriting report text J replies out (Err NoMemory) = ⊥
 EndsWriting report text J replies out (Err NoThread) = ⊥
 EndsWriting report text J replies out (Err Unmatched) = ⊥
 
--- The end of a run over a reader that gave `bytes` and has `rest` left, with a writer of replies, and a writer of the image if there is one.
-abbrev pub EndsServe : List ℕ → List Script → List ℕ → Option (List ℕ) → Wrote → Option Wrote → Result Report ServeFault → Type 0
+-- The end of a run over a reader that gave `bytes` and has `rest` left, with a writer of replies, and a writer of the image if there is one. The
+-- list may have so many entries as the limit.
+abbrev pub EndsServe : List ℕ → List Script → ℕ → List ℕ → Option (List ℕ) → Wrote → Option Wrote → Result Report ServeFault → Type 0
 -- all is written
-EndsServe stamp scripts bytes rest replies out (Ok r) =
+EndsServe stamp scripts limit bytes rest replies out (Ok r) =
     (J : List (List ℕ)) × (text : List ℕ) × IsRun stamp scripts bytes rest J r text × Appends replies.old replies.new text × GotAll out (image_bytes J)
 -- the line of a refusal is written
-EndsServe stamp scripts bytes rest replies out (Err (Refused number)) =
+EndsServe stamp scripts limit bytes rest replies out (Err (Refused number)) =
     (line : List ℕ) × AreRefused bytes rest number line × Appends replies.old replies.new line × IsUntouched out
 -- nothing is written
-EndsServe stamp scripts bytes rest replies out (Err Read) = IsReplyFault bytes Read × Keeps replies.old replies.new × IsUntouched out
-EndsServe stamp scripts bytes rest replies out (Err NoMemory) = IsReplyFault bytes NoMemory × Keeps replies.old replies.new × IsUntouched out
-EndsServe stamp scripts bytes rest replies out (Err NoThread) = Keeps replies.old replies.new × IsUntouched out
-EndsServe stamp scripts bytes rest replies out (Err Unmatched) = Keeps replies.old replies.new × IsUntouched out
+EndsServe stamp scripts limit bytes rest replies out (Err Read) = IsReplyFault bytes Read × Keeps replies.old replies.new × IsUntouched out
+EndsServe stamp scripts limit bytes rest replies out (Err NoMemory) = IsReplyFault bytes NoMemory × Keeps replies.old replies.new × IsUntouched out
+EndsServe stamp scripts limit bytes rest replies out (Err NoThread) = Keeps replies.old replies.new × IsUntouched out
+EndsServe stamp scripts limit bytes rest replies out (Err Unmatched) =
+    ((I : List (List ℕ)) × AreSound bytes rest I × IsUnmatched stamp scripts I limit) × Keeps replies.old replies.new × IsUntouched out
 -- a first part of the replies is written, or of the line of a refusal, and no image
-EndsServe stamp scripts bytes rest replies out (Err Write) =
+EndsServe stamp scripts limit bytes rest replies out (Err Write) =
     (text : List ℕ) × (count : ℕ)
     × (((J : List (List ℕ)) × (r : Report) × IsRun stamp scripts bytes rest J r text) ⊎ ((number : ℕ) × AreRefused bytes rest number text))
     × TookBytes replies.old replies.new text count × IsUntouched out
 -- the replies are written, and just so many bytes of the image
-EndsServe stamp scripts bytes rest replies out (Err (WriteOut fault)) =
+EndsServe stamp scripts limit bytes rest replies out (Err (WriteOut fault)) =
     (J : List (List ℕ)) × (r : Report) × (text : List ℕ) × IsRun stamp scripts bytes rest J r text
     × Appends replies.old replies.new text × GotPart out (image_bytes J) fault.written

@@ -46,7 +46,7 @@ pub fn serve<I: Read, W: Write, O: Write, G: Gate + Sync, R: Threads + Wait + Sy
     requires few { length scripts.now ≤ 8 }
     requires can { All (λ s. CanBeRun s.commands.items) scripts.now }
     ensures ends { (bytes : List ℕ) × Consumes (I.remaining reader.old) (I.remaining reader.new) bytes
-        × EndsServe options.stamp scripts.now bytes (I.remaining reader.new) (record { old = W.contents replies.old; new = W.contents replies.new })
+        × EndsServe options.stamp scripts.now options.limit bytes (I.remaining reader.new) (record { old = W.contents replies.old; new = W.contents replies.new })
         (wrote O.contents out.old out.new) result }
     ensures limit { IfOk result (λ r. r.entries ≤ options.limit) }
     ensures kept { is_some out.new ≡ is_some out.old }

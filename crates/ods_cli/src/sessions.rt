@@ -4,7 +4,7 @@ ghost use Rattle.std.specs.String.{string_bytes};
 ghost use Rattle.ods_space.specs.Free.{free_blocks, free_numbers};
 ghost use Rattle.ods_share.specs.{Scripts.CanBeRun, Scripts.EachOutcome, Settles.AreLengths, Settles.IsSettled};
 ghost use Rattle.ods_script.specs.Texts.{replies_in};
-ghost use Rattle.ods_cli.specs.Serve.{IsServedTo, IsServingFault, totals_text, calls_in};
+ghost use Rattle.ods_cli.specs.Serve.{IsServedTo, IsServingFault, IsReportFault, totals_text, calls_in};
 
 use crate::ServeFault;
 use crate::engine::Options;
@@ -72,7 +72,7 @@ pub(crate) fn serve_all<G: Gate + Sync, R: Threads + Wait + Sync>(
     requires can { All (λ s. CanBeRun s.commands.items) scripts.now }
     ensures ok { IfOk result (λ s. IsServedTo options.stamp scripts.now mounted.image s.volume.image s.said.report (string_bytes s.said.text)) }
     ensures limit { IfOk result (λ s. s.said.report.entries ≤ options.limit) }
-    ensures err { IfErr result IsServingFault }
+    ensures err { IfErr result (IsServingFault options.stamp scripts.now mounted.image options.limit) }
 {
     let Ok(volume) = Volume::new(alloc, mounted, options.limit) else {
         return Err(ServeFault::NoMemory);
@@ -95,10 +95,11 @@ fn settled(
     requires some { 1 ≤ length scripts.now }
     requires few { length scripts.now ≤ 8 }
     requires count { vec_len outcomes ≡ length scripts.now }
-    ensures ok { (stamp : List ℕ) → EachOutcome stamp scripts.now outcomes.items →
+    ensures ok { (stamp : List ℕ) → EachOutcome volume.mounted stamp scripts.now outcomes.items →
         IfOk result (λ s. IsServedTo stamp scripts.now volume.mounted s.volume.image s.said.report (string_bytes s.said.text)) }
     ensures limit { IfOk result (λ s. s.said.report.entries ≤ limit) }
-    ensures err { IfErr result IsServingFault }
+    ensures err { (stamp : List ℕ) → EachOutcome volume.mounted stamp scripts.now outcomes.items →
+        IfErr result (IsServingFault stamp scripts.now volume.mounted limit) }
 {
     volume.is_lawful();
     let (calls, replies) = parted(alloc, outcomes)?;
@@ -124,7 +125,7 @@ fn report_of(
 ) -> Result<Report, ServeFault>
     ensures ok { IfOk result (λ r. IsSettled volume.now.mounted volume.now calls.items × AreLengths volume.now.entries calls.items r) }
     ensures limit { IfOk result (λ r. r.entries ≤ limit) }
-    ensures err { IfErr result IsServingFault }
+    ensures err { IfErr result (IsReportFault volume.now calls.items limit) }
 {
     match settle_mounted(alloc, volume, calls.as_slice()) {
         Ok(report) => {

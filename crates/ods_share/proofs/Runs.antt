@@ -8,11 +8,11 @@ use Rattle.ods_share.specs.declared.outcome.Outcome.{Outcome}
 use Rattle.ods_share.specs.declared.outcome.Reply.{Reply}
 use Rattle.ods_share.specs.Scripts.{Sitting, Tells, Runs, IsOutcome, EachIfOk, EachOutcome}
 
-pub runs_snoc : (stamp : List ℕ) (s : Sitting) (cs : List Command) (rs : List Reply) (t : Sitting) (c : Command) (r : Reply) (u : Sitting) → Runs stamp s cs rs t → Tells stamp t c.nth c.action r u → Runs stamp s (cs ++ c ∷ []) (rs ++ r ∷ []) u
-runs_snoc stamp s [] [] t c r u is tells = (u, subst (λ (x : Sitting). Tells stamp x c.nth c.action r u) is tells, refl)
-runs_snoc stamp s [] (q ∷ qs) t c r u is tells = absurd is
-runs_snoc stamp s (d ∷ ds) [] t c r u is tells = absurd is
-runs_snoc stamp s (d ∷ ds) (q ∷ qs) t c r u is tells = (is.0, is.1, runs_snoc stamp is.0 ds qs t c r u is.2 tells)
+pub runs_snoc : (M : List (List ℕ)) (stamp : List ℕ) (s : Sitting) (cs : List Command) (rs : List Reply) (t : Sitting) (c : Command) (r : Reply) (u : Sitting) → Runs M stamp s cs rs t → Tells M stamp t c.nth c.action r u → Runs M stamp s (cs ++ c ∷ []) (rs ++ r ∷ []) u
+runs_snoc M stamp s [] [] t c r u is tells = (u, subst (λ (x : Sitting). Tells M stamp x c.nth c.action r u) is tells, refl)
+runs_snoc M stamp s [] (q ∷ qs) t c r u is tells = absurd is
+runs_snoc M stamp s (d ∷ ds) [] t c r u is tells = absurd is
+runs_snoc M stamp s (d ∷ ds) (q ∷ qs) t c r u is tells = (is.0, is.1, runs_snoc M stamp is.0 ds qs t c r u is.2 tells)
 
 abbrev pub fine : Outcome → Result Outcome AllocError
 fine o = Ok o
@@ -22,11 +22,11 @@ index_map-ok [] k o = refl
 index_map-ok (x ∷ xs) zero o = refl
 index_map-ok (x ∷ xs) (suc k) o = index_map-ok xs k o
 
-pub outcomes : (stamp : List ℕ) (ss : List Script) (rs : List (Result Outcome AllocError)) (os : List Outcome) → rs ≡ map fine os → EachIfOk stamp ss rs → EachOutcome stamp ss os
-outcomes stamp ss rs os is each k s o lt =
-    let at : IfOk (slice_index_or rs k (fine o)) (λ x. IsOutcome stamp (slice_index_or ss k s).commands.items x) = each k s (fine o) lt in
+pub outcomes : (M : List (List ℕ)) (stamp : List ℕ) (ss : List Script) (rs : List (Result Outcome AllocError)) (os : List Outcome) → rs ≡ map fine os → EachIfOk M stamp ss rs → EachOutcome M stamp ss os
+outcomes M stamp ss rs os is each k s o lt =
+    let at : IfOk (slice_index_or rs k (fine o)) (λ x. IsOutcome M stamp (slice_index_or ss k s).commands.items x) = each k s (fine o) lt in
     let here : slice_index_or rs k (fine o) ≡ fine (slice_index_or os k o) = subst (λ (l : List (Result Outcome AllocError)). slice_index_or l k (fine o) ≡ fine (slice_index_or os k o)) (sym is) (index_map-ok os k o) in
-    subst (λ (r : Result Outcome AllocError). IfOk r (λ x. IsOutcome stamp (slice_index_or ss k s).commands.items x)) here at
+    subst (λ (r : Result Outcome AllocError). IfOk r (λ x. IsOutcome M stamp (slice_index_or ss k s).commands.items x)) here at
 
 pub outcomes_len : (rs : List (Result Outcome AllocError)) (os : List Outcome) → rs ≡ map fine os → length os ≡ length rs
 outcomes_len rs os is = sym (ap length is ∙ map_len os)

@@ -1,5 +1,5 @@
 -- What a script means: which requests its commands make, and which replies and calls come of it.
-use Rattle.std.specs.Prelude.{◌≡◌, ℕ, ◌<◌, List, [], ◌∷◌, ◌++◌, length, Option, Some, None, All, slice_index_or, Result, IfOk, MatchOption}
+use Rattle.std.specs.Prelude.{◌≡◌, ℕ, ◌<◌, List, [], ◌∷◌, ◌++◌, length, Option, Some, None, All, slice_index_or, Result, Ok, Err, IfOk, MatchOption}
 use Rattle.std.specs.declared.alloc.AllocError.{AllocError}
 use Rattle.std.specs.Option.{option_map, option_and_then}
 use Rattle.ods_base.specs.declared.file_id.Uic.{Uic}
@@ -10,7 +10,14 @@ use Rattle.ods_request.specs.declared.requests.Query.{Query}
 use Rattle.ods_request.specs.declared.requests.Query.TheVariants as query
 use Rattle.ods_request.specs.declared.answers.Answer.{Answer}
 use Rattle.ods_request.specs.declared.answers.Answer.TheVariants as answer
+use Rattle.ods_request.specs.declared.answers.Entry.{Entry}
+use Rattle.ods_request.specs.declared.refusals.Refusal.{Refusal}
+use Rattle.ods_request.specs.Lists.{Begins}
 use Rattle.ods_state.specs.Outcome.{CanBeAsked}
+use Rattle.ods_state.specs.Version.{State, IsLawful}
+use Rattle.ods_views.specs.Versions.{AnswersBy}
+use Rattle.ods_views.specs.Viewers.{LeadsOn}
+use Rattle.ods_share.specs.Desks.{IsDeskReason}
 use Rattle.ods_share.specs.declared.script.Id.{Id}
 use Rattle.ods_share.specs.declared.script.Id.TheVariants.{Given, Last}
 use Rattle.ods_share.specs.declared.script.Ask.{Ask}
@@ -64,65 +71,81 @@ last_after last (answer.Bytes block) = last
 last_after last (answer.Names lines) = last
 last_after last (answer.Info stat) = last
 
--- a session so far: the user in force, what `$` stands for, and the accepted calls
+-- a session so far: the user in force, what `$` stands for, the accepted calls, and the entries that its last view has seen
 pub record Sitting : Type 0 where
   pub who : Uic
   pub last : Option FileId
   pub calls : List Call
+  pub seen : List Entry
 
 -- an accepted call
 abbrev pub call_of : ℕ → Uic → Request → Answer → Call
 call_of nth who r a = record { nth = nth; who = who; request = r; answer = a }
 
+-- Why a request of this user is refused: a lawful volume over the mounted image M has the reason.
+pub record IsRefused (M : List (List ℕ)) (who : Uic) (q : Request) (f : Refusal) : Type 0 where
+  pub volume : State
+  pub mounted : volume.mounted ≡ M
+  pub lawful : IsLawful volume
+  pub reason : IsDeskReason volume who q f
+
+-- What a view of this user is answered from: a list that begins with what was seen before, and leads from the mounted image M to a
+-- catalogue that answers so.
+pub record IsSeen (M : List (List ℕ)) (before : List Entry) (who : Uic) (q : Query) (answer : Result Answer Refusal) (after : List Entry) : Type 0 where
+  pub later : Begins before after
+  pub leads : LeadsOn M after
+  pub answers : AnswersBy M after who q answer
+
 -- Where `$` stands for no file it is BAD. Else it is an accepted call, with the answer of the reply, or a refusal, which is no call.
-abbrev pub Submits : Sitting → ℕ → Option Request → Reply → Sitting → Type 0
-Submits s nth None r t = (r ≡ reply.Bad) × (t ≡ s)
-Submits s nth (Some q) (reply.Got a) t = t ≡ record { who = s.who; last = last_after s.last a; calls = s.calls ++ call_of nth s.who q a ∷ [] }
-Submits s nth (Some q) (reply.No f) t = t ≡ s
-Submits s nth (Some q) reply.User t = ⊥
-Submits s nth (Some q) reply.Closed t = ⊥
-Submits s nth (Some q) reply.Bad t = ⊥
+abbrev pub Submits : List (List ℕ) → Sitting → ℕ → Option Request → Reply → Sitting → Type 0
+Submits M s nth None r t = (r ≡ reply.Bad) × (t ≡ s)
+Submits M s nth (Some q) (reply.Got a) t = t ≡ record { who = s.who; last = last_after s.last a; calls = s.calls ++ call_of nth s.who q a ∷ []; seen = s.seen }
+Submits M s nth (Some q) (reply.No f) t = IsRefused M s.who q f × (t ≡ s)
+Submits M s nth (Some q) reply.User t = ⊥
+Submits M s nth (Some q) reply.Closed t = ⊥
+Submits M s nth (Some q) reply.Bad t = ⊥
 
 -- Where `$` stands for no file it is BAD. Else it is an answer, which `$` follows as after a request, a refusal, or Closed. It is no call.
-abbrev pub Views : Sitting → Option Query → Reply → Sitting → Type 0
-Views s None r t = (r ≡ reply.Bad) × (t ≡ s)
-Views s (Some q) (reply.Got a) t = t ≡ record { who = s.who; last = last_after s.last a; calls = s.calls }
-Views s (Some q) (reply.No f) t = t ≡ s
-Views s (Some q) reply.Closed t = t ≡ s
-Views s (Some q) reply.User t = ⊥
-Views s (Some q) reply.Bad t = ⊥
+abbrev pub Views : List (List ℕ) → Sitting → Option Query → Reply → Sitting → Type 0
+Views M s None r t = (r ≡ reply.Bad) × (t ≡ s)
+Views M s (Some q) (reply.Got a) t = IsSeen M s.seen s.who q (Ok a) t.seen × (t ≡ record { who = s.who; last = last_after s.last a; calls = s.calls; seen = t.seen })
+Views M s (Some q) (reply.No f) t = IsSeen M s.seen s.who q (Err f) t.seen × (t ≡ record { who = s.who; last = s.last; calls = s.calls; seen = t.seen })
+Views M s (Some q) reply.Closed t = t ≡ s
+Views M s (Some q) reply.User t = ⊥
+Views M s (Some q) reply.Bad t = ⊥
 
--- One command with its reply.
-abbrev pub Tells : List ℕ → Sitting → ℕ → Action → Reply → Sitting → Type 0
-Tells stamp s nth (action.User who) r t = (r ≡ reply.User) × (t ≡ record { who = who; last = s.last; calls = s.calls })
-Tells stamp s nth (action.Submit a) r t = Submits s nth (request_of stamp s.last a) r t
-Tells stamp s nth (action.View l) r t = Views s (query_of s.last l) r t
-Tells stamp s nth action.Bad r t = (r ≡ reply.Bad) × (t ≡ s)
+-- One command with its reply, on the mounted image M.
+abbrev pub Tells : List (List ℕ) → List ℕ → Sitting → ℕ → Action → Reply → Sitting → Type 0
+Tells M stamp s nth (action.User who) r t = (r ≡ reply.User) × (t ≡ record { who = who; last = s.last; calls = s.calls; seen = s.seen })
+Tells M stamp s nth (action.Submit a) r t = Submits M s nth (request_of stamp s.last a) r t
+Tells M stamp s nth (action.View l) r t = Views M s (query_of s.last l) r t
+Tells M stamp s nth action.Bad r t = (r ≡ reply.Bad) × (t ≡ s)
 
 -- one reply for each command, in order
-abbrev pub Runs : List ℕ → Sitting → List Command → List Reply → Sitting → Type 0
-Runs stamp s [] [] t = t ≡ s
-Runs stamp s [] (r ∷ rs) t = ⊥
-Runs stamp s (c ∷ cs) [] t = ⊥
-Runs stamp s (c ∷ cs) (r ∷ rs) t = (u : Sitting) × Tells stamp s c.nth c.action r u × Runs stamp u cs rs t
+abbrev pub Runs : List (List ℕ) → List ℕ → Sitting → List Command → List Reply → Sitting → Type 0
+Runs M stamp s [] [] t = t ≡ s
+Runs M stamp s [] (r ∷ rs) t = ⊥
+Runs M stamp s (c ∷ cs) [] t = ⊥
+Runs M stamp s (c ∷ cs) (r ∷ rs) t = (u : Sitting) × Tells M stamp s c.nth c.action r u × Runs M stamp u cs rs t
 
--- a session begins as user [1,1]
-abbrev pub start : Sitting
-start = record { who = record { group = 1; member = 1 }; last = None; calls = [] }
+-- a session begins as user [1,1], with what its viewer has seen
+abbrev pub start : List Entry → Sitting
+start seen = record { who = record { group = 1; member = 1 }; last = None; calls = []; seen = seen }
 
 -- what comes of a script: one reply for each command, and just the accepted calls
-pub record IsOutcome (stamp : List ℕ) (cs : List Command) (o : Outcome) : Type 0 where
+pub record IsOutcome (M : List (List ℕ)) (stamp : List ℕ) (cs : List Command) (o : Outcome) : Type 0 where
+  pub seen : List Entry
   pub last : Sitting
-  pub runs : Runs stamp start cs o.replies.items last
+  pub runs : Runs M stamp (start seen) cs o.replies.items last
   pub calls : o.calls.items ≡ last.calls
 
 -- outcome k is that of script k
-abbrev pub EachOutcome : List ℕ → List Script → List Outcome → Type 0
-EachOutcome stamp ss os = (k : ℕ) (s : Script) (o : Outcome) → k < length ss → IsOutcome stamp (slice_index_or ss k s).commands.items (slice_index_or os k o)
+abbrev pub EachOutcome : List (List ℕ) → List ℕ → List Script → List Outcome → Type 0
+EachOutcome M stamp ss os = (k : ℕ) (s : Script) (o : Outcome) → k < length ss → IsOutcome M stamp (slice_index_or ss k s).commands.items (slice_index_or os k o)
 
 -- the same so far as there is an outcome
-abbrev pub EachIfOk : List ℕ → List Script → List (Result Outcome AllocError) → Type 0
-EachIfOk stamp ss rs = (k : ℕ) (s : Script) (r : Result Outcome AllocError) → k < length ss → IfOk (slice_index_or rs k r) (λ o. IsOutcome stamp (slice_index_or ss k s).commands.items o)
+abbrev pub EachIfOk : List (List ℕ) → List ℕ → List Script → List (Result Outcome AllocError) → Type 0
+EachIfOk M stamp ss rs = (k : ℕ) (s : Script) (r : Result Outcome AllocError) → k < length ss → IfOk (slice_index_or rs k r) (λ o. IsOutcome M stamp (slice_index_or ss k s).commands.items o)
 
 -- whatever `$` stands for, what the command asks for may be made
 abbrev pub CanBeObeyed : Action → Type 0

@@ -5,8 +5,7 @@ use Rattle.std.specs.Vec.{vec_capacity}
 use Rattle.ods_base.specs.declared.file_id.Uic.{Uic}
 use Rattle.ods_request.specs.declared.requests.Request.{Request}
 use Rattle.ods_request.specs.declared.requests.Query.{Query}
-use Rattle.ods_views.specs.Viewers.{Viewed, Asked}
-use Rattle.ods_views.specs.declared.viewer.ViewFault.TheVariants.{Refused, Closed}
+use Rattle.ods_request.specs.declared.answers.Entry.{Entry}
 use Rattle.ods_share.specs.declared.script.Action.{Action}
 use Rattle.ods_share.specs.declared.script.Action.TheVariants as action
 use Rattle.ods_share.specs.declared.script.Command.{Command}
@@ -15,35 +14,44 @@ use Rattle.ods_share.specs.declared.outcome.Outcome.{Outcome}
 use Rattle.ods_share.specs.declared.outcome.Reply.{Reply}
 use Rattle.ods_share.specs.declared.outcome.Reply.TheVariants as reply
 use Rattle.ods_share.specs.declared.session.Context.{Context}
-use Rattle.ods_share.specs.Scripts.{Sitting, Tells, call_of}
+use Rattle.ods_share.specs.Scripts.{Sitting, Tells, IsRefused, IsSeen, call_of}
 
--- a context with the calls so far
-abbrev pub sitting : Context → List Call → Sitting
-sitting s calls = record { who = s.who; last = s.last; calls = calls }
+-- a context with the calls so far, and what the viewer has seen
+abbrev pub sitting : Context → List Call → List Entry → Sitting
+sitting s calls seen = record { who = s.who; last = s.last; calls = calls; seen = seen }
 
 -- an answer, with its call behind the others, or a refusal, which leaves them
-abbrev pub IsReply : ℕ → Uic → Request → Reply → List Call → List Call → Type 0
-IsReply nth who q (reply.Got a) was now = now ≡ was ++ call_of nth who q a ∷ []
-IsReply nth who q (reply.No f) was now = now ≡ was
-IsReply nth who q reply.User was now = ⊥
-IsReply nth who q reply.Closed was now = ⊥
-IsReply nth who q reply.Bad was now = ⊥
+abbrev pub IsReply : List (List ℕ) → ℕ → Uic → Request → Reply → List Call → List Call → Type 0
+IsReply mounted nth who q (reply.Got a) was now = now ≡ was ++ call_of nth who q a ∷ []
+IsReply mounted nth who q (reply.No f) was now = IsRefused mounted who q f × (now ≡ was)
+IsReply mounted nth who q reply.User was now = ⊥
+IsReply mounted nth who q reply.Closed was now = ⊥
+IsReply mounted nth who q reply.Bad was now = ⊥
 
 -- the answer of a viewer, or why it gives none
-abbrev pub IsView : List (List ℕ) → Viewed → Viewed → Uic → Query → Reply → Type 0
-IsView mounted before after who q (reply.Got a) = Asked mounted before after who q (Ok a)
-IsView mounted before after who q (reply.No f) = Asked mounted before after who q (Err (Refused f))
-IsView mounted before after who q reply.Closed = Asked mounted before after who q (Err Closed)
+abbrev pub IsView : List (List ℕ) → List Entry → List Entry → Uic → Query → Reply → Type 0
+IsView mounted before after who q (reply.Got a) = IsSeen mounted before who q (Ok a) after
+IsView mounted before after who q (reply.No f) = IsSeen mounted before who q (Err f) after
+IsView mounted before after who q reply.Closed = after ≡ before
 IsView mounted before after who q reply.User = ⊥
 IsView mounted before after who q reply.Bad = ⊥
 
+-- what a command finds and leaves, beside the outcome: the context, and what the viewer has seen
+pub record Standing : Type 0 where
+  pub context : Context
+  pub seen : List Entry
+
+abbrev pub stands : Context → List Entry → Standing
+stands context seen = record { context = context; seen = seen }
+
 -- One command from context to context, and from calls to calls, with this reply.
-abbrev pub TellsContext : List ℕ → Command → Context → List Call → Reply → Context → List Call → Type 0
-TellsContext stamp c s was r t now = Tells stamp (sitting s was) c.nth c.action r (sitting t now)
+abbrev pub TellsContext : List (List ℕ) → List ℕ → Command → Standing → List Call → Reply → Standing → List Call → Type 0
+TellsContext mounted stamp c s was r t now = Tells mounted stamp (sitting s.context was s.seen) c.nth c.action r (sitting t.context now t.seen)
 
 -- One command from outcome to outcome: its reply is behind the others, and its call, if there is one.
-abbrev pub TellsMore : List ℕ → Command → Context → Outcome → Context → Outcome → Type 0
-TellsMore stamp c s was t now = (r : Reply) × (now.replies.items ≡ was.replies.items ++ r ∷ []) × Tells stamp (sitting s was.calls.items) c.nth c.action r (sitting t now.calls.items)
+abbrev pub TellsMore : List (List ℕ) → List ℕ → Command → Standing → Outcome → Standing → Outcome → Type 0
+TellsMore mounted stamp c s was t now =
+    (r : Reply) × (now.replies.items ≡ was.replies.items ++ r ∷ []) × TellsContext mounted stamp c s was.calls.items r t now.calls.items
 
 -- how many calls may come of a command: one of a request
 abbrev pub room_of : Action → ℕ

@@ -83,6 +83,14 @@ impl<J: Naming> Desk<J> {
         &self.volume
     }
 
+    /// What is true of each desk: its volume is lawful, over the image of its name.
+    pub(crate) fn is_of_its_name(&self)
+        ensures mounted { self.now.mounted ≡ J.mounted }
+        ensures lawful { IsLawful self.now }
+    {
+        self.volume.is_lawful();
+    }
+
     /// Makes a request of the volume, for a session, as a user, under a number of the caller's. It is answered, entered into the list, and
     /// the version to which it leads is shown; or it is refused with nothing changed and nothing shown. The list as it stands afterwards is
     /// told in both cases. Any request may want memory, after its faults.

@@ -47,7 +47,7 @@ pub fn run_sessions<J: Naming + Send + Sync, G: Gate + Sync, R: Threads + Wait +
     requires can { All (λ s. CanBeRun s.commands.items) scripts.now }
     ensures mounted { IfOk result (λ p. p.0.mounted ≡ J.mounted) }
     ensures opening { IfOk result (λ p. Begins J.opening p.0.entries) }
-    ensures outcomes { IfOk result (λ p. (vec_len p.1 ≡ length scripts.now) × EachOutcome stamp scripts.now p.1.items) }
+    ensures outcomes { IfOk result (λ p. (vec_len p.1 ≡ length scripts.now) × EachOutcome J.mounted stamp scripts.now p.1.items) }
 {
     let lock = Mutex::new(desk);
     let done = run_all(rt, alloc, &lock, gate, viewers, scripts, &stamp);
@@ -86,7 +86,7 @@ fn run_named<J: Naming + Send + Sync, G: Gate + Sync, R: Threads + Wait + Sync>(
     requires can { All (λ s. CanBeRun s.commands.items) scripts.now }
     ensures mounted { IfOk result (λ p. p.0.mounted ≡ volume.mounted) }
     ensures opening { IfOk result (λ p. Begins volume.entries p.0.entries) }
-    ensures outcomes { IfOk result (λ p. (vec_len p.1 ≡ length scripts.now) × EachOutcome stamp scripts.now p.1.items) }
+    ensures outcomes { IfOk result (λ p. (vec_len p.1 ≡ length scripts.now) × EachOutcome volume.mounted stamp scripts.now p.1.items) }
 {
     match Desk::<J>::new(rt, alloc, volume, places_for(scripts.len())) {
         Ok((desk, viewers)) => { run_sessions(rt, alloc, desk, viewers, scripts, stamp, gate) }
@@ -107,7 +107,7 @@ pub fn run_scripts<G: Gate + Sync, R: Threads + Wait + Sync>(
     requires can { All (λ s. CanBeRun s.commands.items) scripts.now }
     ensures mounted { IfOk result (λ p. p.0.mounted ≡ volume.mounted) }
     ensures opening { IfOk result (λ p. Begins volume.entries p.0.entries) }
-    ensures outcomes { IfOk result (λ p. (vec_len p.1 ≡ length scripts.now) × EachOutcome stamp scripts.now p.1.items) }
+    ensures outcomes { IfOk result (λ p. (vec_len p.1 ≡ length scripts.now) × EachOutcome volume.mounted stamp scripts.now p.1.items) }
 {
     run_named::<Brand, G, R>(rt, alloc, volume, scripts, stamp, gate)
 }

@@ -2,7 +2,7 @@
 ghost use Rattle.std.specs.Prelude.{◌≡◌, ◌+◌, ◌<◌, ◌≤◌, IfOk, length};
 ghost use Rattle.std.specs.Vec.{vec_capacity};
 ghost use Rattle.ods_state.specs.Outcome.{CanBeAsked};
-ghost use Rattle.ods_share.specs.{Scripts.CanBeObeyed, Scripts.CanBeRun, Scripts.IsOutcome, Sittings.room_of, Sittings.IsReply, Sittings.IsView, Sittings.TellsContext, Sittings.TellsMore, Sittings.HasRoom, Sittings.KeepsRoom};
+ghost use Rattle.ods_share.specs.{Scripts.CanBeObeyed, Scripts.CanBeRun, Scripts.IsOutcome, Sittings.room_of, Sittings.IsReply, Sittings.IsView, Sittings.stands, Sittings.TellsContext, Sittings.TellsMore, Sittings.HasRoom, Sittings.KeepsRoom};
 
 use crate::asking::{query_for, request_for};
 use crate::compact::CompactAnswer;
@@ -46,12 +46,13 @@ impl<J: Naming, G: Gate, R: Wait> Session<'_, J, G, R> {
     ) -> Result<Reply, AllocError>
         requires can { CanBeAsked request.now }
         requires room { length calls.old.items < vec_capacity calls.old }
-        ensures tells { IfOk result (λ r. IsReply nth who request.now r calls.old.items calls.new.items) }
+        ensures tells { IfOk result (λ r. IsReply J.mounted nth who request.now r calls.old.items calls.new.items) }
         ensures few { IfOk result (λ _. length calls.new.items ≤ length calls.old.items + 1) }
         ensures capacity { vec_capacity calls.new ≡ vec_capacity calls.old }
     {
         let mut guard = self.desk.lock(self.rt);
         self.gate.held(self.number, nth);
+        guard.is_of_its_name();
         let (result, _told) = guard.submit(self.rt, self.number, nth, who, *request);
         MutexGuard::unlock(guard);
         match result {
@@ -79,7 +80,7 @@ impl<J: Naming, G: Gate, R: Wait> Session<'_, J, G, R> {
     ) -> Result<Reply, AllocError>
         requires can { CanBeObeyed command.now.action }
         requires room { length calls.old.items + room_of command.now.action ≤ vec_capacity calls.old }
-        ensures tells { IfOk result (λ r. TellsContext self.now.stamp command.now context.old calls.old.items r context.new calls.new.items) }
+        ensures tells { IfOk result (λ r. TellsContext J.mounted self.now.stamp command.now (stands context.old viewer.old.seen) calls.old.items r (stands context.new viewer.new.seen) calls.new.items) }
         ensures few { IfOk result (λ _. length calls.new.items ≤ length calls.old.items + room_of command.now.action) }
         ensures capacity { vec_capacity calls.new ≡ vec_capacity calls.old }
     {
@@ -125,7 +126,7 @@ impl<J: Naming, G: Gate, R: Wait> Session<'_, J, G, R> {
         requires room { HasRoom outcome.old (room_of command.now.action) 1 }
         ensures room { IfOk result (λ _. KeepsRoom outcome.old outcome.new) }
         ensures calls { IfOk result (λ _. length outcome.new.calls.items ≤ length outcome.old.calls.items + room_of command.now.action) }
-        ensures tells { IfOk result (λ _. TellsMore self.now.stamp command.now context.old outcome.old context.new outcome.new) }
+        ensures tells { IfOk result (λ _. TellsMore J.mounted self.now.stamp command.now (stands context.old viewer.old.seen) outcome.old (stands context.new viewer.new.seen) outcome.new) }
     {
         self.gate.before(self.number, command.nth);
         let reply = self.obey(viewer, context, &mut outcome.calls, command)?;
@@ -139,7 +140,7 @@ impl<J: Naming, G: Gate, R: Wait> Session<'_, J, G, R> {
     /// and of Writes.
     pub(crate) fn sit(&self, viewer: Viewer<J>, script: &[Command]) -> Result<Outcome, AllocError>
         requires { CanBeRun script.now }
-        ensures { IfOk result (λ o. IsOutcome self.now.stamp script.now o) }
+        ensures { IfOk result (λ o. IsOutcome J.mounted self.now.stamp script.now o) }
     {
         let mut viewer = viewer;
         let mut outcome = reserve_outcome(self.alloc, script)?;
@@ -164,7 +165,7 @@ fn reply_to_view<J: Naming>(
     who: Uic,
     query: Query,
 ) -> Result<Reply, AllocError>
-    ensures { IfOk result (λ r. IsView J.mounted viewer.old viewer.new who query r) }
+    ensures { IfOk result (λ r. IsView J.mounted viewer.old.seen viewer.new.seen who query r) }
 {
     match viewer.ask(who, query) {
         Ok(answer) => {

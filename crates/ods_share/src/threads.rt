@@ -11,26 +11,28 @@ use crate::session::Session;
 use ods_request::Stamp;
 use ods_views::{Naming, Viewer};
 use std::alloc::{AllocError, Global};
+use std::marker::PhantomData;
 use std::snapshot::Snapshot;
 use std::sync::{Mutex, Wait};
 use std::thread;
 use std::thread::{Promise, PromisedHandle, Scope, Threads};
 
-/// That what a thread gives is the outcome of this script.
+/// That what a thread gives is the outcome of this script, at a desk of this name.
 #[derive(Drop)]
-pub(crate) struct OfScript {
+pub(crate) struct OfScript<J> {
     script: Snapshot<Script>,
     stamp: Snapshot<Stamp>,
+    of: PhantomData<J>,
 }
 
-impl Promise<Result<Outcome, AllocError>> for OfScript {
+impl<J: Naming> Promise<Result<Outcome, AllocError>> for OfScript<J> {
     ghost use Rattle.std.specs.Prelude.{IfOk};
     ghost use Rattle.ods_share.specs.Scripts.{IsOutcome};
 
-    ghost kept_by = { λ p r. IfOk r (λ o. IsOutcome p.stamp.value p.script.value.commands.items o) };
+    ghost kept_by = { λ p r. IfOk r (λ o. IsOutcome J.mounted p.stamp.value p.script.value.commands.items o) };
 }
 
-type Handle = PromisedHandle<Result<Outcome, AllocError>, OfScript>;
+type Handle<J> = PromisedHandle<Result<Outcome, AllocError>, OfScript<J>>;
 
 /// Obeys a script as the session with this number and viewer.
 fn run_session<J: Naming, G: Gate, R: Wait>(
@@ -44,7 +46,7 @@ fn run_session<J: Naming, G: Gate, R: Wait>(
     script: &Script,
 ) -> Result<Outcome, AllocError>
     requires { CanBeRun script.now.commands.items }
-    ensures { IfOk result (λ o. IsOutcome stamp.now script.now.commands.items o) }
+    ensures { IfOk result (λ o. IsOutcome J.mounted stamp.now script.now.commands.items o) }
 {
     let session = Session {
         rt,
@@ -68,17 +70,18 @@ fn begin_thread<'s, E, J: Naming + Send + Sync + 's, G: Gate + Sync, R: Threads 
     viewer: Viewer<J>,
     stamp: &'s Stamp,
     script: &'s Script,
-) -> Result<Handle, RunFault>
+) -> Result<Handle<J>, RunFault>
     requires { CanBeRun script.now.commands.items }
     ensures { IfOk result (λ h. (h.promise.script.value ≡ script.entry.now) × (h.promise.stamp.value ≡ stamp.entry.now)) }
 {
     let work = move || -> Result<Outcome, AllocError>
         requires { CanBeRun script.now.commands.items }
-        ensures { IfOk result (λ o. IsOutcome stamp.entry.now script.entry.now.commands.items o) }
+        ensures { IfOk result (λ o. IsOutcome J.mounted stamp.entry.now script.entry.now.commands.items o) }
     { run_session(rt, alloc, desk, gate, number, viewer, stamp, script) };
     let promise = OfScript {
         script: Snapshot::of(script),
         stamp: Snapshot::of(stamp),
+        of: PhantomData,
     };
     match scope.spawn_with(promise, work) {
         Ok(handle) => Ok(handle),
@@ -87,7 +90,7 @@ fn begin_thread<'s, E, J: Naming + Send + Sync + 's, G: Gate + Sync, R: Threads 
 }
 
 /// Puts the handle of a thread behind the others.
-fn hold(handles: &mut Vec<Handle>, handle: Handle) -> Result<(), RunFault>
+fn hold<J: Naming>(handles: &mut Vec<Handle<J>>, handle: Handle<J>) -> Result<(), RunFault>
     ensures items { IfOk result (λ _. handles.new.items ≡ handles.old.items ++ handle ∷ []) }
     ensures len { IfOk result (λ _. vec_len handles.new ≡ vec_len handles.old + 1) }
 {
@@ -111,7 +114,7 @@ fn begin_all<'s, E, J: Naming + Send + Sync + 's, G: Gate + Sync, R: Threads + W
     requires few { length scripts.now ≤ 8 }
     requires enough { length scripts.now ≤ vec_len viewers }
     requires can { All (λ s. CanBeRun s.commands.items) scripts.now }
-    ensures { IfOk result (λ v. (vec_len v ≡ length scripts.entry.now) × EachIfOk stamp.entry.now scripts.entry.now v.items) }
+    ensures { IfOk result (λ v. (vec_len v ≡ length scripts.entry.now) × EachIfOk J.mounted stamp.entry.now scripts.entry.now v.items) }
 {
     let mut handles = Vec::new(alloc);
     let mut number = 0u16;
@@ -142,14 +145,14 @@ pub(crate) fn run_all<J: Naming + Send + Sync, G: Gate + Sync, R: Threads + Wait
     requires few { length scripts.now ≤ 8 }
     requires enough { length scripts.now ≤ vec_len viewers }
     requires can { All (λ s. CanBeRun s.commands.items) scripts.now }
-    ensures { IfOk result (λ v. (vec_len v ≡ length scripts.now) × EachIfOk stamp.now scripts.now v.items) }
+    ensures { IfOk result (λ v. (vec_len v ≡ length scripts.now) × EachIfOk J.mounted stamp.now scripts.now v.items) }
 {
     thread::scope(
         thread::scope_env(),
         rt,
         |scope| -> Result<Vec<Result<Outcome, AllocError>>, RunFault>
             requires { (length scripts.now ≤ 8) × (length scripts.now ≤ vec_len viewers) × All (λ s. CanBeRun s.commands.items) scripts.now }
-            ensures { IfOk result (λ v. (vec_len v ≡ length scripts.entry.now) × EachIfOk stamp.entry.now scripts.entry.now v.items) }
+            ensures { IfOk result (λ v. (vec_len v ≡ length scripts.entry.now) × EachIfOk J.mounted stamp.entry.now scripts.entry.now v.items) }
         { begin_all(scope, rt, alloc, desk, gate, viewers, scripts, stamp) },
     )
 }

@@ -12,7 +12,7 @@ returns-in_err-said-in-Ok-clause-ends g c =
       told.0,
       told.1,
       rw (p.1, p.2)
-          (failed c.args.options.stamp c.args.scripts.now told.0 (g.I.Read.remaining c.sound_image.new.reader) (g.W.Write.contents c.args.replies.now)
+          (failed c.args.options.stamp c.args.scripts.now c.args.options.limit told.0 (g.I.Read.remaining c.sound_image.new.reader) (g.W.Write.contents c.args.replies.now)
           (wrote g.O.Write.contents c.args.out.now c.args.out.now) c.in-Ok.mounted.image NoMemory told.2 tt (untouched g.O.Write.contents c.args.out.now)),
     )
 
@@ -22,7 +22,7 @@ returns-then-is_empty-clause-ends g c =
     let said = c.in_ok-said-in-Ok.said in (
       told.0,
       told.1,
-      delivered c.args.options.stamp c.args.scripts.now told.0 (g.I.Read.remaining c.sound_image.new.reader)
+      delivered c.args.options.stamp c.args.scripts.now c.args.options.limit told.0 (g.I.Read.remaining c.sound_image.new.reader)
           (record { old = g.W.Write.contents c.args.replies.now; new = g.W.Write.contents c.deliver.new.replies }) (wrote g.O.Write.contents c.args.out.now c.deliver.new.out)
           c.in-Ok.mounted.image c.in-Ok.mounted.image said.report (string_bytes said.text) c.deliver.result told.2 (c.in_ok-said-in-Ok.ensures.served c.args.options.stamp)
           (rw c.image.ensures.value at c.deliver.ensures.ends),
@@ -35,7 +35,7 @@ returns-in_err-served-in-Ok-clause-ends g c =
       told.0,
       told.1,
       rw (p.1, p.2)
-          (failed c.args.options.stamp c.args.scripts.now told.0 (g.I.Read.remaining c.sound_image.new.reader) (g.W.Write.contents c.args.replies.now)
+          (failed c.args.options.stamp c.args.scripts.now c.args.options.limit told.0 (g.I.Read.remaining c.sound_image.new.reader) (g.W.Write.contents c.args.replies.now)
           (wrote g.O.Write.contents c.args.out.now c.args.out.now) c.in-Ok.mounted.image c.in_err-served-in-Ok.field-0.0 told.2 c.in_err-served-in-Ok.ensures.err
           (untouched g.O.Write.contents c.args.out.now)),
     )
@@ -46,7 +46,7 @@ returns-in_ok-served-in-Ok-clause-ends g c =
     let served = c.in_ok-served-in-Ok.served in (
       told.0,
       told.1,
-      delivered c.args.options.stamp c.args.scripts.now told.0 (g.I.Read.remaining c.sound_image.new.reader)
+      delivered c.args.options.stamp c.args.scripts.now c.args.options.limit told.0 (g.I.Read.remaining c.sound_image.new.reader)
           (record { old = g.W.Write.contents c.args.replies.now; new = g.W.Write.contents c.deliver-in-Ok.new.replies }) (wrote g.O.Write.contents c.args.out.now c.deliver-in-Ok.new.out)
           c.in-Ok.mounted.image served.volume.image served.said.report (string_bytes served.said.text) c.deliver-in-Ok.result told.2 c.in_ok-served-in-Ok.ensures.ok
           (rw c.image-in-Ok.ensures.value at c.deliver-in-Ok.ensures.ends),
@@ -57,7 +57,7 @@ returns-in-Err-clause-ends g c =
     let told = rw c.in-Err.is at c.in_ok-mounted.ensures in (
       told.0,
       told.1,
-      turned_away c.args.options.stamp c.args.scripts.now told.0 (g.I.Read.remaining c.sound_image.new.reader)
+      turned_away c.args.options.stamp c.args.scripts.now c.args.options.limit told.0 (g.I.Read.remaining c.sound_image.new.reader)
           (record { old = g.W.Write.contents c.args.replies.now; new = g.W.Write.contents c.refuse.new.replies }) (wrote g.O.Write.contents c.args.out.now c.args.out.now)
           c.in-Err.no_image.number (string_bytes c.in-Err.no_image.line) c.refuse.result told.2 c.refuse.ensures (untouched g.O.Write.contents c.args.out.now),
     )

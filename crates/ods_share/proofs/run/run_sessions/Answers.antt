@@ -6,4 +6,4 @@ pub returns-in-Ok-unpack-clause-outcomes : goal.returns-in-Ok-unpack-clause-outc
 returns-in-Ok-unpack-clause-outcomes g c =
     let is = c.in-Ok-unpack.ensures in
     let n = outcomes_len _ _ is in
-    (omega (arith, n, c.in-Ok.ensures.0), outcomes c.args.stamp _ _ _ is c.in-Ok.ensures.1)
+    (omega (arith, n, c.in-Ok.ensures.0), outcomes g.J.Naming.mounted c.args.stamp _ _ _ is c.in-Ok.ensures.1)

@@ -1,5 +1,5 @@
 use Rattle.std.proofs.Common.{arith}
-use Rattle.ods_share.proofs.Handles.{Handle, one_at_most, one_longer, tied_snoc}
+use Rattle.ods_share.proofs.Handles.{one_at_most, one_longer, tied_snoc}
 use Rattle.ods_share.proofs.threads.begin_all.Goals as goal
 
 pub loop-script-preserved : goal.loop-script-preserved
@@ -7,7 +7,7 @@ loop-script-preserved g c =
     let inv = c.loop-script.invariant in
     let items = c.in_ok-hold.ensures.items in
     let len = c.in_ok-hold.ensures.len in
-    let h : Handle = c.in_ok-handle.handle in (
+    let h = c.in_ok-handle.handle in (
       omega arith,
       omega arith,
       omega (arith, one_longer c.loop-script.handles.items c.hold.new.handles.items h items),
