@@ -117,6 +117,14 @@ into_closed_pipe good.dsk create --out new.dsk
 onto /dev/full good.dsk create --out new.dsk
 [ ! -e new.dsk ] && echo 'no new.dsk'
 
+echo '# a file that may not grow past 8 KiB, and an image that comes through a pipe'
+(trap '' XFSZ && ulimit -f 16 && apart good.dsk create --out new.dsk)
+ls -l new.dsk | awk '{ print $5 " bytes of new.dsk" }'
+rm -f new.dsk pipe
+mkfifo pipe
+cat good.dsk >pipe &
+apart pipe create
+
 echo '# no memory for the image: 256 MiB, where 128 may be used'
 dd if=/dev/zero of=large.dsk bs=1 count=0 seek=268435456 2>/dev/null
 (ulimit -v 131072 && apart large.dsk)
