@@ -4,7 +4,6 @@
 #
 # usage: bench/refuse_memory.sh PROGRAM [WORD..]
 #   bench/refuse_memory.sh crates/f11/out/f11 volume.dsk
-#   bench/refuse_memory.sh $(bench/tests_program requests refused_memory) requests::refused_memory::refused_memory_changes_nothing
 #
 # Needs a C compiler, and a program that takes its memory from the C library, as those that LLVM builds do.
 set -eu

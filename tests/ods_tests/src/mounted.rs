@@ -12,4 +12,5 @@ mod header_runs;
 mod looks;
 mod mount_faults;
 mod mounts;
+mod poor_chains;
 mod samples;

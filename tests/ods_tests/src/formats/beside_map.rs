@@ -207,7 +207,7 @@ fn beside_a_map(rt: HostRuntime) -> Result<(), Fail> {
     let mut kept = zeroed(rt.alloc(), 0)?;
     let mut model = BTreeMap::new(rt.alloc());
     let mut mark = 0;
-    for _ in 0..4000 {
+    for _ in 0..1200 {
         mark = change(&rt, rt.alloc(), &mut kept, mark, &mut model, &mut dice)?;
     }
     assert!(rt; model.len() > 30, "the directory grew");

@@ -1,13 +1,9 @@
-//! The replies about the sample volume cut short at each block, and with each byte of some blocks changed.
+//! The replies about the sample volume cut short at each block, and with the sum of some headers broken.
 ghost use Rattle.std.specs.Prelude.{◌<◌, ◌≤◌};
 
 use super::check_runs::{checked, replies};
-use super::mounts::free;
 use crate::volumes::sample_of;
-use MountFault::{BadIndex, BadMaster, BadStorageMap, NoHome};
-use ods_base::Image;
 use ods_cli::sample;
-use ods_mount::{MountFault, mount};
 use std::alloc::Global;
 use std::process::Abort;
 use std::sync::Wait;
@@ -66,66 +62,6 @@ fn cut_samples(rt: HostRuntime) -> Result<(), Fail> {
         } else {
             is_sound(&rt, rt.alloc(), part, blocks)?;
         }
-    }
-    Ok(())
-}
-
-/// What a mount finds free, or its fault.
-type Outcome = Result<(u32, u32), MountFault>;
-
-/// What blocks of the sample are mounted as with one byte of theirs changed: one of these.
-const CHANGED: [(u32, &[Outcome]); 6] = [
-    (1, &[Err(NoHome)]),
-    (3, &[Err(BadIndex), Err(BadStorageMap), Err(BadMaster)]),
-    (4, &[Err(BadStorageMap)]),
-    (5, &[Ok((18, 11))]),
-    (6, &[Err(BadMaster)]),
-    (7, &[Ok((18, 11))]),
-];
-
-/// Changes a byte of a block, or changes it back.
-fn flip(rt: &impl Abort, image: &mut Image, lbn: u32, at: usize) {
-    assert!(rt; lbn < image.len() && at < 512);
-    let mut block = *image.block(lbn);
-    block.set_bytes(at, &[block.byte(at) ^ 1]);
-    image.set_block(lbn, block);
-}
-
-/// The image is mounted as one of these, and handed back.
-fn is_mounted_as(rt: &impl Abort, alloc: Global, image: Image, wanted: &[Outcome]) -> Image {
-    match mount(alloc, image) {
-        Ok(mounted) => {
-            let found = Ok(free(&mounted));
-            assert!(rt; wanted.contains(&found), "{found:?}");
-            mounted.into_parts().0
-        }
-        Err((image, fault)) => {
-            assert!(rt; wanted.contains(&Err(fault)), "{fault:?}");
-            image
-        }
-    }
-}
-
-/// Each byte of this block is changed by itself. The image goes into the mount and comes back, so that it is made once.
-fn each_byte_changed(
-    rt: &impl Abort,
-    alloc: Global,
-    lbn: u32,
-    wanted: &[Outcome],
-) -> Result<(), Fail> {
-    let mut image = sample_of(40).image(alloc)?;
-    for at in 0..512 {
-        flip(rt, &mut image, lbn, at);
-        image = is_mounted_as(rt, alloc, image, wanted);
-        flip(rt, &mut image, lbn, at);
-    }
-    Ok(())
-}
-
-#[test]
-fn one_byte_changed(rt: HostRuntime) -> Result<(), Fail> {
-    for (lbn, wanted) in &CHANGED {
-        each_byte_changed(&rt, rt.alloc(), *lbn, wanted)?;
     }
     Ok(())
 }

@@ -75,7 +75,7 @@ fn count_along(rt: &impl Abort, alloc: Global, it: &mut Trial, seed: u64) -> Res
 
 #[test]
 fn counts_are_those_of_the_bits(rt: HostRuntime) -> Result<(), Fail> {
-    for seed in 0..10 * times(&rt) as u64 {
+    for seed in 0..2 * times(&rt) as u64 {
         let mut it = filled(&rt, rt.alloc(), 4_200, 3_900)?;
         count_along(&rt, rt.alloc(), &mut it, 6_000 + seed)?;
     }

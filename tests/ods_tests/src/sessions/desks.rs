@@ -2,6 +2,7 @@
 ghost use Rattle.std.specs.Prelude.{◌≡◌, []};
 ghost use Rattle.ods_state.specs.Outcome.{CanBeAsked};
 
+use super::requests::block_viewed;
 use super::runs::{two_file_volume, two_files, volume_of};
 use crate::persons::{FIRST, NONE, USER};
 use ods_base::FileId;
@@ -125,5 +126,38 @@ fn swapped_volume_is_unmatched(rt: HostRuntime) -> Result<(), Fail> {
     assert!(rt; volume.entries().len() == 1);
     let settled = settle_mounted(alloc, &volume, calls.as_slice());
     assert!(rt; matches!(settled, Err(SettleFault::Unmatched)));
+    Ok(())
+}
+
+/// Fills a list of 65,536, of which a viewer learns, and asks it: after 65,535 entries and at the last.
+fn fills<J: Naming, R: Abort + Wait>(rt: &R, alloc: Global, volume: Volume) -> Result<Volume, Fail>
+    requires mounted { volume.mounted ≡ J.mounted }
+    requires opening { volume.entries ≡ J.opening }
+{
+    let Ok((mut desk, mut viewers)) = Desk::<J>::new(rt, alloc, volume, 1) else {
+        return Err("memory for a desk".into());
+    };
+    let viewer = viewers.pop();
+    let mut viewer = viewer.expect(rt, "a viewer");
+    for nth in 1..65_537 {
+        let (result, told) = desk.submit(rt, 1, nth, USER, first_block(FIRST));
+        assert!(rt; result.is_ok() && told.entries() == nth, "entry {nth}");
+        if 65_534 < nth {
+            viewer.learn(told);
+            let shown = viewer.ask(USER, block_viewed());
+            assert!(rt; matches!(shown, Ok(Answer::Bytes(_))), "{shown:?} at {nth}");
+        }
+    }
+    let (result, _) = desk.submit(rt, 1, 1, USER, first_block(FIRST));
+    assert!(rt; result == Err(Refusal::ListFull));
+    Ok(desk.close(rt))
+}
+
+#[test]
+fn viewer_learns_of_the_longest_list(rt: HostRuntime) -> Result<(), Fail> {
+    let alloc = rt.alloc();
+    let volume = two_file_volume(&rt, alloc, 65_536)?;
+    let volume = fills::<Brand, _>(&rt, alloc, volume)?;
+    assert!(rt; volume.entries().len() == 65_536);
     Ok(())
 }
