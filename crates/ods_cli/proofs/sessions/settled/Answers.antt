@@ -21,8 +21,8 @@ pub returns-in_err-report-clause-err : goal.returns-in_err-report-clause-err
 returns-in_err-report-clause-err c = λ stamp each.
     let p = err_from_is_err_and c.from_residual-in_err-report.result c.from_residual-in_err-report.ensures.1 in
     rw (p.1, p.2)
-        (not_said stamp c.args.scripts.now c.args.volume c.args.outcomes.items c.in_ok-calls.calls.items c.args.limit c.in_err-report.field-0.0
-        c.is_lawful.ensures (sym c.args.outcomes.ok.0 ∙ c.requires.count) each c.in_ok-calls.ensures.calls c.in_err-report.ensures.err)
+    (not_said stamp c.args.scripts.now c.args.volume c.args.outcomes.items c.in_ok-calls.calls.items c.args.limit c.in_err-report.field-0.0
+    c.is_lawful.ensures (sym c.args.outcomes.ok.0 ∙ c.requires.count) each c.in_ok-calls.ensures.calls c.in_err-report.ensures.err)
 
 pub returns-in_err-text-clause-err : goal.returns-in_err-text-clause-err
 returns-in_err-text-clause-err c = λ stamp each.
