@@ -39,7 +39,7 @@ sum() {
 
 # What $made holds where the program that stands here was made of these sums: made_of SUMS
 made_of() {
-    sum <<<"$1"
+    printf '%s\n' "$1" | sum
     sum "$program"
 }
 
