@@ -1,6 +1,7 @@
 pub mod Chains
 mod Samples
 pub mod Drafts
+pub mod DraftImages
 pub mod Surveys
 pub mod Walks
 pub mod Sizes

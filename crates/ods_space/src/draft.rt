@@ -48,6 +48,13 @@ impl Change {
         }
     }
 
+    /// What it puts is a block.
+    fn is_block(&self)
+        ensures { IsBlock self.now.block }
+    {
+        let _ = self.block.bytes();
+    }
+
     /// Makes this change.
     fn make(&self, image: &mut Image)
         ensures { image.new ≡ applied image.old (changed self.now []) }
@@ -75,7 +82,7 @@ impl Model for Draft {
 
 impl Draft {
     ghost use Rattle.std.specs.Prelude.{◌≡◌, ◌<◌, ◌≤◌, ◌∷◌, ℕ, List, [], length, IfOk, OnOk, OnErr};
-    ghost use Rattle.ods_base.specs.Block.{IsBlock};
+    ghost use Rattle.ods_base.specs.{Block.IsBlock, Image.IsImage};
     ghost use Rattle.ods_space.specs.Draft.{ChangesBit, IsNextChange, seen_at, applied, zeroed};
 
     /// A draft without a change.
@@ -202,6 +209,16 @@ impl Draft {
     {
         for change in &self.changes {
             change.make(image);
+        }
+    }
+
+    /// What an image becomes by the changes is an image, of blocks of 512 bytes. Each change is looked at once.
+    pub fn makes_image(&self, image: &Image)
+        ensures { IsImage (applied image.now self.now) }
+    {
+        let _ = image.len();
+        for change in &self.changes {
+            change.is_block();
         }
     }
 }
