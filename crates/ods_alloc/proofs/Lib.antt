@@ -10,6 +10,8 @@ pub mod Written
 pub mod Chained
 pub mod Fields
 pub mod Extending
+pub mod Zeroing
+pub mod Appending
 pub mod WordBits
 pub mod Scans
 pub mod FreeTests

@@ -1,5 +1,6 @@
 pub mod Extend
 pub mod Ends
+pub mod Zeroed
 pub mod Marks
 pub mod Extension
 pub mod Chains

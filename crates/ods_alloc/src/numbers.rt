@@ -1,6 +1,7 @@
 //! Free file numbers: tested, counted and picked for new headers. Numbers in use are passed over 64 at a time.
 ghost use Rattle.std.specs.Prelude.{◌≡◌, ◌≤◌, true, length, take, IfOk, IfErr, IfSome, IfNone};
-ghost use Rattle.ods_space.specs.{Files.IsLayoutOf, Free.is_free_number, Free.free_numbers};
+ghost use Rattle.std.specs.List.{filter, range_with_len};
+ghost use Rattle.ods_space.specs.{Files.IsLayoutOf, Free.is_free_number, Free.free_numbers, Free.is_open_number, Free.open_numbers, Layout.greatest_number as greatest_of};
 ghost use Rattle.ods_alloc.specs.{Scan.IsNext, Scan.NoneIsNext, Scan.NonePasses, Scan.is_clear, Faults.IsShort, Counts.ShowsNone, Counts.clear_in, Counts.counts_of};
 
 use crate::words::{first_in, has_none, used_word};
@@ -15,10 +16,18 @@ pub fn is_number_free(image: &Image, layout: &Layout, number: u16) -> bool
     requires { IsLayoutOf image.now layout.now }
     ensures { result ≡ is_free_number image.now layout.now number }
 {
-    6 <= number
-        && number <= last_number(layout)
-        && !in_use(image, layout, number)
-        && sequence(image, layout, number) < 65535
+    is_number_open(image, layout, last_number(layout), number)
+}
+
+/// Whether a number may be given to a new header, where this is the greatest that may be.
+fn is_number_open(image: &Image, layout: &Layout, most: u16, number: u16) -> bool
+    requires { IsLayoutOf image.now layout.now }
+    ensures { result ≡ is_open_number image.now layout.now most number }
+{
+    if number < 6 || most < number {
+        return false;
+    }
+    !in_use(image, layout, number) && sequence(image, layout, number) < 65535
 }
 
 /// The number of free numbers.
@@ -26,27 +35,34 @@ pub fn number_count(image: &Image, layout: &Layout) -> u32
     requires { IsLayoutOf image.now layout.now }
     ensures { result ≡ length (free_numbers image.now layout.now) }
 {
+    let last = last_number(layout);
     let mut count = 0;
     let mut from = 1;
-    while let Some(number) = next_free_number(image, layout, &[], from) {
+    while let Some(number) = next_open_number(image, layout, &[], last, from) {
         count += 1;
         from = number as u32 + 1;
     }
     count
 }
 
-/// The least free number from `from` on.
-fn next_free_number(image: &Image, layout: &Layout, counts: &[u32], from: u32) -> Option<u16>
+/// The least number from `from` on that is open up to this one.
+fn next_open_number(
+    image: &Image,
+    layout: &Layout,
+    counts: &[u32],
+    most: u16,
+    from: u32,
+) -> Option<u16>
     requires layout { IsLayoutOf image.now layout.now }
     requires counts { ShowsNone counts.now (clear_in image.now layout.now.home) }
-    ensures some { IfSome result (IsNext (is_free_number image.now layout.now) from) }
-    ensures none { IfNone result (NoneIsNext (is_free_number image.now layout.now) from) }
+    ensures some { IfSome result (IsNext (is_open_number image.now layout.now most) from) }
+    ensures none { IfNone result (NoneIsNext (is_open_number image.now layout.now most) from) }
 {
-    let last = last_number(layout) as u32;
+    let last = most as u32;
     let home = layout.home();
     let mut at = skip_used(image, &home, counts, from.max(6), last);
     while at <= last {
-        if is_number_free(image, layout, at as u16) {
+        if is_number_open(image, layout, most, at as u16) {
             return Some(at as u16);
         }
         at = skip_used(image, &home, counts, at + 1, last);
@@ -91,10 +107,54 @@ pub fn pick_numbers(
     ensures ok { IfOk result (λ numbers. (numbers.items ≡ take count (free_numbers image.now layout.now)) × (count ≤ length (free_numbers image.now layout.now))) }
     ensures err { IfErr result (IsShort SpaceFault.HeadersFull (length (free_numbers image.now layout.now)) count) }
 {
+    pick_up_to(alloc, image, layout, counts, last_number(layout), count)
+}
+
+/// The lowest numbers that new headers may get where INDEXF.SYS may grow, ascending: free ones, and then such for which it has
+/// no block yet.
+pub fn pick_open_numbers(
+    alloc: Global,
+    image: &Image,
+    layout: &Layout,
+    counts: &FreeCounts,
+    count: u32,
+) -> Result<Vec<u16>, SpaceFault>
+    requires layout { IsLayoutOf image.now layout.now }
+    requires counts { counts.now ≡ counts_of image.now layout.now }
+    ensures ok { IfOk result (λ numbers. (numbers.items ≡ take count (open_numbers image.now layout.now)) × (count ≤ length (open_numbers image.now layout.now))) }
+    ensures err { IfErr result (IsShort SpaceFault.HeadersFull (length (open_numbers image.now layout.now)) count) }
+{
+    pick_up_to(alloc, image, layout, counts, greatest_number(layout), count)
+}
+
+/// The greatest number for which INDEXF.SYS may ever have a header.
+fn greatest_number(layout: &Layout) -> u16
+    ensures { result ≡ greatest_of layout.now.home }
+{
+    let home = layout.home();
+    let size = home.index_bitmap_size as usize;
+    (home.max_files as usize).min(4096 * size) as u16
+}
+
+/// The lowest numbers that are open up to this one, ascending.
+fn pick_up_to(
+    alloc: Global,
+    image: &Image,
+    layout: &Layout,
+    counts: &FreeCounts,
+    most: u16,
+    count: u32,
+) -> Result<Vec<u16>, SpaceFault>
+    requires layout { IsLayoutOf image.now layout.now }
+    requires counts { counts.now ≡ counts_of image.now layout.now }
+    ensures ok { IfOk result (λ numbers. (numbers.items ≡ take count (filter (is_open_number image.now layout.now most) (range_with_len 1 most)))
+        × (count ≤ length (filter (is_open_number image.now layout.now most) (range_with_len 1 most)))) }
+    ensures err { IfErr result (IsShort SpaceFault.HeadersFull (length (filter (is_open_number image.now layout.now most) (range_with_len 1 most))) count) }
+{
     let mut numbers = Vec::new(alloc);
     let mut from = 1;
     for _k in 0..count {
-        let Some(number) = next_free_number(image, layout, counts.numbers(), from) else {
+        let Some(number) = next_open_number(image, layout, counts.numbers(), most, from) else {
             return Err(SpaceFault::HeadersFull);
         };
         numbers.push(number)?;

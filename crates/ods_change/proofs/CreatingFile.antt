@@ -4,6 +4,7 @@ use Rattle.std.specs.Prelude.{MatchOption, slice_get}
 use Rattle.std.specs.List.{Contains}
 use Rattle.std.proofs.lemmas.Bool.{le-ltb, lt-ltb}
 use Rattle.std.proofs.lemmas.List.{get_or_default}
+use Rattle.ods_base.specs.Image.{IsImage}
 use Rattle.ods_base.specs.Name.{RadName}
 use Rattle.ods_base.specs.declared.file_id.FileId.{FileId}
 use Rattle.ods_base.specs.declared.file_id.Uic.{Uic}
@@ -138,14 +139,14 @@ module _ {I J : List (List ℕ)} {L : VolumeLayout} (S : IsSoundBy I L) (who : U
       (created_is_shown S g refl id refl C f shown (here C shown), created_is_spent S g id C f (here C shown) past)
 
   -- the Create that lacks nothing is made so
-  pub create_is_step : IsStepOf I L who (Create name version count stamp) (Created id) J L
-  create_is_step = record {
+  pub create_is_step : IsImage I → IsStepOf I L who (Create name version count stamp) (Created id) J L
+  create_is_step image = record {
     answered = λ C shown past. ap is_some (stepped C shown past);
     shown = λ C D shown past e. left C D shown past (sym (stepped C shown past) ∙ e);
     sound = grown_sound S g (λ says_so. new_directory name version count stamp three n high c attributes_are ident_is says_so.1 (contents_of J blocks) (length blocks) (so_many_blocks S g));
     enough = none_lacks I L (Create name version count stamp) [] [] count (refl, refl, refl) t.enough;
     moves = (
-      may_take I L (Create name version count stamp) [] [] count (refl, refl, refl) (disk J L) (grown_taken S g made),
+      may_take I L (Create name version count stamp) [] [] count (refl, refl, refl) (disk J L) (grown_taken S g image made),
       (sym sequence_is, first),
       attributes_are,
       zeroed,

@@ -25,7 +25,7 @@ use Rattle.ods_state.specs.Made.{IsEnteredAt}
 use Rattle.ods_state.specs.Moves.{ChangesAttributes}
 use Rattle.ods_look.proofs.OpenDirectories.{names_there}
 use Rattle.ods_change.specs.declared.entry.NewEntry.{NewEntry}
-use Rattle.ods_change.specs.Entering.{IsNewEntry}
+use Rattle.ods_change.specs.Entering.{IsEntryFor}
 
 -- a header that stays has other attributes at most
 pub header_kept : (b c : List ℕ) (n : ℕ) → IsValidHeader b n → c ≡ b → ChangesAttributes b c
@@ -42,7 +42,7 @@ unfolding answer_of
 version_answered C dir name given file version e = cc
 
 module _ {I : List (List ℕ)} {L : VolumeLayout} {who : Uic} {dir : FileId} {name : RadName} {given : Option ℕ} {file : FileId} {new : NewEntry}
-    (e : IsNewEntry I L who dir name given file new) where
+    (e : IsEntryFor I L who dir name given file new) where
   abbrev n : ℕ
   n = dir.number
 

@@ -33,7 +33,7 @@ use Rattle.ods_look.specs.Opening.{file_shown}
 use Rattle.ods_look.proofs.BlockPlaces.{blocks_are_one}
 use Rattle.ods_look.proofs.FileBodies.{directory_body}
 use Rattle.ods_change.specs.declared.entry.NewEntry.{NewEntry}
-use Rattle.ods_change.specs.Entering.{IsNewEntry}
+use Rattle.ods_change.specs.Entering.{IsEntryFor}
 use Rattle.ods_change.proofs.Marks.{IsSlotInside, slot_inside, no_growth, marked_is}
 use Rattle.ods_change.proofs.EnteredAt.{entered_at, names_entered, names_then_in, header_changed, header_kept, mark_moves, mark_stays}
 use Rattle.ods_change.proofs.AttributesReplaced.{HasOtherAttributes}
@@ -42,7 +42,7 @@ use Rattle.ods_change.proofs.EntryReplaced.{IsEntry}
 use Rattle.ods_change.proofs.EntryReplaced as entry
 
 module _ {I : List (List ℕ)} {L : VolumeLayout} (S : IsSoundBy I L) {who : Uic} {dir : FileId} {name : RadName} {given : Option ℕ} {file : FileId} {new : NewEntry}
-    (e : IsNewEntry I L who dir name given file new) (stays_in : new.slot.grows ≡ false) where
+    (e : IsEntryFor I L who dir name given file new) (stays_in : new.slot.grows ≡ false) where
   abbrev n : ℕ
   n = dir.number
 

@@ -5,7 +5,7 @@ use Rattle.std.proofs.lemmas.Bool.{cases_lt, lt-ltb}
 use Rattle.std.proofs.lemmas.List.{length-map}
 use Rattle.ods_base.specs.declared.file_id.FileId.{FileId}
 use Rattle.ods_base.specs.declared.file_id.Uic.{Uic}
-use Rattle.ods_base.specs.Image.{block_at}
+use Rattle.ods_base.specs.Image.{IsImage, block_at}
 use Rattle.ods_header.specs.Header.{is_directory_header}
 use Rattle.ods_space.specs.Layout.{VolumeLayout, header_at}
 use Rattle.ods_mount.specs.Faults.{contents_of}
@@ -96,13 +96,13 @@ module _ {I : List (List ℕ)} {L : VolumeLayout} (S : IsSoundBy I L) {who : Uic
         ∙ ap (λ f. grown f count) (sym (there C shown))))
 
     -- the Extend that is not refused is made by that
-    pub extend_is_step : (total : ℕ) → total ≡ length old + count → lack_of I L headers count ≡ None → IsStepOf I L who (Extend id count) (Extended total) J L
+    pub extend_is_step : IsImage I → (total : ℕ) → total ≡ length old + count → lack_of I L headers count ≡ None → IsStepOf I L who (Extend id count) (Extended total) J L
     unfolding answer_of
-    extend_is_step total is enough = carried_is_step I L who (Extend id count) (Extended total) J refl (none_lacks I L (Extend id count) headers old count (has, refl) enough) (record {
+    extend_is_step image total is enough = carried_is_step I L who (Extend id count) (Extended total) J refl (none_lacks I L (Extend id count) headers old count (has, refl) enough) (record {
       answered = λ C shown. (o.fine C shown, ap Extended (ap (λ k. k + count) (so_many C shown) ∙ sym is));
       sound = grown_sound S g.grown (λ says. absurd (no_directory n (header_at J L n) still_plain says.1));
       shown = extend_is_shown;
       sequences = sequences_rise S g.grown;
-      moves = (may_take I L (Extend id count) headers old count (has, refl) (disk J L) (grown_taken S g.grown g.made), g.zeroed);
+      moves = (may_take I L (Extend id count) headers old count (has, refl) (disk J L) (grown_taken S g.grown image g.made), g.zeroed);
       elsewhere = (g.grown.long, grown_touches S g.grown (Extend id count) (has, refl));
     })

@@ -15,7 +15,8 @@ use Rattle.ods_state.specs.Wants.{taken_blocks}
 use Rattle.ods_state.specs.Growth.{IsFirstFor, IsReady, IsTaking}
 use Rattle.ods_state.proofs.Bookkeeping.{well_placed}
 use Rattle.ods_state.proofs.GrowthReady.{taken_not_index}
-use Rattle.ods_state.proofs.Taken.{taken_block_is_free, taken_number_is_free}
+use Rattle.ods_state.proofs.OpenNumbers.{taken_number_is_free}
+use Rattle.ods_state.proofs.Taken.{taken_block_is_free}
 
 -- a taken block is one of the volume's
 pub taken_inside : (I : List (List ℕ)) (L : VolumeLayout) (count y : ℕ) → Contains (taken_blocks I L count) y → y < length I
@@ -60,7 +61,7 @@ pub first_place : (I : List (List ℕ)) (L : VolumeLayout) (n count : ℕ) (numb
 first_place I L n count numbers t = by (place_of L n) refl
   where
     free : IsFreeNumber I L n
-    free = free_number I L n (taken_number_is_free I L [] count n (subst (λ xs. Contains xs n) t.all (0, omega arith, refl)))
+    free = free_number I L n (taken_number_is_free I L [] count n t.no_growth (subst (λ xs. Contains xs n) t.all (0, omega arith, refl)))
 
     by : (o : Option ℕ) → place_of L n ≡ o → is_some o ≡ true
     by (Some x) e = refl

@@ -1,10 +1,9 @@
--- The chain of a file of a sound volume before it grows, computed along its headers.
+-- The chain of a file that is to grow, computed along its headers.
 use Rattle.std.proofs.Common.{◌≡◌, ℕ, refl, List, ◌∷◌, drop}
 use Rattle.ods_base.specs.Image.{IsImage}
 use Rattle.ods_space.specs.Layout.{VolumeLayout}
-use Rattle.ods_space.specs.Files.{HasBlocks}
-use Rattle.ods_space.specs.Chain.{headers_of, named_by, numbers_of}
-use Rattle.ods_mount.specs.Sound.{IsSoundBy}
+use Rattle.ods_space.specs.Files.{HasBlocks, IsLayoutOf}
+use Rattle.ods_space.specs.Chain.{IsChain, headers_of, named_by, numbers_of}
 use Rattle.ods_state.specs.Wants.{HasHeaders}
 use Rattle.ods_change.proofs.ReadyToGrow.{walked_as}
 
@@ -19,8 +18,8 @@ blocks_before I L n = named_by (headers_of I L n)
 pub has_headers : {I : List (List ℕ)} {L : VolumeLayout} {n : ℕ} {blocks : List ℕ} (h : HasBlocks I L n blocks) → HasHeaders I L n (n ∷ h.others) blocks
 has_headers h = (h.others, refl, h.whole)
 
--- they are those that the file has
-pub chain_before : (I : List (List ℕ)) (L : VolumeLayout) (n : ℕ) (headers old : List ℕ) → IsImage I → IsSoundBy I L → HasHeaders I L n headers old
-    → (headers_behind I L n ≡ drop 1 headers) × (blocks_before I L n ≡ old)
+-- they are those of the chain
+pub chain_before : (I : List (List ℕ)) (L : VolumeLayout) (n : ℕ) (others old : List ℕ) → IsImage I → IsLayoutOf I L → IsChain I L n others old
+    → (headers_behind I L n ≡ others) × (blocks_before I L n ≡ old)
 unfolding headers_of headers_behind blocks_before
-chain_before I L n headers old image S has = walked_as I L n headers old image S.layout has
+chain_before I L n others old image layout chain = walked_as I L n others old image layout chain

@@ -16,7 +16,7 @@ use Rattle.ods_space.specs.Layout.{VolumeLayout, header_at, place_of}
 use Rattle.ods_space.specs.Files.{IsLayoutOf}
 use Rattle.ods_space.specs.Chain.{IsChain}
 use Rattle.ods_space.specs.Draft.{Changes, applied}
-use Rattle.ods_space.proofs.Drafts.{applied_set, applied-applied}
+use Rattle.ods_space.proofs.Drafts.{applied_over}
 use Rattle.ods_space.specs.Free.{free_blocks}
 use Rattle.ods_alloc.specs.Extend.{CanExtend, Extends, IsWellPlaced, with_in_use}
 use Rattle.ods_directory.specs.Mark.{IsSlot, grown, mark_in, marked, written}
@@ -33,13 +33,13 @@ use Rattle.ods_request.specs.Steps.{after, put, file_at, no_file, with_body}
 use Rattle.ods_state.specs.Contents.{body_of, file_of, ShowsBy}
 use Rattle.ods_state.specs.Change.{disk}
 use Rattle.ods_state.specs.Served.{IsRefusalOf, IsShortOf, IsStepOf}
-use Rattle.ods_state.specs.Wants.{HasHeaders, Lacks, Wants, lack_of, room_in, taken_blocks, taken_numbers}
+use Rattle.ods_state.specs.Wants.{HasHeaders, Lacks, Wants, index_growth, lack_of, room_in, taken_blocks, taken_numbers}
 use Rattle.ods_state.proofs.Grown.{own_blocks, own_contents}
 use Rattle.ods_state.proofs.GrownMoves.{grown_taken, grown_touches, sequences_rise}
 use Rattle.ods_state.proofs.GrownShown.{grown_is_put}
 use Rattle.ods_state.proofs.GrownSound.{grown_sound}
 use Rattle.ods_state.specs.Growth.{IsGrowth, IsReady, IsTaking}
-use Rattle.ods_state.proofs.GrowthChain.{ready_chain}
+use Rattle.ods_state.proofs.GrowthChain.{kept_chain, ready_chain}
 use Rattle.ods_state.proofs.GrowthMade.{grows as grows_to, made as headers_made, filled as blocks_filled}
 use Rattle.ods_state.proofs.Bookkeeping.{well_placed}
 use Rattle.ods_state.proofs.GrowthReady.{header_stays, ready_layout}
@@ -49,10 +49,11 @@ use Rattle.ods_state.proofs.Wanted.{may_take, none_lacks}
 use Rattle.ods_look.specs.Opening.{file_shown}
 use Rattle.ods_look.proofs.FileBodies.{directory_body}
 use Rattle.ods_change.specs.declared.entry.NewEntry.{NewEntry}
-use Rattle.ods_change.specs.Entering.{IsNewEntry, IsTakenFor}
+use Rattle.ods_change.specs.Entering.{IsEntryFor, IsTakenFor}
 use Rattle.ods_change.proofs.AttributesReplaced.{HasOtherAttributes}
 use Rattle.ods_change.proofs.AttributesReplaced as header_change
 use Rattle.ods_change.proofs.BehindBlocks.{slot_behind, written_behind}
+use Rattle.ods_change.proofs.GrowingChain.{blocks_before, chain_before, headers_behind}
 use Rattle.ods_change.proofs.EnteredAt.{entered_at, mark_moves, names_entered, names_then_in}
 use Rattle.ods_change.proofs.Marks.{marked_is}
 use Rattle.ods_change.proofs.ReadyDirectory.{header_ready, block_ready, is_ready}
@@ -82,6 +83,7 @@ pub record IsGrowing (I : List (List ℕ)) (L : VolumeLayout) (n : ℕ) (new : N
   pub fields : KeepsOtherFields (header_at I L n) (marked (attributes_of (header_at I L n)) new.slot.mark count) c
   pub fresh : numbers ≡ taken_numbers I L headers 1
   pub enough : lack_of I L headers 1 ≡ None
+  pub no_growth : index_growth L (taken_numbers I L headers 1) ≡ 0
 
 -- where nothing is lacking, one block is taken
 pub one_taken : (I : List (List ℕ)) (L : VolumeLayout) (headers : List ℕ) → lack_of I L headers 1 ≡ None → length (taken_blocks I L 1) ≡ 1
@@ -93,7 +95,7 @@ only_one (x ∷ []) d one = refl
 only_one (x ∷ y ∷ ys) d one = absurd (omega (arith, one))
 
 module _ {I : List (List ℕ)} {L : VolumeLayout} (S : IsSoundBy I L) {who : Uic} {dir : FileId} {name : RadName} {given : Option ℕ} {file : FileId} {new : NewEntry}
-    (e : IsNewEntry I L who dir name given file new) (grows : new.slot.grows ≡ true) where
+    (e : IsEntryFor I L who dir name given file new) (grows : new.slot.grows ≡ true) where
   abbrev n : ℕ
   n = dir.number
 
@@ -131,8 +133,8 @@ module _ {I : List (List ℕ)} {L : VolumeLayout} (S : IsSoundBy I L) {who : Uic
   b = with_bytes zeros 0 new.bytes
 
   -- there is what the directory takes
-  pub taking : (numbers : List ℕ) → numbers ≡ taken_numbers I L headers 1 → lack_of I L headers 1 ≡ None → IsTaking I L n headers old 1 numbers
-  taking numbers are enough = record { above = above_maps n (header_at I L n) e.own.is.kind; before = inl (e.own.file.0, wants.0); all = ap (λ l. headers ++ l) are; enough = enough }
+  pub taking : (numbers : List ℕ) → numbers ≡ taken_numbers I L headers 1 → lack_of I L headers 1 ≡ None → index_growth L (taken_numbers I L headers 1) ≡ 0 → IsTaking I L n headers old 1 numbers
+  taking numbers are enough still = record { above = above_maps n (header_at I L n) e.own.is.kind; before = inl (e.own.file.0, wants.0); all = ap (λ l. headers ++ l) are; enough = enough; no_growth = still }
 
   -- what it lacks, of so many headers and that room in the last, or want of memory, is why the Enter is refused
   pub refused : (f : Refusal) (count room : ℕ) → ((hs : List ℕ) → HasHeaders I L n hs old → (count ≡ length hs) × (room ≡ room_in I L hs))
@@ -178,7 +180,7 @@ module _ {I : List (List ℕ)} {L : VolumeLayout} (S : IsSoundBy I L) {who : Uic
     header_is = record { sound = S; place = place; was = refl; valid = e.own.is.held.file.valid; sequence = e.own.file.1; changed = w; fields = fields }
 
     t : IsTaking I L n headers old 1 numbers
-    t = taking numbers d.fresh d.enough
+    t = taking numbers d.fresh d.enough d.no_growth
 
     ready : IsReady I K L n headers 1
     ready = is_ready S b e.own.is.held.file.valid place taken w others
@@ -196,6 +198,13 @@ module _ {I : List (List ℕ)} {L : VolumeLayout} (S : IsSoundBy I L) {who : Uic
           ready_chain I K L S n headers old 1 numbers t ready image,
           can_extend I K L S n headers old 1 numbers t ready,
         ))))
+
+    -- and it is, walked along, what it was
+    pub walked_now : IsImage I → {M : List (List ℕ)} → K ≡ M → IsImage M → (headers_behind M L n ≡ others) × (blocks_before M L n ≡ old)
+    walked_now image {M = M} here now =
+        chain_before M L n others old now
+        (subst (λ X. IsLayoutOf X L) here (ready_layout I K L S n headers old 1 numbers t ready))
+        (subst (λ X. IsChain X L n others old) here (kept_chain I K L S n headers old 1 numbers t ready image e.own.file.0))
 
     -- its first header is the new one, and its other headers stay
     pub headers_ready : {M : List (List ℕ)} → K ≡ M → (header_at M L n ≡ c) × ((m : ℕ) → m ≢ n → header_at M L m ≡ header_at I L m)
@@ -272,14 +281,14 @@ module _ {I : List (List ℕ)} {L : VolumeLayout} (S : IsSoundBy I L) {who : Uic
           }))
 
       -- the Enter is made by the new block with the entry, the header with the new mark, and the chain that grows
-      pub enter_grown : IsStepOf I L who request (Entered new.version) J L
-      enter_grown = carried_is_step I L who request (Entered new.version) J refl (none_lacks I L request headers old 1 wants g.taking.enough) (record {
+      pub enter_grown : IsImage I → IsStepOf I L who request (Entered new.version) J L
+      enter_grown image = carried_is_step I L who request (Entered new.version) J refl (none_lacks I L request headers old 1 wants g.taking.enough) (record {
         answered = e.answered;
         sound = sound_now;
         shown = is_shown;
         sequences = sequences_rise S g;
         moves = (
-          may_take I L request headers old 1 wants (disk J L) (grown_taken S g (headers_made I K J L S n headers old 1 numbers t ready ext)),
+          may_take I L request headers old 1 wants (disk J L) (grown_taken S g image (headers_made I K J L S n headers old 1 numbers t ready ext)),
           λ none. absurd (none headers old 1 wants),
           entered_at e J all (own_blocks S g) contents_then (attributes_now ∙ ap (marked (attributes_of header) new.slot.mark) (sym long_then) ∙ sym (mark_moves e (length all) moves)),
         );
@@ -287,18 +296,18 @@ module _ {I : List (List ℕ)} {L : VolumeLayout} (S : IsSoundBy I L) {who : Uic
       })
 
     -- so each growth of that chain makes the Enter
-    pub enter_behind : {M J : List (List ℕ)} {ns bs blocks : List ℕ} → K ≡ M → ns ≡ others → bs ≡ old → blocks ≡ taken_blocks I L 1 → Extends M L n ns bs blocks numbers J
+    pub enter_behind : IsImage I → {M J : List (List ℕ)} {ns bs blocks : List ℕ} → K ≡ M → ns ≡ others → bs ≡ old → blocks ≡ taken_blocks I L 1 → Extends M L n ns bs blocks numbers J
         → IsStepOf I L who request (Entered new.version) J L
-    enter_behind {M = M} {J = J} {ns = ns} {bs = bs} {blocks = blocks} here first before block ext =
+    enter_behind image {M = M} {J = J} {ns = ns} {bs = bs} {blocks = blocks} here first before block ext =
         enter_grown J
         (subst (λ X. Extends X L n others old (taken_blocks I L 1) numbers J) (sym here)
         (subst (λ l. Extends M L n l old (taken_blocks I L 1) numbers J) first
         (subst (λ l. Extends M L n ns l (taken_blocks I L 1) numbers J) before
-        (subst (λ l. Extends M L n ns bs l numbers J) block ext))))
+        (subst (λ l. Extends M L n ns bs l numbers J) block ext)))) image
 
 -- a directory grows so by what its Enter finds and takes
 pub growing : {I : List (List ℕ)} {L : VolumeLayout} {who : Uic} {dir : FileId} {name : RadName} {given : Option ℕ} {file : FileId} {new : NewEntry}
-    (e : IsNewEntry I L who dir name given file new) (grows : new.slot.grows ≡ true) (blocks numbers fresh : List ℕ) (x y count : ℕ) (c : List ℕ)
+    (e : IsEntryFor I L who dir name given file new) (grows : new.slot.grows ≡ true) (blocks numbers fresh : List ℕ) (x y count : ℕ) (c : List ℕ)
     → IsTakenFor I L dir.number blocks numbers → x ≡ get_or blocks 0 0 → fresh ≡ numbers → place_of L dir.number ≡ Some y → count ≡ length new.opened.blocks + 1
     → length (attributes_of new.opened.header.now) ≡ 32 → IsWithAttributes new.opened.header.now (marked (attributes_of new.opened.header.now) new.slot.mark count) c
     → KeepsOtherFields new.opened.header.now (marked (attributes_of new.opened.header.now) new.slot.mark count) c
@@ -315,10 +324,11 @@ growing {I = I} {L = L} {dir = dir} {new = new} e grows blocks numbers fresh x y
       fields = subst (λ h. KeepsOtherFields h (marked (attributes_of h) new.slot.mark count) c) e.own.is.header fields;
       fresh = same ∙ got.1;
       enough = got.2;
+      no_growth = got.3;
     }
 
--- the two changes that stand before the chain grows
-pub ready_is : (I : List (List ℕ)) (x y : ℕ) (b made c : List ℕ) (draft : Changes) → made ≡ b → draft ≡ (y, c) ∷ (x, made) ∷ [] → slice_set (slice_set I x b) y c ≡ applied I draft
-ready_is I x y b made c draft same is =
-    ap (λ d. slice_set (slice_set I x d) y c) (sym same) ∙ ap (λ K. slice_set K y c) (applied_set I x made) ∙ applied_set (applied I ((x, made) ∷ [])) y c
-    ∙ applied-applied I ((y, c) ∷ []) ((x, made) ∷ []) ∙ ap (applied I) (sym is)
+-- the two changes that stand over a draft before the chain grows
+pub ready_is : (I : List (List ℕ)) (x y : ℕ) (b made c : List ℕ) (base draft : Changes) → made ≡ b → draft ≡ (y, c) ∷ (x, made) ∷ base → slice_set (slice_set (applied I base) x b) y c ≡ applied I draft
+ready_is I x y b made c base draft same is =
+    ap (λ d. slice_set (slice_set (applied I base) x d) y c) (sym same) ∙ ap (λ Z. slice_set Z y c) (sym (applied_over I base x made))
+    ∙ sym (applied_over I ((x, made) ∷ base) y c) ∙ ap (applied I) (sym is)

@@ -25,3 +25,7 @@ pub mod FirstKept
 pub mod ReadyToGrow
 pub mod HeldByFiles
 pub mod Deleting
+pub mod Begun
+pub mod BegunFiles
+pub mod BegunDirectories
+pub mod StillLayout

@@ -5,7 +5,7 @@ use Rattle.ods_base.specs.declared.file_id.FileId.{FileId}
 use Rattle.ods_base.specs.declared.file_id.Uic.{Uic}
 use Rattle.ods_space.specs.Layout.{VolumeLayout}
 use Rattle.ods_change.specs.declared.entry.NewEntry.{NewEntry}
-use Rattle.ods_change.specs.Entering.{IsNewEntry}
+use Rattle.ods_change.specs.Entering.{IsEntryFor, IsNewEntry}
 
 module _ {I : List (List ℕ)} {L : VolumeLayout} {who : Uic} {dir : FileId} {name : RadName} {given : Option ℕ} {file : FileId} {new : NewEntry}
     (e : IsNewEntry I L who dir name given file new) where
@@ -18,5 +18,5 @@ module _ {I : List (List ℕ)} {L : VolumeLayout} {who : Uic} {dir : FileId} {na
   pub own_is : (P : List (List ℕ) → VolumeLayout → FileId → Type 0) → P new.image.now new.layout.now new.dir → P I L dir
   own_is P = subst (λ p. P p.0 p.1 p.2) place
 
-  pub own_words : IsNewEntry new.image.now new.layout.now who new.dir name given file new
-  own_words = is_own (λ J M d. IsNewEntry J M who d name given file new) e
+  pub own_words : IsEntryFor new.image.now new.layout.now who new.dir name given file new
+  own_words = is_own (λ J M d. IsEntryFor J M who d name given file new) e.entry

@@ -13,20 +13,20 @@ use Rattle.ods_space.specs.Chain.{IsChain, headers_of, named_by, numbers_of}
 use Rattle.ods_space.specs.Files.{IsLayoutOf}
 use Rattle.ods_space.specs.Layout.{VolumeLayout, header_at, place_of}
 use Rattle.ods_space.specs.Draft.{Changes, applied}
-use Rattle.ods_space.proofs.Drafts.{applied_none, applied_over}
+use Rattle.ods_space.proofs.Drafts.{applied_over}
 use Rattle.ods_space.proofs.Wholes.{chain_seen}
 use Rattle.ods_alloc.specs.Extend.{CanExtend, Extends, with_in_use}
 use Rattle.ods_mount.specs.Sound.{IsSoundBy}
 use Rattle.ods_state.specs.Wants.{HasHeaders, taken_blocks}
 use Rattle.ods_state.specs.Growth.{IsFirstFor, IsReady, IsTaking, all_headers}
 use Rattle.ods_state.proofs.OtherFront.{kept_first}
-use Rattle.ods_state.proofs.GrowthChain.{ready_chain}
+use Rattle.ods_state.proofs.GrowthChain.{kept_chain, ready_chain}
 use Rattle.ods_state.proofs.GrowthMade.{filled, first_fields, first_valid, grows, made}
 use Rattle.ods_state.proofs.GrowthReady.{header_stays, ready_layout}
 use Rattle.ods_state.proofs.GrowthTakes.{can_extend}
 use Rattle.ods_change.specs.declared.taking.Taken.{Taken}
 use Rattle.ods_change.specs.Extending.{IsGrownBy, IsWanted}
-use Rattle.ods_change.specs.Taking.{IsZeroed}
+use Rattle.ods_alloc.specs.Zeroed.{IsZeroed}
 use Rattle.ods_change.proofs.FirstKept.{says_grown}
 use Rattle.ods_change.proofs.FirstWritten.{IsWritten, header_written, is_ready as first_ready, taken_inside, taken_written}
 
@@ -37,7 +37,15 @@ is_taking I L n headers old count t high w = record {
   before = inl (w.file, w.has);
   all = ap (λ h. all_headers n h t.numbers.items) w.has.1 ∙ ap (λ h. h ++ t.numbers.items) (sym w.has.1) ∙ ap (λ l. headers ++ l) w.numbers;
   enough = w.enough;
+  no_growth = w.no_growth;
 }
+
+-- a chain as it is walked along
+pub walked_as : (I : List (List ℕ)) (L : VolumeLayout) (n : ℕ) (others old : List ℕ) → IsImage I → IsLayoutOf I L → IsChain I L n others old
+    → (drop 1 (numbers_of (headers_of I L n)) ≡ others) × (named_by (headers_of I L n) ≡ old)
+walked_as I L n others old image layout chain =
+    let seen = chain_seen I L n others old image layout chain in
+    (ap (drop 1) seen.numbers, ap named_by seen.headers ∙ sym seen.named)
 
 -- What is written: the taken blocks become zeros, Z, and then c is written for the first header, which stands at x.
 module _ (I Z K : List (List ℕ)) (L : VolumeLayout) (S : IsSoundBy I L) (n x : ℕ) (c : List ℕ) (place : place_of L n ≡ Some x)
@@ -70,6 +78,10 @@ module _ (I Z K : List (List ℕ)) (L : VolumeLayout) (S : IsSoundBy I L) (n x :
   chain_asked image others all o a =
       subst (λ l. IsChain (with_in_use K L.home n) L n l all) (sym o) (subst (λ l. IsChain (with_in_use K L.home n) L n (drop 1 headers) l) (sym a)
       (ready_chain I K L S n headers old count numbers taking is_ready image))
+
+  -- the chain as it is walked along before it grows
+  pub walked_now : IsImage I → IsImage K → (drop 1 (numbers_of (headers_of K L n)) ≡ drop 1 headers) × (named_by (headers_of K L n) ≡ old)
+  walked_now image now = walked_as K L n (drop 1 headers) old now layout_asked (kept_chain I K L S n headers old count numbers taking is_ready image w.file)
 
   pub headers_asked : (header_at K L n ≡ c) × ((m : ℕ) → m ≢ n → header_at K L m ≡ header_at I L m)
   headers_asked = (header_written written, header_stays I K L S n headers old count numbers taking is_ready)
@@ -106,15 +118,3 @@ module _ (I Z K : List (List ℕ)) (L : VolumeLayout) (S : IsSoundBy I L) (n x :
 -- one block is set in a draft
 pub set_is : (I : List (List ℕ)) (d e : Changes) (x : ℕ) (c : List ℕ) → e ≡ (x, c) ∷ d → applied I e ≡ slice_set (applied I d) x c
 set_is I d e x c is = ap (applied I) is ∙ applied_over I d x c
-
--- the first changes of a draft
-pub zeroed_first : (I Z : List (List ℕ)) (d : Changes) (blocks bs : List ℕ) → d ≡ [] → blocks ≡ bs → IsZeroed (applied I d) blocks Z → IsZeroed I bs Z
-zeroed_first I Z d blocks bs none same z =
-    subst (λ l. IsZeroed I l Z) same (subst (λ J. IsZeroed J blocks Z) (ap (applied I) none ∙ sym (applied_none I)) z)
-
--- the chain of a file as it is walked along
-pub walked_as : (I : List (List ℕ)) (L : VolumeLayout) (n : ℕ) (headers old : List ℕ) → IsImage I → IsLayoutOf I L → HasHeaders I L n headers old
-    → (drop 1 (numbers_of (headers_of I L n)) ≡ drop 1 headers) × (named_by (headers_of I L n) ≡ old)
-walked_as I L n headers old image layout has =
-    let seen = chain_seen I L n has.0 old image layout has.2.chain in
-    (ap (drop 1) (seen.numbers ∙ sym has.1), ap named_by seen.headers ∙ sym seen.named)

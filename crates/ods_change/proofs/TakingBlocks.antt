@@ -1,9 +1,9 @@
--- What a file takes: which refusal is answered where the volume lacks something, and that blocks become zeros run by run.
-use Rattle.std.proofs.Common.{◌≡◌, ◌≢◌, ◌⊎◌, ℕ, ◌+◌, ◌-◌, ◌<◌, ◌≤◌, Bool, true, false, cond, List, [], ◌∷◌, ◌++◌, length, take, get_or, Some, None, refl, sym, ap, ◌∙◌, subst, inl, inr, arith}
+-- What a file takes: which refusal is answered where the volume lacks something.
+use Rattle.std.proofs.Common.{drop, suc, ◌/◌, ◌||◌, nat_lt, ◌≡◌, ◌≢◌, ◌⊎◌, ℕ, ◌+◌, ◌-◌, ◌<◌, ◌≤◌, Bool, true, false, cond, List, [], ◌∷◌, ◌++◌, length, take, get_or, Some, None, refl, sym, ap, ◌∙◌, subst, inl, inr, arith}
 use Rattle.std.specs.List.{Contains, flat_map}
 use Rattle.std.specs.Prelude.{unwrap_or}
-use Rattle.std.proofs.lemmas.Bool.{cases_lt, lt-ltb, le-ltb}
-use Rattle.std.proofs.lemmas.List.{append-nil, take_more, get_or_past}
+use Rattle.std.proofs.lemmas.Bool.{lt-ltb, le-ltb, or_from, or_left, or_right}
+use Rattle.std.proofs.lemmas.List.{drop-take, take_rest}
 use Rattle.std.proofs.lemmas.List.Elements.{Contains-append_left, Contains-append_right, Contains-append_cases}
 use Rattle.std.proofs.lemmas.List.FromFn.{length-range_with_len, get_or-range_with_len}
 use Rattle.std.proofs.lemmas.Grind.{flat_map-append}
@@ -12,19 +12,20 @@ use Rattle.ods_base.specs.Image.{block_at}
 use Rattle.ods_header.specs.declared.header.Run.{Run}
 use Rattle.ods_header.specs.Header.{run_blocks}
 use Rattle.ods_space.specs.Draft.{Changes, change_at, applied, zeroed}
-use Rattle.ods_space.specs.Free.{free_blocks, free_numbers}
-use Rattle.ods_space.specs.Layout.{VolumeLayout}
+use Rattle.ods_space.specs.Free.{free_blocks, open_numbers}
+use Rattle.ods_space.specs.Layout.{VolumeLayout, header_at}
 use Rattle.ods_space.proofs.Drafts.{all_from, block_at-applied, change_at-inside, change_at-outside, length-applied, seen_at-append}
 use Rattle.ods_alloc.specs.declared.fault.SpaceFault.{SpaceFault}
 use Rattle.ods_alloc.specs.declared.fault.SpaceFault.TheVariants as fault
-use Rattle.ods_alloc.specs.Extend.{cut, cut_from}
+use Rattle.ods_alloc.specs.Extend.{cut, cut_from, last_of}
 use Rattle.ods_alloc.specs.Faults.{IsShort}
 use Rattle.ods_alloc.proofs.Cuts.{goes_on, longer, single}
 use Rattle.ods_request.specs.declared.refusals.Refusal.{Refusal}
 use Rattle.ods_request.specs.declared.refusals.Refusal.TheVariants as refusal
 use Rattle.ods_request.specs.Faults.{first_of}
-use Rattle.ods_state.specs.Wants.{lack_of, new_headers, room_in, taken_blocks, taken_count}
-use Rattle.ods_change.specs.Taking.{IsZeroed, refusal_for}
+use Rattle.ods_header.specs.Header.{room_of}
+use Rattle.ods_state.specs.Wants.{index_blocks, index_end, index_growth, lack_of, lacks_headers, new_headers, room_in, taken_blocks, taken_count, taken_numbers}
+use Rattle.ods_change.specs.Taking.{HasPlacesFor, LacksPlaces, refusal_for}
 
 -- no more runs than blocks
 cut_from_few : (r : Run) (xs : List ℕ) → length (cut_from r xs) ≤ length xs + 1
@@ -60,25 +61,38 @@ module _ (I : List (List ℕ)) (L : VolumeLayout) (hs : List ℕ) (count : ℕ) 
   unfolding lack_of
   lacks_blocks few = first_row _ _ _ refusal.VolumeFull refusal.HeadersFull refusal.ChainFull (lt-ltb (length (free_blocks I L)) count few)
 
-  pub lacks_numbers : count ≤ length (free_blocks I L) → length (free_numbers I L) < taken_count I L hs count → lack_of I L hs count ≡ Some refusal.HeadersFull
+  pub lacks_numbers : count ≤ length (free_blocks I L) → length (open_numbers I L) < taken_count I L hs count → lack_of I L hs count ≡ Some refusal.HeadersFull
   unfolding lack_of
   lacks_numbers enough few = second_row _ _ _ refusal.VolumeFull refusal.HeadersFull refusal.ChainFull
-      (le-ltb (length (free_blocks I L)) count enough) (lt-ltb (length (free_numbers I L)) (taken_count I L hs count) few)
+      (le-ltb (length (free_blocks I L)) count enough) (or_left _ _ (lt-ltb (length (open_numbers I L)) (taken_count I L hs count) few))
 
-  pub lacks_segments : count ≤ length (free_blocks I L) → taken_count I L hs count ≤ length (free_numbers I L) → 256 < length hs + taken_count I L hs count
-      → lack_of I L hs count ≡ Some refusal.ChainFull
+  pub lacks_places : count ≤ length (free_blocks I L) → LacksPlaces I L count (taken_numbers I L hs count) → lack_of I L hs count ≡ Some refusal.HeadersFull
   unfolding lack_of
-  lacks_segments enough some many =
-      third_row _ _ _ refusal.VolumeFull refusal.HeadersFull refusal.ChainFull
-      (le-ltb (length (free_blocks I L)) count enough) (le-ltb (length (free_numbers I L)) (taken_count I L hs count) some)
+  lacks_places enough lacks = second_row _ _ _ refusal.VolumeFull refusal.HeadersFull refusal.ChainFull
+      (le-ltb (length (free_blocks I L)) count enough) (or_right (nat_lt (length (open_numbers I L)) (taken_count I L hs count)) _ (by lacks))
+    where
+      by : LacksPlaces I L count (taken_numbers I L hs count) → (nat_lt (length (free_blocks I L)) (count + index_growth L (taken_numbers I L hs count)) || nat_lt (room_of (header_at I L (index_end I L)) / 2) (length (cut (index_blocks I L hs count)))) ≡ true
+      by (inl few) = or_left _ _ (lt-ltb (length (free_blocks I L)) (count + index_growth L (taken_numbers I L hs count)) few)
+      by (inr full) = or_right (nat_lt (length (free_blocks I L)) (count + index_growth L (taken_numbers I L hs count))) _ (lt-ltb (room_of (header_at I L (index_end I L)) / 2) (length (cut (index_blocks I L hs count))) full)
+
+  no_lack : taken_count I L hs count ≤ length (open_numbers I L) → (places : List ℕ) → HasPlacesFor I L count (taken_numbers I L hs count) places → lacks_headers I L hs count ≡ false
+  no_lack some places p =
+      or_from _ _ (le-ltb (length (open_numbers I L)) (taken_count I L hs count) some)
+      (or_from _ _ (le-ltb (length (free_blocks I L)) (count + index_growth L (taken_numbers I L hs count)) p.enough)
+      (le-ltb (room_of (header_at I L (index_end I L)) / 2) (length (cut (index_blocks I L hs count))) (subst (λ l. length (cut l) ≤ room_of (header_at I L (index_end I L)) / 2) p.are p.room)))
+
+  pub lacks_segments : count ≤ length (free_blocks I L) → taken_count I L hs count ≤ length (open_numbers I L) → (places : List ℕ) → HasPlacesFor I L count (taken_numbers I L hs count) places
+      → 256 < length hs + taken_count I L hs count → lack_of I L hs count ≡ Some refusal.ChainFull
+  unfolding lack_of
+  lacks_segments enough some places p many =
+      third_row _ _ _ refusal.VolumeFull refusal.HeadersFull refusal.ChainFull (le-ltb (length (free_blocks I L)) count enough) (no_lack some places p)
       ∙ ap (λ t. first_of ((t, refusal.ChainFull) ∷ [])) (lt-ltb 256 (length hs + taken_count I L hs count) many)
 
-  pub lacks_none : count ≤ length (free_blocks I L) → taken_count I L hs count ≤ length (free_numbers I L) → length hs + taken_count I L hs count ≤ 256
-      → lack_of I L hs count ≡ None
+  pub lacks_none : count ≤ length (free_blocks I L) → taken_count I L hs count ≤ length (open_numbers I L) → (places : List ℕ) → HasPlacesFor I L count (taken_numbers I L hs count) places
+      → length hs + taken_count I L hs count ≤ 256 → lack_of I L hs count ≡ None
   unfolding lack_of
-  lacks_none enough some few =
-      third_row _ _ _ refusal.VolumeFull refusal.HeadersFull refusal.ChainFull
-      (le-ltb (length (free_blocks I L)) count enough) (le-ltb (length (free_numbers I L)) (taken_count I L hs count) some)
+  lacks_none enough some places p few =
+      third_row _ _ _ refusal.VolumeFull refusal.HeadersFull refusal.ChainFull (le-ltb (length (free_blocks I L)) count enough) (no_lack some places p)
       ∙ ap (λ t. first_of ((t, refusal.ChainFull) ∷ [])) (le-ltb 256 (length hs + taken_count I L hs count) few)
 
 -- a pick of blocks or numbers is refused for want of memory, or because fewer are free
@@ -100,60 +114,15 @@ pub wanted_is : (I : List (List ℕ)) (L : VolumeLayout) (hs : List ℕ) (room c
 wanted_is I L hs room count needed blocks runs is taken cuts counts =
     counts ∙ ap (λ r. new_headers hs r (length runs)) (sym is) ∙ ap (λ l. new_headers hs (room_in I L hs) (length l)) (cuts ∙ ap cut taken)
 
-in_run : (r : Run) (x : ℕ) → r.lbn ≤ x → x < r.lbn + r.count → Contains (run_blocks r) x
-in_run r x low high =
-    let small : x - r.lbn < r.count = omega arith in
-    let back : r.lbn + (x - r.lbn) ≡ x = omega arith in
-    (x - r.lbn, omega (arith, small, length-range_with_len r.lbn r.count), get_or-range_with_len r.lbn r.count (x - r.lbn) x small ∙ back)
+-- the last of a list, by its place
+pub last_at : (d : ℕ) (xs : List ℕ) → 1 ≤ length xs → get_or xs (length xs - 1) 0 ≡ last_of d xs
+last_at d [] some = absurd (omega arith)
+last_at d (x ∷ []) some = refl
+last_at d (x ∷ y ∷ ys) some =
+    let next : length (x ∷ y ∷ ys) - 1 ≡ suc (length (y ∷ ys) - 1) = omega arith in
+    ap (λ k. get_or (x ∷ y ∷ ys) k 0) next ∙ last_at x (y ∷ ys) (omega arith)
 
-of_run : (r : Run) (x : ℕ) → Contains (run_blocks r) x → (r.lbn ≤ x) × (x < r.lbn + r.count)
-of_run r x (k, less, is) =
-    let small : k < r.count = omega (arith, less, length-range_with_len r.lbn r.count) in
-    let at : r.lbn + k ≡ x = sym (get_or-range_with_len r.lbn r.count k x small) ∙ is in
-    (omega arith, omega arith)
-
-seen_is : (I : List (List ℕ)) (d : Changes) (r : Run) (x : ℕ) → x < length I → block_at (applied I (zeroed r d)) x ≡ unwrap_or (change_at (all_from zeros r.lbn r.count) x) (block_at (applied I d) x)
-seen_is I d r x inside =
-    block_at-applied I (zeroed r d) x inside ∙ seen_at-append I (all_from zeros r.lbn r.count) d x
-    ∙ ap (λ b. unwrap_or (change_at (all_from zeros r.lbn r.count) x) b) (sym (block_at-applied I d x inside))
-
--- what is past the end of an image is no block
-past_is : (J : List (List ℕ)) (x : ℕ) → length J ≤ x → block_at J x ≡ []
-past_is J x past = get_or_past J x [] past
-
--- one run more becomes zeros
-pub zeroed_more : (I J : List (List ℕ)) (d : Changes) (blocks : List ℕ) (r : Run) → length J ≡ length I → IsZeroed J blocks (applied I d) → IsZeroed J (blocks ++ run_blocks r) (applied I (zeroed r d))
-zeroed_more I J d blocks r same done = record {
-  long = length-applied I (zeroed r d) ∙ sym same;
-  zero = λ x within inside. elim (cases_lt x r.lbn) [
-    | inl low ↦ older x (omega (arith, same, inside)) (λ k small e. absurd (omega (arith, e))) (λ own. absurd (let at = (of_run r x own).0 in omega (arith, at))) within inside
-    | inr high ↦ elim (cases_lt x (r.lbn + r.count)) [
-      | inl reached ↦ seen_is I d r x (omega (arith, same, inside)) ∙ ap (λ o. unwrap_or o (block_at (applied I d) x)) (change_at-inside zeros r.lbn r.count x high reached)
-      | inr behind ↦ older x (omega (arith, same, inside)) (λ k small e. absurd (omega (arith, e))) (λ own. absurd (let at = (of_run r x own).1 in omega (arith, at))) within inside
-    ]
-  ];
-  elsewhere = λ x out. elim (cases_lt x (length I)) [
-    | inl inside ↦ stays x inside (λ k small e. out (Contains-append_right blocks (run_blocks r) x (in_run r x (omega (arith, e)) (omega (arith, e))))) ∙ done.elsewhere x (λ own. out (Contains-append_left blocks (run_blocks r) x own))
-    | inr past ↦ past_is (applied I (zeroed r d)) x (omega (arith, past, length-applied I (zeroed r d))) ∙ sym (past_is J x (omega (arith, past, same)))
-  ];
-}
-  where
-    stays : (x : ℕ) → x < length I → ((k : ℕ) → k < r.count → r.lbn + k ≢ x) → block_at (applied I (zeroed r d)) x ≡ block_at (applied I d) x
-    stays x inside apart = seen_is I d r x inside ∙ ap (λ o. unwrap_or o (block_at (applied I d) x)) (change_at-outside zeros r.lbn r.count x apart)
-
-    older : (x : ℕ) → x < length I → ((k : ℕ) → k < r.count → r.lbn + k ≢ x) → ¬ Contains (run_blocks r) x → Contains (blocks ++ run_blocks r) x → x < length J → block_at (applied I (zeroed r d)) x ≡ zeros
-    older x inside apart out within here = elim (Contains-append_cases blocks (run_blocks r) x within) [
-      | inl own ↦ stays x inside apart ∙ done.zero x own here
-      | inr new ↦ absurd (out new)
-    ]
-
--- run k of these becomes zeros too
-pub zeroed_next : (I J : List (List ℕ)) (d e : Changes) (rs : List Run) (k : ℕ) (z : Run) → length J ≡ length I → k < length rs → e ≡ zeroed (get_or rs k z) d
-    → IsZeroed J (flat_map run_blocks (take k rs)) (applied I d) → IsZeroed J (flat_map run_blocks (take (k + 1) rs)) (applied I e)
-zeroed_next I J d e rs k z same inside is done =
-    let r : Run = get_or rs k z in
-    let blocks : flat_map run_blocks (take k rs) ++ run_blocks r ≡ flat_map run_blocks (take (k + 1) rs) =
-    ap (λ l. flat_map run_blocks (take k rs) ++ l) (sym (append-nil (run_blocks r))) ∙ sym (flat_map-append run_blocks (take k rs) (r ∷ []))
-    ∙ ap (flat_map run_blocks) (sym (take_more rs k z inside)) in
-    subst (λ K. IsZeroed J (flat_map run_blocks (take (k + 1) rs)) K) (ap (applied I) (sym is))
-    (subst (λ bs. IsZeroed J bs (applied I (zeroed r d))) blocks (zeroed_more I J d (flat_map run_blocks (take k rs)) r same done))
+-- what stands behind the first of those that were picked
+pub picked_behind : (F all places : List ℕ) (count growth : ℕ) → all ≡ take (count + growth) F → count + growth ≤ length F → places ≡ take (length all - count) (drop count all) → places ≡ take growth (drop count F)
+picked_behind F all places count growth picked enough is =
+    is ∙ take_rest all count ∙ ap (drop count) picked ∙ drop-take count growth F

@@ -4,7 +4,7 @@ use Rattle.std.specs.FinMap.{insert}
 use Rattle.ods_base.specs.Name.{RadName, key_of}
 use Rattle.ods_base.specs.declared.file_id.FileId.{FileId}
 use Rattle.ods_base.specs.declared.file_id.Uic.{Uic}
-use Rattle.ods_space.specs.Layout.{VolumeLayout}
+use Rattle.ods_space.specs.Layout.{VolumeLayout, with_places}
 use Rattle.ods_directory.specs.declared.fault.DirFault.{DirFault}
 use Rattle.ods_directory.specs.declared.fault.DirFault.TheVariants as fault
 use Rattle.ods_directory.specs.Entry.{entry_bytes}
@@ -18,8 +18,9 @@ use Rattle.ods_request.specs.declared.rights.Right.TheVariants as right
 use Rattle.ods_space.specs.Draft.{Changes, applied}
 use Rattle.ods_state.specs.Change.{IsAnsweredBy}
 use Rattle.ods_state.specs.Served.{IsStepOf, IsRefusalOf}
-use Rattle.ods_state.specs.Wants.{HasHeaders, lack_of, taken_blocks, taken_numbers}
+use Rattle.ods_state.specs.Wants.{HasHeaders, index_growth, lack_of, taken_blocks, taken_numbers}
 use Rattle.ods_look.specs.Opening.{IsOpenDirectory}
+use Rattle.ods_change.specs.declared.beginning.Drafted.{Drafted}
 use Rattle.ods_change.specs.declared.entry.NewEntry.{NewEntry}
 
 -- a fault of a directory as a refusal
@@ -29,10 +30,7 @@ refusal_of fault.NameTaken = refusal.NameTaken
 refusal_of fault.VersionsFull = refusal.VersionsFull
 
 -- The Enter is not refused, and this is what it writes: with the bytes at the slot, behind a block of zeros where the slot grows, the directory has one name more.
-pub record IsNewEntry (I : List (List ℕ)) (L : VolumeLayout) (who : Uic) (dir : FileId) (name : RadName) (given : Option ℕ) (file : FileId) (new : NewEntry) : Type 0 where
-  pub image : new.image.now ≡ I
-  pub layout : new.layout.now ≡ L
-  pub directory : new.dir ≡ dir
+pub record IsEntryFor (I : List (List ℕ)) (L : VolumeLayout) (who : Uic) (dir : FileId) (name : RadName) (given : Option ℕ) (file : FileId) (new : NewEntry) : Type 0 where
   pub own : IsOpenDirectory I L dir who right.Write new.opened
   pub answered : IsAnsweredBy I L who (Enter dir name given file) (Entered new.version)
   pub slot : IsSlot new.opened.blocks new.opened.mark new.slot
@@ -41,28 +39,39 @@ pub record IsNewEntry (I : List (List ℕ)) (L : VolumeLayout) (who : Uic) (dir 
       ≡ insert (names_of new.opened.blocks new.opened.mark) (key_of name new.version) file
   pub stays : IsDirectory (written (grown new.opened.blocks new.slot) new.slot.at new.bytes) new.slot.mark
 
+-- and the entry knows its volume and its directory
+pub record IsNewEntry (I : List (List ℕ)) (L : VolumeLayout) (who : Uic) (dir : FileId) (name : RadName) (given : Option ℕ) (file : FileId) (new : NewEntry) : Type 0 where
+  pub image : new.image.now ≡ I
+  pub layout : new.layout.now ≡ L
+  pub directory : new.dir ≡ dir
+  pub entry : IsEntryFor I L who dir name given file new
+
 -- some Enter in this directory writes this
 abbrev pub IsSomeEntry : List (List ℕ) → VolumeLayout → FileId → NewEntry → Type 0
-IsSomeEntry I L dir new = (who : Uic) × (name : RadName) × (given : Option ℕ) × (file : FileId) × IsNewEntry I L who dir name given file new
+IsSomeEntry I L dir new = (who : Uic) × (name : RadName) × (given : Option ℕ) × (file : FileId) × IsEntryFor I L who dir name given file new
 
--- the draft carries out each Enter in this directory that writes this
-abbrev pub IsEntering : List (List ℕ) → VolumeLayout → FileId → NewEntry → Changes → Type 0
-IsEntering I L dir new draft = (who : Uic) (name : RadName) (given : Option ℕ) (file : FileId) → IsNewEntry I L who dir name given file new
-    → IsStepOf I L who (Enter dir name given file) (Entered new.version) (applied I draft) L
+-- the blocks J, by the layout M, are what each Enter in this directory that writes this makes of the volume
+abbrev pub IsEntering : List (List ℕ) → VolumeLayout → FileId → NewEntry → List (List ℕ) → VolumeLayout → Type 0
+IsEntering I L dir new J M = (who : Uic) (name : RadName) (given : Option ℕ) (file : FileId) → IsEntryFor I L who dir name given file new
+    → IsStepOf I L who (Enter dir name given file) (Entered new.version) J M
 
 -- each such Enter is refused so
 abbrev pub IsWhyNotEntering : List (List ℕ) → VolumeLayout → FileId → NewEntry → Refusal → Type 0
-IsWhyNotEntering I L dir new f = (who : Uic) (name : RadName) (given : Option ℕ) (file : FileId) → IsNewEntry I L who dir name given file new → IsRefusalOf I L who (Enter dir name given file) f
+IsWhyNotEntering I L dir new f = (who : Uic) (name : RadName) (given : Option ℕ) (file : FileId) → IsEntryFor I L who dir name given file new → IsRefusalOf I L who (Enter dir name given file) f
 
 -- some Enter writes this, in the directory and on the volume that it names
 abbrev pub IsOwnEntry : NewEntry → Type 0
 IsOwnEntry new = IsSomeEntry new.image.now new.layout.now new.dir new
 
--- the draft carries out each such Enter, or it is refused so
+-- the draft carries out each such Enter, and the layout stays; or it is refused so
 abbrev pub IsOwnEntering : NewEntry → Result Changes Refusal → Type 0
-IsOwnEntering new result = MatchResult result (IsEntering new.image.now new.layout.now new.dir new) (IsWhyNotEntering new.image.now new.layout.now new.dir new)
+IsOwnEntering new result = MatchResult result (λ draft. IsEntering new.image.now new.layout.now new.dir new (applied new.image.now draft) new.layout.now) (IsWhyNotEntering new.image.now new.layout.now new.dir new)
 
--- directory n takes this block, and these numbers for its headers
+-- the draft carries out each such Enter, with these blocks for INDEXF.SYS; or it is refused so
+abbrev pub IsOwnGrowing : NewEntry → Result Drafted Refusal → Type 0
+IsOwnGrowing new result = MatchResult result (λ d. IsEntering new.image.now new.layout.now new.dir new (applied new.image.now d.draft) (with_places new.layout.now d.places.items)) (IsWhyNotEntering new.image.now new.layout.now new.dir new)
+
+-- directory n takes this block, and these numbers for its headers, for each of which INDEXF.SYS has a block
 abbrev pub IsTakenFor : List (List ℕ) → VolumeLayout → ℕ → List ℕ → List ℕ → Type 0
 IsTakenFor I L n blocks numbers = (headers old : List ℕ) → HasHeaders I L n headers old
-    → (blocks ≡ taken_blocks I L 1) × (numbers ≡ taken_numbers I L headers 1) × (lack_of I L headers 1 ≡ None)
+    → (blocks ≡ taken_blocks I L 1) × (numbers ≡ taken_numbers I L headers 1) × (lack_of I L headers 1 ≡ None) × (index_growth L (taken_numbers I L headers 1) ≡ 0)

@@ -13,7 +13,7 @@ use Rattle.ods_request.specs.Steps.{not_contiguous}
 use Rattle.ods_state.specs.Change.{disk}
 use Rattle.ods_state.specs.Contents.{ShowsBy}
 use Rattle.ods_state.specs.Made.{AreMade, AreZeroed}
-use Rattle.ods_state.specs.Wants.{HasHeaders, lack_of, taken_blocks, taken_numbers}
+use Rattle.ods_state.specs.Wants.{HasHeaders, index_growth, lack_of, taken_blocks, taken_numbers}
 use Rattle.ods_state.specs.Growth.{IsGrowth}
 use Rattle.ods_look.specs.Opening.{IsFileId, file_shown}
 use Rattle.ods_change.specs.declared.taking.Taken.{Taken}
@@ -44,13 +44,14 @@ pub record SaysWith (char : ℕ) (b c : List ℕ) : Type 0 where
 abbrev pub SaysGrown : List ℕ → List ℕ → Type 0
 SaysGrown b c = SaysWith (not_contiguous (user_char_of b)) b c
 
--- file n has these headers and blocks, and this is what it takes to get `count` more
+-- file n has these headers and blocks, and this is what it takes to get `count` more; INDEXF.SYS has a block for each of the numbers
 pub record IsWanted (I : List (List ℕ)) (L : VolumeLayout) (n : ℕ) (headers old : List ℕ) (count : ℕ) (t : Taken) : Type 0 where
   pub file : IsFile I L n
   pub has : HasHeaders I L n headers old
   pub blocks : t.blocks.items ≡ taken_blocks I L count
   pub numbers : t.numbers.items ≡ taken_numbers I L headers count
   pub enough : lack_of I L headers count ≡ None
+  pub no_growth : index_growth L (taken_numbers I L headers count) ≡ 0
 
 -- J is I with file n grown: its new blocks are zeros, its headers are as they are to be, and the first keeps all that it said but for UC.CON
 pub record IsGrownBy (I : List (List ℕ)) (L : VolumeLayout) (n : ℕ) (headers old : List ℕ) (count : ℕ) (numbers : List ℕ) (J : List (List ℕ)) : Type 0 where

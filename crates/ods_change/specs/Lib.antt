@@ -1,3 +1,4 @@
+pub mod Beginning
 pub mod Creating
 pub mod Entering
 pub mod Taking

@@ -1,5 +1,5 @@
--- Taking: where the chain of a file ends, why a volume has too little, and the blocks that are taken, which become zeros.
-use Rattle.std.specs.Prelude.{◌≡◌, ℕ, ◌<◌, List, length}
+-- Taking: where the chain of a file ends, and why a volume has too little.
+use Rattle.std.specs.Prelude.{◌≡◌, ◌⊎◌, ℕ, ◌+◌, ◌/◌, ◌<◌, ◌≤◌, List, drop, length, take}
 use Rattle.std.specs.List.{Contains}
 use Rattle.ods_base.specs.Block.{zeros}
 use Rattle.ods_base.specs.Image.{block_at}
@@ -7,7 +7,10 @@ use Rattle.ods_space.specs.Chain.{IsChain}
 use Rattle.ods_space.specs.Layout.{VolumeLayout, header_at}
 use Rattle.ods_alloc.specs.declared.fault.SpaceFault.{SpaceFault}
 use Rattle.ods_alloc.specs.declared.fault.SpaceFault.TheVariants as fault
-use Rattle.ods_alloc.specs.Extend.{last_of}
+use Rattle.ods_header.specs.Header.{room_of}
+use Rattle.ods_space.specs.Free.{free_blocks}
+use Rattle.ods_state.specs.Wants.{index_end, index_growth}
+use Rattle.ods_alloc.specs.Extend.{cut, last_of}
 use Rattle.ods_change.specs.declared.taking.ChainEnd.{ChainEnd}
 use Rattle.ods_request.specs.declared.refusals.Refusal.{Refusal}
 use Rattle.ods_request.specs.declared.refusals.Refusal.TheVariants as refusal
@@ -19,11 +22,17 @@ refusal_for fault.HeadersFull = refusal.HeadersFull
 refusal_for fault.ChainFull = refusal.ChainFull
 refusal_for fault.NoMemory = refusal.NoMemory
 
--- J is I with zeros at these of its blocks, and no other block changes
-pub record IsZeroed (I : List (List ℕ)) (blocks : List ℕ) (J : List (List ℕ)) : Type 0 where
-  pub long : length J ≡ length I
-  pub zero : (x : ℕ) → Contains blocks x → x < length I → block_at J x ≡ zeros
-  pub elsewhere : (x : ℕ) → ¬ Contains blocks x → block_at J x ≡ block_at I x
+-- INDEXF.SYS gets these blocks for these numbers, behind so many that a file takes: the lowest free ones, and its last header has room for their pointers
+pub record HasPlacesFor (I : List (List ℕ)) (L : VolumeLayout) (count : ℕ) (numbers places : List ℕ) : Type 0 where
+  pub are : places ≡ take (index_growth L numbers) (drop count (free_blocks I L))
+  pub enough : count + index_growth L numbers ≤ length (free_blocks I L)
+  pub room : length (cut places) ≤ room_of (header_at I L (index_end I L)) / 2
+
+-- too few blocks are free behind those of the file, or the header has no room
+abbrev pub LacksPlaces : List (List ℕ) → VolumeLayout → ℕ → List ℕ → Type 0
+LacksPlaces I L count numbers =
+    (length (free_blocks I L) < count + index_growth L numbers)
+    ⊎ (room_of (header_at I L (index_end I L)) / 2 < length (cut (take (index_growth L numbers) (drop count (free_blocks I L)))))
 
 -- the chain of file n ends in this header
 pub record IsEndOf (I : List (List ℕ)) (L : VolumeLayout) (n : ℕ) (end : ChainEnd) : Type 0 where

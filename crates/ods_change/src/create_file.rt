@@ -1,15 +1,17 @@
 //! A Create: its check, the first header of the new file, and the draft that makes it.
 ghost use Rattle.std.specs.Prelude.{◌≡◌, ◌+◌, ◌<◌, [], IfOk, MatchResult, length};
 ghost use Rattle.ods_alloc.specs.Counts.{counts_of};
+ghost use Rattle.ods_base.specs.Image.{IsImage};
 ghost use Rattle.ods_header.specs.Header.{sequence_of};
 ghost use Rattle.ods_mount.specs.Sound.{IsSoundBy};
 ghost use Rattle.ods_request.specs.{declared.answers.Answer.TheVariants.Created, declared.requests.Request.TheVariants.Create};
-ghost use Rattle.ods_space.specs.{Draft.applied, Layout.header_at};
+ghost use Rattle.ods_space.specs.{Draft.applied, Layout.header_at, Layout.with_places};
 ghost use Rattle.ods_state.specs.{Growth.IsNewFirst, Growth.IsTaking, Moves.new_attributes, Outcome.CanBeAsked, Served.IsStepOf, Served.IsRefusalOf, Wants.taken_blocks};
 ghost use Rattle.ods_change.specs.Creating.{IsMadeFile, IsNewHeaderFor, new_id};
 
-use crate::taking::{take, zero_blocks};
-use ods_alloc::{ChainEnds, FreeCounts, extend_from};
+use crate::beginning::{Begun, Drafted, begin, layout_then};
+use crate::taking::take;
+use ods_alloc::{ChainEnds, FreeCounts, extend_from, zero_blocks};
 use ods_base::{Block, FileId, Image, Name, Uic};
 use ods_directory::with_mark;
 use ods_header::first_block;
@@ -20,7 +22,8 @@ use std::alloc::{AllocError, Global};
 /// The type of a directory, DIR.
 const DIRECTORY_TYPE: u16 = 6778;
 
-/// The draft that makes a file of the user, with its ID, or why that is refused. The file is entered nowhere.
+/// The draft that makes a file of the user, with its ID, or why that is refused. The file is entered nowhere. Where more numbers are
+/// needed than are free, INDEXF.SYS grows.
 pub fn create(
     alloc: Global,
     image: &Image,
@@ -31,12 +34,12 @@ pub fn create(
     version: u16,
     count: u32,
     stamp: Stamp,
-) -> Result<(Draft, FileId), Refusal>
+) -> Result<(Drafted, FileId), Refusal>
     requires sound { IsSoundBy image.now layout.now }
     requires counts { counts.now ≡ counts_of image.now layout.now }
     requires asked { CanBeAsked (Create name version count stamp) }
     ensures { MatchResult result
-        (λ r. IsStepOf image.now layout.now who (Create name version count stamp) (Created r.1) (applied image.now r.0) layout.now)
+        (λ r. IsStepOf image.now layout.now who (Create name version count stamp) (Created r.1) (applied image.now r.0.draft) (with_places layout.now r.0.places.items))
         (IsRefusalOf image.now layout.now who (Create name version count stamp)) }
 {
     if count > 65535 {
@@ -47,16 +50,41 @@ pub fn create(
         Ok(taken) => taken,
         Err(refusal) => return Err(refusal),
     };
-    // A name has three words.
+    // A name has three words, and the blocks of an image have bytes.
     let _ = name.words();
+    let _ = image.len();
     let numbers = taken.numbers.as_slice();
     let file = new_id(image, layout, numbers[0]);
     let protection = layout.home().protection;
     let header = new_header(file, who, protection, &name, version, count, &stamp);
     let blocks = taken.blocks.as_slice();
     let others = &numbers[1..];
-    match new_file(alloc, image, layout, file.number, header, blocks, others) {
-        Ok(draft) => Ok((draft, file)),
+    let begun = match begin(alloc, image, layout, &taken.places) {
+        Ok(begun) => begun,
+        Err(_) => return Err(Refusal::NoMemory),
+    };
+    let Begun {
+        layout: grown,
+        draft,
+    } = begun;
+    let then = layout_then(&grown, layout);
+    match new_file(
+        alloc,
+        image,
+        then,
+        draft,
+        file.number,
+        header,
+        blocks,
+        others,
+    ) {
+        Ok(draft) => Ok((
+            Drafted {
+                draft,
+                places: taken.places,
+            },
+            file,
+        )),
         Err(_) => Err(Refusal::NoMemory),
     }
 }
@@ -72,26 +100,25 @@ fn new_id(image: &Image, layout: &Layout, number: u16) -> FileId
     }
 }
 
-/// The draft that makes a file, with this first header: the blocks that it takes become zeros, and its chain grows by
+/// This draft with a file made, with this first header: the blocks that it takes become zeros, and its chain grows by
 /// them, with these headers behind the first.
 fn new_file(
     alloc: Global,
     image: &Image,
     layout: &Layout,
+    mut draft: Draft,
     number: u16,
     header: Block,
     blocks: &[u32],
     others: &[u16],
 ) -> Result<Draft, AllocError>
-    requires sound { IsSoundBy image.now layout.now }
-    requires taking { IsTaking image.now layout.now number [] [] (length blocks.now) others.now }
-    requires lowest { blocks.now ≡ taken_blocks image.now layout.now (length blocks.now) }
-    requires header { IsNewFirst (header_at image.now layout.now number) header number }
-    ensures { IfOk result (λ draft. IsMadeFile image.now layout.now number header (length blocks.now) others.now (applied image.now draft)) }
+    requires sound { IsSoundBy (applied image.now draft) layout.now }
+    requires image { IsImage (applied image.now draft) }
+    requires taking { IsTaking (applied image.now draft) layout.now number [] [] (length blocks.now) others.now }
+    requires lowest { blocks.now ≡ taken_blocks (applied image.now draft) layout.now (length blocks.now) }
+    requires header { IsNewFirst (header_at (applied image.now draft) layout.now number) header number }
+    ensures { IfOk result (λ made. IsMadeFile (applied image.now draft) layout.now number header (length blocks.now) others.now (applied image.now made)) }
 {
-    // An image has blocks of bytes.
-    let _ = image.len();
-    let mut draft = Draft::new(alloc);
     zero_blocks(alloc, blocks, &mut draft)?;
     let first = layout.place(number).unwrap();
     draft.set(first, header)?;

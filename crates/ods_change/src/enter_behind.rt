@@ -1,10 +1,13 @@
 //! An Enter whose entry stands in a new block, behind those that the directory has.
 ghost use Rattle.std.specs.Prelude.{◌≡◌, true, IfOk};
 ghost use Rattle.ods_alloc.specs.Counts.{counts_of};
+ghost use Rattle.ods_base.specs.Image.{IsImage};
 ghost use Rattle.ods_mount.specs.Sound.{IsSoundBy};
-ghost use Rattle.ods_change.specs.{Entering.IsEntering, Entering.IsOwnEntering, Entering.IsOwnEntry, Entering.IsSomeEntry, Entering.IsTakenFor, Taking.IsEndOf};
+ghost use Rattle.ods_space.specs.Draft.{applied};
+ghost use Rattle.ods_change.specs.{Entering.IsEntering, Entering.IsOwnGrowing, Entering.IsOwnEntry, Entering.IsSomeEntry, Entering.IsTakenFor, Taking.IsEndOf};
 
-use crate::drafts::{marked_header, two_blocks};
+use crate::beginning::{Begun, Drafted, begin, layout_then};
+use crate::drafts::marked_header;
 use crate::entry::NewEntry;
 use crate::taking::{ChainEnd, ends_with, take};
 use ods_alloc::{FreeCounts, extend_from};
@@ -19,12 +22,12 @@ pub(crate) fn enter_behind(
     alloc: Global,
     counts: &FreeCounts,
     entry: &NewEntry,
-) -> Result<Draft, Refusal>
+) -> Result<Drafted, Refusal>
     requires sound { IsSoundBy entry.now.image.now entry.now.layout.now }
     requires counts { counts.now ≡ counts_of entry.now.image.now entry.now.layout.now }
     requires entry { IsOwnEntry entry.now }
     requires grows { entry.now.slot.grows ≡ true }
-    ensures { IsOwnEntering entry.now result }
+    ensures { IsOwnGrowing entry.now result }
 {
     let image = entry.image;
     let layout = entry.layout;
@@ -34,48 +37,66 @@ pub(crate) fn enter_behind(
         Ok(taken) => taken,
         Err(refusal) => return Err(refusal),
     };
+    // The blocks of an image have bytes.
+    let _ = image.len();
+    let begun = match begin(alloc, image, layout, &taken.places) {
+        Ok(begun) => begun,
+        Err(_) => return Err(Refusal::NoMemory),
+    };
+    let Begun {
+        layout: index,
+        draft,
+    } = begun;
+    let then = layout_then(&index, layout);
     match with_block(
         alloc,
         image,
-        layout,
+        then,
+        draft,
         dir,
         entry,
         &end,
         &taken.blocks,
         &taken.numbers,
     ) {
-        Ok(draft) => Ok(draft),
+        Ok(draft) => Ok(Drafted {
+            draft,
+            places: taken.places,
+        }),
         Err(_) => Err(Refusal::NoMemory),
     }
 }
 
-/// The draft that puts an entry into the block that a directory whose chain ends so takes, and this block behind its own.
+/// This draft with more changes, by which an entry stands in the block that a directory whose chain ends so takes, and this block behind its own.
 fn with_block(
     alloc: Global,
     image: &Image,
     layout: &Layout,
+    mut draft: Draft,
     dir: FileId,
     entry: &NewEntry,
     end: &ChainEnd<'_>,
     blocks: &[u32],
     numbers: &[u16],
 ) -> Result<Draft, AllocError>
-    requires sound { IsSoundBy image.now layout.now }
-    requires entry { IsSomeEntry image.now layout.now dir entry.now }
+    requires sound { IsSoundBy (applied image.now draft) layout.now }
+    requires image { IsImage (applied image.now draft) }
+    requires entry { IsSomeEntry (applied image.now draft) layout.now dir entry.now }
     requires grows { entry.now.slot.grows ≡ true }
-    requires end { IsEndOf image.now layout.now dir.number end.now }
-    requires taken { IsTakenFor image.now layout.now dir.number blocks.now numbers.now }
-    ensures { IfOk result (IsEntering image.now layout.now dir entry.now) }
+    requires end { IsEndOf (applied image.now draft) layout.now dir.number end.now }
+    requires taken { IsTakenFor (applied image.now draft) layout.now dir.number blocks.now numbers.now }
+    ensures { IfOk result (λ made. IsEntering (applied image.now draft) layout.now dir entry.now (applied image.now made) layout.now) }
 {
-    // The blocks of an image have bytes.
-    let _ = image.len();
     let mut block = Block::zeros();
     let bytes = entry.bytes;
     block.set_bytes(0, &bytes);
     let count = entry.opened.blocks.count() + 1;
     let header = marked_header(entry.opened.header, entry.slot.mark, count);
     let first = layout.place(dir.number).unwrap();
-    let draft = two_blocks(alloc, blocks[0], block, first, header)?;
+    draft.set(blocks[0], block)?;
+    draft.set(first, header)?;
+    // The blocks of what the image becomes have bytes, so its chains have at most 256 headers.
+    draft.makes_image(image);
     let grown = extend_from(
         alloc,
         image,

@@ -3,20 +3,21 @@ ghost use Rattle.std.specs.Prelude.{◌≡◌, MatchResult};
 ghost use Rattle.ods_alloc.specs.Counts.{counts_of};
 ghost use Rattle.ods_mount.specs.Sound.{IsSoundBy};
 ghost use Rattle.ods_request.specs.{declared.answers.Answer.TheVariants.Entered, declared.requests.Request.TheVariants.Enter};
-ghost use Rattle.ods_space.specs.Draft.{applied};
+ghost use Rattle.ods_space.specs.{Draft.applied, Layout.with_places};
 ghost use Rattle.ods_state.specs.{Outcome.CanBeAsked, Served.IsStepOf, Served.IsRefusalOf};
 
+use crate::beginning::Drafted;
 use crate::enter_behind::enter_behind;
 use crate::enter_within::enter_within;
 use crate::entry::new_entry;
 use ods_alloc::FreeCounts;
 use ods_base::{FileId, Image, Name, Uic};
 use ods_request::Refusal;
-use ods_space::{Draft, Layout};
+use ods_space::Layout;
 use std::alloc::Global;
 
 /// The draft that enters a file in a directory, with the version under which it stands there, or why that is refused.
-/// Where the directory needs a block more, it is taken.
+/// Where the directory needs a block more, it is taken; and where that takes more numbers than are free, INDEXF.SYS grows.
 pub fn enter(
     alloc: Global,
     image: &Image,
@@ -27,25 +28,26 @@ pub fn enter(
     name: Name,
     version: Option<u16>,
     file: FileId,
-) -> Result<(Draft, u16), Refusal>
+) -> Result<(Drafted, u16), Refusal>
     requires sound { IsSoundBy image.now layout.now }
     requires counts { counts.now ≡ counts_of image.now layout.now }
     requires asked { CanBeAsked (Enter dir name version file) }
     ensures { MatchResult result
-        (λ r. IsStepOf image.now layout.now who (Enter dir name version file) (Entered r.1) (applied image.now r.0) layout.now)
+        (λ r. IsStepOf image.now layout.now who (Enter dir name version file) (Entered r.1) (applied image.now r.0.draft) (with_places layout.now r.0.places.items))
         (IsRefusalOf image.now layout.now who (Enter dir name version file)) }
 {
     let entry = match new_entry(image, layout, who, dir, name, version, file) {
         Ok(entry) => entry,
         Err(refusal) => return Err(refusal),
     };
-    let drafted = if entry.slot.grows {
-        enter_behind(alloc, counts, &entry)
-    } else {
-        enter_within(alloc, &entry)
-    };
-    match drafted {
-        Ok(draft) => Ok((draft, entry.version)),
+    if entry.slot.grows {
+        return match enter_behind(alloc, counts, &entry) {
+            Ok(drafted) => Ok((drafted, entry.version)),
+            Err(refusal) => Err(refusal),
+        };
+    }
+    match enter_within(alloc, &entry) {
+        Ok(draft) => Ok((Drafted::still(alloc, draft), entry.version)),
         Err(refusal) => Err(refusal),
     }
 }

@@ -1,15 +1,17 @@
 //! An Extend: its checks, and the draft by which the file gets blocks of zeros behind its own.
 ghost use Rattle.std.specs.Prelude.{◌≡◌, ◌<◌, ◌==◌, ◌||◌, nat_lt, ℕ, List, IfOk, IfErr, MatchResult};
 ghost use Rattle.ods_alloc.specs.Counts.{counts_of};
+ghost use Rattle.ods_base.specs.Image.{IsImage};
 ghost use Rattle.ods_header.specs.Header.{owner_of, protection_of};
-ghost use Rattle.ods_space.specs.{Draft.applied, Layout.header_at};
+ghost use Rattle.ods_space.specs.{Draft.applied, Layout.header_at, Layout.with_places};
 ghost use Rattle.ods_mount.specs.Sound.{IsSoundBy};
 ghost use Rattle.ods_request.specs.{declared.answers.Answer.TheVariants.Extended, declared.requests.Request.TheVariants.Extend, Rights.permits};
 ghost use Rattle.ods_state.specs.{Change.IsFaultBy, Served.IsStepOf, Served.IsRefusalOf};
 ghost use Rattle.ods_change.specs.{Extending.IsExtensible, Extending.IsGrownBy, Extending.IsWanted, Taking.IsEndOf};
 
-use crate::taking::{ChainEnd, Taken, ends_with, take, zero_blocks};
-use ods_alloc::{FreeCounts, extend_from};
+use crate::beginning::{Begun, Drafted, begin, layout_then};
+use crate::taking::{ChainEnd, Taken, ends_with, take};
+use ods_alloc::{FreeCounts, extend_from, zero_blocks};
 use ods_base::{Block, FileId, Image, Uic};
 use ods_header::{is_directory, owner, protection, without_contiguous};
 use ods_look::opening::named_header;
@@ -61,32 +63,33 @@ fn may_extend(header: &Block, who: Uic) -> bool
     permits(&who, &owner(header), protection(header), Right::Extend)
 }
 
-/// The draft by which a file whose chain ends so takes these blocks and numbers. The blocks become zeros, and the first
-/// header says no more that the file's blocks are contiguous.
+/// This draft with more changes, by which a file whose chain ends so takes these blocks and numbers. The blocks become zeros, and the
+/// first header says no more that the file's blocks are contiguous.
 fn grown(
     alloc: Global,
     image: &Image,
     layout: &Layout,
+    mut draft: Draft,
     number: u16,
     first: &Block,
     end: &ChainEnd<'_>,
     taken: &Taken,
 ) -> Result<Draft, AllocError>
-    requires sound { IsSoundBy image.now layout.now }
+    requires sound { IsSoundBy (applied image.now draft) layout.now }
+    requires image { IsImage (applied image.now draft) }
     requires above { 5 < number }
-    requires first { first.now ≡ header_at image.now layout.now number }
-    requires end { IsEndOf image.now layout.now number end.now }
-    requires wanted { (headers : List ℕ) × (old : List ℕ) × (count : ℕ) × IsWanted image.now layout.now number headers old count taken.now }
-    ensures { IfOk result (λ draft. (headers old : List ℕ) (count : ℕ) → IsWanted image.now layout.now number headers old count taken.now
-        → IsGrownBy image.now layout.now number headers old count taken.now.numbers.items (applied image.now draft)) }
+    requires first { first.now ≡ header_at (applied image.now draft) layout.now number }
+    requires end { IsEndOf (applied image.now draft) layout.now number end.now }
+    requires wanted { (headers : List ℕ) × (old : List ℕ) × (count : ℕ) × IsWanted (applied image.now draft) layout.now number headers old count taken.now }
+    ensures { IfOk result (λ made. (headers old : List ℕ) (count : ℕ) → IsWanted (applied image.now draft) layout.now number headers old count taken.now
+        → IsGrownBy (applied image.now draft) layout.now number headers old count taken.now.numbers.items (applied image.now made)) }
 {
-    // The blocks of an image have bytes.
-    let _ = image.len();
-    let mut draft = Draft::new(alloc);
     zero_blocks(alloc, &taken.blocks, &mut draft)?;
     let lbn = layout.place(number).unwrap();
     let header = without_contiguous(first);
     draft.set(lbn, header)?;
+    // The blocks of what the image becomes have bytes, so its chains have at most 256 headers.
+    draft.makes_image(image);
     let grown = extend_from(
         alloc,
         image,
@@ -101,7 +104,7 @@ fn grown(
 }
 
 /// The draft that puts this many blocks of zeros behind a file's own, with the count that it has then, or why that is
-/// refused.
+/// refused. Where more numbers are needed than are free, INDEXF.SYS grows.
 pub fn extend(
     alloc: Global,
     image: &Image,
@@ -110,11 +113,11 @@ pub fn extend(
     who: Uic,
     file: FileId,
     count: u32,
-) -> Result<(Draft, u32), Refusal>
+) -> Result<(Drafted, u32), Refusal>
     requires sound { IsSoundBy image.now layout.now }
     requires counts { counts.now ≡ counts_of image.now layout.now }
     ensures { MatchResult result
-        (λ r. IsStepOf image.now layout.now who (Extend file count) (Extended r.1) (applied image.now r.0) layout.now)
+        (λ r. IsStepOf image.now layout.now who (Extend file count) (Extended r.1) (applied image.now r.0.draft) (with_places layout.now r.0.places.items))
         (IsRefusalOf image.now layout.now who (Extend file count)) }
 {
     let first = match open_to_extend(image, layout, who, file, count) {
@@ -126,8 +129,25 @@ pub fn extend(
         Ok(taken) => taken,
         Err(refusal) => return Err(refusal),
     };
-    match grown(alloc, image, layout, file.number, first, &end, &taken) {
-        Ok(draft) => Ok((draft, end.blocks + count)),
+    // The blocks of an image have bytes.
+    let _ = image.len();
+    let begun = match begin(alloc, image, layout, &taken.places) {
+        Ok(begun) => begun,
+        Err(_) => return Err(Refusal::NoMemory),
+    };
+    let Begun {
+        layout: index,
+        draft,
+    } = begun;
+    let then = layout_then(&index, layout);
+    match grown(alloc, image, then, draft, file.number, first, &end, &taken) {
+        Ok(draft) => Ok((
+            Drafted {
+                draft,
+                places: taken.places,
+            },
+            end.blocks + count,
+        )),
         Err(_) => Err(Refusal::NoMemory),
     }
 }

@@ -1,6 +1,7 @@
 //! What requests make of a volume's blocks: each is a draft of changes, proved to carry the request out, or a true refusal.
 #![tactic(auto)]
 
+mod beginning;
 mod block_changes;
 mod create_file;
 mod delete_file;
@@ -12,6 +13,7 @@ mod entry;
 mod extend_file;
 mod taking;
 
+pub use beginning::Drafted;
 pub use block_changes::{remove, set_user, write};
 pub use create_file::create;
 pub use delete_file::delete;

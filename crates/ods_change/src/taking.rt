@@ -1,16 +1,18 @@
 //! What a file takes to grow: the lowest free blocks, and the lowest free numbers for the headers that their pointers need.
 ghost use Rattle.std.specs.Prelude.{◌≡◌, ◌≢◌, ◌+◌, ◌⊎◌, ◌<◌, ◌≤◌, ◌^◌, ℕ, List, None, Some, length, IfOk, IfErr, OnOk};
 ghost use Rattle.ods_alloc.specs.Counts.{counts_of};
-ghost use Rattle.ods_header.specs.Header.{IsLaidOut, blocks_of};
-ghost use Rattle.ods_space.specs.{Chain.chain_blocks, Chain.header_blocks, Draft.applied, Files.IsLayoutOf, Layout.header_at};
-ghost use Rattle.ods_state.specs.Wants.{HasHeaders, lack_of, new_headers, room_in, taken_blocks, taken_numbers};
-ghost use Rattle.ods_change.specs.Taking.{IsEndOf, IsZeroed, refusal_for};
+ghost use Rattle.ods_header.specs.Header.{IsLaidOut, blocks_of, room_of};
+ghost use Rattle.ods_space.specs.{Chain.chain_blocks, Chain.header_blocks, Files.IsLayoutOf, Free.free_blocks, Layout.header_at};
+ghost use Rattle.ods_state.specs.Wants.{HasHeaders, index_blocks, index_end, index_growth, lack_of, new_headers, room_in, taken_blocks, taken_numbers};
+ghost use Rattle.ods_change.specs.Taking.{HasPlacesFor, IsEndOf, LacksPlaces, refusal_for};
 
-use ods_alloc::{ChainEnds, FreeCounts, SpaceFault, pick_blocks, pick_numbers, runs_of_blocks};
+use ods_alloc::{
+    ChainEnds, FreeCounts, SpaceFault, pick_blocks, pick_open_numbers, runs_of_blocks,
+};
 use ods_base::{Block, Image};
 use ods_header::{pointer_at, pointer_count, room_words};
 use ods_request::Refusal;
-use ods_space::{ChainHeaders, Draft, Layout};
+use ods_space::{ChainHeaders, Layout, header_block, last_number};
 use std::alloc::{AllocError, Global};
 
 /// Where the chain of a file ends: how many headers it has, how many blocks they map, and the last of them, with its number
@@ -91,11 +93,13 @@ fn mapped(header: &Block) -> u32
     count
 }
 
-/// What a file takes: blocks, and numbers for the headers that their pointers need. Both ascend.
+/// What a file takes: blocks, and numbers for the headers that their pointers need; and what INDEXF.SYS gets for these. All ascend.
 #[derive(Drop)]
 pub(crate) struct Taken {
     pub blocks: Vec<u32>,
     pub numbers: Vec<u16>,
+    /// The blocks that INDEXF.SYS gets behind its own, so that it has one for each of the numbers.
+    pub places: Vec<u32>,
 }
 
 /// What a file takes that gets `count` blocks, where it has so many headers, and this room in words for pointers in
@@ -112,8 +116,9 @@ pub(crate) fn take(
     requires layout { IsLayoutOf image.now layout.now }
     requires counts { counts.now ≡ counts_of image.now layout.now }
     requires few { headers ≤ 256 }
+    requires small { count ≤ 65535 }
     ensures ok { IfOk result (λ t. (hs : List ℕ) → length hs ≡ headers → room_in image.now layout.now hs ≡ room
-        → (t.blocks.items ≡ taken_blocks image.now layout.now count) × (t.numbers.items ≡ taken_numbers image.now layout.now hs count) × (lack_of image.now layout.now hs count ≡ None)) }
+        → (t.blocks.items ≡ taken_blocks image.now layout.now count) × (t.numbers.items ≡ taken_numbers image.now layout.now hs count) × (t.places.items ≡ index_blocks image.now layout.now hs count) × (lack_of image.now layout.now hs count ≡ None)) }
     ensures err { IfErr result (λ f. (f ≡ Refusal.NoMemory) ⊎ ((hs : List ℕ) → length hs ≡ headers → room_in image.now layout.now hs ≡ room → lack_of image.now layout.now hs count ≡ Some f)) }
 {
     let blocks = match pick_blocks(alloc, image, layout, counts, count) {
@@ -125,15 +130,97 @@ pub(crate) fn take(
         Err(_) => return Err(Refusal::NoMemory),
     };
     let needed = headers_wanted(headers, room, runs.as_slice().len());
-    let numbers = match pick_numbers(alloc, image, layout, counts, needed) {
+    let numbers = match pick_open_numbers(alloc, image, layout, counts, needed) {
         Ok(numbers) => numbers,
         Err(fault) => return Err(refusal_for(fault)),
+    };
+    let places = match places_for(alloc, image, layout, counts, count, &numbers) {
+        Ok(places) => places,
+        Err(refusal) => return Err(refusal),
     };
     // A segment is a byte, so a chain has at most 256 headers.
     if headers + needed > 256 {
         return Err(Refusal::ChainFull);
     }
-    Ok(Taken { blocks, numbers })
+    Ok(Taken {
+        blocks,
+        numbers,
+        places,
+    })
+}
+
+/// The blocks that INDEXF.SYS gets so that it has one for each of these numbers, behind so many that a file takes; or why it
+/// cannot get them.
+fn places_for(
+    alloc: Global,
+    image: &Image,
+    layout: &Layout,
+    counts: &FreeCounts,
+    count: u32,
+    numbers: &[u16],
+) -> Result<Vec<u32>, Refusal>
+    requires layout { IsLayoutOf image.now layout.now }
+    requires counts { counts.now ≡ counts_of image.now layout.now }
+    requires small { count ≤ 65535 }
+    requires enough { count ≤ length (free_blocks image.now layout.now) }
+    ensures ok { IfOk result (λ places. HasPlacesFor image.now layout.now count numbers.now places.items) }
+    ensures err { IfErr result (λ f. (f ≡ Refusal.NoMemory) ⊎ ((f ≡ Refusal.HeadersFull) × LacksPlaces image.now layout.now count numbers.now)) }
+{
+    let growth = index_growth(layout, numbers);
+    if growth == 0 {
+        return Ok(Vec::new(alloc));
+    }
+    let all = match pick_blocks(alloc, image, layout, counts, count + growth) {
+        Ok(all) => all,
+        Err(SpaceFault::NoMemory) => return Err(Refusal::NoMemory),
+        Err(_) => return Err(Refusal::HeadersFull),
+    };
+    let places = match copy_of(alloc, &all[count as usize..]) {
+        Ok(places) => places,
+        Err(_) => return Err(Refusal::NoMemory),
+    };
+    let runs = match runs_of_blocks(alloc, &places) {
+        Ok(runs) => runs,
+        Err(_) => return Err(Refusal::NoMemory),
+    };
+    let room = index_end(image, layout).room as usize / 2;
+    if room < runs.as_slice().len() {
+        return Err(Refusal::HeadersFull);
+    }
+    Ok(places)
+}
+
+/// How many blocks INDEXF.SYS lacks for these numbers, which ascend.
+fn index_growth(layout: &Layout, numbers: &[u16]) -> u32
+    ensures growth { result ≡ index_growth layout.now numbers.now }
+    ensures few { result ≤ 65535 }
+{
+    let count = numbers.len();
+    if count == 0 {
+        return 0;
+    }
+    numbers[count - 1].saturating_sub(last_number(layout)) as u32
+}
+
+/// These blocks once more.
+fn copy_of(alloc: Global, blocks: &[u32]) -> Result<Vec<u32>, AllocError>
+    ensures { IfOk result (λ copy. copy.items ≡ blocks.now) }
+{
+    let mut copy = Vec::new(alloc);
+    copy.extend_from_slice(blocks)?;
+    Ok(copy)
+}
+
+/// Where the chain of INDEXF.SYS ends.
+pub(crate) fn index_end<'a>(image: &'a Image, layout: &'a Layout) -> ChainEnd<'a>
+    requires { IsLayoutOf image.now layout.now }
+    ensures number { result.number ≡ index_end image.now layout.now }
+    ensures last { result.last.now ≡ header_at image.now layout.now (index_end image.now layout.now) }
+    ensures room { result.room ≡ room_of (header_at image.now layout.now (index_end image.now layout.now)) }
+{
+    let _ = image.len();
+    let first = header_block(image, layout, 1).unwrap();
+    ChainEnd::of(image, layout, 1, first)
 }
 
 /// A want of room as a refusal.
@@ -157,19 +244,4 @@ fn headers_wanted(headers: u32, room: u32, runs: usize) -> u32
 {
     let more = (runs.saturating_sub(room as usize / 2).div_ceil(102)) as u32;
     if headers == 0 { more + 1 } else { more }
-}
-
-/// The blocks become zeros in a draft.
-pub(crate) fn zero_blocks(
-    alloc: Global,
-    blocks: &[u32],
-    draft: &mut Draft,
-) -> Result<(), AllocError>
-    ensures { OnOk result ((I : List (List ℕ)) → IsZeroed (applied I draft.old) blocks.now (applied I draft.new)) }
-{
-    let runs = runs_of_blocks(alloc, blocks)?;
-    for run in &runs {
-        draft.zero(*run)?;
-    }
-    Ok(())
 }

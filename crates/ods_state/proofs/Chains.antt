@@ -40,7 +40,7 @@ same_place h front rest n p false true e = e
 same_place h front rest n p false false e = still_there front rest (1 + h.index_bitmap_size + n) p e
 
 -- by the first blocks of INDEXF.SYS a header is not found, or is the one that all of them find
-by_front : (h : Home) (front rest : List ℕ) (n : ℕ) (o : Option ℕ) → place_by h front n ≡ o
+pub by_front : (h : Home) (front rest : List ℕ) (n : ℕ) (o : Option ℕ) → place_by h front n ≡ o
     → (o ≡ None) ⊎ ((X : List (List ℕ)) → header_by X h front n ≡ header_by X h (front ++ rest) n)
 by_front h front rest n None e = inl refl
 by_front h front rest n (Some p) e = inr (λ X.

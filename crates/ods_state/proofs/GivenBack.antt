@@ -256,6 +256,7 @@ module _ (I J : List (List ℕ)) (L : VolumeLayout) (S : IsSoundBy I L) (n : ℕ
   -- so its blocks and its numbers are given back
   pub are_given_back : AreGivenBack (disk I L) (disk J L) n
   are_given_back = record {
+    layout = refl;
     headers = n ∷ others;
     blocks = blocks;
     file = (others, refl, whole);

@@ -27,7 +27,7 @@ use Rattle.ods_state.proofs.Links.{linked_same}
 use Rattle.ods_state.proofs.OneBlock.{mapped_alike}
 use Rattle.ods_state.proofs.Taken as taken
 
-or_false : (b : Bool) → (b || false) ≡ b
+pub or_false : (b : Bool) → (b || false) ≡ b
 or_false true = refl
 or_false false = refl
 
@@ -35,16 +35,16 @@ and_not_false : (b : Bool) → (b && not false) ≡ b
 and_not_false true = refl
 and_not_false false = refl
 
-and_alike : (a b c d : Bool) → (c ≡ true → d ≡ (b && a)) → (c && d) ≡ ((c && b) && a)
+pub and_alike : (a b c d : Bool) → (c ≡ true → d ≡ (b && a)) → (c && d) ≡ ((c && b) && a)
 and_alike a b true d same = same refl
 and_alike a b false d same = refl
 
-and_assoc : (a b c : Bool) → ((a && b) && c) ≡ (a && (b && c))
+pub and_assoc : (a b c : Bool) → ((a && b) && c) ≡ (a && (b && c))
 and_assoc true b c = refl
 and_assoc false b c = refl
 
 -- an element of two lists, one behind the other
-in_front_or_behind : (xs ys : List ℕ) (i x : ℕ) → slice_get (xs ++ ys) i ≡ Some x → (slice_get xs i ≡ Some x) ⊎ ((k : ℕ) × (i ≡ length xs + k) × (slice_get ys k ≡ Some x))
+pub in_front_or_behind : (xs ys : List ℕ) (i x : ℕ) → slice_get (xs ++ ys) i ≡ Some x → (slice_get xs i ≡ Some x) ⊎ ((k : ℕ) × (i ≡ length xs + k) × (slice_get ys k ≡ Some x))
 in_front_or_behind [] ys i x e = inr (i, omega arith, e)
 in_front_or_behind (y ∷ xs) ys zero x e = inl e
 in_front_or_behind (y ∷ xs) ys (suc i) x e = by (in_front_or_behind xs ys i x e)
@@ -109,7 +109,7 @@ module _ {I J : List (List ℕ)} {L : VolumeLayout} {n : ℕ} {headers old : Lis
       by (inr away) (inl b) = inr (bookkeeping_written S (all_headers n headers numbers) x b)
       by (inr away) (inr none) = inl (g.elsewhere x none away)
 
-  number_high : (k : ℕ) → k < 3 → k ≢ n
+  pub number_high : (k : ℕ) → k < 3 → k ≢ n
   number_high k low e = let above = g.taking.above in absurd (omega arith)
 
   -- the layout is as before

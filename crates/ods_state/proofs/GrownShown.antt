@@ -25,7 +25,8 @@ use Rattle.ods_state.proofs.Grown.{contents_stay, new_file, other_is_far, others
 use Rattle.ods_state.proofs.GrownMoves.{sequences_rise}
 use Rattle.ods_state.specs.Growth.{IsGrowth}
 use Rattle.ods_state.proofs.Shown.{ids, shows_put, same_file}
-use Rattle.ods_state.proofs.Taken.{first_is_one, none_empty, old_or_new, taken_number_is_free}
+use Rattle.ods_state.proofs.OpenNumbers.{taken_number_is_free}
+use Rattle.ods_state.proofs.Taken.{first_is_one, none_empty, old_or_new}
 
 -- an ID that is a key of the catalogue's files has a file
 key_has_file : (C : Catalogue) (k : ℕ) (id : FileId) → k < length (map.keys C.files) → get_or (map.keys C.files) k id ≡ id → (f : File) × (map.get C.files id ≡ Some f)
@@ -102,7 +103,7 @@ module _ {I J : List (List ℕ)} {L : VolumeLayout} {n : ℕ} {headers old : Lis
       where
         by : Contains headers n ⊎ Contains (taken_numbers I L headers count) n → IsFreeNumber I L n
         by (inl before) = absurd (none_empty n (subst (λ l. Contains l n) new before))
-        by (inr taken) = free_number I L n (taken_number_is_free I L headers count n taken)
+        by (inr taken) = free_number I L n (taken_number_is_free I L headers count n g.taking.no_growth taken)
 
     module _ (id : FileId) (number : id.number ≡ n) where
       -- a new file is created

@@ -14,6 +14,7 @@ use Rattle.ods_header.specs.declared.home.Home.{Home}
 use Rattle.ods_header.specs.Header.{IsValidHeader, blocks_of, next_number_of, run_blocks, segment_of}
 use Rattle.ods_space.specs.Layout.{VolumeLayout, place_of, header_at, is_in_use}
 use Rattle.ods_space.specs.Chain.{Follows, IsChain, index_for}
+use Rattle.ods_space.specs.Files.{IsFile}
 use Rattle.ods_alloc.specs.Extend.{with_bit, with_in_use}
 use Rattle.ods_alloc.proofs.Chained.{set_byte}
 use Rattle.ods_alloc.proofs.FreeTests.{IsFreeNumber, free_number}
@@ -24,7 +25,7 @@ use Rattle.ods_state.proofs.GrowthReady.{IsNewFile, IsOldFile, elsewhere, header
 use Rattle.ods_state.proofs.Links.{LinkedAt, header_is_no_data, linked_same}
 use Rattle.ods_state.proofs.OneBlock.{held_inside}
 use Rattle.ods_state.proofs.Still.{IsStill, chain_kept}
-use Rattle.ods_state.proofs.Taken.{taken_number_is_free}
+use Rattle.ods_state.proofs.OpenNumbers.{taken_number_is_free}
 
 -- a bit that is set in a block that has it
 bit_set : (b : List ℕ) (i : ℕ) → i / 8 < length b → has_bit (with_bit b i) i ≡ true
@@ -89,7 +90,7 @@ module _ (I K : List (List ℕ)) (L : VolumeLayout) (S : IsSoundBy I L) (n : ℕ
 
   module _ (image : IsImage I) (f : IsNewFile I K L n headers old count numbers) (C : List (List ℕ)) (is : C ≡ with_in_use K L.home n) where
     free : IsFreeNumber I L n
-    free = free_number I L n (taken_number_is_free I L headers count n (subst (λ l. Contains l n) f.new (zero, omega arith, refl)))
+    free = free_number I L n (taken_number_is_free I L headers count n t.no_growth (subst (λ l. Contains l n) f.new (zero, omega arith, refl)))
 
     few : n ≤ 4096 * L.home.index_bitmap_size
     few = let high = free.high in omega arith
@@ -153,3 +154,8 @@ module _ (I K : List (List ℕ)) (L : VolumeLayout) (S : IsSoundBy I L) (n : ℕ
       by : IsOldFile I K L n headers old count numbers ⊎ IsNewFile I K L n headers old count numbers → IsChain (with_in_use K L.home n) L n (drop 1 headers) old
       by (inl o) = old_chain o
       by (inr f) = new_chain image f (with_in_use K L.home n) refl
+
+  -- where the file is there, its first header is in use already
+  pub kept_chain : IsImage I → IsFile I L n → IsChain K L n (drop 1 headers) old
+  kept_chain image f =
+      subst (λ C. IsChain C L n (drop 1 headers) old) (in_use_same K L.home n (used_stays I K L S n headers old count numbers t r n ∙ f.in_use)) (ready_chain image)

@@ -3,24 +3,25 @@ use Rattle.std.proofs.Common.{◌≡◌, ◌≢◌, ℕ, suc, ◌+◌, ◌/◌, 
 use Rattle.std.specs.Prelude.{◌⊎◌, ◌&&◌, not}
 use Rattle.std.specs.List.{Contains}
 use Rattle.std.specs.List.Sorted.{IsStrictlyIncreasing}
-use Rattle.std.proofs.lemmas.Bool.{both_ways, cases_eq, ltb-false}
+use Rattle.std.proofs.lemmas.Bool.{both_ways, cases_eq, ltb-false, or_parts}
 use Rattle.std.proofs.lemmas.List.{length-take}
 use Rattle.std.proofs.lemmas.List.Elements.{Contains-get_or}
 use Rattle.std.proofs.lemmas.List.Kept.{AllPairs-from_increasing}
 use Rattle.ods_state.proofs.Chains.{later_in}
 use Rattle.ods_header.specs.Header.{room_of, sequence_of}
 use Rattle.ods_space.specs.Layout.{VolumeLayout, header_at, is_in_use, last_number}
-use Rattle.ods_space.specs.Free.{free_blocks, free_numbers, is_free_number}
+use Rattle.ods_space.specs.Free.{free_blocks, is_free_number, open_numbers}
 use Rattle.ods_alloc.specs.Extend.{CanExtend, cut, headers_needed, last_of}
 use Rattle.ods_alloc.proofs.FreeTests.{free_inside}
 use Rattle.ods_mount.specs.Sound.{IsSoundBy}
 use Rattle.ods_request.specs.declared.refusals.Refusal.{Refusal}
 use Rattle.ods_request.specs.Faults.{first_of}
-use Rattle.ods_state.specs.Wants.{lack_of, new_headers, room_in, taken_blocks, taken_count, taken_numbers}
+use Rattle.ods_state.specs.Wants.{index_blocks, index_end, index_growth, lack_of, new_headers, room_in, taken_blocks, taken_count, taken_numbers}
 use Rattle.ods_state.specs.Growth.{IsReady, IsTaking}
 use Rattle.ods_state.proofs.GrowthReady.{IsNewFile, IsOldFile, header_stays, seen, taken_not_bitmap, taken_not_index, used_stays}
 use Rattle.ods_state.proofs.Rising.{blocks_rise, numbers_rise, stands_at}
-use Rattle.ods_state.proofs.Taken.{new_unused, taken_block_is_free, taken_number_is_free}
+use Rattle.ods_state.proofs.OpenNumbers.{taken_number_is_free}
+use Rattle.ods_state.proofs.Taken.{new_unused, taken_block_is_free}
 
 none_of_three : (a b c : Bool) (f g h : Refusal) → first_of ((a, f) ∷ (b, g) ∷ (c, h) ∷ []) ≡ None → (a ≡ false) × (b ≡ false) × (c ≡ false)
 none_of_three true b c f g h e = absurd (cc)
@@ -31,22 +32,28 @@ none_of_three false false false f g h e = (refl, refl, refl)
 -- where nothing is lacking there are so many
 pub record IsEnough (I : List (List ℕ)) (L : VolumeLayout) (headers : List ℕ) (count : ℕ) : Type 0 where
   pub blocks : count ≤ length (free_blocks I L)
-  pub numbers : taken_count I L headers count ≤ length (free_numbers I L)
+  pub numbers : taken_count I L headers count ≤ length (open_numbers I L)
+  pub places : count + index_growth L (taken_numbers I L headers count) ≤ length (free_blocks I L)
+  pub room : length (cut (index_blocks I L headers count)) ≤ room_of (header_at I L (index_end I L)) / 2
   pub segments : length headers + taken_count I L headers count ≤ 256
 
 pub is_enough : (I : List (List ℕ)) (L : VolumeLayout) (headers : List ℕ) (count : ℕ) → lack_of I L headers count ≡ None → IsEnough I L headers count
 unfolding lack_of
 is_enough I L headers count none =
     let all = none_of_three _ _ _ _ _ _ none in
+    let rows = or_parts _ _ all.1 in
+    let places = or_parts _ _ rows.1 in
     record {
       blocks = ltb-false (length (free_blocks I L)) count all.0;
-      numbers = ltb-false (length (free_numbers I L)) (taken_count I L headers count) all.1;
+      numbers = ltb-false (length (open_numbers I L)) (taken_count I L headers count) rows.0;
+      places = ltb-false (length (free_blocks I L)) (count + index_growth L (taken_numbers I L headers count)) places.0;
+      room = ltb-false (room_of (header_at I L (index_end I L)) / 2) (length (cut (index_blocks I L headers count))) places.1;
       segments = ltb-false 256 (length headers + taken_count I L headers count) all.2;
     }
 
 -- so as many numbers are taken as are needed
 pub so_many_numbers : (I : List (List ℕ)) (L : VolumeLayout) (headers : List ℕ) (count : ℕ) → IsEnough I L headers count → length (taken_numbers I L headers count) ≡ taken_count I L headers count
-so_many_numbers I L headers count enough = let fits = enough.numbers in omega (arith, length-take (taken_count I L headers count) (free_numbers I L))
+so_many_numbers I L headers count enough = let fits = enough.numbers in omega (arith, length-take (taken_count I L headers count) (open_numbers I L))
 
 module _ (I K : List (List ℕ)) (L : VolumeLayout) (S : IsSoundBy I L) (n : ℕ) (headers old : List ℕ) (count : ℕ) (numbers : List ℕ)
     (t : IsTaking I L n headers old count numbers) (r : IsReady I K L n headers count) where
@@ -141,7 +148,7 @@ module _ (I K : List (List ℕ)) (L : VolumeLayout) (S : IsSoundBy I L) (n : ℕ
     free = λ k d below.
         let m : ℕ = get_or numbers k d in
         let c : Contains numbers m = Contains-get_or numbers k d below in
-        still_free m (not_the_first m c) ∙ taken_number_is_free I L headers count m (number_is_taken m c);
+        still_free m (not_the_first m c) ∙ taken_number_is_free I L headers count m t.no_growth (number_is_taken m c);
     rising = rising;
     new = λ c. not_the_first n c refl;
     enough = enough;

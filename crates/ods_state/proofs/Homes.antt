@@ -25,7 +25,7 @@ module _ (I J : List (List ℕ)) (L : VolumeLayout) (S : IsSoundBy I L) (long : 
           let place : w.1 ≡ k + 1 = same.1 in
           w.5 (same.0, omega arith)
 
-  home_here : (lbn : ℕ) → IsHomeAt I lbn → block_at J lbn ≡ block_at I lbn
+  pub home_here : (lbn : ℕ) → IsHomeAt I lbn → block_at J lbn ≡ block_at I lbn
   home_here lbn h = by (elsewhere lbn) (S.home_block lbn h)
     where
       by : (block_at J lbn ≡ block_at I lbn) ⊎ CouldBeWritten I L lbn → (slice_get L.index 0 ≡ Some lbn) ⊎ (slice_get L.index 1 ≡ Some lbn) → block_at J lbn ≡ block_at I lbn

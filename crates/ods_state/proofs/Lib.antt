@@ -16,8 +16,15 @@ pub mod OtherFront
 pub mod BlockShown
 pub mod TwoChanges
 pub mod Served
-pub mod Taken
 pub mod Rising
+pub mod OpenNumbers
+pub mod Taken
+pub mod IndexEnd
+pub mod RunsBehind
+pub mod IndexGrown
+pub mod IndexSound
+pub mod IndexTakes
+pub mod StepBehind
 pub mod Bookkeeping
 pub mod OnlyBookkeeping
 pub mod Grown

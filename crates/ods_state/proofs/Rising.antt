@@ -8,8 +8,8 @@ use Rattle.std.proofs.lemmas.List.{get_or-take, length-take}
 use Rattle.std.proofs.lemmas.List.FromFn.{get_or-range_with_len, length-range_with_len}
 use Rattle.std.proofs.lemmas.List.Kept.{IsStrictlyIncreasing-filter}
 use Rattle.std.proofs.lemmas.Option.{slice_get-get_or, slice_get_within, get_or_from_slice_get}
-use Rattle.ods_space.specs.Layout.{VolumeLayout, last_number}
-use Rattle.ods_space.specs.Free.{is_free_block, is_free_number, free_blocks, free_numbers}
+use Rattle.ods_space.specs.Layout.{VolumeLayout, greatest_number}
+use Rattle.ods_space.specs.Free.{is_free_block, is_open_number, free_blocks, open_numbers}
 use Rattle.ods_alloc.proofs.NewHeaders.{rising_apart}
 use Rattle.ods_state.specs.Wants.{taken_blocks, taken_count, taken_numbers}
 
@@ -30,7 +30,7 @@ stands_once xs rises i j x p q = by (cases_lt i j) (cases_lt j i)
     by (inr le) (inr ge) = omega arith
 
 -- the first of numbers that rise, rise
-rises_in : (n : ℕ) (xs : List ℕ) → IsStrictlyIncreasing xs → IsStrictlyIncreasing (take n xs)
+pub rises_in : (n : ℕ) (xs : List ℕ) → IsStrictlyIncreasing xs → IsStrictlyIncreasing (take n xs)
 rises_in n xs rises k within =
     let long = length-take n xs in
     let few : k + 1 < min n (length xs) = subst (λ m. k + 1 < m) long within in
@@ -43,13 +43,18 @@ range_rises a n k within =
     omega (arith, get_or-range_with_len a n k 0 (omega arith), get_or-range_with_len a n (k + 1) 0 (omega arith))
 
 module _ (I : List (List ℕ)) (L : VolumeLayout) where
-  pub blocks_rise : (count : ℕ) → IsStrictlyIncreasing (taken_blocks I L count)
+  pub free_rise : IsStrictlyIncreasing (free_blocks I L)
   unfolding free_blocks
-  blocks_rise count = rises_in count (free_blocks I L) (IsStrictlyIncreasing-filter (is_free_block I L) (range_with_len 0 (length I)) (range_rises 0 (length I)))
+  free_rise = IsStrictlyIncreasing-filter (is_free_block I L) (range_with_len 0 (length I)) (range_rises 0 (length I))
+
+  pub blocks_rise : (count : ℕ) → IsStrictlyIncreasing (taken_blocks I L count)
+  blocks_rise count = rises_in count (free_blocks I L) free_rise
 
   pub numbers_rise : (headers : List ℕ) (count : ℕ) → IsStrictlyIncreasing (taken_numbers I L headers count)
-  unfolding free_numbers
-  numbers_rise headers count = rises_in (taken_count I L headers count) (free_numbers I L) (IsStrictlyIncreasing-filter (is_free_number I L) (range_with_len 1 (last_number L)) (range_rises 1 (last_number L)))
+  unfolding open_numbers
+  numbers_rise headers count =
+      let most : ℕ = greatest_number L.home in
+      rises_in (taken_count I L headers count) (open_numbers I L) (IsStrictlyIncreasing-filter (is_open_number I L most) (range_with_len 1 most) (range_rises 1 most))
 
   -- a block is taken once
   pub block_once : (count i j x : ℕ) → slice_get (taken_blocks I L count) i ≡ Some x → slice_get (taken_blocks I L count) j ≡ Some x → i ≡ j

@@ -74,6 +74,7 @@ module _ (I J : List (List ℕ)) (L : VolumeLayout) (S : IsSoundBy I L) (K : IsS
 
   pub nothing_moves : NothingMoves (disk I L) (disk J L)
   nothing_moves = record {
+    layout = refl;
     chains = chain_kept;
     held = λ n v x. (still_holds n v x, held n v x);
     free = free_stays;

@@ -8,16 +8,17 @@ use Rattle.std.proofs.lemmas.List.Folds.{list_any_at, list_any_none}
 use Rattle.std.proofs.lemmas.Map.Made.{Contains-tail}
 use Rattle.ods_header.specs.declared.home.Home.{Home}
 use Rattle.ods_header.specs.Header.{blocks_of, segment_of}
-use Rattle.ods_space.specs.Layout.{VolumeLayout, header_by, is_in_use, last_number}
+use Rattle.ods_space.specs.Layout.{VolumeLayout, header_by, is_in_use}
 use Rattle.ods_space.specs.Chain.{Follows, IsChain, index_for, known}
 use Rattle.ods_space.specs.Files.{IsFile, HasBlocks, IsWhole}
-use Rattle.ods_space.specs.Free.{free_blocks, free_numbers, is_free_block, is_free_number}
+use Rattle.ods_space.specs.Free.{free_blocks, is_free_block}
 use Rattle.ods_alloc.specs.Extend.{is_one_of}
 use Rattle.ods_alloc.proofs.FreeTests.{free_number}
 use Rattle.ods_mount.specs.Sound.{IsSoundBy}
-use Rattle.ods_state.specs.Wants.{taken_blocks, taken_count, taken_numbers}
+use Rattle.ods_state.specs.Wants.{taken_blocks, taken_numbers}
 use Rattle.ods_space.proofs.Chains.{head_of}
 use Rattle.ods_state.specs.Growth.{HadHeaders, IsTaking, all_headers}
+use Rattle.ods_state.proofs.OpenNumbers.{taken_number_is_free}
 
 -- an element of a list passes its test, and anything else does not
 pub one_of : (xs : List ℕ) (x : ℕ) → Contains xs x → is_one_of xs x ≡ true
@@ -69,12 +70,6 @@ taken_block_is_free I L count x c =
     All-contains (λ y. is_free_block I L y ≡ true) (taken_blocks I L count) x
     (All-take (λ y. is_free_block I L y ≡ true) count (free_blocks I L) (filter_passes (is_free_block I L) (range_with_len 0 (length I)))) c
 
-pub taken_number_is_free : (I : List (List ℕ)) (L : VolumeLayout) (headers : List ℕ) (count m : ℕ) → Contains (taken_numbers I L headers count) m → IsTrue (is_free_number I L m)
-unfolding free_numbers
-taken_number_is_free I L headers count m c =
-    All-contains (λ y. is_free_number I L y ≡ true) (taken_numbers I L headers count) m
-    (All-take (λ y. is_free_number I L y ≡ true) (taken_count I L headers count) (free_numbers I L) (filter_passes (is_free_number I L) (range_with_len 1 (last_number L)))) c
-
 module _ {I : List (List ℕ)} {L : VolumeLayout} {n : ℕ} {headers old : List ℕ} {count : ℕ} {numbers : List ℕ} (S : IsSoundBy I L) (t : IsTaking I L n headers old count numbers) where
   -- all headers are the old ones and those that are taken
   pub old_or_new : (m : ℕ) → Contains (all_headers n headers numbers) m → Contains headers m ⊎ Contains (taken_numbers I L headers count) m
@@ -87,7 +82,7 @@ module _ {I : List (List ℕ)} {L : VolumeLayout} {n : ℕ} {headers old : List 
   first_is_one = (zero, omega arith, refl)
 
   pub new_unused : (m : ℕ) → Contains (taken_numbers I L headers count) m → is_in_use I L.home m ≡ false
-  new_unused m c = (free_number I L m (taken_number_is_free I L headers count m c)).unused
+  new_unused m c = (free_number I L m (taken_number_is_free I L headers count m t.no_growth c)).unused
 
   -- a file that has a header had it in a chain
   abbrev HadIt : ℕ → Type 0

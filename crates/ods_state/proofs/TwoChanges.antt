@@ -12,6 +12,7 @@ use Rattle.ods_state.specs.Moves.{NothingMoves}
 -- where nothing moves twice, nothing moves
 pub nothing_moves_on : (D E F : Disk) → NothingMoves D E → NothingMoves E F → NothingMoves D F
 nothing_moves_on D E F m n = record {
+  layout = n.layout ∙ m.layout;
   chains = λ k others blocks c. n.chains k others blocks (m.chains k others blocks c);
   held = λ k v x. (λ h. (n.held k v x).0 ((m.held k v x).0 h), λ h. (m.held k v x).1 ((n.held k v x).1 h));
   free = λ x. n.free x ∙ m.free x;

@@ -11,7 +11,7 @@ use Rattle.ods_space.specs.Chain.{IsChain}
 use Rattle.ods_space.specs.Files.{IsFile}
 use Rattle.ods_alloc.specs.Extend.{IsBookkeeping, TakesBits, chain_runs, cut}
 use Rattle.ods_state.specs.Links.{SameLinks}
-use Rattle.ods_state.specs.Wants.{HasHeaders, lack_of, taken_blocks, taken_numbers}
+use Rattle.ods_state.specs.Wants.{HasHeaders, index_growth, lack_of, taken_blocks, taken_numbers}
 
 -- file n had these headers and blocks; or it is new and had none
 abbrev pub HadHeaders : List (List ℕ) → VolumeLayout → ℕ → List ℕ → List ℕ → Type 0
@@ -27,6 +27,8 @@ pub record IsTaking (I : List (List ℕ)) (L : VolumeLayout) (n : ℕ) (headers 
   pub before : HadHeaders I L n headers old
   pub all : all_headers n headers numbers ≡ headers ++ taken_numbers I L headers count
   pub enough : lack_of I L headers count ≡ None
+  -- INDEXF.SYS has a block for each number that is taken
+  pub no_growth : index_growth L (taken_numbers I L headers count) ≡ 0
 
 -- c is written for the first header b of a file that is there: it links alike, and keeps its form and its pointers
 pub record IsKeptFirst (b c : List ℕ) (n : ℕ) : Type 0 where

@@ -9,3 +9,4 @@ pub mod Links
 pub mod Change
 pub mod Served
 pub mod Growth
+pub mod IndexGrowth

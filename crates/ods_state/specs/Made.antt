@@ -5,15 +5,15 @@ use Rattle.ods_base.specs.Block.{zeros}
 use Rattle.ods_base.specs.Image.{block_at}
 use Rattle.ods_header.specs.Extension.{IsExtensionOf, IsMadeHeader}
 use Rattle.ods_header.specs.Header.{attributes_of, next_volume_of, room_of}
-use Rattle.ods_header.specs.Pointing.{BeginsPointers, KeepsFields, KeepsForm}
+use Rattle.ods_header.specs.Pointing.{BeginsPointers, IsWithRuns, KeepsFields, KeepsForm}
 use Rattle.ods_space.specs.Files.{HasBlocks}
-use Rattle.ods_space.specs.Layout.{Disk, header_at}
-use Rattle.ods_alloc.specs.Extend.{last_of}
+use Rattle.ods_space.specs.Layout.{Disk, header_at, last_number}
+use Rattle.ods_alloc.specs.Extend.{cut, last_of}
 use Rattle.ods_directory.specs.declared.slot.Slot.{Slot}
 use Rattle.ods_directory.specs.Entry.{entry_at, is_used}
 use Rattle.ods_directory.specs.Mark.{IsSlot, grown, marked, written}
 use Rattle.ods_mount.specs.Faults.{contents_of, mark_at}
-use Rattle.ods_state.specs.Wants.{taken_blocks}
+use Rattle.ods_state.specs.Wants.{HasHeaders, index_end, taken_blocks}
 
 -- header n of a disk
 abbrev pub header_on : Disk → ℕ → List ℕ
@@ -32,6 +32,14 @@ pub record AreMade (D E : Disk) (headers numbers : List ℕ) : Type 0 where
   pub filled : (i m : ℕ) → length headers ≤ i + 1 → i + 1 < length (headers ++ numbers) → slice_get (headers ++ numbers) i ≡ Some m → room_of (header_on E m) / 2 ≡ 0
   -- where no new one follows, the last one names the volume that it named
   pub last_volume : numbers ≡ [] → (first : ℕ) (behind : List ℕ) → headers ≡ first ∷ behind → next_volume_of (header_on E (last_of first behind)) ≡ next_volume_of (header_on D (last_of first behind))
+
+-- INDEXF.SYS got these blocks behind its own, and these are the numbers of new headers. It has the same headers as before.
+pub record IndexGrows (D E : Disk) (blocks numbers : List ℕ) : Type 0 where
+  pub chain : (headers : List ℕ) → HasHeaders D.image D.layout 1 headers D.layout.index → HasHeaders E.image E.layout 1 headers (D.layout.index ++ blocks)
+  -- the runs of the blocks follow its pointers, in its last header, of which every other byte stays but M.USE and the sum
+  pub last : IsWithRuns (header_on D (index_end D.image D.layout)) (cut blocks) (header_on E (index_end D.image D.layout))
+  -- a block in which no header is made is zeros
+  pub zeroed : (n : ℕ) → last_number D.layout < n → n ≤ last_number E.layout → ¬ Contains numbers n → header_on E n ≡ zeros
 
 -- the blocks that were taken are zeros
 abbrev pub AreZeroed : Disk → Disk → ℕ → Type 0

@@ -7,9 +7,9 @@ use Rattle.ods_base.specs.declared.file_id.FileId.{FileId}
 use Rattle.ods_header.specs.Attributes.{IsWithAttributes}
 use Rattle.ods_directory.specs.Entry.{entry_bytes}
 use Rattle.ods_header.specs.Header.{sequence_of, attributes_of}
-use Rattle.ods_space.specs.Layout.{Disk}
+use Rattle.ods_space.specs.Layout.{Disk, last_number, with_places}
 use Rattle.ods_space.specs.Files.{Holds}
-use Rattle.ods_space.specs.Free.{is_free_block, is_free_number, is_covered}
+use Rattle.ods_space.specs.Free.{is_free_block, is_free_number, is_open_number, is_covered}
 use Rattle.ods_directory.specs.Mark.{marked}
 use Rattle.ods_request.specs.declared.requests.Request.{Request}
 use Rattle.ods_request.specs.declared.requests.Request.TheVariants.{Create, Extend, Delete, Enter, LookUp, Remove, Read, Write, List as Lines, Stat, SetUser}
@@ -18,40 +18,51 @@ use Rattle.ods_request.specs.declared.answers.Answer.TheVariants.{Created, Enter
 use Rattle.ods_space.specs.Chain.{IsChain}
 use Rattle.ods_header.specs.Writing.{deleted}
 use Rattle.ods_alloc.specs.Extend.{GivesBits, IsHeaderPlace, IsIndexBitmap, IsStorageBitmap, TakesBits, chain_runs, cut, is_one_of}
-use Rattle.ods_state.specs.Wants.{HasHeaders, Wants, taken_blocks, taken_numbers}
-use Rattle.ods_state.specs.Made.{AreMade, AreZeroed, IsEnteredAt, IsErased, header_on}
+use Rattle.ods_state.specs.Wants.{HasHeaders, Wants, index_blocks, index_end, taken_blocks, taken_numbers}
+use Rattle.ods_state.specs.Made.{AreMade, AreZeroed, IndexGrows, IsEnteredAt, IsErased, header_on}
 
 -- file n of a disk holds this LBN as this block
 abbrev pub holds_on : Disk → ℕ → ℕ → ℕ → Type 0
 holds_on D n vbn lbn = Holds D.image D.layout n vbn lbn
 
--- nothing moves: each chain stays, and so does what is held and what is free
+-- nothing moves: the layout and each chain stay, and so does what is held and what is free
 pub record NothingMoves (D E : Disk) : Type 0 where
+  pub layout : E.layout ≡ D.layout
   pub chains : (n : ℕ) (others blocks : List ℕ) → IsChain D.image D.layout n others blocks → IsChain E.image E.layout n others blocks
   pub held : (n vbn lbn : ℕ) → holds_on D n vbn lbn ↔ holds_on E n vbn lbn
   pub free : (lbn : ℕ) → is_free_block E.image E.layout lbn ≡ is_free_block D.image D.layout lbn
   pub numbers : (n : ℕ) → is_free_number E.image E.layout n ≡ is_free_number D.image D.layout n
 
--- Blocks and numbers were taken for a file that had these headers and blocks: its number is the first of all its headers.
+-- file n holds LBN x as this block: one of these, which file m holds behind so many of its own
+abbrev pub IsNextBlock : ℕ → ℕ → List ℕ → ℕ → ℕ → ℕ → Type 0
+IsNextBlock m count blocks n vbn lbn = (k : ℕ) × (n ≡ m) × (vbn ≡ count + k + 1) × (slice_get blocks k ≡ Some lbn)
+
+-- Blocks and numbers were taken for a file that had these headers and blocks: its number is the first of all its headers. INDEXF.SYS got as many blocks as these numbers need.
 pub record AreTaken (D E : Disk) (headers blocks : List ℕ) (count : ℕ) : Type 0 where
   pub number : ℕ
+  pub layout : E.layout ≡ with_places D.layout (index_blocks D.image D.layout headers count)
   pub chain : HasHeaders E.image E.layout number (headers ++ taken_numbers D.image D.layout headers count) (blocks ++ taken_blocks D.image D.layout count)
   pub pointers : chain_runs E.image E.layout (headers ++ taken_numbers D.image D.layout headers count) ≡ chain_runs D.image D.layout headers ++ cut (taken_blocks D.image D.layout count)
+  -- the file holds the blocks that it took behind its own, and so does INDEXF.SYS
   pub held : (n vbn lbn : ℕ) → holds_on E n vbn lbn
-      ↔ (holds_on D n vbn lbn ⊎ ((k : ℕ) × (n ≡ number) × (vbn ≡ length blocks + k + 1) × (slice_get (taken_blocks D.image D.layout count) k ≡ Some lbn)))
+      ↔ (holds_on D n vbn lbn ⊎ IsNextBlock number (length blocks) (taken_blocks D.image D.layout count) n vbn lbn
+      ⊎ IsNextBlock 1 (length D.layout.index) (index_blocks D.image D.layout headers count) n vbn lbn)
   pub free : (lbn : ℕ) → is_free_block E.image E.layout lbn
-      ≡ (is_free_block D.image D.layout lbn && not (is_one_of (taken_blocks D.image D.layout count) lbn))
+      ≡ (is_free_block D.image D.layout lbn && not (is_one_of (taken_blocks D.image D.layout count ++ index_blocks D.image D.layout headers count) lbn))
+  -- the numbers are counted up to the last for which INDEXF.SYS has a block now
   pub numbers : (n : ℕ) → is_free_number E.image E.layout n
-      ≡ (is_free_number D.image D.layout n && not (is_one_of (taken_numbers D.image D.layout headers count) n))
+      ≡ (is_open_number D.image D.layout (last_number E.layout) n && not (is_one_of (taken_numbers D.image D.layout headers count) n))
   -- of the two bitmaps just the bits of these change
-  pub bits : TakesBits D.image D.layout (taken_blocks D.image D.layout count) (taken_numbers D.image D.layout headers count) E.image
-  -- each new header has the old sequence number plus one
+  pub bits : TakesBits D.image D.layout (taken_blocks D.image D.layout count ++ index_blocks D.image D.layout headers count) (taken_numbers D.image D.layout headers count) E.image
+  -- each new header has the old sequence number plus one; where there was no block for it, that was 0
   pub sequences : (n : ℕ) → Contains (taken_numbers D.image D.layout headers count) n → sequence_of (header_on E n) ≡ sequence_of (header_on D n) + 1
-  -- and this is how its headers are made
+  -- and this is how its headers are made, and how INDEXF.SYS grows
   pub made : AreMade D E headers (taken_numbers D.image D.layout headers count)
+  pub index : IndexGrows D E (index_blocks D.image D.layout headers count) (taken_numbers D.image D.layout headers count)
 
 -- the blocks and the numbers of a file were given back
 pub record AreGivenBack (D E : Disk) (number : ℕ) : Type 0 where
+  pub layout : E.layout ≡ D.layout
   pub headers : List ℕ
   pub blocks : List ℕ
   pub file : HasHeaders D.image D.layout number headers blocks
@@ -126,12 +137,16 @@ Moves D (SetUser file attributes) a E = NothingMoves D E × IsWithAttributes (he
 abbrev pub IsBlockOf : Disk → ℕ → ℕ → Type 0
 IsBlockOf D n x = (vbn : ℕ) × holds_on D n vbn x
 
+-- where INDEXF.SYS gets these blocks, they and its last header may change
+abbrev pub TouchedByIndex : Disk → List ℕ → ℕ → Type 0
+TouchedByIndex D blocks x = Contains blocks x ⊎ ((blocks ≢ []) × IsHeaderPlace D.layout (index_end D.image D.layout ∷ []) x)
+
 -- the request may change the block at x, where it takes blocks
 abbrev pub TouchedByTaking : Disk → Request → Disk → ℕ → Type 0
 TouchedByTaking D r E x =
     (headers : List ℕ) × (blocks : List ℕ) × (count : ℕ) × Wants D.image D.layout r headers blocks count
     × (IsIndexBitmap D.layout x ⊎ IsStorageBitmap D.layout x ⊎ IsHeaderPlace D.layout (headers ++ taken_numbers D.image D.layout headers count) x
-    ⊎ Contains (taken_blocks D.image D.layout count) x)
+    ⊎ Contains (taken_blocks D.image D.layout count) x ⊎ TouchedByIndex D (index_blocks D.image D.layout headers count) x)
 
 -- the request may change the block at x
 abbrev pub Touches : Disk → Request → Disk → ℕ → Type 0

@@ -1,9 +1,10 @@
 -- What a request wants of a volume, blocks and numbers for headers, and what the volume lacks.
-use Rattle.std.specs.Prelude.{◌≡◌, ℕ, ◌+◌, ◌/◌, true, nat_lt, List, [], ◌∷◌, length, take, Option, Some}
+use Rattle.std.specs.Prelude.{◌≡◌, ℕ, ◌+◌, ◌-◌, ◌/◌, Bool, true, ◌||◌, nat_lt, List, [], ◌∷◌, length, take, drop, Option, Some}
 use Rattle.ods_header.specs.Header.{room_of}
-use Rattle.ods_space.specs.Layout.{VolumeLayout, header_at}
+use Rattle.ods_space.specs.Layout.{VolumeLayout, header_at, last_number}
+use Rattle.ods_space.specs.Chain.{headers_of, numbers_of}
 use Rattle.ods_space.specs.Files.{IsWhole}
-use Rattle.ods_space.specs.Free.{free_blocks, free_numbers}
+use Rattle.ods_space.specs.Free.{free_blocks, open_numbers}
 use Rattle.ods_alloc.specs.Extend.{cut, headers_needed, last_of}
 use Rattle.ods_directory.specs.declared.slot.Slot.{Slot}
 use Rattle.ods_directory.specs.Mark.{IsSlot}
@@ -55,15 +56,34 @@ taken_blocks I L n = take n (free_blocks I L)
 abbrev pub taken_count : List (List ℕ) → VolumeLayout → List ℕ → ℕ → ℕ
 taken_count I L headers n = new_headers headers (room_in I L headers) (length (cut (taken_blocks I L n)))
 
--- the numbers of those headers, lowest first
+-- the numbers of those headers, lowest first: free ones, and then such for which INDEXF.SYS has no block yet
 abbrev pub taken_numbers : List (List ℕ) → VolumeLayout → List ℕ → ℕ → List ℕ
-taken_numbers I L headers n = take (taken_count I L headers n) (free_numbers I L)
+taken_numbers I L headers n = take (taken_count I L headers n) (open_numbers I L)
+
+-- how many blocks INDEXF.SYS gets, so that it has one for each of these numbers, which ascend
+abbrev pub index_growth : VolumeLayout → List ℕ → ℕ
+index_growth L numbers = last_of 0 numbers - last_number L
+
+-- those blocks: the lowest free ones behind the file's own
+abbrev pub index_blocks : List (List ℕ) → VolumeLayout → List ℕ → ℕ → List ℕ
+index_blocks I L headers n = take (index_growth L (taken_numbers I L headers n)) (drop n (free_blocks I L))
+
+-- the last header of INDEXF.SYS, which gets the pointers to them
+abbrev pub index_end : List (List ℕ) → VolumeLayout → ℕ
+index_end I L = last_of 0 (numbers_of (headers_of I L 1))
+
+-- There are too few numbers for the new headers; or INDEXF.SYS cannot get a block for each: too few are free behind the file's own, or its last header has no room for their pointers.
+abbrev pub lacks_headers : List (List ℕ) → VolumeLayout → List ℕ → ℕ → Bool
+lacks_headers I L headers n =
+    nat_lt (length (open_numbers I L)) (taken_count I L headers n)
+    || (nat_lt (length (free_blocks I L)) (n + index_growth L (taken_numbers I L headers n))
+    || nat_lt (room_of (header_at I L (index_end I L)) / 2) (length (cut (index_blocks I L headers n))))
 
 -- what the volume lacks, for a file with these headers that is to get n blocks
 unfoldable pub lack_of : List (List ℕ) → VolumeLayout → List ℕ → ℕ → Option Refusal
 lack_of I L headers n = first_of (
     (nat_lt (length (free_blocks I L)) n, refusal.VolumeFull)
-    ∷ (nat_lt (length (free_numbers I L)) (taken_count I L headers n), refusal.HeadersFull)
+    ∷ (lacks_headers I L headers n, refusal.HeadersFull)
     ∷ (nat_lt 256 (length headers + taken_count I L headers n), refusal.ChainFull) ∷ [])
 
 -- the volume lacks what the request takes, and this is the refusal

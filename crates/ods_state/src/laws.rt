@@ -3,6 +3,7 @@ ghost use Rattle.std.specs.Prelude.{ℕ, List};
 ghost use Rattle.ods_base.specs.declared.file_id.Uic.{Uic};
 ghost use Rattle.ods_request.specs.{declared.refusals.Refusal.Refusal, declared.requests.Request.Request};
 ghost use Rattle.ods_space.specs.Layout.{VolumeLayout};
+ghost use Rattle.ods_state.specs.IndexGrowth.{GrownIndexIsSound, StepBehindGrowth, WantsStay};
 ghost use Rattle.ods_state.specs.Laws.{HasCatalogue, CatalogueIsOne, MountedIsLawful, StepStaysLawful, UntouchedFilesStay, LinkedHeaderKeepsBlocks, CarriedOutIsStep, RefusalIsOne};
 
 /// A sound image has a catalogue.
@@ -38,6 +39,21 @@ pub fn linked_header_keeps_blocks()
 /// A request that makes no file, and that is carried out with all that it takes there, is a step.
 pub fn carried_out_is_step()
     ensures { CarriedOutIsStep }
+{}
+
+/// INDEXF.SYS may grow by free blocks: the image is sound then, shows the same catalogue, and spends no ID.
+pub fn grown_index_is_sound()
+    ensures { GrownIndexIsSound }
+{}
+
+/// Where it grew for a request, the request wants the same, and nothing is lacking.
+pub fn wants_stay()
+    ensures { WantsStay }
+{}
+
+/// And a step of the grown volume is a step of the volume.
+pub fn step_behind_growth()
+    ensures { StepBehindGrowth }
 {}
 
 /// The refusals by a first fault and by want of memory are cases of the one relation of refusal.

@@ -5,6 +5,7 @@
 mod laws;
 
 pub use laws::{
-    carried_out_is_step, catalogue_is_one, has_catalogue, linked_header_keeps_blocks,
-    mounted_is_lawful, refusal_is_one, step_stays_lawful, untouched_files_stay,
+    carried_out_is_step, catalogue_is_one, grown_index_is_sound, has_catalogue,
+    linked_header_keeps_blocks, mounted_is_lawful, refusal_is_one, step_behind_growth,
+    step_stays_lawful, untouched_files_stay, wants_stay,
 };

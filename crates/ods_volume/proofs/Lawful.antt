@@ -1,9 +1,8 @@
 -- A step is accepted, and its volume stays lawful.
-use Rattle.std.proofs.Common.{◌≡◌, ◌∙◌, ℕ, ◌-◌, ◌<◌, ap, append-nil, refl, subst, sym, true, List, [], ◌∷◌, ◌++◌, length, Option, Some, None, is_some}
-use Rattle.std.specs.Prelude.{IsSome, take}
-use Rattle.std.proofs.Math.Seq.{take-nil}
+use Rattle.std.proofs.Common.{◌≡◌, ℕ, ◌<◌, refl, true, List, [], ◌∷◌, ◌++◌, length, Option, Some, None, is_some}
+use Rattle.std.specs.Prelude.{IsSome}
 use Rattle.ods_base.specs.declared.file_id.Uic.{Uic}
-use Rattle.ods_space.specs.Layout.{VolumeLayout, most_index_blocks, with_places}
+use Rattle.ods_space.specs.Layout.{VolumeLayout, with_places}
 use Rattle.ods_space.specs.Draft.{Changes, applied}
 use Rattle.ods_alloc.specs.Counts.{AreCountsAfter, Counts}
 use Rattle.ods_request.specs.declared.requests.Request.{Request}
@@ -50,25 +49,16 @@ module _ (v : State) (lawful : IsLawful v) (e : Entry) (J : List (List ℕ)) (M 
     limit = refl;
   }
 
--- a layout that gets no place stays
-pub no_places : (L : VolumeLayout) → with_places L [] ≡ L
-no_places L =
-    let none : L.index ++ take (most_index_blocks L.home - length L.index) [] ≡ L.index = ap (λ xs. L.index ++ xs) (take-nil (most_index_blocks L.home - length L.index)) ∙ append-nil L.index in
-    λ i. record { home = L.home; index = none i; bitmap = L.bitmap }
-
--- the plan of a step by which the layout stays
-pub plan_is_lawful : (v : State) → IsLawful v → (session nth : ℕ) (who : Uic) (r : Request) (a : Answer) (d : Changes) (counts : Option Counts) → length v.entries < v.limit
-    → IsStepOf v.image v.layout who r a (applied v.image d) v.layout → AreCountsAfter v.image (applied v.image d) v.layout counts
-    → IsLawfulPlan v (record { entry = entry_of session nth who r a; changes = d; places = []; counts = counts })
+-- the plan of a step
+pub plan_is_lawful : (v : State) → IsLawful v → (session nth : ℕ) (who : Uic) (r : Request) (a : Answer) (d : Changes) (places : List ℕ) (counts : Option Counts) → length v.entries < v.limit
+    → IsStepOf v.image v.layout who r a (applied v.image d) (with_places v.layout places) → AreCountsAfter v.image (applied v.image d) v.layout counts
+    → IsLawfulPlan v (record { entry = entry_of session nth who r a; changes = d; places = places; counts = counts })
 unfolding carried_out
-plan_is_lawful v lawful session nth who r a d counts room made counted =
+plan_is_lawful v lawful session nth who r a d places counts room made counted =
     let e = entry_of session nth who r a in
-    let J = applied v.image d in
-    let M = with_places v.layout [] in
-    let grown : IsStepOf v.image v.layout who r a J M = subst (IsStepOf v.image v.layout who r a J) (sym (no_places v.layout)) made in
     record {
       room = room;
-      accepts = next_is_accepted v lawful e J M room grown;
-      lawful = next_is_lawful v lawful e J M room grown;
+      accepts = next_is_accepted v lawful e (applied v.image d) (with_places v.layout places) room made;
+      lawful = next_is_lawful v lawful e (applied v.image d) (with_places v.layout places) room made;
       counted = counted;
     }

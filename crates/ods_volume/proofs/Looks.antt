@@ -22,6 +22,7 @@ use Rattle.ods_state.proofs.Served.{carried_is_step, lacks_nothing}
 
 nothing_moves : (D : Disk) → NothingMoves D D
 nothing_moves D = record {
+  layout = refl;
   chains = λ n others blocks h. h;
   held = λ n vbn lbn. (λ h. h, λ h. h);
   free = λ lbn. refl;

@@ -3,7 +3,7 @@ use Rattle.std.proofs.Common.{◌≡◌, ◌≢◌, ℕ, refl, ap, sym, ◌∙�
 use Rattle.std.specs.Prelude.{◌+◌, IsSome, MatchOption, length, nat_lt, not, is_none}
 use Rattle.std.specs.FinMap as map
 use Rattle.ods_base.specs.declared.file_id.Uic.{Uic}
-use Rattle.ods_space.specs.Free.{free_blocks, free_numbers}
+use Rattle.ods_space.specs.Free.{free_blocks}
 use Rattle.ods_space.specs.Layout.{VolumeLayout}
 use Rattle.ods_request.specs.declared.requests.Request.{Request}
 use Rattle.ods_request.specs.declared.requests.Request.TheVariants.{Create, Extend, Delete, Enter, LookUp, Remove, Read, Write, List as Lines, Stat, SetUser}
@@ -22,7 +22,7 @@ use Rattle.ods_request.specs.Table.{creates, takes_memory}
 use Rattle.ods_request.proofs.FaultTable.{fault_look_up, fault_read, fault_stat}
 use Rattle.ods_request.proofs.StepLaws.{determined, refused}
 use Rattle.ods_state.specs.Version.{State, IsLawful, IsPresent}
-use Rattle.ods_state.specs.Wants.{Lacks, lack_of, taken_count}
+use Rattle.ods_state.specs.Wants.{Lacks, lack_of, lacks_headers, taken_count}
 use Rattle.ods_state.specs.Served.{IsStepOf, IsRefusalOf, IsShortOf}
 use Rattle.ods_state.specs.Outcome.{IsReason, fault_is, lacks, no_memory}
 use Rattle.ods_state.proofs.One.{present_is_shown}
@@ -72,7 +72,7 @@ one_is_other a b c = first_is_other ((a, refusal.VolumeFull) ∷ (b, refusal.Hea
 lack_is_other : (I : List (List ℕ)) (L : VolumeLayout) (r : Request) → ¬ Lacks I L r refusal.NoMemory
 unfolding lack_of
 lack_is_other I L r short = one_is_other (nat_lt (length (free_blocks I L)) short.count)
-    (nat_lt (length (free_numbers I L)) (taken_count I L short.headers short.count)) (nat_lt 256 (length short.headers + taken_count I L short.headers short.count))
+    (lacks_headers I L short.headers short.count) (nat_lt 256 (length short.headers + taken_count I L short.headers short.count))
     short.lacking
 
 -- only a request that takes memory is answered by a directory's lines

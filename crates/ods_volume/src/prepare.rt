@@ -2,7 +2,7 @@
 //! request or draft its change.
 ghost use Rattle.std.specs.Prelude.{◌≡◌, ◌≢◌, ◌<◌, false, true, length, MatchResult, IfOk, IfErr, OnErr, IsErr, Some};
 ghost use Rattle.ods_alloc.specs.Counts.{AreCountsAfter, counts_of};
-ghost use Rattle.ods_space.specs.Draft.{applied};
+ghost use Rattle.ods_space.specs.{Draft.applied, Layout.VolumeLayout, Layout.with_places};
 ghost use Rattle.ods_mount.specs.Sound.{IsSoundBy};
 ghost use Rattle.ods_request.specs.{declared.refusals.Refusal.Refusal, declared.requests.Request.TheVariants.List as Lines, Catalogue.Catalogue, Faults.fault_of, Queries.request_of, Table.only_looks, Table.takes_memory};
 ghost use Rattle.ods_state.specs.{Version.IsPresent, Wants.Lacks, Served.IsStepOf, Served.IsRefusalOf, Outcome.CanBeAsked, Outcome.IsReason, Outcome.IsLawfulPlan, Outcome.entry_of};
@@ -12,7 +12,7 @@ use crate::planned::{Prepared, kept, lines_of};
 use crate::volume::Volume;
 use ods_alloc::FreeCounts;
 use ods_base::{FileId, Image, Uic};
-use ods_change::{create, delete, enter, extend, remove, set_user, write};
+use ods_change::{Drafted, create, delete, enter, extend, remove, set_user, write};
 use ods_look::{list, look_into};
 use ods_request::{Answer, Entry, Query, Refusal, Request};
 use ods_space::{Draft, Layout};
@@ -26,13 +26,13 @@ fn look_only(
     who: Uic,
     query: Query,
     answer: &mut Answer,
-) -> Result<Draft, Refusal>
+) -> Result<Drafted, Refusal>
     requires { IsSoundBy image.now layout.now }
-    ensures { MatchResult result (λ d. IsStepOf image.now layout.now who (request_of query) answer.new (applied image.now d) layout.now)
+    ensures { MatchResult result (λ d. IsStepOf image.now layout.now who (request_of query) answer.new (applied image.now d.draft) (with_places layout.now d.places.items))
         (IsRefusalOf image.now layout.now who (request_of query)) }
 {
     match look_into(image, layout, who, query, answer) {
-        Ok(()) => Ok(Draft::new(alloc)),
+        Ok(()) => Ok(Drafted::still(alloc, Draft::new(alloc))),
         Err(refusal) => Err(refusal),
     }
 }
@@ -45,15 +45,15 @@ fn list_only(
     who: Uic,
     dir: FileId,
     answer: &mut Answer,
-) -> Result<Draft, Refusal>
+) -> Result<Drafted, Refusal>
     requires { IsSoundBy image.now layout.now }
-    ensures { MatchResult result (λ d. IsStepOf image.now layout.now who (Lines dir) answer.new (applied image.now d) layout.now)
+    ensures { MatchResult result (λ d. IsStepOf image.now layout.now who (Lines dir) answer.new (applied image.now d.draft) (with_places layout.now d.places.items))
         (IsRefusalOf image.now layout.now who (Lines dir)) }
 {
     match list(alloc, image, layout, who, dir) {
         Ok(lines) => {
             *answer = Answer::Names(lines);
-            Ok(Draft::new(alloc))
+            Ok(Drafted::still(alloc, Draft::new(alloc)))
         }
         Err(refusal) => Err(refusal),
     }
@@ -82,7 +82,7 @@ fn put_answer(answer: &mut Answer, made: Made)
     }
 }
 
-/// What a request is answered that does not only look, and the blocks that it changes.
+/// What a request is answered that does not only look, and what it makes of the volume.
 fn change(
     alloc: Global,
     image: &Image,
@@ -90,12 +90,12 @@ fn change(
     counts: &FreeCounts,
     who: Uic,
     request: &Request,
-) -> Result<(Made, Draft), Refusal>
+) -> Result<(Made, Drafted), Refusal>
     requires asked { CanBeAsked request.now }
     requires changes { only_looks request.now ≡ false }
     requires sound { IsSoundBy image.now layout.now }
     requires counts { counts.now ≡ counts_of image.now layout.now }
-    ensures { MatchResult result (λ p. IsStepOf image.now layout.now who request.now (answer_of p.0) (applied image.now p.1) layout.now)
+    ensures { MatchResult result (λ p. IsStepOf image.now layout.now who request.now (answer_of p.0) (applied image.now p.1.draft) (with_places layout.now p.1.places.items))
         (IsRefusalOf image.now layout.now who request.now) }
 {
     match request {
@@ -107,17 +107,17 @@ fn change(
         } => match create(
             alloc, image, layout, counts, who, *name, *version, *blocks, *stamp,
         ) {
-            Ok((draft, file)) => Ok((Made::Created(file), draft)),
+            Ok((drafted, file)) => Ok((Made::Created(file), drafted)),
             Err(refusal) => Err(refusal),
         },
         Request::Extend { file, blocks } => {
             match extend(alloc, image, layout, counts, who, *file, *blocks) {
-                Ok((draft, count)) => Ok((Made::Extended(count), draft)),
+                Ok((drafted, count)) => Ok((Made::Extended(count), drafted)),
                 Err(refusal) => Err(refusal),
             }
         }
         Request::Delete { file } => match delete(alloc, image, layout, who, *file) {
-            Ok(draft) => Ok((Made::Done, draft)),
+            Ok(draft) => Ok((Made::Done, Drafted::still(alloc, draft))),
             Err(refusal) => Err(refusal),
         },
         Request::Enter {
@@ -128,24 +128,27 @@ fn change(
         } => match enter(
             alloc, image, layout, counts, who, *dir, *name, *version, *file,
         ) {
-            Ok((draft, version)) => Ok((Made::Entered(version), draft)),
+            Ok((drafted, version)) => Ok((Made::Entered(version), drafted)),
             Err(refusal) => Err(refusal),
         },
         Request::Write { file, vbn, block } => {
             match write(alloc, image, layout, who, *file, *vbn, block) {
-                Ok(draft) => Ok((Made::Done, draft)),
+                Ok(draft) => Ok((Made::Done, Drafted::still(alloc, draft))),
                 Err(refusal) => Err(refusal),
             }
         }
         Request::SetUser { file, attributes } => {
             match set_user(alloc, image, layout, who, *file, *attributes) {
-                Ok(draft) => Ok((Made::Done, draft)),
+                Ok(draft) => Ok((Made::Done, Drafted::still(alloc, draft))),
                 Err(refusal) => Err(refusal),
             }
         }
         Request::Remove { dir, name, pick } => {
             match remove(alloc, image, layout, who, *dir, *name, *pick) {
-                Ok((draft, file, version)) => Ok((Made::Removed(file, version), draft)),
+                Ok((draft, file, version)) => {
+                    let drafted = Drafted::still(alloc, draft);
+                    Ok((Made::Removed(file, version), drafted))
+                }
                 Err(refusal) => Err(refusal),
             }
         }
@@ -154,7 +157,7 @@ fn change(
     }
 }
 
-/// Writes what a request is answered into this place, and gives the blocks that it changes.
+/// Writes what a request is answered into this place, and gives what it makes of the volume.
 fn carry_out(
     alloc: Global,
     image: &Image,
@@ -163,11 +166,11 @@ fn carry_out(
     who: Uic,
     request: &Request,
     answer: &mut Answer,
-) -> Result<Draft, Refusal>
+) -> Result<Drafted, Refusal>
     requires asked { CanBeAsked request.now }
     requires sound { IsSoundBy image.now layout.now }
     requires counts { counts.now ≡ counts_of image.now layout.now }
-    ensures { MatchResult result (λ d. IsStepOf image.now layout.now who request.now answer.new (applied image.now d) layout.now)
+    ensures { MatchResult result (λ d. IsStepOf image.now layout.now who request.now answer.new (applied image.now d.draft) (with_places layout.now d.places.items))
         (IsRefusalOf image.now layout.now who request.now) }
 {
     if let Some(query) = request.as_query() {
@@ -177,9 +180,9 @@ fn carry_out(
         return list_only(alloc, image, layout, who, *dir, answer);
     }
     match change(alloc, image, layout, counts, who, request) {
-        Ok((made, draft)) => {
+        Ok((made, drafted)) => {
             put_answer(answer, made);
-            Ok(draft)
+            Ok(drafted)
         }
         Err(refusal) => Err(refusal),
     }
@@ -195,7 +198,7 @@ fn counts_after(
 ) -> Result<Option<FreeCounts>, AllocError>
     requires sound { IsSoundBy image.now layout.now }
     requires counts { counts.now ≡ counts_of image.now layout.now }
-    requires made { (who : Uic) × (a : Answer) × IsStepOf image.now layout.now who request.now a (applied image.now draft.now) layout.now }
+    requires made { (who : Uic) × (a : Answer) × (M : VolumeLayout) × IsStepOf image.now layout.now who request.now a (applied image.now draft.now) M }
     ensures ok { IfOk result (AreCountsAfter image.now (applied image.now draft.now) layout.now) }
     ensures err { OnErr result (takes_memory request.now ≡ true) }
 {
@@ -233,7 +236,7 @@ impl Volume {
         }
         let alloc = *self.entries.allocator();
         let mut answer = Answer::Done;
-        let draft = match carry_out(
+        let drafted = match carry_out(
             alloc,
             &self.image,
             &self.layout,
@@ -242,11 +245,16 @@ impl Volume {
             &request,
             &mut answer,
         ) {
-            Ok(draft) => draft,
+            Ok(drafted) => drafted,
             Err(refusal) => return Err(refusal),
         };
-        let Ok(counts) = counts_after(&self.counts, &self.image, &self.layout, &request, &draft)
-        else {
+        let Ok(counts) = counts_after(
+            &self.counts,
+            &self.image,
+            &self.layout,
+            &request,
+            &drafted.draft,
+        ) else {
             return Err(Refusal::NoMemory);
         };
         let Ok(lines) = lines_of(&answer) else {
@@ -264,8 +272,8 @@ impl Volume {
                 answer,
             },
             lines,
-            draft,
-            places: Vec::new(alloc),
+            draft: drafted.draft,
+            places: drafted.places,
             counts,
         })
     }

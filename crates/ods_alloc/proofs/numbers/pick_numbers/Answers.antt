@@ -1,32 +1,18 @@
-use Rattle.std.proofs.Common.{refl, ap, sym, ◌∙◌, subst, arith}
-use Rattle.ods_space.specs.Layout.{last_number}
-use Rattle.ods_space.specs.Free.{is_free_number, free_numbers}
-use Rattle.ods_alloc.proofs.Scans.{none_found, one_more_found, all_found, found_first}
-use Rattle.ods_alloc.proofs.FreeTests.{free_number}
-use Rattle.ods_alloc.specs.Counts.{ShowsNone, clear_in}
-use Rattle.ods_alloc.proofs.Counted.{clear_none}
+use Rattle.std.proofs.Common.{ℕ, List, ◌≡◌, ◌≤◌, subst, length, take, IfOk, IfErr}
+use Rattle.std.specs.List.{filter, range_with_len}
+use Rattle.ods_space.specs.Free.{free_numbers, is_open_number}
+use Rattle.ods_alloc.specs.Faults.{IsShort}
+use Rattle.ods_alloc.specs.declared.fault.SpaceFault.TheVariants.{HeadersFull}
 use Rattle.ods_alloc.proofs.numbers.pick_numbers.Goals as goal
-
-pub loop-k-init : goal.loop-k-init
-loop-k-init c = none_found (is_free_number c.args.image.now c.args.layout.now) 1 (last_number c.args.layout.now) _ c.new-numbers.ensures.items
-
-pub loop-k-preserved : goal.loop-k-preserved
-loop-k-preserved c =
-    let next = c.in-Some.ensures.some in
-    let inside = (free_number c.args.image.now c.args.layout.now c.in-Some.number next.passes).high in
-    one_more_found (is_free_number c.args.image.now c.args.layout.now) 1 (last_number c.args.layout.now) c.loop-k.numbers.items _ c.loop-k.from c.loop-k._k c.in-Some.number (omega (arith, inside)) c.loop-k.invariant next c.in_ok-push.ensures.items
-
-pub returns-in_default-clause-err : goal.returns-in_default-clause-err
-unfolding free_numbers
-returns-in_default-clause-err c =
-    let all = all_found (is_free_number c.args.image.now c.args.layout.now) 1 (last_number c.args.layout.now) c.loop-k.numbers.items c.loop-k.from c.loop-k._k c.loop-k.invariant c.in_default.ensures.none in
-    (refl, omega (arith, all, c.loop-k-test.true))
 
 pub returns-clause-ok : goal.returns-clause-ok
 unfolding free_numbers
 returns-clause-ok c =
-    found_first (is_free_number c.args.image.now c.args.layout.now) 1 (last_number c.args.layout.now) c.loop-k.numbers.items c.loop-k.from c.loop-k._k c.args.count c.loop-k.invariant (omega (arith, c.loop-k.auto._k-end, c.loop-k-test.false))
+    let found : ℕ → List ℕ = λ m. filter (is_open_number c.args.image.now c.args.layout.now m) (range_with_len 1 m) in
+    subst (λ m. IfOk c.pick_up_to.result (λ numbers. (numbers.items ≡ take c.args.count (found m)) × (c.args.count ≤ length (found m)))) c.last_number.ensures c.pick_up_to.ensures.ok
 
-pub next_free_number-requires-clause-counts : goal.next_free_number-requires-clause-counts
-next_free_number-requires-clause-counts c =
-    subst (λ l. ShowsNone l (clear_in c.args.image.now c.args.layout.now.home)) (sym (c.numbers.ensures ∙ ap (λ v. v.numbers) c.requires.counts)) (clear_none c.args.image.now c.args.layout.now.home)
+pub returns-clause-err : goal.returns-clause-err
+unfolding free_numbers
+returns-clause-err c =
+    let found : ℕ → List ℕ = λ m. filter (is_open_number c.args.image.now c.args.layout.now m) (range_with_len 1 m) in
+    subst (λ m. IfErr c.pick_up_to.result (IsShort HeadersFull (length (found m)) c.args.count)) c.last_number.ensures c.pick_up_to.ensures.err

@@ -2,7 +2,7 @@ use Rattle.std.proofs.Common.{ℕ, refl, ap, sym, ◌∙◌, subst, List, [], le
 use Rattle.std.specs.Prelude.{is_some}
 use Rattle.ods_space.specs.Draft.{applied}
 use Rattle.ods_space.specs.Layout.{VolumeLayout}
-use Rattle.ods_space.proofs.Drafts.{applied_none, applied_over}
+use Rattle.ods_space.proofs.Drafts.{applied_over}
 use Rattle.ods_alloc.specs.Ends.{AreEnds}
 use Rattle.ods_alloc.specs.Extend.{CanExtend, Extends}
 use Rattle.ods_state.proofs.Bookkeeping.{well_placed}
@@ -11,17 +11,17 @@ use Rattle.ods_state.proofs.GrowthChain.{ready_chain}
 use Rattle.ods_state.proofs.GrowthTakes.{can_extend}
 use Rattle.ods_state.specs.Growth.{IsReady}
 use Rattle.ods_state.specs.Wants.{taken_blocks}
-use Rattle.ods_change.specs.Taking.{IsZeroed}
+use Rattle.ods_alloc.specs.Zeroed.{IsZeroed}
 use Rattle.ods_change.proofs.FirstWritten.{IsWritten, first_place, header_written, is_ready, taken_inside, taken_written}
 use Rattle.ods_change.proofs.create_file.new_file.Goals as goal
 use Rattle.ods_change.proofs.create_file.new_file.Goals.{In_ok-set}
 
 pub unwrap-first-requires : goal.unwrap-first-requires
-unwrap-first-requires c = ap is_some c.place.ensures ∙ first_place c.args.image.now c.args.layout.now c.args.number (length c.args.blocks.now) c.args.others.now c.requires.taking
+unwrap-first-requires c = ap is_some c.place.ensures ∙ first_place (applied c.args.image.now c.args.draft) c.args.layout.now c.args.number (length c.args.blocks.now) c.args.others.now c.requires.taking
 
 module _ (c : In_ok-set) where
   abbrev I : List (List ℕ)
-  I = c.args.image.now
+  I = applied c.args.image.now c.args.draft
 
   abbrev L : VolumeLayout
   L = c.args.layout.now
@@ -30,15 +30,13 @@ module _ (c : In_ok-set) where
   count = length c.args.blocks.now
 
   abbrev K : List (List ℕ)
-  K = applied I c.set.new.self
+  K = applied c.args.image.now c.set.new.self
 
   abbrev Z : List (List ℕ)
-  Z = applied I c.zero_blocks.new.draft
+  Z = applied c.args.image.now c.zero_blocks.new.draft
 
   zeroed : IsZeroed I (taken_blocks I L count) Z
-  zeroed =
-      subst (λ bs. IsZeroed I bs Z) c.requires.lowest
-      (subst (λ J. IsZeroed J c.args.blocks.now Z) (ap (applied I) c.new-draft.ensures ∙ sym (applied_none I)) (c.in_ok-zero_blocks.ensures I))
+  zeroed = subst (λ bs. IsZeroed I bs Z) c.requires.lowest (c.in_ok-zero_blocks.ensures c.args.image.now)
 
   written : IsWritten I Z K L c.args.number c.unwrap-first.result count c.args.header
   written = record {
@@ -46,7 +44,7 @@ module _ (c : In_ok-set) where
     place = sym c.place.ensures ∙ c.unwrap-first.ensures;
     long = zeroed.long;
     elsewhere = zeroed.elsewhere;
-    is = ap (applied I) c.in_ok-set.ensures.ok ∙ applied_over I c.zero_blocks.new.draft c.unwrap-first.result c.args.header;
+    is = ap (applied c.args.image.now) c.in_ok-set.ensures.ok ∙ applied_over c.args.image.now c.zero_blocks.new.draft c.unwrap-first.result c.args.header;
   }
 
   ready : IsReady I K L c.args.number [] count
@@ -54,9 +52,9 @@ module _ (c : In_ok-set) where
 
 pub extend_from-requires : goal.extend_from-requires
 extend_from-requires c =
-    let I : List (List ℕ) = c.args.image.now in
+    let I : List (List ℕ) = applied c.args.image.now c.args.draft in
     let L : VolumeLayout = c.args.layout.now in
-    let K : List (List ℕ) = applied I c.set.new.self in
+    let K : List (List ℕ) = applied c.args.image.now c.set.new.self in
     let n : ℕ = c.args.number in
     let count : ℕ = length c.args.blocks.now in
     let at = ready (goal.at.extend_from-requires c).In_ok-set in
@@ -66,7 +64,7 @@ extend_from-requires c =
       (
         well_placed I L c.requires.sound,
         (
-          ready_chain I K L c.requires.sound n [] [] count c.args.others.now c.requires.taking at c.len.ensures.image,
+          ready_chain I K L c.requires.sound n [] [] count c.args.others.now c.requires.taking at c.requires.image,
           (subst (λ bs. CanExtend K L n [] bs c.args.others.now) (sym c.requires.lowest) (can_extend I K L c.requires.sound n [] [] count c.args.others.now c.requires.taking at), ends),
         ),
       ),
@@ -74,9 +72,9 @@ extend_from-requires c =
 
 pub returns : goal.returns
 returns c =
-    let I : List (List ℕ) = c.args.image.now in
+    let I : List (List ℕ) = applied c.args.image.now c.args.draft in
     let L : VolumeLayout = c.args.layout.now in
-    let K : List (List ℕ) = applied I c.set.new.self in
+    let K : List (List ℕ) = applied c.args.image.now c.set.new.self in
     let n : ℕ = c.args.number in
     let at = (goal.at.returns c).In_ok-set in
     record {
@@ -84,5 +82,5 @@ returns c =
       is_ready = ready at;
       first = header_written (written at);
       zeroed = λ y own. taken_written (written at) y own ∙ (zeroed at).zero y own (taken_inside I L (length c.args.blocks.now) y own);
-      extended = subst (λ bs. Extends K L n [] [] bs c.args.others.now (applied I c.in_ok-grown.grown)) c.requires.lowest c.in_ok-grown.ensures;
+      extended = subst (λ bs. Extends K L n [] [] bs c.args.others.now (applied c.args.image.now c.in_ok-grown.grown)) c.requires.lowest c.in_ok-grown.ensures;
     }

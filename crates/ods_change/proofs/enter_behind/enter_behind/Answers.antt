@@ -1,9 +1,25 @@
-use Rattle.std.proofs.Common.{refl, sym, ◌∙◌, ◌∷◌}
+use Rattle.std.proofs.Common.{◌≡◌, ℕ, List, refl, sym, ◌∙◌, ◌∷◌, None, Option, subst}
+use Rattle.std.specs.Prelude.{unwrap_or}
+use Rattle.ods_base.specs.Name.{RadName}
+use Rattle.ods_base.specs.declared.file_id.FileId.{FileId}
+use Rattle.ods_base.specs.declared.file_id.Uic.{Uic}
 use Rattle.ods_request.specs.declared.requests.Request.TheVariants.{Enter}
+use Rattle.ods_request.specs.declared.answers.Answer.TheVariants.{Entered}
+use Rattle.ods_space.specs.Draft.{applied}
+use Rattle.ods_space.specs.Layout.{VolumeLayout, with_places}
+use Rattle.ods_state.specs.Served.{IsStepOf}
+use Rattle.ods_state.specs.Wants.{index_blocks, lack_of, taken_blocks, taken_numbers}
 use Rattle.ods_state.proofs.Served.{refused_for_memory}
+use Rattle.ods_change.specs.Beginning.{IsBegun}
+use Rattle.ods_change.specs.Entering.{IsEntering, IsEntryFor, IsTakenFor}
+use Rattle.ods_change.specs.Taking.{IsEndOf}
+use Rattle.ods_change.proofs.Begun.{IsAsked, IsKept, can_begin, kept, step_of}
+use Rattle.ods_change.proofs.BegunDirectories.{asked_by, entry_then, high_directory, taken_then}
+use Rattle.ods_change.proofs.BegunFiles.{end_kept}
 use Rattle.ods_change.proofs.GrowingChain.{has_headers}
 use Rattle.ods_change.proofs.GrowingDirectory.{refused}
 use Rattle.ods_change.proofs.enter_behind.enter_behind.Goals as goal
+use Rattle.ods_change.proofs.enter_behind.enter_behind.Goals.{After-layout_then-then}
 
 pub of-end-requires-clause-whole : goal.of-end-requires-clause-whole
 of-end-requires-clause-whole c = let own = c.requires.entry.4.own.is in (c.args.entry.now.dir.number ∷ own.held.others, own.lbns, has_headers own.held)
@@ -14,11 +30,96 @@ returns-in-Err c = λ who name given file e.
     (λ hs has. let end = c.of-end.ensures.end hs e.own.is.lbns has in (end.0, end.2))
     c.in-Err.ensures.err
 
-pub with_block-requires-clause-taken : goal.with_block-requires-clause-taken
-with_block-requires-clause-taken c = λ headers old has.
-    let end = c.of-end.ensures.end headers old has in
-    let got = c.in-Ok.ensures.ok headers (sym end.0) (sym end.2) in
-    (c.deref.ensures.value ∙ got.0, c.deref-2.ensures.value ∙ got.1, got.2)
+pub begin-requires-clause-can : goal.begin-requires-clause-can
+begin-requires-clause-can c =
+    let own = c.requires.entry.4.own.is in
+    let end = c.of-end.ensures.end (c.args.entry.now.dir.number ∷ own.held.others) own.lbns (has_headers own.held) in
+    let got = c.in-Ok.ensures.ok (c.args.entry.now.dir.number ∷ own.held.others) (sym end.0) (sym end.2) in
+    can_begin (c.args.entry.now.dir.number ∷ own.held.others) 1 c.requires.sound got.3 (c.deref.ensures.value ∙ got.2)
 
-pub returns : goal.returns
-returns c = λ who name given file e. refused_for_memory c.args.entry.now.image.now c.args.entry.now.layout.now who (Enter c.args.entry.now.dir name given file) refl (λ C shown. (e.answered C shown).0)
+-- the directory, on the volume with which the request goes on
+module _ (c : After-layout_then-then) where
+  abbrev I : List (List ℕ)
+  I = c.args.entry.now.image.now
+
+  abbrev L : VolumeLayout
+  L = c.args.entry.now.layout.now
+
+  abbrev K : List (List ℕ)
+  K = applied I c.in-Ok-begin.begun.draft
+
+  abbrev M : VolumeLayout
+  M = c.layout_then-then.result.now
+
+  abbrev dir : FileId
+  dir = c.args.entry.now.dir
+
+  abbrev places : List ℕ
+  places = c.in-Ok.taken.places.items
+
+  begun : IsBegun I L places K M
+  begun =
+      subst (IsBegun I L places K) (sym c.layout_then-then.ensures)
+      (subst (λ l. IsBegun I L l K (unwrap_or c.in-Ok-begin.begun.layout L)) c.deref.ensures.value c.in-Ok-begin.ensures)
+
+  module _ {who : Uic} {name : RadName} {given : Option ℕ} {file : FileId} (e : IsEntryFor I L who dir name given file c.args.entry.now) where
+    abbrev headers : List ℕ
+    headers = dir.number ∷ e.own.is.held.others
+
+    got : (c.in-Ok.taken.blocks.items ≡ taken_blocks I L 1) × (c.in-Ok.taken.numbers.items ≡ taken_numbers I L headers 1) × (places ≡ index_blocks I L headers 1) × (lack_of I L headers 1 ≡ None)
+    got = let end = c.of-end.ensures.end headers e.own.is.lbns (has_headers e.own.is.held) in c.in-Ok.ensures.ok headers (sym end.0) (sym end.2)
+
+    asked : IsAsked I L (Enter dir name given file) headers e.own.is.lbns 1 places
+    asked = asked_by e c.requires.sound c.requires.grows c.len.ensures.image got.3 got.2
+
+    k : IsKept I L headers e.own.is.lbns 1 K M
+    k = kept asked begun
+
+    now : IsEntryFor K M who dir name given file c.args.entry.now
+    now = entry_then e k
+
+    entered : (J : List (List ℕ)) → IsEntering K M dir c.args.entry.now J M → IsStepOf I L who (Enter dir name given file) (Entered c.args.entry.now.version) J (with_places L places)
+    entered J step = step_of asked begun J who (Entered c.args.entry.now.version) (step who name given file now)
+
+  some : IsEntryFor I L c.requires.entry.0 dir c.requires.entry.1 c.requires.entry.2 c.requires.entry.3 c.args.entry.now
+  some = c.requires.entry.4
+
+  end_is : IsEndOf K M dir.number c.of-end.result
+  end_is =
+      let has = has_headers some.own.is.held in
+      end_kept c.of-end.result has ((k some).has dir.number (high_directory some) has) (k some).own c.of-end.ensures.last
+
+  taken : IsTakenFor K M dir.number c.in-Ok.taken.blocks.items c.in-Ok.taken.numbers.items
+  taken = taken_then (k some) ((k some).has dir.number (high_directory some) (has_headers some.own.is.held)) (got some).0 (got some).1
+
+pub with_block-requires-clause-sound : goal.with_block-requires-clause-sound
+with_block-requires-clause-sound c = let at = (goal.at.with_block-requires-clause-sound c).After-layout_then-then in (k at (some at)).sound
+
+pub with_block-requires-clause-image : goal.with_block-requires-clause-image
+with_block-requires-clause-image c = let at = (goal.at.with_block-requires-clause-image c).After-layout_then-then in (k at (some at)).image
+
+pub with_block-requires-clause-entry : goal.with_block-requires-clause-entry
+with_block-requires-clause-entry c =
+    let at = (goal.at.with_block-requires-clause-entry c).After-layout_then-then in
+    (c.requires.entry.0, c.requires.entry.1, c.requires.entry.2, c.requires.entry.3, now at (some at))
+
+pub with_block-requires-clause-end : goal.with_block-requires-clause-end
+with_block-requires-clause-end c = end_is (goal.at.with_block-requires-clause-end c).After-layout_then-then
+
+pub with_block-requires-clause-taken : goal.with_block-requires-clause-taken
+with_block-requires-clause-taken c =
+    let at = (goal.at.with_block-requires-clause-taken c).After-layout_then-then in
+    subst (λ ns. IsTakenFor (K at) (M at) (dir at).number c.deref-2.result.now ns) (sym c.deref-3.ensures.value)
+    (subst (λ bs. IsTakenFor (K at) (M at) (dir at).number bs c.in-Ok.taken.numbers.items) (sym c.deref-2.ensures.value) (taken at))
+
+pub returns-in-Ok-with_block : goal.returns-in-Ok-with_block
+returns-in-Ok-with_block c = λ who name given file e.
+    entered (goal.at.returns-in-Ok-with_block c).After-layout_then-then e (applied c.args.entry.now.image.now c.in-Ok-with_block.draft) c.in-Ok-with_block.ensures
+
+pub returns-in-Err-begin : goal.returns-in-Err-begin
+returns-in-Err-begin c = λ who name given file e.
+    refused_for_memory c.args.entry.now.image.now c.args.entry.now.layout.now who (Enter c.args.entry.now.dir name given file) refl (λ C shown. (e.answered C shown).0)
+
+pub returns-in-Err-with_block : goal.returns-in-Err-with_block
+returns-in-Err-with_block c = λ who name given file e.
+    refused_for_memory c.args.entry.now.image.now c.args.entry.now.layout.now who (Enter c.args.entry.now.dir name given file) refl (λ C shown. (e.answered C shown).0)

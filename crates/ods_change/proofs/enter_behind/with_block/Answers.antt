@@ -5,33 +5,42 @@ use Rattle.ods_base.specs.Name.{RadName}
 use Rattle.ods_base.specs.declared.file_id.FileId.{FileId}
 use Rattle.ods_base.specs.declared.file_id.Uic.{Uic}
 use Rattle.ods_space.specs.Draft.{applied}
-use Rattle.ods_change.specs.Entering.{IsNewEntry}
+use Rattle.ods_space.specs.Layout.{VolumeLayout}
+use Rattle.ods_change.specs.Entering.{IsEntryFor}
 use Rattle.ods_change.proofs.ChainEnds.{ends_asked}
-use Rattle.ods_change.proofs.GrowingChain.{chain_before, has_headers}
-use Rattle.ods_change.proofs.GrowingDirectory.{IsGrowing, chain_ready, enter_behind, growing, headers_ready, one_taken, ready_is}
+use Rattle.ods_change.proofs.GrowingChain.{has_headers}
+use Rattle.ods_change.proofs.GrowingDirectory.{IsGrowing, chain_ready, enter_behind, growing, headers_ready, one_taken, ready_is, walked_now}
 use Rattle.ods_change.proofs.enter_behind.with_block.Goals as goal
-use Rattle.ods_change.proofs.enter_behind.with_block.Goals.{In_ok-draft}
+use Rattle.ods_change.proofs.enter_behind.with_block.Goals.{In_ok-set-2}
 
 pub bounds-blocks-0 : goal.bounds-blocks-0
 bounds-blocks-0 c =
     let e = c.requires.entry.4 in
     let headers : List ℕ = c.args.dir.number ∷ e.own.is.held.others in
     let got = c.requires.taken headers e.own.is.lbns (has_headers e.own.is.held) in
-    let one : length c.args.blocks.now ≡ 1 = ap length got.0 ∙ one_taken c.args.image.now c.args.layout.now headers got.2 in
+    let one : length c.args.blocks.now ≡ 1 = ap length got.0 ∙ one_taken (applied c.args.image.now c.args.draft) c.args.layout.now headers got.2 in
     omega (arith, one)
 
 -- what stands in the draft before the chain grows
-module _ (c : In_ok-draft) where
+module _ (c : In_ok-set-2) where
+  abbrev I : List (List ℕ)
+  I = applied c.args.image.now c.args.draft
+
+  abbrev L : VolumeLayout
+  L = c.args.layout.now
+
   abbrev x : ℕ
   x = get_or c.args.blocks.now 0 0
 
-  drafted : slice_set (slice_set c.args.image.now x (with_bytes zeros 0 c.args.entry.now.bytes)) c.unwrap-first.result c.marked_header-header.result ≡ applied c.args.image.now c.in_ok-draft.draft
-  drafted = ready_is c.args.image.now x c.unwrap-first.result _ c.set_bytes.new.self c.marked_header-header.result c.in_ok-draft.draft
-      (c.set_bytes.ensures.changed ∙ ap (λ z. with_bytes z 0 c.args.entry.now.bytes) c.zeros-block.ensures.value) c.in_ok-draft.ensures
+  drafted : slice_set (slice_set I x (with_bytes zeros 0 c.args.entry.now.bytes)) c.unwrap-first.result c.marked_header-header.result ≡ applied c.args.image.now c.set-2.new.self
+  drafted =
+      ready_is c.args.image.now x c.unwrap-first.result _ c.set_bytes.new.self c.marked_header-header.result c.args.draft c.set-2.new.self
+      (c.set_bytes.ensures.changed ∙ ap (λ z. with_bytes z 0 c.args.entry.now.bytes) c.zeros-block.ensures.value)
+      (c.in_ok-set-2.ensures.ok ∙ ap (λ d. (c.unwrap-first.result, c.marked_header-header.result) ∷ d) c.in_ok-set.ensures.ok)
 
   -- and so the directory grows
-  grows_so : {who : Uic} {name : RadName} {given : Option ℕ} {file : FileId} (e : IsNewEntry c.args.image.now c.args.layout.now who c.args.dir name given file c.args.entry.now)
-      → IsGrowing c.args.image.now c.args.layout.now c.args.dir.number c.args.entry.now (c.args.dir.number ∷ e.own.is.held.others) x c.unwrap-first.result (c.count-count.result + 1) c.marked_header-header.result c.args.numbers.now
+  grows_so : {who : Uic} {name : RadName} {given : Option ℕ} {file : FileId} (e : IsEntryFor I L who c.args.dir name given file c.args.entry.now)
+      → IsGrowing I L c.args.dir.number c.args.entry.now (c.args.dir.number ∷ e.own.is.held.others) x c.unwrap-first.result (c.count-count.result + 1) c.marked_header-header.result c.args.numbers.now
   grows_so e =
       let header = c.marked_header-header.ensures in
       growing e c.requires.grows c.args.blocks.now c.args.numbers.now c.args.numbers.now x c.unwrap-first.result (c.count-count.result + 1) c.marked_header-header.result
@@ -39,14 +48,12 @@ module _ (c : In_ok-draft) where
 
 pub extend_from-requires : goal.extend_from-requires
 extend_from-requires c =
-    let I = c.args.image.now in
-    let L = c.args.layout.now in
-    let s = (goal.at.extend_from-requires c).In_ok-draft in
+    let s = (goal.at.extend_from-requires c).In_ok-set-2 in
     let e = c.requires.entry.4 in
     let headers : List ℕ = c.args.dir.number ∷ e.own.is.held.others in
     let has = has_headers e.own.is.held in
-    let before = chain_before I L c.args.dir.number headers e.own.is.lbns c.len-count.ensures.image c.requires.sound has in
-    let ready = chain_ready c.requires.sound e c.requires.grows (grows_so s e) c.len-count.ensures.image (drafted s) before.0 before.1 (c.requires.taken headers e.own.is.lbns has).0 in
+    let before = walked_now c.requires.sound e c.requires.grows (grows_so s e) c.requires.image (drafted s) c.makes_image.ensures in
+    let ready = chain_ready c.requires.sound e c.requires.grows (grows_so s e) c.requires.image (drafted s) before.0 before.1 (c.requires.taken headers e.own.is.lbns has).0 in
     let there = headers_ready c.requires.sound e c.requires.grows (grows_so s e) (drafted s) in
     let ends = c.ends_with.ensures in (
       ready.0,
@@ -56,7 +63,7 @@ extend_from-requires c =
           ready.2,
           (
             ready.3,
-            ends_asked I (applied I c.in_ok-draft.draft) L c.args.dir.number headers e.own.is.lbns c.marked_header-header.result c.args.end.now c.ends_with.result has c.requires.end before.0 there ends.first ends.number ends.one ends.other,
+            ends_asked (I s) (applied c.args.image.now c.set-2.new.self) (L s) c.args.dir.number headers e.own.is.lbns c.marked_header-header.result c.args.end.now c.ends_with.result has c.requires.end before.0 there ends.first ends.number ends.one ends.other,
           ),
         ),
       ),
@@ -64,8 +71,8 @@ extend_from-requires c =
 
 pub returns : goal.returns
 returns c = λ who name given file e.
-    let s = (goal.at.returns c).In_ok-draft in
+    let s = (goal.at.returns c).In_ok-set-2 in
     let headers : List ℕ = c.args.dir.number ∷ e.own.is.held.others in
     let has = has_headers e.own.is.held in
-    let before = chain_before c.args.image.now c.args.layout.now c.args.dir.number headers e.own.is.lbns c.len-count.ensures.image c.requires.sound has in
-    enter_behind c.requires.sound e c.requires.grows (grows_so s e) (drafted s) before.0 before.1 (c.requires.taken headers e.own.is.lbns has).0 c.in_ok-grown.ensures
+    let before = walked_now c.requires.sound e c.requires.grows (grows_so s e) c.requires.image (drafted s) c.makes_image.ensures in
+    enter_behind c.requires.sound e c.requires.grows (grows_so s e) c.requires.image (drafted s) before.0 before.1 (c.requires.taken headers e.own.is.lbns has).0 c.in_ok-grown.ensures

@@ -1,6 +1,7 @@
+use Rattle.ods_space.specs.Draft.{applied}
 use Rattle.ods_change.proofs.GrowingChain.{blocks_before, headers_behind}
 use Rattle.ods_change.proofs.enter_behind.with_block.Given as goal
 
 -- the chain as it is before it grows
 abbrev pub ghost-extend_from : goal.ghost-extend_from
-ghost-extend_from a = (headers_behind a.image.now a.layout.now a.number, blocks_before a.image.now a.layout.now a.number)
+ghost-extend_from a = (headers_behind (applied a.image.now a.draft) a.layout.now a.number, blocks_before (applied a.image.now a.draft) a.layout.now a.number)

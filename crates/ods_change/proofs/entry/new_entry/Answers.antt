@@ -48,21 +48,23 @@ returns c =
       image = refl;
       layout = refl;
       directory = refl;
-      own = own;
-      answered = λ C shown.
-          let known = c.in-Some.ensures.some.0 in
-          let whole = c.requires.sound.chains c.args.file.number known.0 in (
-            fault_enter C c.args.who c.args.dir c.args.name c.args.version c.args.file
-                ∙ behind_file (map.get C.files c.args.dir) (map.get C.files c.args.file) (directory_checks c.args.who right.Write (entering c.args.name c.args.version)) _
-                (found_there shown c.args.file known whole)
-                ∙ (own.passes C shown).left (entering c.args.name c.args.version)
-                ∙ ap (λ (m : NameMap). first_of (cannot_enter m c.args.name c.args.version)) (names_found own shown)
-                ∙ may_enter (names_in opened.blocks opened.mark) c.args.name c.words.ensures.name.three c.args.version c.in-Ok-enter.entered.0 entry.version,
-            entered_is (names_in opened.blocks opened.mark) c.args.name c.words.ensures.name.three C c.args.dir c.args.version c.args.file c.in-Ok-enter.entered.0
-                (names_there own shown) entry.version,
-          );
-      slot = entry.slot;
-      bytes = entry.bytes;
-      names = entry.names;
-      stays = entry.stays;
+      entry = record {
+        own = own;
+        answered = λ C shown.
+            let known = c.in-Some.ensures.some.0 in
+            let whole = c.requires.sound.chains c.args.file.number known.0 in (
+              fault_enter C c.args.who c.args.dir c.args.name c.args.version c.args.file
+                  ∙ behind_file (map.get C.files c.args.dir) (map.get C.files c.args.file) (directory_checks c.args.who right.Write (entering c.args.name c.args.version)) _
+                  (found_there shown c.args.file known whole)
+                  ∙ (own.passes C shown).left (entering c.args.name c.args.version)
+                  ∙ ap (λ (m : NameMap). first_of (cannot_enter m c.args.name c.args.version)) (names_found own shown)
+                  ∙ may_enter (names_in opened.blocks opened.mark) c.args.name c.words.ensures.name.three c.args.version c.in-Ok-enter.entered.0 entry.version,
+              entered_is (names_in opened.blocks opened.mark) c.args.name c.words.ensures.name.three C c.args.dir c.args.version c.args.file c.in-Ok-enter.entered.0
+                  (names_there own shown) entry.version,
+            );
+        slot = entry.slot;
+        bytes = entry.bytes;
+        names = entry.names;
+        stays = entry.stays;
+      };
     }

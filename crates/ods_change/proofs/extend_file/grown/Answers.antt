@@ -4,9 +4,9 @@ use Rattle.ods_header.specs.Contiguous.{IsWithoutContiguous, KeepsAllButContiguo
 use Rattle.ods_space.specs.Chain.{headers_of, named_by, numbers_of}
 use Rattle.ods_space.specs.Draft.{applied}
 use Rattle.ods_space.specs.Layout.{header_at, place_of}
-use Rattle.ods_change.specs.Taking.{IsZeroed}
+use Rattle.ods_alloc.specs.Zeroed.{IsZeroed}
 use Rattle.ods_change.proofs.AttributesReplaced.{has_place}
-use Rattle.ods_change.proofs.ReadyToGrow.{chain_asked, growth_asked, has_grown, headers_asked, layout_asked, set_is, walked_as, zeroed_first}
+use Rattle.ods_change.proofs.ReadyToGrow.{chain_asked, growth_asked, has_grown, headers_asked, layout_asked, set_is, walked_now}
 use Rattle.ods_state.proofs.Bookkeeping.{well_placed}
 use Rattle.ods_change.proofs.ChainEnds.{ends_asked}
 use Rattle.ods_change.proofs.extend_file.grown.Goals as goal
@@ -15,27 +15,27 @@ use Rattle.ods_change.proofs.extend_file.grown.Goals.{In_ok-set}
 pub unwrap-lbn-requires : goal.unwrap-lbn-requires
 unwrap-lbn-requires c =
     let w = c.requires.wanted.3 in
-    ap is_some c.place.ensures ∙ has_place c.args.image.now c.args.layout.now c.args.number w.file
+    ap is_some c.place.ensures ∙ has_place (applied c.args.image.now c.args.draft) c.args.layout.now c.args.number w.file
 
 place_is : (c : In_ok-set) → place_of c.args.layout.now c.args.number ≡ Some c.unwrap-lbn.result
 place_is c = sym c.place.ensures ∙ c.unwrap-lbn.ensures
 
-changed : (c : In_ok-set) → IsWithoutContiguous (header_at c.args.image.now c.args.layout.now c.args.number) c.without_contiguous-header.result
+changed : (c : In_ok-set) → IsWithoutContiguous (header_at (applied c.args.image.now c.args.draft) c.args.layout.now c.args.number) c.without_contiguous-header.result
 changed c = subst (λ b. IsWithoutContiguous b c.without_contiguous-header.result) c.requires.first c.without_contiguous-header.ensures.changed
 
-fields : (c : In_ok-set) → KeepsAllButContiguous (header_at c.args.image.now c.args.layout.now c.args.number) c.without_contiguous-header.result
+fields : (c : In_ok-set) → KeepsAllButContiguous (header_at (applied c.args.image.now c.args.draft) c.args.layout.now c.args.number) c.without_contiguous-header.result
 fields c = subst (λ b. KeepsAllButContiguous b c.without_contiguous-header.result) c.requires.first c.without_contiguous-header.ensures.fields
 
-zeroed : (c : In_ok-set) → IsZeroed c.args.image.now c.args.taken.now.blocks.items (applied c.args.image.now c.zero_blocks.new.draft)
-zeroed c = zeroed_first c.args.image.now (applied c.args.image.now c.zero_blocks.new.draft) c.new-draft.result c.deref.result.now c.args.taken.now.blocks.items c.new-draft.ensures c.deref.ensures.value
-    (c.in_ok-zero_blocks.ensures c.args.image.now)
+zeroed : (c : In_ok-set) → IsZeroed (applied c.args.image.now c.args.draft) c.args.taken.now.blocks.items (applied c.args.image.now c.zero_blocks.new.draft)
+zeroed c =
+    subst (λ l. IsZeroed (applied c.args.image.now c.args.draft) l (applied c.args.image.now c.zero_blocks.new.draft)) c.deref.ensures.value (c.in_ok-zero_blocks.ensures c.args.image.now)
 
 set : (c : In_ok-set) → applied c.args.image.now c.set.new.self ≡ slice_set (applied c.args.image.now c.zero_blocks.new.draft) c.unwrap-lbn.result c.without_contiguous-header.result
 set c = set_is c.args.image.now c.zero_blocks.new.draft c.set.new.self c.unwrap-lbn.result c.without_contiguous-header.result c.in_ok-set.ensures.ok
 
 pub extend_from-requires : goal.extend_from-requires
 extend_from-requires c =
-    let I = c.args.image.now in
+    let I = applied c.args.image.now c.args.draft in
     let L = c.args.layout.now in
     let n = c.args.number in
     let s = (goal.at.extend_from-requires c).In_ok-set in
@@ -43,18 +43,19 @@ extend_from-requires c =
     let old = c.requires.wanted.1 in
     let count = c.requires.wanted.2 in
     let w = c.requires.wanted.3 in
-    let Z = applied I c.zero_blocks.new.draft in
-    let K = applied I c.set.new.self in
-    let walk = walked_as I L n headers old c.len.ensures.image c.requires.sound.layout w.has in (
+    let Z = applied c.args.image.now c.zero_blocks.new.draft in
+    let K = applied c.args.image.now c.set.new.self in
+    let walk = walked_now I Z K L c.requires.sound n c.unwrap-lbn.result c.without_contiguous-header.result (place_is s) (changed s) (fields s) headers old count c.args.taken.now c.requires.above w (zeroed s) (set s)
+    c.requires.image c.makes_image.ensures in (
       layout_asked I Z K L c.requires.sound n c.unwrap-lbn.result c.without_contiguous-header.result (place_is s) (changed s) (fields s) headers old count c.args.taken.now c.requires.above w (zeroed s) (set s),
       (
         well_placed I L c.requires.sound,
         (
           chain_asked I Z K L c.requires.sound n c.unwrap-lbn.result c.without_contiguous-header.result (place_is s) (changed s) (fields s) headers old count c.args.taken.now c.requires.above w (zeroed s) (set s)
-              c.len.ensures.image (drop 1 (numbers_of (headers_of I L n))) (named_by (headers_of I L n)) walk.0 walk.1,
+              c.requires.image (drop 1 (numbers_of (headers_of K L n))) (named_by (headers_of K L n)) walk.0 walk.1,
           (
             growth_asked I Z K L c.requires.sound n c.unwrap-lbn.result c.without_contiguous-header.result (place_is s) (changed s) (fields s) headers old count c.args.taken.now c.requires.above w (zeroed s) (set s)
-                (drop 1 (numbers_of (headers_of I L n))) c.deref-2.result.now c.deref-3.result.now walk.0 c.deref-2.ensures.value c.deref-3.ensures.value,
+                (drop 1 (numbers_of (headers_of K L n))) c.deref-2.result.now c.deref-3.result.now walk.0 c.deref-2.ensures.value c.deref-3.ensures.value,
             ends_asked I K L n headers old c.without_contiguous-header.result c.args.end.now c.ends_with.result w.has c.requires.end walk.0
                 (headers_asked I Z K L c.requires.sound n c.unwrap-lbn.result c.without_contiguous-header.result (place_is s) (changed s) (fields s) headers old count c.args.taken.now c.requires.above w (zeroed s) (set s))
                 c.ends_with.ensures.first c.ends_with.ensures.number c.ends_with.ensures.one c.ends_with.ensures.other,
@@ -65,13 +66,14 @@ extend_from-requires c =
 
 pub returns : goal.returns
 returns c = λ headers old count w.
-    let I = c.args.image.now in
+    let I = applied c.args.image.now c.args.draft in
     let L = c.args.layout.now in
     let n = c.args.number in
     let s = (goal.at.returns c).In_ok-set in
-    let Z = applied I c.zero_blocks.new.draft in
-    let K = applied I c.set.new.self in
-    let walk = walked_as I L n headers old c.len.ensures.image c.requires.sound.layout w.has in
+    let Z = applied c.args.image.now c.zero_blocks.new.draft in
+    let K = applied c.args.image.now c.set.new.self in
+    let walk = walked_now I Z K L c.requires.sound n c.unwrap-lbn.result c.without_contiguous-header.result (place_is s) (changed s) (fields s) headers old count c.args.taken.now c.requires.above w (zeroed s) (set s)
+    c.requires.image c.makes_image.ensures in
     has_grown I Z K L c.requires.sound n c.unwrap-lbn.result c.without_contiguous-header.result (place_is s) (changed s) (fields s) headers old count c.args.taken.now c.requires.above w (zeroed s) (set s)
-    (applied I c.in_ok-grown.grown) (drop 1 (numbers_of (headers_of I L n))) (named_by (headers_of I L n)) c.deref-2.result.now c.deref-3.result.now walk.0 walk.1 c.deref-2.ensures.value c.deref-3.ensures.value
+    (applied c.args.image.now c.in_ok-grown.grown) (drop 1 (numbers_of (headers_of K L n))) (named_by (headers_of K L n)) c.deref-2.result.now c.deref-3.result.now walk.0 walk.1 c.deref-2.ensures.value c.deref-3.ensures.value
     c.in_ok-grown.ensures

@@ -1,8 +1,9 @@
 use Rattle.std.proofs.Common.{◌≡◌, ◌<◌, ◌≤◌, ℕ, List, Some, length, take, sym, ap, ◌∙◌, inl, inr, subst, arith}
 use Rattle.std.proofs.lemmas.List.{length-take-le}
-use Rattle.ods_space.specs.Free.{free_blocks, free_numbers}
-use Rattle.ods_state.specs.Wants.{room_in, taken_count}
-use Rattle.ods_change.proofs.TakingBlocks.{cut_few, lacks_blocks, lacks_none, lacks_numbers, lacks_segments, new_room, short_blocks, short_numbers, wanted_is}
+use Rattle.ods_space.specs.Free.{free_blocks, open_numbers}
+use Rattle.ods_state.specs.Wants.{room_in, taken_count, taken_numbers}
+use Rattle.ods_change.specs.Taking.{HasPlacesFor, LacksPlaces}
+use Rattle.ods_change.proofs.TakingBlocks.{cut_few, lacks_blocks, lacks_none, lacks_numbers, lacks_places, lacks_segments, new_room, short_blocks, short_numbers, wanted_is}
 use Rattle.ods_change.proofs.taking.take.Goals as goal
 use Rattle.ods_change.proofs.taking.take.Goals.{After-headers_wanted-needed}
 
@@ -33,32 +34,57 @@ needed_is c hs count room =
     wanted_is I L hs c.args.room c.args.count c.headers_wanted-needed.result c.deref.result.now c.as_slice.result.now room (c.deref.ensures.value ∙ c.in-Ok.ensures.ok.0)
     (c.as_slice.ensures.value ∙ c.in-Ok-runs_of_blocks.ensures.cut) (c.headers_wanted-needed.ensures.wanted hs count (new_room I L hs c.args.headers c.args.room count room))
 
-pub returns-in-Err-pick_numbers-clause-err : goal.returns-in-Err-pick_numbers-clause-err
-returns-in-Err-pick_numbers-clause-err c =
+pub returns-in-Err-pick_open_numbers-clause-err : goal.returns-in-Err-pick_open_numbers-clause-err
+returns-in-Err-pick_open_numbers-clause-err c =
     let I = c.args.image.now in
     let L = c.args.layout.now in
-    elim (short_numbers c.in-Err-pick_numbers.fault (length (free_numbers I L)) c.headers_wanted-needed.result c.in-Err-pick_numbers.ensures.err) [
-      | inl none ↦ inl (c.refusal_for-in-Err-pick_numbers.ensures ∙ none)
+    elim (short_numbers c.in-Err-pick_open_numbers.fault (length (open_numbers I L)) c.headers_wanted-needed.result c.in-Err-pick_open_numbers.ensures.err) [
+      | inl none ↦ inl (c.refusal_for-in-Err-pick_open_numbers.ensures ∙ none)
       | inr few ↦ inr (λ hs count room.
-          lacks_numbers I L hs c.args.count c.in-Ok.ensures.ok.1 (subst (λ n. length (free_numbers I L) < n) (needed_is (goal.at.returns-in-Err-pick_numbers-clause-err c).After-headers_wanted-needed hs count room) few.1)
-          ∙ ap Some (sym (c.refusal_for-in-Err-pick_numbers.ensures ∙ few.0)))
+          lacks_numbers I L hs c.args.count c.in-Ok.ensures.ok.1 (subst (λ n. length (open_numbers I L) < n) (needed_is (goal.at.returns-in-Err-pick_open_numbers-clause-err c).After-headers_wanted-needed hs count room) few.1)
+          ∙ ap Some (sym (c.refusal_for-in-Err-pick_open_numbers.ensures ∙ few.0)))
+    ]
+
+-- the blocks that INDEXF.SYS gets, for the numbers that are taken
+numbers_are : (c : After-headers_wanted-needed) → (numbers given : List ℕ) → numbers ≡ take c.headers_wanted-needed.result (open_numbers c.args.image.now c.args.layout.now) → given ≡ numbers
+    → (hs : List ℕ) → length hs ≡ c.args.headers → room_in c.args.image.now c.args.layout.now hs ≡ c.args.room → given ≡ taken_numbers c.args.image.now c.args.layout.now hs c.args.count
+numbers_are c numbers given picked is hs count room = is ∙ picked ∙ ap (λ n. take n (open_numbers c.args.image.now c.args.layout.now)) (needed_is c hs count room)
+
+pub returns-in-Err-places_for-clause-err : goal.returns-in-Err-places_for-clause-err
+returns-in-Err-places_for-clause-err c =
+    let I = c.args.image.now in
+    let L = c.args.layout.now in
+    let at = (goal.at.returns-in-Err-places_for-clause-err c).After-headers_wanted-needed in
+    elim c.in-Err-places_for.ensures.err [
+      | inl none ↦ inl none
+      | inr lacks ↦ inr (λ hs count room.
+          lacks_places I L hs c.args.count c.in-Ok.ensures.ok.1
+          (subst (LacksPlaces I L c.args.count) (numbers_are at c.in-Ok-pick_open_numbers.numbers.items c.deref-2.result.now c.in-Ok-pick_open_numbers.ensures.ok.0 c.deref-2.ensures.value hs count room) lacks.1)
+          ∙ ap Some (sym lacks.0))
     ]
 
 pub returns-then-headers-needed-gt256-clause-err : goal.returns-then-headers-needed-gt256-clause-err
 returns-then-headers-needed-gt256-clause-err c = inr (λ hs count room.
     let I = c.args.image.now in
     let L = c.args.layout.now in
-    let needed = needed_is (goal.at.returns-then-headers-needed-gt256-clause-err c).After-headers_wanted-needed hs count room in
+    let at = (goal.at.returns-then-headers-needed-gt256-clause-err c).After-headers_wanted-needed in
+    let needed = needed_is at hs count room in
     let many = c.if-headers-needed-gt256.true in
-    lacks_segments I L hs c.args.count c.in-Ok.ensures.ok.1 (subst (λ n. n ≤ length (free_numbers I L)) needed c.in-Ok-pick_numbers.ensures.ok.1) (omega (arith, many, count, needed)))
+    let same = numbers_are at c.in-Ok-pick_open_numbers.numbers.items c.deref-2.result.now c.in-Ok-pick_open_numbers.ensures.ok.0 c.deref-2.ensures.value hs count room in
+    lacks_segments I L hs c.args.count c.in-Ok.ensures.ok.1 (subst (λ n. n ≤ length (open_numbers I L)) needed c.in-Ok-pick_open_numbers.ensures.ok.1) c.in-Ok-places_for.places.items
+    (subst (λ ns. HasPlacesFor I L c.args.count ns c.in-Ok-places_for.places.items) same c.in-Ok-places_for.ensures.ok) (omega (arith, many, count, needed)))
 
 pub returns-clause-ok : goal.returns-clause-ok
 returns-clause-ok c = λ hs count room.
     let I = c.args.image.now in
     let L = c.args.layout.now in
-    let needed = needed_is (goal.at.returns-clause-ok c).After-headers_wanted-needed hs count room in
-    let few = c.if-headers-needed-gt256.false in (
+    let at = (goal.at.returns-clause-ok c).After-headers_wanted-needed in
+    let needed = needed_is at hs count room in
+    let few = c.if-headers-needed-gt256.false in
+    let same = numbers_are at c.in-Ok-pick_open_numbers.numbers.items c.deref-2.result.now c.in-Ok-pick_open_numbers.ensures.ok.0 c.deref-2.ensures.value hs count room in
+    let places = subst (λ ns. HasPlacesFor I L c.args.count ns c.in-Ok-places_for.places.items) same c.in-Ok-places_for.ensures.ok in (
       c.in-Ok.ensures.ok.0,
-      c.in-Ok-pick_numbers.ensures.ok.0 ∙ ap (λ n. take n (free_numbers I L)) needed,
-      lacks_none I L hs c.args.count c.in-Ok.ensures.ok.1 (subst (λ n. n ≤ length (free_numbers I L)) needed c.in-Ok-pick_numbers.ensures.ok.1) (omega (arith, few, count, needed)),
+      c.in-Ok-pick_open_numbers.ensures.ok.0 ∙ ap (λ n. take n (open_numbers I L)) needed,
+      places.are,
+      lacks_none I L hs c.args.count c.in-Ok.ensures.ok.1 (subst (λ n. n ≤ length (open_numbers I L)) needed c.in-Ok-pick_open_numbers.ensures.ok.1) c.in-Ok-places_for.places.items places (omega (arith, few, count, needed)),
     )

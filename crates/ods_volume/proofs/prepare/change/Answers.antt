@@ -1,5 +1,6 @@
 use Rattle.std.proofs.Common.{subst}
 use Rattle.ods_state.specs.Outcome.{CanBeAsked}
+use Rattle.ods_change.proofs.StillLayout.{step_still}
 use Rattle.ods_volume.proofs.Arms.{no_other, refused_as, step_as}
 use Rattle.ods_volume.proofs.prepare.change.Goals as goal
 
@@ -9,19 +10,19 @@ unreachable-requires c =
     c.in_default.not-Write c.in_default.not-SetUser c.in_default.not-Remove
 
 pub returns-in-Ok-write : goal.returns-in-Ok-write
-returns-in-Ok-write c = step_as c.in-Write.is c.in-Ok-write.ensures
+returns-in-Ok-write c = step_as c.in-Write.is (step_still c.still-in-Ok-write.result c.still-in-Ok-write.ensures.draft c.still-in-Ok-write.ensures.places c.in-Ok-write.ensures)
 
 pub returns-in-Err-write : goal.returns-in-Err-write
 returns-in-Err-write c = refused_as c.args.who c.in-Err-write.refusal c.in-Write.is c.in-Err-write.ensures
 
 pub returns-in-Ok-set_user : goal.returns-in-Ok-set_user
-returns-in-Ok-set_user c = step_as c.in-SetUser.is c.in-Ok-set_user.ensures
+returns-in-Ok-set_user c = step_as c.in-SetUser.is (step_still c.still-in-Ok-set_user.result c.still-in-Ok-set_user.ensures.draft c.still-in-Ok-set_user.ensures.places c.in-Ok-set_user.ensures)
 
 pub returns-in-Err-set_user : goal.returns-in-Err-set_user
 returns-in-Err-set_user c = refused_as c.args.who c.in-Err-set_user.refusal c.in-SetUser.is c.in-Err-set_user.ensures
 
 pub returns-in-Ok-remove : goal.returns-in-Ok-remove
-returns-in-Ok-remove c = step_as c.in-Remove.is c.in-Ok-remove.ensures
+returns-in-Ok-remove c = step_as c.in-Remove.is (step_still c.still-drafted.result c.still-drafted.ensures.draft c.still-drafted.ensures.places c.in-Ok-remove.ensures)
 
 pub returns-in-Err-remove : goal.returns-in-Err-remove
 returns-in-Err-remove c = refused_as c.args.who c.in-Err-remove.refusal c.in-Remove.is c.in-Err-remove.ensures
@@ -39,7 +40,7 @@ pub returns-in-Err-extend : goal.returns-in-Err-extend
 returns-in-Err-extend c = refused_as c.args.who c.in-Err-extend.refusal c.in-Extend.is c.in-Err-extend.ensures
 
 pub returns-in-Ok-delete : goal.returns-in-Ok-delete
-returns-in-Ok-delete c = step_as c.in-Delete.is c.in-Ok-delete.ensures
+returns-in-Ok-delete c = step_as c.in-Delete.is (step_still c.still.result c.still.ensures.draft c.still.ensures.places c.in-Ok-delete.ensures)
 
 pub returns-in-Err-delete : goal.returns-in-Err-delete
 returns-in-Err-delete c = refused_as c.args.who c.in-Err-delete.refusal c.in-Delete.is c.in-Err-delete.ensures

@@ -1,9 +1,10 @@
-use Rattle.std.proofs.Common.{◌≡◌, ◌<◌, List, ℕ, [], length, false, true, ap, sym, ◌∙◌, subst, arith, Err}
+use Rattle.std.proofs.Common.{◌≡◌, ◌<◌, length, false, true, ap, sym, ◌∙◌, subst, arith, Err}
 use Rattle.ods_request.specs.declared.requests.Request.{Request}
 use Rattle.ods_request.specs.declared.answers.Entry.{Entry}
 use Rattle.ods_request.specs.declared.refusals.Refusal.TheVariants as refusal
 use Rattle.ods_request.specs.Table.{takes_memory}
 use Rattle.ods_space.specs.Draft.{applied}
+use Rattle.ods_space.specs.Layout.{with_places}
 use Rattle.ods_state.specs.Version.{State, IsPresent}
 use Rattle.ods_state.specs.Wants.{Lacks}
 use Rattle.ods_state.specs.Outcome.{IsReason, IsLawfulPlan, Plan, entry_of, list_full, no_memory}
@@ -19,16 +20,17 @@ returns-then-len-self-clause-reason c =
 
 pub returns-clause-refused : goal.returns-clause-refused
 returns-clause-refused c = λ C f room present e.
-    absurd (step_has_none (state_of c.self.inside) c.self.invariant.lawful c.args.who c.args.request c.carry_out.new.answer (applied c.self.inside.image c.in-Ok.draft) c.self.inside.layout c.in-Ok.ensures C f (subst (λ w. IsPresent w C) (sym c.self.view_is) present) e)
+    absurd (step_has_none (state_of c.self.inside) c.self.invariant.lawful c.args.who c.args.request c.carry_out.new.answer (applied c.self.inside.image c.in-Ok.drafted.draft) (with_places c.self.inside.layout c.in-Ok.drafted.places.items) c.in-Ok.ensures C f (subst (λ w. IsPresent w C) (sym c.self.view_is) present) e)
 
 pub returns-clause-plan : goal.returns-clause-plan
 returns-clause-plan c =
     let room : length c.self.inside.entries.items < c.self.inside.limit = omega arith in
-    let lawful = plan_is_lawful (state_of c.self.inside) c.self.invariant.lawful c.args.session c.args.nth c.args.who c.args.request c.carry_out.new.answer c.in-Ok.draft c.in-Ok-counts_after.counts room c.in-Ok.ensures c.in-Ok-counts_after.ensures.ok in
+    let d = c.in-Ok.drafted in
+    let lawful = plan_is_lawful (state_of c.self.inside) c.self.invariant.lawful c.args.session c.args.nth c.args.who c.args.request c.carry_out.new.answer d.draft d.places.items c.in-Ok-counts_after.counts room c.in-Ok.ensures c.in-Ok-counts_after.ensures.ok in
     let entry : Request → Entry = λ r. entry_of c.args.session c.args.nth c.args.who r c.carry_out.new.answer in
-    let plan : List ℕ → Request → Plan = λ places r. record { entry = entry r; changes = c.in-Ok.draft; places = places; counts = c.in-Ok-counts_after.counts } in
-    let here : IsLawfulPlan c.args.self.now (plan [] c.args.request) = subst (λ w. IsLawfulPlan w (plan [] c.args.request)) c.self.view_is lawful in (
-      subst (λ places. IsLawfulPlan c.args.self.now (plan places c.in-Ok-kept.kept)) (sym c.new.ensures.items) (subst (λ r. IsLawfulPlan c.args.self.now (plan [] r)) (sym c.in-Ok-kept.ensures.ok) here),
+    let plan : Request → Plan = λ r. record { entry = entry r; changes = d.draft; places = d.places.items; counts = c.in-Ok-counts_after.counts } in
+    let here : IsLawfulPlan c.args.self.now (plan c.args.request) = subst (λ w. IsLawfulPlan w (plan c.args.request)) c.self.view_is lawful in (
+      subst (λ r. IsLawfulPlan c.args.self.now (plan r)) (sym c.in-Ok-kept.ensures.ok) here,
       ap entry c.in-Ok-kept.ensures.ok,
     )
 
@@ -38,28 +40,28 @@ returns-clause-lacking c = λ f lacks.
 
 pub returns-in_default-lines_of-clause-refused : goal.returns-in_default-lines_of-clause-refused
 returns-in_default-lines_of-clause-refused c = λ C f room present e.
-    absurd (step_has_none (state_of c.self.inside) c.self.invariant.lawful c.args.who c.args.request c.carry_out.new.answer (applied c.self.inside.image c.in-Ok.draft) c.self.inside.layout c.in-Ok.ensures C f (subst (λ w. IsPresent w C) (sym c.self.view_is) present) e)
+    absurd (step_has_none (state_of c.self.inside) c.self.invariant.lawful c.args.who c.args.request c.carry_out.new.answer (applied c.self.inside.image c.in-Ok.drafted.draft) (with_places c.self.inside.layout c.in-Ok.drafted.places.items) c.in-Ok.ensures C f (subst (λ w. IsPresent w C) (sym c.self.view_is) present) e)
 
 pub returns-in_default-lines_of-clause-reason : goal.returns-in_default-lines_of-clause-reason
 returns-in_default-lines_of-clause-reason c =
-    no_memory (copy_takes_memory (state_of c.self.inside) c.self.invariant.lawful c.args.who c.args.request c.carry_out.new.answer (applied c.self.inside.image c.in-Ok.draft) c.self.inside.layout c.in-Ok.ensures c.in_default-lines_of.ensures.err)
+    no_memory (copy_takes_memory (state_of c.self.inside) c.self.invariant.lawful c.args.who c.args.request c.carry_out.new.answer (applied c.self.inside.image c.in-Ok.drafted.draft) (with_places c.self.inside.layout c.in-Ok.drafted.places.items) c.in-Ok.ensures c.in_default-lines_of.ensures.err)
 
 pub returns-in_default-lines_of-clause-memory : goal.returns-in_default-lines_of-clause-memory
 returns-in_default-lines_of-clause-memory c = λ none same.
-    let takes : takes_memory c.args.request ≡ true = copy_takes_memory (state_of c.self.inside) c.self.invariant.lawful c.args.who c.args.request c.carry_out.new.answer (applied c.self.inside.image c.in-Ok.draft) c.self.inside.layout c.in-Ok.ensures c.in_default-lines_of.ensures.err in
+    let takes : takes_memory c.args.request ≡ true = copy_takes_memory (state_of c.self.inside) c.self.invariant.lawful c.args.who c.args.request c.carry_out.new.answer (applied c.self.inside.image c.in-Ok.drafted.draft) (with_places c.self.inside.layout c.in-Ok.drafted.places.items) c.in-Ok.ensures c.in_default-lines_of.ensures.err in
     let wrong : false ≡ true = sym none ∙ takes in
     absurd (cc)
 
 pub returns-in_default-kept-clause-refused : goal.returns-in_default-kept-clause-refused
 returns-in_default-kept-clause-refused c = λ C f room present e.
-    absurd (step_has_none (state_of c.self.inside) c.self.invariant.lawful c.args.who c.args.request c.carry_out.new.answer (applied c.self.inside.image c.in-Ok.draft) c.self.inside.layout c.in-Ok.ensures C f (subst (λ w. IsPresent w C) (sym c.self.view_is) present) e)
+    absurd (step_has_none (state_of c.self.inside) c.self.invariant.lawful c.args.who c.args.request c.carry_out.new.answer (applied c.self.inside.image c.in-Ok.drafted.draft) (with_places c.self.inside.layout c.in-Ok.drafted.places.items) c.in-Ok.ensures C f (subst (λ w. IsPresent w C) (sym c.self.view_is) present) e)
 
 pub returns-in_default-kept-clause-reason : goal.returns-in_default-kept-clause-reason
 returns-in_default-kept-clause-reason c = no_memory c.in_default-kept.ensures.err
 
 pub returns-in_default-clause-refused : goal.returns-in_default-clause-refused
 returns-in_default-clause-refused c = λ C f room present e.
-    absurd (step_has_none (state_of c.self.inside) c.self.invariant.lawful c.args.who c.args.request c.carry_out.new.answer (applied c.self.inside.image c.in-Ok.draft) c.self.inside.layout c.in-Ok.ensures C f (subst (λ w. IsPresent w C) (sym c.self.view_is) present) e)
+    absurd (step_has_none (state_of c.self.inside) c.self.invariant.lawful c.args.who c.args.request c.carry_out.new.answer (applied c.self.inside.image c.in-Ok.drafted.draft) (with_places c.self.inside.layout c.in-Ok.drafted.places.items) c.in-Ok.ensures C f (subst (λ w. IsPresent w C) (sym c.self.view_is) present) e)
 
 pub returns-in_default-clause-reason : goal.returns-in_default-clause-reason
 returns-in_default-clause-reason c = no_memory c.in_default.ensures.err
