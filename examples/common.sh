@@ -26,11 +26,18 @@ put() {
     printf "$4" | dd of="$1" bs=1 seek=$((512 * $2 + $3)) conv=notrunc 2>/dev/null
 }
 
-# seal IMAGE LBN: puts the sum of a block's first 255 words into its last word.
+# seal IMAGE LBN [PLACE]: puts the sum of a block's words before this place, or before its last word, there.
 seal() {
     sum=$(dd if="$1" bs=512 skip="$2" count=1 2>/dev/null | od -An -v -t u1 |
-        awk '{ for (i = 1; i <= NF; i++) { if (at < 510) sum += at % 2 ? 256 * $i : $i; at++ } } END { sum %= 65536; printf "\\%03o\\%03o", sum % 256, int(sum / 256) }')
-    put "$1" "$2" 510 "$sum"
+        awk -v end="${3:-510}" '{ for (i = 1; i <= NF; i++) { if (at < end) sum += at % 2 ? 256 * $i : $i; at++ } } END { sum %= 65536; printf "\\%03o\\%03o", sum % 256, int(sum / 256) }')
+    put "$1" "$2" "${3:-510}" "$sum"
+}
+
+# most_files IMAGE N: puts H.FMAX, below 256, into the home block, and both its sums.
+most_files() {
+    put "$1" 1 6 "\\$(printf %03o "$2")\\000"
+    seal "$1" 1 58
+    seal "$1" 1
 }
 
 # header IMAGE NUMBER NAME NEXT MAP CHARACTERISTICS: puts the header of a file of [1,1] with sequence number 1 and version 1 at its place,

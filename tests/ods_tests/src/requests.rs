@@ -2,6 +2,7 @@
 mod ample;
 mod counted;
 mod growing;
+mod index_growth;
 mod long_names;
 mod naming;
 mod plain_reader;

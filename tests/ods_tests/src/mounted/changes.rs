@@ -7,7 +7,7 @@ use crate::persons::{
 use crate::volumes::block_of;
 use ods_alloc::FreeCounts;
 use ods_base::{Block, FileId, Image, Pick, word};
-use ods_change::{enter, remove, set_user, write};
+use ods_change::{Drafted, enter, remove, set_user, write};
 use ods_look::{look_up, read};
 use ods_mount::{Mounted, mount};
 use ods_request::Refusal;
@@ -162,7 +162,7 @@ fn a_name_is_removed(rt: HostRuntime) -> Result<(), Fail> {
 }
 
 /// The draft of entering C.DAT in the master directory, and its version.
-fn entered(alloc: Global, before: &Mounted) -> Result<(Draft, u16), Fail> {
+fn entered(alloc: Global, before: &Mounted) -> Result<(Drafted, u16), Fail> {
     let (image, layout) = (before.image(), before.layout());
     let counts = FreeCounts::of(alloc, image, layout)?;
     Ok(enter(
@@ -200,7 +200,7 @@ fn after_enter(alloc: Global, before: Mounted, version: u16) -> Result<Mounted, 
     if found.1 != version {
         return Err("another version".into());
     }
-    changed(alloc, before, &found.0)
+    changed(alloc, before, &found.0.draft)
 }
 
 #[test]

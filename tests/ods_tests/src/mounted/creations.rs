@@ -18,9 +18,9 @@ fn made(alloc: Global, name: Name, blocks: u32) -> Result<(Mounted, FileId), Fai
     let stamp = Stamp::parse(b"01JAN80120000").ok_or("a stamp")?;
     let (image, layout) = (before.image(), before.layout());
     let counts = FreeCounts::of(alloc, image, layout)?;
-    let (draft, file) = create(alloc, image, layout, &counts, USER, name, 3, blocks, stamp)?;
+    let (made, file) = create(alloc, image, layout, &counts, USER, name, 3, blocks, stamp)?;
     let (mut image, _) = before.into_parts();
-    draft.apply(&mut image);
+    made.draft.apply(&mut image);
     Ok((mounted(alloc, image)?, file))
 }
 

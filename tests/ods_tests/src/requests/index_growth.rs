@@ -1,0 +1,86 @@
+//! INDEXF.SYS grows inside a request that needs more numbers than are free. What can be said as data is in examples/rows.
+use super::growing::header_of;
+use super::rows::{create, dat, delete, id, made};
+use super::trial::{Trial, ask_quickly, has_totals, start};
+use crate::persons::USER;
+use crate::volumes::{Variant, block_of, run, sample_of};
+use ods_base::Block;
+use ods_header::read_header;
+use ods_mount::mount;
+use ods_request::{Answer, Refusal};
+use std::alloc::Global;
+use std::process::Abort;
+use std::test::Fail;
+
+/// A volume of 40 blocks with H.FMAX 20, on which files 6 to 16 were made.
+fn without_a_free_number(rt: &impl Abort, alloc: Global) -> Result<Trial, Fail> {
+    let image = Variant {
+        most_files: 20,
+        ..sample_of(40)
+    }
+    .image(alloc)?;
+    let mut it = start(rt, alloc, image, 100)?;
+    for number in 6..17 {
+        let request = create(rt, dat(b'B'), 0);
+        ask_quickly(rt, &mut it, USER, &request, &made(number, 1))?;
+    }
+    Ok(it)
+}
+
+/// The image mounts again, with this layout.
+fn mounts_again(rt: &impl Abort, alloc: Global, it: &Trial) -> Result<(), Fail> {
+    let Ok(again) = mount(alloc, it.volume.image().copy()?) else {
+        return Err("a sound image".into());
+    };
+    assert!(rt; again.layout().index() == it.volume.layout().index());
+    Ok(())
+}
+
+/// Header 1 maps LBN 0 to 18 and then this block, where header 17 stands.
+fn has_block_22(rt: &impl Abort, it: &Trial) -> Result<(), Fail> {
+    let image = it.volume.image();
+    let index = header_of(image, 1)?;
+    assert!(rt; index.runs().as_slice() == [run(0, 19), run(22, 1)].as_slice());
+    let Ok(header) = read_header(block_of(image, 22)?, 17) else {
+        return Err("no header".into());
+    };
+    assert!(rt; header.file == id(17, 1));
+    assert!(rt; it.volume.layout().place(17) == Some(22));
+    Ok(())
+}
+
+#[test]
+fn a_file_gets_a_number_behind_the_last(rt: HostRuntime) -> Result<(), Fail> {
+    let mut it = without_a_free_number(&rt, rt.alloc())?;
+    let request = create(&rt, dat(b'B'), 0);
+    ask_quickly(&rt, &mut it, USER, &request, &made(17, 1))?;
+    has_totals(&rt, &it, (12, 17, 0));
+    has_block_22(&rt, &it)?;
+    mounts_again(&rt, rt.alloc(), &it)
+}
+
+#[test]
+fn index_grows_up_to_the_greatest_number(rt: HostRuntime) -> Result<(), Fail> {
+    let mut it = without_a_free_number(&rt, rt.alloc())?;
+    let request = create(&rt, dat(b'B'), 1);
+    for number in 17..21 {
+        ask_quickly(&rt, &mut it, USER, &request, &made(number, 1))?;
+    }
+    ask_quickly(&rt, &mut it, USER, &request, &Err(Refusal::HeadersFull))?;
+    has_totals(&rt, &it, (15, 10, 0));
+    mounts_again(&rt, rt.alloc(), &it)
+}
+
+#[test]
+fn number_behind_the_last_comes_back(rt: HostRuntime) -> Result<(), Fail> {
+    let mut it = without_a_free_number(&rt, rt.alloc())?;
+    let request = create(&rt, dat(b'B'), 2);
+    ask_quickly(&rt, &mut it, USER, &request, &made(17, 1))?;
+    has_totals(&rt, &it, (12, 15, 0));
+    ask_quickly(&rt, &mut it, USER, &delete(id(17, 1)), &Ok(Answer::Done))?;
+    has_totals(&rt, &it, (13, 17, 1));
+    ask_quickly(&rt, &mut it, USER, &request, &made(17, 2))?;
+    has_totals(&rt, &it, (14, 15, 0));
+    assert!(rt; block_of(it.volume.image(), 23)? == &Block::zeros());
+    mounts_again(&rt, rt.alloc(), &it)
+}
