@@ -33,9 +33,9 @@ seal() {
     put "$1" "$2" "${3:-510}" "$sum"
 }
 
-# most_files IMAGE N: puts H.FMAX, below 256, into the home block, and both its sums.
+# most_files IMAGE N: puts H.FMAX into the home block, and both its sums.
 most_files() {
-    put "$1" 1 6 "\\$(printf %03o "$2")\\000"
+    put "$1" 1 6 "$(printf '\\%03o\\%03o' $(($2 % 256)) $(($2 / 256)))"
     seal "$1" 1 58
     seal "$1" 1
 }
@@ -60,4 +60,37 @@ make_large() {
     make_volume "$1"
     dd if=/dev/zero bs=512 count=472 2>/dev/null | tr '\000' Z >>"$1"
     put "$1" 20 5 "$(printf '%59s' '' | sed 's/ /\\377/g')"
+}
+
+# chain_headers FROM TO: the headers of A.TXT;1, file 6 of [1,1], with these numbers and sequence number 1, in the form of printf. They are
+# segments 0 to 255 of a chain that 261 ends, and have no pointers and no room for any.
+chain_headers() {
+    awk -v from="$1" -v to="$2" 'BEGIN {
+        for (n = from; n <= to; n++) {
+            for (i = 0; i < 255; i++) w[i] = 0
+            w[0] = 23 + 256 * 46; w[1] = n; w[2] = 1; w[3] = w[4] = 257; w[5] = 57344
+            w[23] = 1600; w[26] = 32980; w[27] = 1
+            w[46] = n - 6; w[49] = 769
+            if (n < 261) { w[47] = n + 1; w[48] = 1 }
+            sum = 0
+            for (i = 0; i < 255; i++) sum += w[i]
+            w[255] = sum % 65536
+            for (i = 0; i < 256; i++) printf "\\%03o\\%03o", w[i] % 256, int(w[i] / 256)
+        }
+    }'
+}
+
+# long_chain IMAGE N: a volume of 700 blocks with H.FMAX N, of which those behind 511 are held. INDEXF.SYS has 276 headers, all numbers up to
+# 276 are in use, and file 6 has a chain of 256 headers.
+long_chain() {
+    make_large "$1"
+    dd if=/dev/zero bs=512 count=188 2>/dev/null >>"$1"
+    most_files "$1" "$2"
+    put "$1" 2 0 "$(printf '%34s' '' | sed 's/ /\\377/g')\\017"
+    put "$1" 3 100 '\006'
+    put "$1" 3 106 '\000\377\026\000\000\003\026\001'
+    seal "$1" 3
+    put "$1" 8 0 "$(chain_headers 6 16)"
+    put "$1" 22 0 "$(chain_headers 17 261)"
+    put "$1" 20 2 "$(printf '%33s' '' | sed 's/ /\\000/g')\\374"
 }

@@ -1,5 +1,5 @@
 //! A plain and slow reader of small volumes: the catalogue that the blocks show, byte by byte, with no call of the layers that serve
-//! requests. It is right for sound volumes of at most 16 files whose index bitmap is LBN 2 alone, as the samples are.
+//! requests. It is right for sound volumes whose index bitmap is LBN 2 alone, as in the samples, and whose INDEXF.SYS has at most 64 blocks.
 use ods_base::{Block, FileId, FixedImage, Image, ImageError, Name, Uic};
 use ods_plain::{Body, Catalogue, File, Names};
 use std::alloc::{AllocError, Global};
@@ -28,6 +28,85 @@ fn bytes<const N: usize>(image: &Image, lbn: u32, from: usize) -> [u8; N] {
         found[i] = byte(image, lbn, from.wrapping_add(i));
     }
     found
+}
+
+/// The LBNs of the blocks of INDEXF.SYS, in their order, by the pointers of its headers; how many they are. A header behind the first is
+/// one of the blocks that the headers before it name.
+fn index_places(image: &Image) -> ([u32; 64], usize) {
+    let mut places = [u32::MAX; 64];
+    let mut count = 0;
+    let mut header = 3;
+    for _header in 0..16 {
+        let map = 2 * byte(image, header, 1) as usize;
+        for k in 0..byte(image, header, map.wrapping_add(8)) as usize / 2 {
+            let at = map.wrapping_add(10).wrapping_add(4usize.wrapping_mul(k));
+            let high = byte(image, header, at) as u32;
+            let low = word(image, header, at.wrapping_add(2)) as u32;
+            for i in 0..byte(image, header, at.wrapping_add(1)) as u32 + 1 {
+                if count < 64 {
+                    places[count] = (65_536 * high + low).wrapping_add(i);
+                    count += 1;
+                }
+            }
+        }
+        let next = word(image, header, map.wrapping_add(2)) as usize;
+        if next == 0 || 62 <= next {
+            return (places, count);
+        }
+        header = places[next + 2];
+    }
+    (places, count)
+}
+
+/// The greatest number for which INDEXF.SYS has a block: 16 where it has no more than the samples.
+pub fn plain_last(image: &Image) -> u16 {
+    let (_, count) = index_places(image);
+    (count.saturating_sub(3) as u16)
+        .min(word(image, 1, 6))
+        .max(16)
+}
+
+/// Where the header with this number stands: the first 16 behind the index bitmap, the others where INDEXF.SYS has its blocks.
+pub fn header_place(image: &Image, number: u16) -> u32 {
+    if number <= 16 {
+        return number as u32 + 2;
+    }
+    let (places, _) = index_places(image);
+    match places.get(number as usize + 2) {
+        Some(lbn) => *lbn,
+        None => u32::MAX,
+    }
+}
+
+/// How far INDEXF.SYS can grow: how many numbers above the last are in no use, how many blocks the greatest of all would need, and how
+/// many pointers its last header has room for.
+pub fn plain_growth(image: &Image) -> (u32, u32, u32) {
+    let last = plain_last(image);
+    let most = word(image, 1, 6);
+    let mut open = 0u32;
+    for number in last..most {
+        if !is_marked(image, number.wrapping_add(1)) {
+            open = open.wrapping_add(1);
+        }
+    }
+    let mut header = 3;
+    for _header in 0..16 {
+        let map = 2 * byte(image, header, 1) as usize;
+        let next = word(image, header, map.wrapping_add(2));
+        if next != 0 {
+            header = header_place(image, next);
+        }
+    }
+    let map = 2 * byte(image, header, 1) as usize;
+    let used = byte(image, header, map.wrapping_add(8)) as u32;
+    let room = (byte(image, header, map.wrapping_add(9)) as u32).saturating_sub(used) / 2;
+    (open, most.saturating_sub(last) as u32, room)
+}
+
+/// Whether the index bitmap says that a number is in use.
+fn is_marked(image: &Image, number: u16) -> bool {
+    let bit = (number as usize).saturating_sub(1);
+    byte(image, 2, bit / 8) >> (bit % 8) & 1 == 1
 }
 
 /// Adds the blocks of a run.
@@ -66,7 +145,7 @@ fn blocks_of(alloc: Global, image: &Image, number: u16) -> Result<Vec<Block>, Al
     let mut next = number;
     for _header in 0..16 {
         if next != 0 {
-            let lbn = next as u32 + 2;
+            let lbn = header_place(image, next);
             push_header(image, lbn, &mut blocks)?;
             let map = 2 * byte(image, lbn, 1) as usize;
             next = word(image, lbn, map.wrapping_add(2));
@@ -129,7 +208,7 @@ fn names_of(
 
 /// The body of the file with this number.
 fn body_of(alloc: Global, image: &Image, number: u16) -> Result<Body, AllocError> {
-    let header = number as u32 + 2;
+    let header = header_place(image, number);
     let ident = 2 * byte(image, header, 0) as usize;
     if number <= 2 {
         return Ok(Body::System);
@@ -146,17 +225,17 @@ fn body_of(alloc: Global, image: &Image, number: u16) -> Result<Body, AllocError
 
 /// Whether the number is a file's: its index bit is set, and its header is a first one of this number.
 fn is_file(image: &Image, number: u16) -> bool {
-    let header = number as u32 + 2;
+    let header = header_place(image, number);
     let map = 2 * byte(image, header, 1) as usize;
-    let bit = byte(image, 2, (number as usize).saturating_sub(1) / 8)
-        >> (number.saturating_sub(1) % 8)
-        & 1;
-    number != 0 && bit == 1 && word(image, header, 2) == number && byte(image, header, map) == 0
+    number != 0
+        && is_marked(image, number)
+        && word(image, header, 2) == number
+        && byte(image, header, map) == 0
 }
 
 /// The file with this number.
 fn file_of(alloc: Global, image: &Image, number: u16) -> Result<File, AllocError> {
-    let header = number as u32 + 2;
+    let header = header_place(image, number);
     Ok(File {
         owner: Uic {
             group: byte(image, header, 9),
@@ -182,7 +261,7 @@ pub fn image_of(alloc: Global, fixed: &FixedImage) -> Result<Image, ImageError> 
 /// The catalogue of a sound small volume. The protection of new files is that of LBN 1, the home block.
 pub fn plain_catalogue(alloc: Global, image: &Image) -> Result<Catalogue, AllocError> {
     let mut catalogue = Catalogue::new(alloc, word(image, 1, 36));
-    for number in 1..17 {
+    for number in 1..plain_last(image).wrapping_add(1) {
         if is_file(image, number) {
             let file = file_of(alloc, image, number)?;
             let id = plain_id(image, number);
@@ -226,12 +305,11 @@ pub fn plain_free_blocks(alloc: Global, image: &Image) -> Result<u32, AllocError
     Ok(free)
 }
 
-/// How many numbers are free: from 6 to 16, their index bit clear, and the sequence word of their header below 65,535.
+/// How many numbers are free: from 6 to the last, their index bit clear, and the sequence word of their header below 65,535.
 pub fn plain_free_numbers(image: &Image) -> u32 {
     let mut free = 0u32;
-    for number in 6..17u16 {
-        let bit = byte(image, 2, (number as usize - 1) / 8) >> ((number - 1) % 8) & 1;
-        if bit == 0 && word(image, number as u32 + 2, 4) < 65_535 {
+    for number in 6..plain_last(image).wrapping_add(1) {
+        if !is_marked(image, number) && word(image, header_place(image, number), 4) < 65_535 {
             free = free.wrapping_add(1);
         }
     }
@@ -242,6 +320,6 @@ pub fn plain_free_numbers(image: &Image) -> u32 {
 pub fn plain_id(image: &Image, number: u16) -> FileId {
     FileId {
         number,
-        sequence: word(image, number as u32 + 2, 4),
+        sequence: word(image, header_place(image, number), 4),
     }
 }

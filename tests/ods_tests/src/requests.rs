@@ -7,6 +7,7 @@ mod long_names;
 mod naming;
 mod plain_reader;
 mod random;
+mod random_growth;
 mod refused_memory;
 mod rows;
 mod sequences;

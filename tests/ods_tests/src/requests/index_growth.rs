@@ -1,7 +1,7 @@
 //! INDEXF.SYS grows inside a request that needs more numbers than are free. What can be said as data is in examples/rows.
 use super::growing::header_of;
 use super::rows::{create, dat, delete, id, made};
-use super::trial::{Trial, ask_quickly, has_totals, start};
+use super::trial::{Trial, ask_quickly, has_totals, plays, start};
 use crate::persons::USER;
 use crate::volumes::{Variant, block_of, run, sample_of};
 use ods_base::Block;
@@ -82,5 +82,27 @@ fn number_behind_the_last_comes_back(rt: HostRuntime) -> Result<(), Fail> {
     ask_quickly(&rt, &mut it, USER, &request, &made(17, 2))?;
     has_totals(&rt, &it, (14, 15, 0));
     assert!(rt; block_of(it.volume.image(), 23)? == &Block::zeros());
+    mounts_again(&rt, rt.alloc(), &it)
+}
+
+#[test]
+fn index_grows_until_no_block_is_free(rt: HostRuntime) -> Result<(), Fail> {
+    let c_dat = |blocks| create(&rt, dat(b'C'), blocks);
+    let d_dat = create(&rt, dat(b'D'), 0);
+    let rows = [
+        (create(&rt, dat(b'B'), 0), made(17, 1)),
+        (c_dat(18), Err(Refusal::VolumeFull)),
+        (c_dat(17), Err(Refusal::HeadersFull)),
+        (c_dat(16), made(18, 1)),
+        (d_dat, Err(Refusal::HeadersFull)),
+        (delete(id(6, 1)), Ok(Answer::Done)),
+        (d_dat, made(6, 2)),
+    ];
+    let mut it = without_a_free_number(&rt, rt.alloc())?;
+    plays(&rt, rt.alloc(), &mut it, &rows)?;
+    has_totals(&rt, &it, (15, 0, 0));
+    let index = header_of(it.volume.image(), 1)?;
+    assert!(rt; index.runs().as_slice() == [run(0, 19), run(22, 1), run(39, 1)].as_slice());
+    assert!(rt; it.volume.layout().place(18) == Some(39));
     mounts_again(&rt, rt.alloc(), &it)
 }

@@ -8,6 +8,7 @@ use super::rows::{
 use super::trial::{Trial, can_be_asked, is_lack, played, same_catalogue, start};
 use crate::dice::Dice;
 use crate::persons::{COLLEAGUE, DIR, MASTER, NONE, OWNER, STRANGER, SYSTEM, TXT, USER};
+use crate::reader::plain_growth;
 use crate::volumes::{Variant, sample_of};
 use ods_base::{Block, FileId, Image, Name, Pick, Uic};
 use ods_mount::mount;
@@ -152,6 +153,13 @@ fn wanted(request: &Request) -> u32 {
     }
 }
 
+/// Whether INDEXF.SYS can grow for all the headers that a request may want: it has room for the pointers, and behind the request's own
+/// blocks one is free for each number that may be passed over.
+fn grows_amply(image: &Image, free: u32, wanted: u32) -> bool {
+    let (open, blocks, room) = plain_growth(image);
+    4 <= open && 4 <= room && blocks <= free.saturating_sub(wanted)
+}
+
 /// Makes the request on both sides, and compares answers, refusals and what is lacking.
 pub fn ask_freely(
     rt: &impl Abort,
@@ -163,13 +171,16 @@ pub fn ask_freely(
     trial.nth = trial.nth.wrapping_add(1);
     let free = trial.volume.free_count();
     let numbers = trial.volume.number_count();
+    let grows = grows_amply(trial.volume.image(), free, wanted(request));
     let fault = trial.plain.fault(&who, request);
     let answer = trial.volume.request(2, trial.nth, who, *request);
     match &answer {
         Err(refusal) if is_lack(*refusal) => {
             let is_short = free < wanted(request);
             let is_full = *refusal == Refusal::VolumeFull;
-            let is_right = fault.is_none() && is_full == is_short && (is_short || numbers < 4);
+            let is_right = fault.is_none()
+                && is_full == is_short
+                && (is_short || numbers < 4 && !grows);
             is_so(rt, request, &answer, is_right);
         }
         Err(refusal) => is_so(rt, request, &answer, fault == Some(*refusal)),
@@ -207,7 +218,7 @@ fn is_so(rt: &impl Abort, request: &Request, answer: &Reply, holds: bool) {
 }
 
 /// The image is sound.
-fn mounts(rt: &impl Abort, alloc: Global, image: &Image) -> Result<(), Fail> {
+pub fn mounts(rt: &impl Abort, alloc: Global, image: &Image) -> Result<(), Fail> {
     let copy = image.copy()?;
     assert!(rt; mount(alloc, copy).is_ok(), "the image is not sound");
     Ok(())

@@ -187,6 +187,11 @@ fn refused_memory_leaves_growth_undone(rt: HostRuntime) -> Result<(), Fail> {
 
 /// P.DAT and Q.DAT, files 6,1 and 7,1, with 102 blocks each in turn, so that no first header has room for a pointer more.
 pub fn two_full_headers(alloc: Global) -> Result<Image, Fail> {
+    two_full_headers_below(alloc, 16)
+}
+
+/// The same, with this H.FMAX.
+fn two_full_headers_below(alloc: Global, most_files: u16) -> Result<Image, Fail> {
     let mut even = [run(0, 0); 102];
     let mut odd = even;
     for k in 0..102 {
@@ -194,6 +199,7 @@ pub fn two_full_headers(alloc: Global) -> Result<Image, Fail> {
         odd[k] = run(23 + 2 * k as u32, 1);
     }
     Variant {
+        most_files,
         headers: &[in_block(8, b'P', &even), in_block(9, b'Q', &odd)],
         ..sample_of(512)
     }
@@ -232,4 +238,20 @@ fn refused_memory_in_a_directory_that_grows(rt: HostRuntime) -> Result<(), Fail>
     }
     let image = sample_of(40).image(rt.alloc())?;
     plays_poor(&rt, rt.alloc(), image, rows.as_slice(), (16, 9))
+}
+
+/// Each of two files gets an extension header behind the last number, and so does a new file its first: INDEXF.SYS grows in each.
+#[test]
+fn refused_memory_in_an_index_that_grows(rt: HostRuntime) -> Result<(), Fail> {
+    let mut rows = Vec::new(rt.alloc());
+    for number in 8..17 {
+        rows.push((create(&rt, dat(b'B'), 0), made(number, 1)))?;
+    }
+    rows.push((extend(FIRST, 1), Ok(Answer::Extended(103))))?;
+    rows.push((create(&rt, a_txt(), 2), made(18, 1)))?;
+    rows.push((extend(SECOND, 1), Ok(Answer::Extended(103))))?;
+    rows.push((create(&rt, dat(b'B'), 0), Err(Refusal::HeadersFull)))?;
+    rows.push((delete(FIRST), Ok(Answer::Done)))?;
+    let image = two_full_headers_below(rt.alloc(), 19)?;
+    plays_poor(&rt, rt.alloc(), image, rows.as_slice(), (382, 2))
 }

@@ -6,7 +6,7 @@ ghost use Rattle.ods_state.specs.Outcome.{CanBeAsked, IsVersionNumber};
 use super::rows::{Reply, Row};
 use crate::persons::{NONE, USER};
 use crate::reader::{
-    plain_catalogue, plain_counts, plain_free_blocks, plain_free_numbers, plain_id,
+    plain_catalogue, plain_counts, plain_free_blocks, plain_free_numbers, plain_id, plain_last,
 };
 use crate::volumes::sample_of;
 use ods_base::{FileId, Image, Uic};
@@ -84,7 +84,7 @@ fn is_so(rt: &impl Abort, id: FileId, holds: bool) {
     assert!(rt; holds, "{id:?} is another file, or not there on one side");
 }
 
-/// Both catalogues have the same files with the numbers 1 to 16 of the image.
+/// Both catalogues have the same files with the numbers of the image.
 fn same_files(
     rt: &impl Abort,
     alloc: Global,
@@ -92,7 +92,7 @@ fn same_files(
     shown: &Catalogue,
     plain: &Catalogue,
 ) -> Result<(), Fail> {
-    for number in 1..17 {
+    for number in 1..plain_last(image).wrapping_add(1) {
         let id = plain_id(image, number);
         is_so(rt, id, same_file(alloc, shown.file(id), plain.file(id))?);
     }

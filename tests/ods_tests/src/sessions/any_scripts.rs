@@ -16,11 +16,13 @@ use ods_share::{Action, Id, Look, Script};
 use std::alloc::Global;
 use std::test::Fail;
 
-/// What the scripts of a run are made of: how many commands each has, and whether half of them are views.
+/// What a run is made of: how many commands each script has, whether half of them are views, and whether the volume has so few
+/// numbers that INDEXF.SYS grows.
 #[derive(Clone, Copy)]
 pub struct Mix {
     pub commands: u32,
     pub has_views: bool,
+    pub grows: bool,
 }
 
 /// A file that is there at first, or one that a session may make, or none.

@@ -39,10 +39,30 @@ pub struct Ran {
 
 /// The sample volume of 40 blocks with A.TXT, file 6,1, and B.TXT, file 7,1, of one block each.
 pub fn two_files(alloc: Global) -> Result<Image, Fail> {
+    two_files_below(alloc, 16, &[])
+}
+
+/// The same with H.FMAX 40, where INDEXF.SYS has to grow behind the third file: index bits 9 to 16 are set for no file.
+pub fn two_files_and_few_numbers(alloc: Global) -> Result<Image, Fail> {
+    let mut spent = [(9, true); 8];
+    for k in 0..8 {
+        spent[k] = (9 + k as u16, true);
+    }
+    two_files_below(alloc, 40, &spent)
+}
+
+/// The same with this H.FMAX and these index bits.
+fn two_files_below(
+    alloc: Global,
+    most_files: u16,
+    index_bits: &[(u16, bool)],
+) -> Result<Image, Fail> {
     let first = added(6, a_txt()).mapping(&[run(22, 1)]);
     let second = added(7, b_txt()).mapping(&[run(23, 1)]);
     Variant {
+        most_files,
         headers: &[(8, first), (9, second)],
+        index_bits,
         ..sample_of(40)
     }
     .image(alloc)

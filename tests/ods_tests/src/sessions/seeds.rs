@@ -1,8 +1,8 @@
 //! Eight sessions of commands by seeds: each run settles, and its list, replayed by the plain program, gives what the blocks show.
 use super::any_scripts::{Mix, eight_scripts};
-use super::runs::{Open, Ran, calls_of, run_on, two_file_volume};
+use super::runs::{Open, Ran, calls_of, run_on, two_files, two_files_and_few_numbers, volume_of};
 use crate::persons::{NONE, USER};
-use crate::reader::{image_of, plain_catalogue};
+use crate::reader::{image_of, plain_catalogue, plain_last};
 use ods_base::FileId;
 use ods_plain::Catalogue;
 use ods_request::{Answer, Entry, Request};
@@ -21,6 +21,7 @@ const RUNS: u64 = 20;
 const MIX: Mix = Mix {
     commands: 500,
     has_views: false,
+    grows: false,
 };
 
 /// The scripts of a seed, and what came of them.
@@ -30,14 +31,19 @@ pub struct RanBySeed {
     pub ran: Ran,
 }
 
-/// Runs the eight scripts of a seed on the volume with two files: each command has a reply.
+/// Runs the eight scripts of a seed on a volume with two files: each command has a reply.
 pub fn run_by_seed<R: Abort + Threads + Wait + Sync>(
     rt: &R,
     alloc: Global,
     seed: u64,
     mix: Mix,
 ) -> Result<RanBySeed, Fail> {
-    let volume = two_file_volume(rt, alloc, 4_096)?;
+    let image = if mix.grows {
+        two_files_and_few_numbers(alloc)?
+    } else {
+        two_files(alloc)?
+    };
+    let volume = volume_of(rt, alloc, image, 4_096)?;
     let scripts = eight_scripts(alloc, seed, mix)?;
     let ran = run_on(rt, alloc, volume, scripts.as_slice(), &Open)?;
     assert!(rt; ran.outcomes.len() == 8);
@@ -111,7 +117,7 @@ fn is_replayed(rt: &impl Abort, alloc: Global, volume: &Volume) -> Result<(), Fa
         replay(rt, &mut plain, entry)?;
     }
     let mut shown = plain_catalogue(alloc, volume.image())?;
-    for number in 1..17 {
+    for number in 1..plain_last(volume.image()).wrapping_add(1) {
         for sequence in 1..17 {
             same_file(rt, &mut shown, &mut plain, FileId { number, sequence });
         }
@@ -119,16 +125,34 @@ fn is_replayed(rt: &impl Abort, alloc: Global, volume: &Volume) -> Result<(), Fa
     Ok(())
 }
 
+/// Each run of a mix settles, and is replayed. Returns in how many INDEXF.SYS grew.
+fn settle_all<R: Abort + Threads + Wait + Sync>(
+    rt: &R,
+    alloc: Global,
+    mix: Mix,
+) -> Result<u32, Fail> {
+    let mut growths = 0u32;
+    for seed in 0..RUNS {
+        let RanBySeed { ran, .. } = run_by_seed(rt, alloc, seed, mix)?;
+        for outcome in &ran.outcomes {
+            replies_are_answers(rt, outcome);
+        }
+        is_replayed(rt, alloc, &ran.volume)?;
+        growths = growths.wrapping_add(u32::from(16 < plain_last(ran.volume.image())));
+        seed_settles(rt, alloc, seed, ran)?;
+    }
+    Ok(growths)
+}
+
 #[test]
 fn eight_sessions_settle(rt: HostRuntime) -> Result<(), Fail> {
-    let alloc = rt.alloc();
-    for seed in 0..RUNS {
-        let RanBySeed { ran, .. } = run_by_seed(&rt, alloc, seed, MIX)?;
-        for outcome in &ran.outcomes {
-            replies_are_answers(&rt, outcome);
-        }
-        is_replayed(&rt, alloc, &ran.volume)?;
-        seed_settles(&rt, alloc, seed, ran)?;
-    }
+    settle_all(&rt, rt.alloc(), MIX)?;
+    Ok(())
+}
+
+#[test]
+fn eight_sessions_settle_where_the_index_grows(rt: HostRuntime) -> Result<(), Fail> {
+    let growths = settle_all(&rt, rt.alloc(), Mix { grows: true, ..MIX })?;
+    assert!(&rt; growths == RUNS as u32, "INDEXF.SYS grew in {growths} runs");
     Ok(())
 }

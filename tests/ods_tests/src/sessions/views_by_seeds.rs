@@ -3,7 +3,7 @@
 use super::any_scripts::Mix;
 use super::seeds::{RanBySeed, replay, run_by_seed, seed_settles};
 use crate::persons::{NONE, USER};
-use crate::reader::{image_of, plain_catalogue};
+use crate::reader::{image_of, plain_catalogue, plain_last};
 use ods_base::{FileId, Uic};
 use ods_plain::{Catalogue, StepError};
 use ods_request::{Answer, Entry, Request};
@@ -11,7 +11,9 @@ use ods_share::{Action, Command, CompactAnswer, Id, Look, Outcome, Reply, Script
 use ods_volume::Volume;
 use std::alloc::Global;
 use std::process::Abort;
+use std::sync::Wait;
 use std::test::Fail;
+use std::thread::Threads;
 
 /// How many runs there are.
 const RUNS: u64 = 50;
@@ -20,6 +22,7 @@ const RUNS: u64 = 50;
 const MIX: Mix = Mix {
     commands: 60,
     has_views: true,
+    grows: false,
 };
 
 /// The list of a volume, replayed by the plain program as far as a session has been answered and shown.
@@ -157,17 +160,38 @@ fn is_shown_in_order(
     Ok(())
 }
 
-#[test]
-fn views_of_eight_sessions_are_in_order(rt: HostRuntime) -> Result<(), Fail> {
-    let alloc = rt.alloc();
+/// The views of all runs of a mix are in order. Returns in how many INDEXF.SYS grew.
+fn show_all<R: Abort + Threads + Wait + Sync>(
+    rt: &R,
+    alloc: Global,
+    mix: Mix,
+) -> Result<u32, Fail> {
+    let mut growths = 0u32;
     for seed in 0..RUNS {
-        let RanBySeed { scripts, ran } = run_by_seed(&rt, alloc, seed, MIX)?;
+        let RanBySeed { scripts, ran } = run_by_seed(rt, alloc, seed, mix)?;
         let mut session = 0u16;
         for (script, outcome) in scripts.iter().zip(ran.outcomes.iter()) {
             session = session.wrapping_add(1);
-            is_shown_in_order(&rt, alloc, &ran.volume, session, script, outcome)?;
+            is_shown_in_order(rt, alloc, &ran.volume, session, script, outcome)?;
         }
-        seed_settles(&rt, alloc, seed, ran)?;
+        growths = growths.wrapping_add(u32::from(16 < plain_last(ran.volume.image())));
+        seed_settles(rt, alloc, seed, ran)?;
     }
+    Ok(growths)
+}
+
+#[test]
+fn views_of_eight_sessions_are_in_order(rt: HostRuntime) -> Result<(), Fail> {
+    show_all(&rt, rt.alloc(), MIX)?;
+    Ok(())
+}
+
+#[test]
+fn views_are_in_order_where_the_index_grows(rt: HostRuntime) -> Result<(), Fail> {
+    let growths = show_all(&rt, rt.alloc(), Mix { grows: true, ..MIX })?;
+    assert!(&rt;
+        2 * growths >= RUNS as u32,
+        "INDEXF.SYS grew in {growths} runs"
+    );
     Ok(())
 }
