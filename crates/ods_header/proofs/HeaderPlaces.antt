@@ -90,11 +90,11 @@ range_append a (suc n) m =
     let next : a + 1 + n ≡ a + suc n = omega arith in
     ap (range_with_len a) place ∙ ap (λ l. a ∷ l) (range_append (a + 1) n m ∙ ap (λ k. range_with_len (a + 1) n ++ range_with_len k m) next)
 
-map_append : (f : ℕ → Run) (xs ys : List ℕ) → map f (xs ++ ys) ≡ map f xs ++ map f ys
+pub map_append : (f : ℕ → Run) (xs ys : List ℕ) → map f (xs ++ ys) ≡ map f xs ++ map f ys
 map_append f [] ys = refl
 map_append f (x ∷ xs) ys = ap (λ l. f x ∷ l) (map_append f xs ys)
 
-map_alike : (f g : ℕ → Run) (n a : ℕ) → ((k : ℕ) → k < a + n → f k ≡ g k) → map f (range_with_len a n) ≡ map g (range_with_len a n)
+pub map_alike : (f g : ℕ → Run) (n a : ℕ) → ((k : ℕ) → k < a + n → f k ≡ g k) → map f (range_with_len a n) ≡ map g (range_with_len a n)
 map_alike f g zero a same = refl
 map_alike f g (suc n) a same =
     let first : f a ≡ g a = same a (omega arith) in

@@ -14,3 +14,4 @@ pub mod Written
 pub mod AllButOne
 pub mod OtherFront
 pub mod DirectoryHeaders
+pub mod Cutting

@@ -3,6 +3,7 @@
 
 mod append;
 mod contiguous;
+mod cut;
 mod delete;
 mod extension;
 mod fault;
@@ -21,6 +22,7 @@ mod write;
 
 pub use append::{append_runs, grown_last, with_next};
 pub use contiguous::without_contiguous;
+pub use cut::cut_header;
 pub use delete::deleted_header;
 pub use extension::extension_block;
 pub use fault::LineFault;
