@@ -17,38 +17,41 @@ use Rattle.ods_alloc.specs.Marks.{Deletes, HasPlaces}
 use Rattle.ods_alloc.proofs.Giving.{one_deleted}
 use Rattle.ods_alloc.proofs.Places.{has_places, place_inside}
 
--- of all headers the blocks and the numbers of the first ones are noted, and those are still to come
-pub record AreNoted (all rest : List (ℕ × List ℕ)) (blocks numbers : List ℕ) : Type 0 where
-  pub named : named_by all ≡ blocks ++ named_by rest
+-- behind the blocks that were there, the blocks and the numbers of the first of all headers are noted, and those are still to come
+pub record AreNoted (start : List ℕ) (all rest : List (ℕ × List ℕ)) (blocks numbers : List ℕ) : Type 0 where
+  pub named : start ++ named_by all ≡ blocks ++ named_by rest
   pub numbered : numbers_of all ≡ numbers ++ numbers_of rest
 
-pub none_noted : (all rest : List (ℕ × List ℕ)) (blocks numbers : List ℕ) → rest ≡ all → blocks ≡ [] → numbers ≡ [] → AreNoted all rest blocks numbers
-none_noted all rest blocks numbers is no_block no_number = record {
-  named = ap named_by (sym is) ∙ ap (λ bs. bs ++ named_by rest) (sym no_block);
-  numbered = ap numbers_of (sym is) ∙ ap (λ ns. ns ++ numbers_of rest) (sym no_number);
-}
+pub none_noted : (start : List ℕ) (all : List (ℕ × List ℕ)) (numbers : List ℕ) → numbers ≡ [] → AreNoted start all all start numbers
+none_noted start all numbers no_number = record { named = refl; numbered = ap (λ ns. ns ++ numbers_of all) (sym no_number) }
 
-pub one_noted : (all hs rest : List (ℕ × List ℕ)) (blocks numbers more_blocks more_numbers : List ℕ) (h : ℕ × List ℕ) → hs ≡ h ∷ rest
-    → more_blocks ≡ blocks ++ blocks_of h.1 → more_numbers ≡ numbers ++ h.0 ∷ [] → AreNoted all hs blocks numbers → AreNoted all rest more_blocks more_numbers
-one_noted all hs rest blocks numbers more_blocks more_numbers h next bs ns before = record {
+pub one_noted : (start : List ℕ) (all hs rest : List (ℕ × List ℕ)) (blocks numbers more_blocks more_numbers : List ℕ) (h : ℕ × List ℕ) → hs ≡ h ∷ rest
+    → more_blocks ≡ blocks ++ blocks_of h.1 → more_numbers ≡ numbers ++ h.0 ∷ [] → AreNoted start all hs blocks numbers → AreNoted start all rest more_blocks more_numbers
+one_noted start all hs rest blocks numbers more_blocks more_numbers h next bs ns before = record {
   named = before.named ∙ ap (λ l. blocks ++ named_by l) next ∙ sym (append_assoc blocks (blocks_of h.1) (named_by rest)) ∙ ap (λ l. l ++ named_by rest) (sym bs);
   numbered = before.numbered ∙ ap (λ l. numbers ++ numbers_of l) next ∙ sym (append_assoc numbers (h.0 ∷ []) (numbers_of rest)) ∙ ap (λ l. l ++ numbers_of rest) (sym ns);
 }
 
--- when no header is left, the blocks and the numbers are the chain's
-pub all_noted : (I : List (List ℕ)) (L : VolumeLayout) (n : ℕ) (rest : List (ℕ × List ℕ)) (blocks numbers : List ℕ) → IsImage I → IsLayoutOf I L → AreNoted (headers_of I L n) rest blocks numbers → rest ≡ []
-    → (others all : List ℕ) → IsChain I L n others all → (blocks ≡ all) × (numbers ≡ n ∷ others)
-all_noted I L n rest blocks numbers image layout noted none others all chain =
-    let seen = chain_seen I L n others all image layout chain in (
-      sym (append-nil blocks) ∙ ap (λ l. blocks ++ named_by l) (sym none) ∙ sym noted.named ∙ ap named_by seen.headers ∙ sym seen.named,
-      sym (append-nil numbers) ∙ ap (λ l. numbers ++ numbers_of l) (sym none) ∙ sym noted.numbered ∙ seen.numbers,
-    )
+-- when no header is left, all are noted
+pub all_noted : (start : List ℕ) (all rest : List (ℕ × List ℕ)) (blocks numbers : List ℕ) → AreNoted start all rest blocks numbers → rest ≡ []
+    → (blocks ≡ start ++ named_by all) × (numbers ≡ numbers_of all)
+all_noted start all rest blocks numbers noted none = (
+  sym (append-nil blocks) ∙ ap (λ l. blocks ++ named_by l) (sym none) ∙ sym noted.named,
+  sym (append-nil numbers) ∙ ap (λ l. numbers ++ numbers_of l) (sym none) ∙ sym noted.numbered,
+)
+
+-- of a file's chain these are its blocks and its headers
+pub chain_noted : (I : List (List ℕ)) (L : VolumeLayout) (n : ℕ) (all : List (ℕ × List ℕ)) (blocks numbers : List ℕ) → IsImage I → IsLayoutOf I L → all ≡ headers_of I L n
+    → blocks ≡ named_by all → numbers ≡ numbers_of all → (others held : List ℕ) → IsChain I L n others held → (blocks ≡ held) × (numbers ≡ n ∷ others)
+chain_noted I L n all blocks numbers image layout is named counted others held chain =
+    let seen = chain_seen I L n others held image layout chain in
+    (named ∙ ap named_by (is ∙ seen.headers) ∙ sym seen.named, counted ∙ ap numbers_of is ∙ seen.numbers)
 
 -- each of these headers stands in I under its number
 abbrev pub AreRead : List (List ℕ) → VolumeLayout → List (ℕ × List ℕ) → Type 0
 AreRead I L headers = All (λ h. h.1 ≡ header_at I L h.0) headers
 
-numbered_read : (I : List (List ℕ)) (L : VolumeLayout) (ns : List ℕ) → AreRead I L (numbered I L ns)
+pub numbered_read : (I : List (List ℕ)) (L : VolumeLayout) (ns : List ℕ) → AreRead I L (numbered I L ns)
 numbered_read I L [] k d within = absurd (omega (arith, within))
 numbered_read I L (n ∷ ns) zero d within = refl
 numbered_read I L (n ∷ ns) (suc k) d within = numbered_read I L ns k d (omega (arith, within))

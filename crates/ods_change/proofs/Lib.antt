@@ -29,3 +29,6 @@ pub mod Begun
 pub mod BegunFiles
 pub mod BegunDirectories
 pub mod StillLayout
+pub mod ChainCuts
+pub mod CuttingOff
+pub mod CuttingFile

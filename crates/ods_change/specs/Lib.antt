@@ -3,3 +3,4 @@ pub mod Creating
 pub mod Entering
 pub mod Taking
 pub mod Extending
+pub mod Truncating

@@ -1,7 +1,8 @@
 //! A Delete: its checks, and the draft that gives back what the file has.
-ghost use Rattle.std.specs.Prelude.{◌≡◌, ◌==◌, ◌<◌, [], ◌∷◌, ℕ, List, not, IfOk, IfErr, MatchResult, None};
+ghost use Rattle.std.specs.Prelude.{◌≡◌, ◌==◌, ◌<◌, [], ◌∷◌, ◌++◌, ℕ, List, not, IfOk, IfErr, MatchResult, None};
+ghost use Rattle.std.specs.List.{All};
 ghost use Rattle.std.specs.FinMap.{len};
-ghost use Rattle.ods_space.specs.{Draft.applied, Layout.header_at, Chain.IsChain, Files.IsFile, Files.HasBlocks, Files.IsLayoutOf, Files.IsWhole};
+ghost use Rattle.ods_space.specs.{Draft.applied, Layout.header_at, Chain.named_by, Chain.numbers_of, Files.IsFile, Files.HasBlocks, Files.IsLayoutOf, Files.IsWhole};
 ghost use Rattle.ods_alloc.specs.{Extend.GivesBack, Extend.IsWellPlaced, Marks.Deletes};
 ghost use Rattle.ods_mount.specs.{Faults.contents_of, Sound.IsSoundBy};
 ghost use Rattle.ods_request.specs.{declared.answers.Answer.TheVariants.Done, declared.requests.Request.TheVariants.Delete, Catalogue.Catalogue, Catalogue.names_of, Faults.fault_of};
@@ -98,43 +99,40 @@ fn without_file(
     ensures { IfOk result (λ draft. (others blocks : List ℕ) → IsWhole image.now layout.now number others blocks
         → GivesBack image.now layout.now blocks (number ∷ others) (applied image.now draft)) }
 {
+    // The blocks of an image have bytes, so a chain has at most 256 headers.
+    let _ = image.len();
+    let headers = ChainHeaders::from(image, layout, number, first);
     let mut draft = Draft::new(alloc);
-    let held = delete_chain(alloc, image, layout, number, first, &mut draft)?;
+    let held = delete_headers(alloc, image, layout, Vec::new(alloc), headers, &mut draft)?;
     let given = mark_free(image, layout, &held.lbns, &held.numbers, draft)?;
     Ok(given)
 }
 
-/// What a file has: the LBNs of its blocks and the numbers of its headers, both in order.
+/// What a file gives back: the LBNs of blocks and the numbers of headers, both in order.
 #[derive(Drop)]
-struct Held {
-    lbns: Vec<u32>,
-    numbers: Vec<u16>,
+pub(crate) struct Held {
+    pub lbns: Vec<u32>,
+    pub numbers: Vec<u16>,
 }
 
-/// Deletes the headers of the file with this first header, in a new draft, and notes what the file has: its chain is
-/// walked once.
-fn delete_chain(
+/// Deletes these headers of a chain, in a new draft, and notes their numbers, and their blocks behind those that are
+/// noted already: the headers are gone along once.
+pub(crate) fn delete_headers(
     alloc: Global,
     image: &Image,
     layout: &Layout,
-    number: u16,
-    first: &Block,
+    mut lbns: Vec<u32>,
+    mut headers: ChainHeaders<'_>,
     draft: &mut Draft,
 ) -> Result<Held, AllocError>
     requires layout { IsLayoutOf image.now layout.now }
     requires places { IsWellPlaced layout.now }
-    requires chain { (others : List ℕ) × (blocks : List ℕ) × IsChain image.now layout.now number others blocks }
-    requires first { first.now ≡ header_at image.now layout.now number }
+    requires read { All (λ h. h.1 ≡ header_at image.now layout.now h.0) headers }
     requires new { draft.old ≡ [] }
-    ensures held { IfOk result (λ held. (others blocks : List ℕ) → IsChain image.now layout.now number others blocks
-        → (held.lbns.items ≡ blocks) × (held.numbers.items ≡ number ∷ others)) }
+    ensures held { IfOk result (λ held. (held.lbns.items ≡ lbns.items ++ named_by headers.entry) × (held.numbers.items ≡ numbers_of headers.entry)) }
     ensures deleted { IfOk result (λ held. Deletes image.now layout.now held.numbers.items (applied image.now draft.new)) }
 {
-    // The blocks of an image have bytes, so a chain has at most 256 headers.
-    let _ = image.len();
-    let mut lbns = Vec::new(alloc);
     let mut numbers = Vec::new(alloc);
-    let mut headers = ChainHeaders::from(image, layout, number, first);
     while let Some((at, header)) = headers.next() {
         if let Some(lbn) = layout.place(at) {
             draft.set(lbn, deleted_header(header))?;

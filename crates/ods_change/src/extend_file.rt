@@ -57,7 +57,7 @@ fn is_bad_count(count: u32) -> bool
 }
 
 /// Whether the protection in this first header grants the user the right to extend.
-fn may_extend(header: &Block, who: Uic) -> bool
+pub(crate) fn may_extend(header: &Block, who: Uic) -> bool
     ensures { result ≡ permits who (owner_of header.now) (protection_of header.now) Right.Extend }
 {
     permits(&who, &owner(header), protection(header), Right::Extend)

@@ -12,6 +12,7 @@ mod enter_within;
 mod entry;
 mod extend_file;
 mod taking;
+mod truncate_file;
 
 pub use beginning::Drafted;
 pub use block_changes::{remove, set_user, write};
@@ -19,3 +20,4 @@ pub use create_file::create;
 pub use delete_file::delete;
 pub use enter_name::enter;
 pub use extend_file::extend;
+pub use truncate_file::truncate;

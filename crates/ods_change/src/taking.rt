@@ -81,7 +81,7 @@ pub(crate) fn ends_with<'a>(
 }
 
 /// How many blocks the pointers of a header map.
-fn mapped(header: &Block) -> u32
+pub(crate) fn mapped(header: &Block) -> u32
     requires { IsLaidOut header.now }
     ensures count { result ≡ length (blocks_of header.now) }
     ensures few { result ≤ header_blocks }

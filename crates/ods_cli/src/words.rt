@@ -206,6 +206,7 @@ A line of a script is one command, and each is answered by OK, NO and a refusal,
   USER [g,m]              go on as this user; the first is [1,1]
   CREATE name n           make a file of n blocks
   EXTEND id n             add n blocks
+  TRUNCATE id n           keep the first n blocks
   DELETE id               delete a file
   ENTER id name id        enter a name in a directory
   LOOK id name            look a name up

@@ -3,7 +3,7 @@ use Rattle.std.specs.Prelude.{◌≡◌, Bool, true, false, None, Some}
 use Rattle.ods_base.specs.declared.file_id.FileId.{FileId}
 use Rattle.ods_base.specs.declared.file_id.Uic.{Uic}
 use Rattle.ods_request.specs.declared.requests.Request.{Request}
-use Rattle.ods_request.specs.declared.requests.Request.TheVariants.{Create, Extend, Delete, Enter, LookUp, Remove, Read, Write, List as Lines, Stat, SetUser}
+use Rattle.ods_request.specs.declared.requests.Request.TheVariants.{Create, Extend, Truncate, Delete, Enter, LookUp, Remove, Read, Write, List as Lines, Stat, SetUser}
 use Rattle.ods_request.specs.Catalogue.{Catalogue}
 use Rattle.ods_request.specs.Faults.{fault_of}
 use Rattle.ods_request.specs.Steps.{is_new}
@@ -15,6 +15,7 @@ use Rattle.ods_plain.specs.declared.steps.StepError.TheVariants.{Refused, NotNew
 abbrev pub may_lack_room : Request → Bool
 may_lack_room (Create name version blocks stamp) = true
 may_lack_room (Extend file blocks) = true
+may_lack_room (Truncate file blocks) = false
 may_lack_room (Delete file) = false
 may_lack_room (Enter dir name version file) = true
 may_lack_room (LookUp dir name pick) = false

@@ -127,6 +127,16 @@ impl Catalogue {
         row.grow(blocks)
     }
 
+    /// Makes a Truncate: the file keeps so many of its blocks, the first ones.
+    pub(crate) fn truncate(&mut self, file: FileId, blocks: u32)
+        requires { IsAllowed self.old (Request.Truncate file blocks) }
+        ensures { self.new ≡ after self.old (Request.Truncate file blocks) }
+    {
+        let at = place(self.rows.as_slice(), file);
+        let row = &mut self.rows[at];
+        row.keep(blocks);
+    }
+
     /// Makes a Delete: takes the file out. Names of it stay.
     pub(crate) fn delete(&mut self, file: FileId)
         ensures { self.new ≡ after self.old (Request.Delete file) }

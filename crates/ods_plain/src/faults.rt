@@ -83,6 +83,12 @@ impl Catalogue {
                 (*blocks > 65_535 || *blocks == 0, Refusal::BadCount),
                 (found.is_denied(who, Right::Extend), Refusal::Denied),
             ]),
+            Request::Truncate { file, blocks } => on_file!(self.file(*file), found => [
+                (is_reserved(*file), Refusal::Reserved),
+                (found.is_directory(), Refusal::IsDirectory),
+                (found.has_fewer(*blocks), Refusal::BadCount),
+                (found.is_denied(who, Right::Extend), Refusal::Denied),
+            ]),
             Request::Delete { file } => on_file!(self.file(*file), found => [
                 (is_reserved(*file), Refusal::Reserved),
                 (found.is_denied(who, Right::Delete), Refusal::Denied),

@@ -1,8 +1,8 @@
 //! Files, and what a request asks of one.
-ghost use Rattle.std.specs.Prelude.{◌≡◌, ◌==◌, ◌<◌, ◌+◌, ◌-◌, [], length, slice_index_or, unwrap_or, false, None, IsTrue, IfOk, OnOk, OnErr};
+ghost use Rattle.std.specs.Prelude.{◌≡◌, ◌==◌, ◌<◌, ◌+◌, ◌-◌, [], length, nat_lt, slice_index_or, unwrap_or, false, None, IsTrue, IfOk, OnOk, OnErr};
 ghost use Rattle.std.specs.FinMap as finite;
 ghost use Rattle.ods_base.specs.{Name.key_of, Names.picked_version, Names.last_version, Names.entered_version, Names.lines_of};
-ghost use Rattle.ods_request.specs.{Catalogue.Directory, Catalogue.Plain, Catalogue.is_directory, Catalogue.names_of, Catalogue.blocks_of, Faults.is_denied, Faults.lacks_block, Steps.with_body, Steps.grown, Steps.written, Steps.kind_of, Steps.no_id};
+ghost use Rattle.ods_request.specs.{Catalogue.Directory, Catalogue.Plain, Catalogue.is_directory, Catalogue.names_of, Catalogue.blocks_of, Faults.is_denied, Faults.lacks_block, Steps.with_body, Steps.grown, Steps.first_blocks, Steps.written, Steps.kind_of, Steps.no_id};
 
 use crate::names::Names;
 use ods_base::{Block, FileId, Listed, Name, Pick, Uic};
@@ -72,6 +72,17 @@ impl File {
         ensures { result ≡ is_denied (file_of self.now) who.now right }
     {
         !permits(who, &self.owner, self.protection, right)
+    }
+
+    /// Whether it has fewer blocks than these. What is no plain file has none.
+    pub(crate) fn has_fewer(&self, count: u32) -> bool
+        ensures { result ≡ nat_lt (length (blocks_of (body_of self.now.body))) count }
+    {
+        match &self.body {
+            Body::System => 0 < count,
+            Body::Directory(_) => 0 < count,
+            Body::Plain { blocks, .. } => blocks.as_slice().len() < count as usize,
+        }
     }
 
     /// Whether it has no block with this virtual block number, counted from 1.
@@ -234,6 +245,17 @@ impl File {
                 self.user_char &= 127;
                 Ok(answer)
             }
+            Body::System | Body::Directory(_) => unreachable!(),
+        }
+    }
+
+    /// Keeps so many of a plain file's blocks, the first ones.
+    pub(crate) fn keep(&mut self, count: u32)
+        requires { IsTrue (is_plain (body_of self.old.body)) }
+        ensures { file_of self.new ≡ with_body (file_of self.old) (first_blocks (body_of self.old.body) count) }
+    {
+        match &mut self.body {
+            Body::Plain { blocks, .. } => blocks.truncate(count as usize),
             Body::System | Body::Directory(_) => unreachable!(),
         }
     }

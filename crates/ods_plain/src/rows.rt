@@ -3,7 +3,7 @@ ghost use Rattle.std.specs.Prelude.{◌≡◌, ◌==◌, ◌≤◌, ◌+◌, len
 ghost use Rattle.std.specs.List.{filter, list_any};
 ghost use Rattle.std.specs.FinMap as finite;
 ghost use Rattle.ods_base.specs.Name.{key_of};
-ghost use Rattle.ods_request.specs.{Catalogue.Directory, Catalogue.Plain, Catalogue.is_directory, Catalogue.names_of, Catalogue.blocks_of, Equal.same_id, Faults.is_reserved, Faults.lacks_block, Steps.with_body, Steps.grown, Steps.written};
+ghost use Rattle.ods_request.specs.{Catalogue.Directory, Catalogue.Plain, Catalogue.is_directory, Catalogue.names_of, Catalogue.blocks_of, Equal.same_id, Faults.is_reserved, Faults.lacks_block, Steps.with_body, Steps.grown, Steps.first_blocks, Steps.written};
 ghost use Rattle.ods_plain.specs.Rows.{place_of};
 
 use crate::files::File;
@@ -68,6 +68,15 @@ impl Row {
         ensures err { OnErr result (self.new ≡ self.old) }
     {
         self.file.grow(blocks)
+    }
+
+    /// Keeps so many of the file's blocks, the first ones.
+    pub(crate) fn keep(&mut self, count: u32)
+        requires own { is_reserved self.old.0 ≡ false }
+        requires no_directory { is_directory self.old.1.body ≡ false }
+        ensures { self.new ≡ (self.old.0, with_body self.old.1 (first_blocks self.old.1.body count)) }
+    {
+        self.file.keep(count);
     }
 
     /// Replaces the block with this virtual block number, counted from 1.

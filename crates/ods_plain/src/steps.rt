@@ -58,6 +58,10 @@ impl Catalogue {
                 file,
                 blocks: count,
             } => Ok(Answer::Extended(self.extend(*file, *count)?)),
+            Request::Truncate { file, blocks } => {
+                self.truncate(*file, *blocks);
+                Ok(Answer::Truncated(*blocks))
+            }
             Request::Delete { file } => {
                 self.delete(*file);
                 Ok(Answer::Done)

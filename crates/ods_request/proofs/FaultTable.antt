@@ -1,6 +1,6 @@
 -- What is refused, by request: for callers that do not unfold the whole table.
 use Rattle.std.proofs.Common.{◌≡◌, ℕ, Bool, true, false, cond, refl, List, [], ◌∷◌, Option, Some, None}
-use Rattle.std.specs.Prelude.{not, ◌||◌, ◌==◌, nat_lt, is_none}
+use Rattle.std.specs.Prelude.{not, ◌||◌, ◌==◌, nat_lt, is_none, length}
 use Rattle.std.specs.FinMap as map
 use Rattle.ods_base.specs.declared.file_id.Uic.{Uic}
 use Rattle.ods_base.specs.declared.file_id.FileId.{FileId}
@@ -9,9 +9,9 @@ use Rattle.ods_base.specs.Name.{RadName}
 use Rattle.ods_base.specs.Names.{picked_version}
 use Rattle.ods_request.specs.declared.refusals.Refusal.{Refusal}
 use Rattle.ods_request.specs.declared.refusals.Refusal.TheVariants as refusal
-use Rattle.ods_request.specs.declared.requests.Request.TheVariants.{Create, Extend, Delete, Enter, LookUp, Remove, Read, Write, List as Lines, Stat, SetUser}
+use Rattle.ods_request.specs.declared.requests.Request.TheVariants.{Create, Extend, Truncate, Delete, Enter, LookUp, Remove, Read, Write, List as Lines, Stat, SetUser}
 use Rattle.ods_request.specs.declared.rights.Right.TheVariants as right
-use Rattle.ods_request.specs.Catalogue.{Catalogue, File, names_of, is_directory}
+use Rattle.ods_request.specs.Catalogue.{Catalogue, File, blocks_of, names_of, is_directory}
 use Rattle.ods_request.specs.Faults.{fault_of, first_of, on_file, is_reserved, is_map, is_denied, lacks_block, cannot_enter}
 
 pub fault_create : (C : Catalogue) (who : Uic) (name : RadName) (version : ℕ) (blocks : ℕ) (stamp : List ℕ) → fault_of C who (Create name version blocks stamp) ≡ first_of ((nat_lt 65535 blocks, refusal.BadCount) ∷ [])
@@ -23,6 +23,12 @@ pub fault_extend : (C : Catalogue) (who : Uic) (file : FileId) (blocks : ℕ) �
     ∷ (nat_lt 65535 blocks || (blocks == 0), refusal.BadCount) ∷ (is_denied f who right.Extend, refusal.Denied) ∷ [])
 unfolding fault_of
 fault_extend C who file blocks = refl
+
+pub fault_truncate : (C : Catalogue) (who : Uic) (file : FileId) (blocks : ℕ) → fault_of C who (Truncate file blocks) ≡ on_file (map.get C.files file) (λ f.
+    (is_reserved file, refusal.Reserved) ∷ (is_directory f.body, refusal.IsDirectory)
+    ∷ (nat_lt (length (blocks_of f.body)) blocks, refusal.BadCount) ∷ (is_denied f who right.Extend, refusal.Denied) ∷ [])
+unfolding fault_of
+fault_truncate C who file blocks = refl
 
 pub fault_delete : (C : Catalogue) (who : Uic) (file : FileId) → fault_of C who (Delete file) ≡ on_file (map.get C.files file) (λ f.
     (is_reserved file, refusal.Reserved) ∷ (is_denied f who right.Delete, refusal.Denied)

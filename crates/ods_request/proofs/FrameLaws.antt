@@ -11,7 +11,7 @@ use Rattle.ods_base.proofs.Picks.{tied}
 use Rattle.ods_base.specs.declared.file_id.Uic.{Uic}
 use Rattle.ods_base.specs.declared.file_id.FileId.{FileId}
 use Rattle.ods_request.specs.declared.requests.Request.{Request}
-use Rattle.ods_request.specs.declared.requests.Request.TheVariants.{Create, Extend, Delete, Enter, LookUp, Remove, Read, Write, List as Lines, Stat, SetUser}
+use Rattle.ods_request.specs.declared.requests.Request.TheVariants.{Create, Extend, Truncate, Delete, Enter, LookUp, Remove, Read, Write, List as Lines, Stat, SetUser}
 use Rattle.ods_request.specs.declared.answers.Answer.{Answer}
 use Rattle.ods_request.specs.Catalogue.{Catalogue, File, file_cmp}
 use Rattle.ods_request.specs.Steps.{step, change, after, answer_of, create, created, created_id, new_file, is_new, is_used}
@@ -73,6 +73,7 @@ make_step : (C D : Catalogue) (who : Uic) (r : Request) (a : Answer) → creates
 unfolding change
 make_step C D who (Create name version blocks stamp) a h e = (some_made C D (new_file C who name version blocks stamp) a (created_id a) refl e, refl)
 make_step C D who (Extend file blocks) a h e = absurd (cc)
+make_step C D who (Truncate file blocks) a h e = absurd (cc)
 make_step C D who (Delete file) a h e = absurd (cc)
 make_step C D who (Enter dir name version file) a h e = absurd (cc)
 make_step C D who (LookUp dir name pick) a h e = absurd (cc)

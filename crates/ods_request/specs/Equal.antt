@@ -8,9 +8,9 @@ use Rattle.ods_base.specs.declared.listed.Listed.{Listed}
 use Rattle.ods_base.specs.declared.name.Pick.{Pick}
 use Rattle.ods_base.specs.declared.name.Pick.TheVariants.{Exact, Highest, Lowest}
 use Rattle.ods_request.specs.declared.requests.Request.{Request}
-use Rattle.ods_request.specs.declared.requests.Request.TheVariants.{Create, Extend, Delete, Enter, LookUp, Remove, Read, Write, List as Lines, Stat as Show, SetUser}
+use Rattle.ods_request.specs.declared.requests.Request.TheVariants.{Create, Extend, Truncate, Delete, Enter, LookUp, Remove, Read, Write, List as Lines, Stat as Show, SetUser}
 use Rattle.ods_request.specs.declared.answers.Answer.{Answer}
-use Rattle.ods_request.specs.declared.answers.Answer.TheVariants.{Created, Extended, Done, Entered, Found, Removed, Bytes, Names, Info}
+use Rattle.ods_request.specs.declared.answers.Answer.TheVariants.{Created, Extended, Truncated, Done, Entered, Found, Removed, Bytes, Names, Info}
 use Rattle.ods_request.specs.declared.answers.Stat.{Stat}
 use Rattle.ods_request.specs.declared.answers.Kind.{Kind}
 use Rattle.ods_request.specs.declared.answers.Kind.TheVariants.{Plain, Directory, System}
@@ -51,6 +51,7 @@ same_stat a b = same_id a.file b.file && (same_bytes a.ident b.ident && (same_us
 abbrev pub same_answer : Answer → Answer → Bool
 same_answer (Created a) (Created b) = same_id a b
 same_answer (Extended m) (Extended n) = m == n
+same_answer (Truncated m) (Truncated n) = m == n
 same_answer Done Done = true
 same_answer (Entered m) (Entered n) = m == n
 same_answer (Found a m) (Found b n) = same_id a b && (m == n)
@@ -78,6 +79,7 @@ same_pick _ _ = false
 abbrev pub same_request : Request → Request → Bool
 same_request (Create a b c d) (Create a2 b2 c2 d2) = same_name a a2 && ((b == b2) && ((c == c2) && same_bytes d d2))
 same_request (Extend a b) (Extend a2 b2) = same_id a a2 && (b == b2)
+same_request (Truncate a b) (Truncate a2 b2) = same_id a a2 && (b == b2)
 same_request (Delete a) (Delete a2) = same_id a a2
 same_request (Enter a b c d) (Enter a2 b2 c2 d2) = same_id a a2 && (same_name b b2 && (same_given c c2 && same_id d d2))
 same_request (LookUp a b c) (LookUp a2 b2 c2) = same_id a a2 && (same_name b b2 && same_pick c c2)

@@ -7,7 +7,7 @@ use Rattle.ods_base.specs.Name.{RadName, key_of}
 use Rattle.ods_request.specs.declared.refusals.Refusal.{Refusal}
 use Rattle.ods_request.specs.declared.refusals.Refusal.TheVariants as refusal
 use Rattle.ods_request.specs.declared.requests.Request.{Request}
-use Rattle.ods_request.specs.declared.requests.Request.TheVariants.{Create, Extend, Delete, Enter, LookUp, Remove, Read, Write, List as Lines, Stat, SetUser}
+use Rattle.ods_request.specs.declared.requests.Request.TheVariants.{Create, Extend, Truncate, Delete, Enter, LookUp, Remove, Read, Write, List as Lines, Stat, SetUser}
 use Rattle.ods_request.specs.declared.rights.Right.{Right}
 use Rattle.ods_request.specs.declared.rights.Right.TheVariants as right
 use Rattle.ods_request.specs.Rights.{permits}
@@ -51,6 +51,9 @@ fault_of C who (Create name version blocks stamp) = first_of ((nat_lt 65535 bloc
 fault_of C who (Extend file blocks) = on_file (map.get C.files file) (λ f.
     (is_reserved file, refusal.Reserved) ∷ (is_directory f.body, refusal.IsDirectory)
     ∷ (nat_lt 65535 blocks || (blocks == 0), refusal.BadCount) ∷ (is_denied f who right.Extend, refusal.Denied) ∷ [])
+fault_of C who (Truncate file blocks) = on_file (map.get C.files file) (λ f.
+    (is_reserved file, refusal.Reserved) ∷ (is_directory f.body, refusal.IsDirectory)
+    ∷ (nat_lt (length (blocks_of f.body)) blocks, refusal.BadCount) ∷ (is_denied f who right.Extend, refusal.Denied) ∷ [])
 fault_of C who (Delete file) = on_file (map.get C.files file) (λ f.
     (is_reserved file, refusal.Reserved) ∷ (is_denied f who right.Delete, refusal.Denied)
     ∷ (not (map.len (names_of f.body) == 0), refusal.NotEmpty) ∷ [])

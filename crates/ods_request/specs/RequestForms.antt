@@ -8,6 +8,7 @@ use Rattle.ods_request.specs.declared.compact_request.RequestForm.TheVariants as
 abbrev pub request_in : RequestForm → Request
 request_in (form.Create name version blocks stamp) = request.Create name version blocks stamp
 request_in (form.Extend file blocks) = request.Extend file blocks
+request_in (form.Truncate file blocks) = request.Truncate file blocks
 request_in (form.Delete file) = request.Delete file
 request_in (form.Enter dir name version file) = request.Enter dir name version file
 request_in (form.LookUp dir name pick) = request.LookUp dir name pick

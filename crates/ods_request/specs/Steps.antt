@@ -1,5 +1,5 @@
 -- What an accepted request does to a catalogue, and what it is answered.
-use Rattle.std.specs.Prelude.{ℕ, ◌+◌, ◌-◌, ◌%◌, ◌/◌, Bool, not, ◌&&◌, ◌==◌, nat_le, bit_and, List, [], ◌∷◌, ◌++◌, length, replicate, slice_index_or, slice_set, if◌then◌else◌, is_some, unwrap_or, Option, Some, None}
+use Rattle.std.specs.Prelude.{ℕ, ◌+◌, ◌-◌, ◌%◌, ◌/◌, Bool, not, ◌&&◌, ◌==◌, nat_le, bit_and, List, [], ◌∷◌, ◌++◌, length, replicate, slice_index_or, slice_set, take, if◌then◌else◌, is_some, unwrap_or, Option, Some, None}
 use Rattle.std.specs.List.{list_any, flat_map}
 use Rattle.std.specs.Option.{option_and_then}
 use Rattle.std.specs.FinMap as map
@@ -10,7 +10,7 @@ use Rattle.ods_base.specs.Block.{zeros}
 use Rattle.ods_base.specs.Name.{RadName, directory_type, key_of}
 use Rattle.ods_base.specs.declared.name.Pick.{Pick}
 use Rattle.ods_request.specs.declared.requests.Request.{Request}
-use Rattle.ods_request.specs.declared.requests.Request.TheVariants.{Create, Extend, Delete, Enter, LookUp, Remove, Read, Write, List as Lines, Stat, SetUser}
+use Rattle.ods_request.specs.declared.requests.Request.TheVariants.{Create, Extend, Truncate, Delete, Enter, LookUp, Remove, Read, Write, List as Lines, Stat, SetUser}
 use Rattle.ods_request.specs.declared.answers.Answer.{Answer}
 use Rattle.ods_request.specs.declared.answers.Answer.TheVariants as answer
 use Rattle.ods_request.specs.declared.answers.Kind.{Kind}
@@ -104,6 +104,10 @@ grown f blocks = record {
 abbrev pub written : Body → ℕ → List ℕ → Body
 written body vbn block = Plain (attributes_of body) (slice_set (blocks_of body) (vbn - 1) block)
 
+-- the body with so many of its blocks, the first ones
+abbrev pub first_blocks : Body → ℕ → Body
+first_blocks body count = Plain (attributes_of body) (take count (blocks_of body))
+
 -- the version under which a name is entered in a directory of the catalogue
 abbrev pub entered_version : Catalogue → FileId → RadName → Option ℕ → ℕ
 entered_version C dir name version = version_entered (names_of (file_at C dir).body) name version
@@ -126,6 +130,7 @@ kind_of (Plain attributes blocks) = kind.Plain (length blocks) attributes
 unfoldable pub answer_of : Catalogue → Request → Answer
 answer_of C (Create name version blocks stamp) = answer.Done
 answer_of C (Extend file blocks) = answer.Extended (length (blocks_of (file_at C file).body) + blocks)
+answer_of C (Truncate file blocks) = answer.Truncated blocks
 answer_of C (Delete file) = answer.Done
 answer_of C (Enter dir name version file) = answer.Entered (entered_version C dir name version)
 answer_of C (LookUp dir name pick) = answer.Found (found_file C dir name pick) (found_version C dir name pick)
@@ -141,6 +146,7 @@ answer_of C (SetUser file attributes) = answer.Done
 unfoldable pub after : Catalogue → Request → Catalogue
 after C (Create name version blocks stamp) = C
 after C (Extend file blocks) = put C file (grown (file_at C file) blocks)
+after C (Truncate file blocks) = put_body C file (first_blocks (file_at C file).body blocks)
 after C (Delete file) = record { files = map.remove C.files file; past = C.past; default = C.default }
 after C (Enter dir name version file) = let names = names_of (file_at C dir).body in
     put_body C dir (Directory (map.insert names (key_of name (entered_version C dir name version)) file))
@@ -157,6 +163,7 @@ after C (SetUser file attributes) = put_body C file (Plain attributes (blocks_of
 abbrev pub created_id : Answer → Option FileId
 created_id (answer.Created id) = Some id
 created_id (answer.Extended count) = None
+created_id (answer.Truncated count) = None
 created_id answer.Done = None
 created_id (answer.Entered version) = None
 created_id (answer.Found file version) = None

@@ -2,7 +2,7 @@
 use Rattle.std.specs.Prelude.{ℕ, Bool, true, false, not, ◌&&◌, is_none, if◌then◌else◌, Option, Some, None}
 use Rattle.ods_base.specs.declared.file_id.FileId.{FileId}
 use Rattle.ods_request.specs.declared.requests.Request.{Request}
-use Rattle.ods_request.specs.declared.requests.Request.TheVariants.{Create, Extend, Delete, Enter, LookUp, Remove, Read, Write, List as Lines, Stat, SetUser}
+use Rattle.ods_request.specs.declared.requests.Request.TheVariants.{Create, Extend, Truncate, Delete, Enter, LookUp, Remove, Read, Write, List as Lines, Stat, SetUser}
 use Rattle.ods_request.specs.declared.answers.Answer.{Answer}
 use Rattle.ods_request.specs.Steps.{created_id}
 
@@ -23,6 +23,7 @@ pub record Row : Type 0 where
 abbrev pub row_of : Request → Row
 row_of (Create name version blocks stamp) = record { makes = true; changed = None; version = Some version; moves = true; memory = true }
 row_of (Extend file blocks) = record { makes = false; changed = Some file; version = None; moves = true; memory = true }
+row_of (Truncate file blocks) = record { makes = false; changed = Some file; version = None; moves = true; memory = true }
 row_of (Delete file) = record { makes = false; changed = Some file; version = None; moves = true; memory = true }
 row_of (Enter dir name version file) = record { makes = false; changed = Some dir; version = version; moves = true; memory = true }
 row_of (LookUp dir name pick) = record { makes = false; changed = None; version = None; moves = false; memory = false }

@@ -107,6 +107,8 @@ pub enum Answer {
     Created(FileId),
     /// Extend: how many blocks the file has now.
     Extended(u32),
+    /// Truncate: how many blocks the file has now.
+    Truncated(u32),
     /// Delete, Write and SetUser.
     Done,
     /// Enter: the version under which the file was entered.
@@ -139,6 +141,7 @@ impl Answer {
         match self {
             Answer::Created(id) => Ok(Answer::Created(*id)),
             Answer::Extended(count) => Ok(Answer::Extended(*count)),
+            Answer::Truncated(count) => Ok(Answer::Truncated(*count)),
             Answer::Done => Ok(Answer::Done),
             Answer::Entered(version) => Ok(Answer::Entered(*version)),
             Answer::Found(file, version) => Ok(Answer::Found(*file, *version)),

@@ -27,6 +27,10 @@ enum RequestForm {
         file: FileId,
         blocks: u32,
     },
+    Truncate {
+        file: FileId,
+        blocks: u32,
+    },
     Delete {
         file: FileId,
     },
@@ -93,6 +97,7 @@ impl CompactRequest {
                 stamp,
             },
             Request::Extend { file, blocks } => RequestForm::Extend { file, blocks },
+            Request::Truncate { file, blocks } => RequestForm::Truncate { file, blocks },
             Request::Delete { file } => RequestForm::Delete { file },
             Request::Enter {
                 dir,
@@ -133,6 +138,10 @@ impl CompactRequest {
                 stamp: *stamp,
             },
             RequestForm::Extend { file, blocks } => Request::Extend {
+                file: *file,
+                blocks: *blocks,
+            },
+            RequestForm::Truncate { file, blocks } => Request::Truncate {
                 file: *file,
                 blocks: *blocks,
             },

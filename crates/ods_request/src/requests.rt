@@ -20,6 +20,11 @@ pub enum Request {
         file: FileId,
         blocks: u32,
     },
+    /// Keeps this many of a file's blocks, the first ones, and gives the others back.
+    Truncate {
+        file: FileId,
+        blocks: u32,
+    },
     /// Deletes a file. Names of it stay where they are.
     Delete {
         file: FileId,

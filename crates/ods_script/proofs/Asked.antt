@@ -32,6 +32,7 @@ on_both (Some x) p f can = on_one p (f x) (can x)
 asked : (a : Ask) → HasVersions (said_by a) → (stamp : List ℕ) (last : Option FileId) → MatchOption (request_of stamp last a) (Unit {0}) CanBeAsked
 asked (ask.Create name version blocks) h stamp last = h
 asked (ask.Extend file blocks) h stamp last = on_one (resolved last file) (λ f. request.Extend f blocks) (λ f. tt)
+asked (ask.Truncate file blocks) h stamp last = on_one (resolved last file) (λ f. request.Truncate f blocks) (λ f. tt)
 asked (ask.Delete file) h stamp last = on_one (resolved last file) (λ f. request.Delete f) (λ f. tt)
 asked (ask.Enter dir name None file) h stamp last = on_both (resolved last dir) (resolved last file) (λ d f. request.Enter d name None f) (λ d f. tt)
 asked (ask.Enter dir name (Some version) file) h stamp last = on_both (resolved last dir) (resolved last file) (λ d f. request.Enter d name (Some version) f) (λ d f. h)

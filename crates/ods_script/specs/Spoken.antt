@@ -11,6 +11,7 @@ pub data Spoken : Type 0 where
   User : Uic → Spoken
   Create : RadName → ℕ → ℕ → Spoken
   Extend : Id → ℕ → Spoken
+  Truncate : Id → ℕ → Spoken
   Delete : Id → Spoken
   Enter : Id → RadName → Option ℕ → Id → Spoken
   LookUp : Id → RadName → Pick → Spoken

@@ -70,6 +70,7 @@ no_name = record { words = 0 ∷ 0 ∷ 0 ∷ []; ext = 0 }
 abbrev pub asked_name : Ask → RadName
 asked_name (ask.Create name version blocks) = name
 asked_name (ask.Extend file blocks) = no_name
+asked_name (ask.Truncate file blocks) = no_name
 asked_name (ask.Delete file) = no_name
 asked_name (ask.Enter dir name version file) = name
 asked_name (ask.LookUp dir name pick) = name
@@ -97,6 +98,7 @@ spoken_name action.Bad = no_name
 abbrev pub answer_text : RadName → Answer → List ℕ
 answer_text name (answer.Created id) = 32 ∷ file_id_text id
 answer_text name (answer.Extended count) = 32 ∷ decimal count
+answer_text name (answer.Truncated count) = 32 ∷ decimal count
 answer_text name answer.Done = []
 answer_text name (answer.Entered version) = 32 ∷ name_version_text name version
 answer_text name (answer.Found file version) = 32 ∷ found_text file name version

@@ -18,6 +18,7 @@ pub(crate) fn push_answer(text: &mut String, name: &Name, answer: &Answer) -> Re
     match answer {
         Answer::Created(id) => write!(text, " {},{}", id.number, id.sequence),
         Answer::Extended(count) => write!(text, " {count}"),
+        Answer::Truncated(count) => write!(text, " {count}"),
         Answer::Done => Ok(()),
         Answer::Entered(version) => write!(text, " {}", print_name(name, *version)),
         Answer::Found(file, version) | Answer::Removed(file, version) => {

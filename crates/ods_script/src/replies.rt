@@ -25,6 +25,7 @@ fn ask_name(ask: &Ask) -> Name
         | Ask::LookUp { name, .. }
         | Ask::Remove { name, .. } => *name,
         Ask::Extend { .. }
+        | Ask::Truncate { .. }
         | Ask::Delete { .. }
         | Ask::Read { .. }
         | Ask::Write { .. }

@@ -16,6 +16,7 @@ pub enum Verb {
     User,
     Create,
     Extend,
+    Truncate,
     Delete,
     Enter,
     LookUp,
@@ -36,6 +37,7 @@ fn read_verb(word: &[u8]) -> Option<Verb>
         b"USER" => Some(Verb::User),
         b"CREATE" => Some(Verb::Create),
         b"EXTEND" => Some(Verb::Extend),
+        b"TRUNCATE" => Some(Verb::Truncate),
         b"DELETE" => Some(Verb::Delete),
         b"ENTER" => Some(Verb::Enter),
         b"LOOK" => Some(Verb::LookUp),
@@ -76,6 +78,10 @@ pub(crate) fn read_behind(alloc: Global, verb: Verb, args: &[u8]) -> Result<Acti
         Verb::Extend => Ok(<(Id, u32)>::read(args).map_or(
             Action::Bad,
             |(file, blocks)| Action::Submit(Ask::Extend { file, blocks }),
+        )),
+        Verb::Truncate => Ok(<(Id, u32)>::read(args).map_or(
+            Action::Bad,
+            |(file, blocks)| Action::Submit(Ask::Truncate { file, blocks }),
         )),
         Verb::Delete => Ok(Id::read(args).map_or(
             Action::Bad,

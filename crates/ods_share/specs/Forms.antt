@@ -3,13 +3,14 @@ use Rattle.std.specs.Prelude.{◌≡◌, true}
 use Rattle.ods_request.specs.declared.answers.Answer.{Answer}
 use Rattle.ods_request.specs.declared.answers.Answer.TheVariants as answer
 use Rattle.ods_share.specs.declared.compact.Form.{Form}
-use Rattle.ods_share.specs.declared.compact.Form.TheVariants.{Created, Extended, Done, Entered, Found, Removed, Long}
+use Rattle.ods_share.specs.declared.compact.Form.TheVariants.{Created, Extended, Truncated, Done, Entered, Found, Removed, Long}
 use Rattle.ods_share.specs.Compact.{is_long}
 
 -- the answer that is kept
 abbrev pub answer_of : Form → Answer
 answer_of (Created id) = answer.Created id
 answer_of (Extended count) = answer.Extended count
+answer_of (Truncated count) = answer.Truncated count
 answer_of Done = answer.Done
 answer_of (Entered version) = answer.Entered version
 answer_of (Found file version) = answer.Found file version
@@ -20,6 +21,7 @@ answer_of (Long kept) = kept.value
 abbrev pub IsForm : Form → Type 0
 IsForm (Created id) = Unit {0}
 IsForm (Extended count) = Unit {0}
+IsForm (Truncated count) = Unit {0}
 IsForm Done = Unit {0}
 IsForm (Entered version) = Unit {0}
 IsForm (Found file version) = Unit {0}

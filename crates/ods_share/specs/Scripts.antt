@@ -42,6 +42,7 @@ resolved last Last = last
 abbrev pub request_of : List ℕ → Option FileId → Ask → Option Request
 request_of stamp last (ask.Create name version blocks) = Some (request.Create name version blocks stamp)
 request_of stamp last (ask.Extend file blocks) = option_map (λ f. request.Extend f blocks) (resolved last file)
+request_of stamp last (ask.Truncate file blocks) = option_map (λ f. request.Truncate f blocks) (resolved last file)
 request_of stamp last (ask.Delete file) = option_map (λ f. request.Delete f) (resolved last file)
 request_of stamp last (ask.Enter dir name version file) =
     option_and_then (λ d. option_map (λ f. request.Enter d name version f) (resolved last file)) (resolved last dir)
@@ -63,6 +64,7 @@ query_of last (look.Stat file) = option_map (λ f. query.Stat f) (resolved last 
 abbrev pub last_after : Option FileId → Answer → Option FileId
 last_after last (answer.Created id) = Some id
 last_after last (answer.Extended count) = last
+last_after last (answer.Truncated count) = last
 last_after last answer.Done = last
 last_after last (answer.Entered version) = last
 last_after last (answer.Found file version) = Some file

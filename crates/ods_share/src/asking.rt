@@ -38,6 +38,13 @@ pub(crate) fn request_for(stamp: Stamp, last: Option<FileId>, ask: &Ask) -> Opti
                 blocks: *blocks,
             })
         }
+        Ask::Truncate { file, blocks } => {
+            let file = resolve(last, *file)?;
+            Some(Request::Truncate {
+                file,
+                blocks: *blocks,
+            })
+        }
         Ask::Delete { file } => {
             let file = resolve(last, *file)?;
             Some(Request::Delete { file })

@@ -19,6 +19,7 @@ pub struct CompactAnswer {
 enum Form {
     Created(FileId),
     Extended(u32),
+    Truncated(u32),
     Done,
     Entered(u16),
     Found(FileId, u16),
@@ -48,6 +49,7 @@ impl CompactAnswer {
         let form = match answer {
             Answer::Created(id) => Form::Created(*id),
             Answer::Extended(count) => Form::Extended(*count),
+            Answer::Truncated(count) => Form::Truncated(*count),
             Answer::Done => Form::Done,
             Answer::Entered(version) => Form::Entered(*version),
             Answer::Found(file, version) => Form::Found(*file, *version),
@@ -77,6 +79,7 @@ impl CompactAnswer {
         match &self.form {
             Form::Created(id) => Answer::Created(*id),
             Form::Extended(count) => Answer::Extended(*count),
+            Form::Truncated(count) => Answer::Truncated(*count),
             Form::Done => Answer::Done,
             Form::Entered(version) => Answer::Entered(*version),
             Form::Found(file, version) => Answer::Found(*file, *version),

@@ -21,6 +21,10 @@ pub enum Ask {
         file: Id,
         blocks: u32,
     },
+    Truncate {
+        file: Id,
+        blocks: u32,
+    },
     Delete {
         file: Id,
     },

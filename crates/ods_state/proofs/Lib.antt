@@ -37,5 +37,8 @@ pub mod GrowthMade
 pub mod GrownSound
 pub mod GrownShown
 pub mod GrownContents
+pub mod Shrunk
 pub mod GivenBack
 pub mod ShownWithout
+pub mod CutChain
+pub mod CutOff

@@ -35,9 +35,9 @@ use Rattle.ods_state.specs.Moves.{AreTaken, IsCreatedId, IsNameEntered, IsNextBl
 use Rattle.ods_state.specs.Served.{IsStepOf}
 use Rattle.ods_state.specs.Wants.{EnterGrows, HasHeaders, Wants, index_blocks, index_end, lack_of, taken_blocks, taken_count, taken_numbers}
 use Rattle.ods_request.specs.declared.requests.Request.{Request}
-use Rattle.ods_request.specs.declared.requests.Request.TheVariants.{Create, Extend, Delete, Enter, LookUp, Remove, Read, Write, List as Lines, Stat, SetUser}
+use Rattle.ods_request.specs.declared.requests.Request.TheVariants.{Create, Extend, Truncate, Delete, Enter, LookUp, Remove, Read, Write, List as Lines, Stat, SetUser}
 use Rattle.ods_request.specs.declared.answers.Answer.{Answer}
-use Rattle.ods_request.specs.declared.answers.Answer.TheVariants.{Created, Extended, Done, Entered, Found, Removed, Bytes, Names, Info}
+use Rattle.ods_request.specs.declared.answers.Answer.TheVariants.{Created, Extended, Truncated, Done, Entered, Found, Removed, Bytes, Names, Info}
 use Rattle.ods_state.proofs.Bookkeeping.{IsHeldBySystem, bookkeeping_held}
 use Rattle.ods_state.proofs.Chains.{first_in, later_in}
 use Rattle.ods_state.proofs.IndexGrown as index
@@ -344,6 +344,7 @@ module _ (I K J : List (List ℕ)) (L : VolumeLayout) (headers old : List ℕ) (
       let same : taken_numbers K M [] 0 ≡ taken_numbers I L [] 0 = ap (take (taken_count I L [] 0)) (takes.open_numbers_stay I K L headers old count image S enough had g) in
       (p.0, ap (λ l. slice_get l 0) (sym same) ∙ p.1)
   created_before (Extended n) p = p
+  created_before (Truncated n) p = p
   created_before Done p = p
   created_before (Entered v) p = p
   created_before (Found id v) p = p
@@ -372,6 +373,7 @@ module _ (I K J : List (List ℕ)) (L : VolumeLayout) (headers old : List ℕ) (
   name_before dir high name file (Entered v) p = entered_before dir.number high (entry_bytes file (key_of name v)) p
   name_before dir high name file (Created id) p = p
   name_before dir high name file (Extended n) p = p
+  name_before dir high name file (Truncated n) p = p
   name_before dir high name file Done p = p
   name_before dir high name file (Found id v) p = p
   name_before dir high name file (Removed id v) p = p
@@ -455,6 +457,7 @@ module _ (I K J : List (List ℕ)) (L : VolumeLayout) (headers old : List ℕ) (
           held : Holds I L dir.number b.0 x ⊎ IsNextBlock 1 (length L.index) X dir.number b.0 x → ⊥
           held (inl h) = index.not_held image S can g dir.number b.0 x h c
           held (inr p) = let one = p.1 in let high = dir_is_high in absurd (omega (arith, one, high))
+  behind (Truncate file n) a no_map wants = absurd wants
   behind (Delete file) a no_map wants = absurd wants
   behind (LookUp dir name pick) a no_map wants = absurd wants
   behind (Remove dir name pick) a no_map wants = absurd wants
@@ -482,6 +485,7 @@ pub had_these : (I : List (List ℕ)) (L : VolumeLayout) (r : Request) (headers 
 had_these I L (Create name version n stamp) headers old count no_map wants = inl (wants.0, wants.1)
 had_these I L (Extend file n) headers old count no_map wants = inr (file.number, no_map file.number wants.0.0 wants.0.1, wants.0)
 had_these I L (Enter dir name version file) headers old count no_map wants = inr (dir.number, no_map dir.number wants.0.0 wants.0.1, wants.0)
+had_these I L (Truncate file n) headers old count no_map wants = absurd wants
 had_these I L (Delete file) headers old count no_map wants = absurd wants
 had_these I L (LookUp dir name pick) headers old count no_map wants = absurd wants
 had_these I L (Remove dir name pick) headers old count no_map wants = absurd wants

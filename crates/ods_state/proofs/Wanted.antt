@@ -3,7 +3,7 @@ use Rattle.std.proofs.Common.{◌≡◌, ℕ, ap, sym, ◌∙◌, subst, List, [
 use Rattle.ods_space.specs.Layout.{VolumeLayout, Disk}
 use Rattle.ods_space.specs.Chain.{index_for}
 use Rattle.ods_request.specs.declared.requests.Request.{Request}
-use Rattle.ods_request.specs.declared.requests.Request.TheVariants.{Create, Extend, Delete, Enter, LookUp, Remove, Read, Write, List as Lines, Stat, SetUser}
+use Rattle.ods_request.specs.declared.requests.Request.TheVariants.{Create, Extend, Truncate, Delete, Enter, LookUp, Remove, Read, Write, List as Lines, Stat, SetUser}
 use Rattle.ods_request.specs.declared.refusals.Refusal.{Refusal}
 use Rattle.ods_state.specs.Change.{disk}
 use Rattle.ods_state.specs.Moves.{AreTaken, MayTake}
@@ -20,6 +20,7 @@ pub wants_are_one : (I : List (List ℕ)) (L : VolumeLayout) (r : Request) (hs k
 wants_are_one I L (Create name version count stamp) hs ks bs cs m n p q = (p.0 ∙ sym q.0, p.1 ∙ sym q.1, p.2 ∙ sym q.2)
 wants_are_one I L (Extend file count) hs ks bs cs m n p q = let same = headers_are_one I L file.number hs ks bs cs p.0 q.0 in (same.0, same.1, p.1 ∙ sym q.1)
 wants_are_one I L (Enter dir name version file) hs ks bs cs m n p q = let same = headers_are_one I L dir.number hs ks bs cs p.0 q.0 in (same.0, same.1, p.2 ∙ sym q.2)
+wants_are_one I L (Truncate file count) hs ks bs cs m n p q = absurd p
 wants_are_one I L (Delete file) hs ks bs cs m n p q = absurd p
 wants_are_one I L (LookUp dir name pick) hs ks bs cs m n p q = absurd p
 wants_are_one I L (Remove dir name pick) hs ks bs cs m n p q = absurd p

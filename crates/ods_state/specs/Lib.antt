@@ -10,3 +10,4 @@ pub mod Change
 pub mod Served
 pub mod Growth
 pub mod IndexGrowth
+pub mod Cutting

@@ -1,18 +1,19 @@
 -- How the blocks that files hold, the free blocks and the free numbers move in an accepted request, and which blocks it may change.
-use Rattle.std.specs.Prelude.{◌≡◌, ◌≢◌, ◌↔◌, ℕ, ◌+◌, ◌⊎◌, not, ◌&&◌, ◌||◌, ◌==◌, nat_lt, List, [], ◌∷◌, ◌++◌, length, replicate, slice_get, if◌then◌else◌, Some}
-use Rattle.std.specs.List.{Contains}
+use Rattle.std.specs.Prelude.{◌≡◌, ◌≢◌, ◌↔◌, ℕ, ◌+◌, ◌-◌, ◌<◌, ◌≤◌, ◌⊎◌, not, ◌&&◌, ◌||◌, ◌==◌, nat_lt, List, [], ◌∷◌, ◌++◌, length, replicate, take, drop, slice_get, if◌then◌else◌, Some}
+use Rattle.std.specs.List.{All, Contains, flat_map}
 use Rattle.ods_base.specs.Image.{block_at}
 use Rattle.ods_base.specs.Name.{RadName, directory_type, key_of}
 use Rattle.ods_base.specs.declared.file_id.FileId.{FileId}
 use Rattle.ods_header.specs.Attributes.{IsWithAttributes}
 use Rattle.ods_directory.specs.Entry.{entry_bytes}
-use Rattle.ods_header.specs.Header.{sequence_of, attributes_of}
+use Rattle.ods_header.specs.Cutting.{IsCutTo, first_runs}
+use Rattle.ods_header.specs.Header.{attributes_of, blocks_of, runs_of, sequence_of}
 use Rattle.ods_space.specs.Layout.{Disk, last_number, with_places}
 use Rattle.ods_space.specs.Files.{Holds}
 use Rattle.ods_space.specs.Free.{is_free_block, is_free_number, is_open_number, is_covered}
 use Rattle.ods_directory.specs.Mark.{marked}
 use Rattle.ods_request.specs.declared.requests.Request.{Request}
-use Rattle.ods_request.specs.declared.requests.Request.TheVariants.{Create, Extend, Delete, Enter, LookUp, Remove, Read, Write, List as Lines, Stat, SetUser}
+use Rattle.ods_request.specs.declared.requests.Request.TheVariants.{Create, Extend, Truncate, Delete, Enter, LookUp, Remove, Read, Write, List as Lines, Stat, SetUser}
 use Rattle.ods_request.specs.declared.answers.Answer.{Answer}
 use Rattle.ods_request.specs.declared.answers.Answer.TheVariants.{Created, Entered, Removed}
 use Rattle.ods_space.specs.Chain.{IsChain}
@@ -76,6 +77,40 @@ pub record AreGivenBack (D E : Disk) (number : ℕ) : Type 0 where
   -- a header that is given back keeps its bytes but its number, now 0, and its sum
   pub kept : (n : ℕ) → Contains headers n → header_on E n ≡ deleted (header_on D n)
 
+-- the blocks that these headers name, one header after another
+abbrev pub mapped_on : Disk → List ℕ → List ℕ
+mapped_on D numbers = flat_map (λ n. blocks_of (header_on D n)) numbers
+
+-- these are the headers of a chain up to the one that has this block of the file, counted from 1; up to the first for none
+pub record EndsAt (D : Disk) (kept : List ℕ) (block : ℕ) : Type 0 where
+  pub some : 1 ≤ length kept
+  pub has : block ≤ length (mapped_on D kept)
+  pub first : (k : ℕ) → 1 ≤ k → k < length kept → length (mapped_on D (take k kept)) < block
+
+-- A file kept its first blocks, so many, and its headers up to the one that has the last of them. The other blocks and headers were given back.
+pub record AreCutOff (D E : Disk) (number count : ℕ) : Type 0 where
+  pub layout : E.layout ≡ D.layout
+  pub kept : List ℕ
+  pub gone : List ℕ
+  pub blocks : List ℕ
+  pub file : HasHeaders D.image D.layout number (kept ++ gone) blocks
+  pub ends : EndsAt D kept count
+  pub chain : HasHeaders E.image E.layout number kept (take count blocks)
+  pub pointers : chain_runs E.image E.layout kept ≡ first_runs count (chain_runs D.image D.layout kept)
+  pub held : (n vbn lbn : ℕ) → holds_on E n vbn lbn ↔ (holds_on D n vbn lbn × ((n ≢ number) ⊎ (vbn ≤ count)))
+  pub free : (lbn : ℕ) → is_free_block E.image E.layout lbn
+      ≡ (is_free_block D.image D.layout lbn || (is_one_of (drop count blocks) lbn && is_covered D.layout lbn))
+  pub numbers : (n : ℕ) → is_free_number E.image E.layout n
+      ≡ (is_free_number D.image D.layout n || (is_one_of gone n && (nat_lt 5 n && nat_lt (sequence_of (header_on D n)) 65535)))
+  -- of the two bitmaps just the bits of these change
+  pub bits : GivesBits D.image D.layout (drop count blocks) gone E.image
+  -- a header that is given back keeps its bytes but its number, now 0, and its sum
+  pub deletes : (n : ℕ) → Contains gone n → header_on E n ≡ deleted (header_on D n)
+  -- of the headers that it keeps the last alone changes: its pointers past the last block go, the one that holds that block is cut, and no header is next
+  pub stays : (front : List ℕ) (last : ℕ) → kept ≡ front ++ last ∷ [] → All (λ n. header_on E n ≡ header_on D n) front
+  pub last : (front : List ℕ) (last : ℕ) → kept ≡ front ++ last ∷ []
+      → IsCutTo (header_on D last) (first_runs (count - length (mapped_on D front)) (runs_of (header_on D last))) (header_on E last)
+
 -- an ID that is created is the first number taken, with its new sequence number
 abbrev pub IsCreatedId : Disk → Disk → Answer → Type 0
 IsCreatedId D E (Created id) = (id.sequence ≡ sequence_of (header_on E id.number)) × (slice_get (taken_numbers D.image D.layout [] 0) 0 ≡ Some id.number)
@@ -122,6 +157,7 @@ abbrev pub Moves : Disk → Request → Answer → Disk → Type 0
 Moves D (Create name version count stamp) a E =
     MayTake D E (Create name version count stamp) × IsCreatedId D E a × HasNewAttributes E a name count × AreZeroed D E count
 Moves D (Extend file count) a E = MayTake D E (Extend file count) × AreZeroed D E count
+Moves D (Truncate file count) a E = AreCutOff D E file.number count
 Moves D (Delete file) a E = AreGivenBack D E file.number
 Moves D (Enter dir name version file) a E =
     MayTake D E (Enter dir name version file) × KeepsHeader D E (Enter dir name version file) dir × IsNameEntered D E dir name file a
@@ -148,13 +184,18 @@ TouchedByTaking D r E x =
     × (IsIndexBitmap D.layout x ⊎ IsStorageBitmap D.layout x ⊎ IsHeaderPlace D.layout (headers ++ taken_numbers D.image D.layout headers count) x
     ⊎ Contains (taken_blocks D.image D.layout count) x ⊎ TouchedByIndex D (index_blocks D.image D.layout headers count) x)
 
+-- the request may change the block at x, where it gives back what file n has
+abbrev pub TouchedByGiving : Disk → ℕ → ℕ → Type 0
+TouchedByGiving D n x =
+    IsIndexBitmap D.layout x ⊎ IsStorageBitmap D.layout x
+    ⊎ ((headers : List ℕ) × (blocks : List ℕ) × HasHeaders D.image D.layout n headers blocks × IsHeaderPlace D.layout headers x)
+
 -- the request may change the block at x
 abbrev pub Touches : Disk → Request → Disk → ℕ → Type 0
 Touches D (Create name version count stamp) E x = TouchedByTaking D (Create name version count stamp) E x
 Touches D (Extend file count) E x = TouchedByTaking D (Extend file count) E x
-Touches D (Delete file) E x =
-    IsIndexBitmap D.layout x ⊎ IsStorageBitmap D.layout x
-    ⊎ ((headers : List ℕ) × (blocks : List ℕ) × HasHeaders D.image D.layout file.number headers blocks × IsHeaderPlace D.layout headers x)
+Touches D (Truncate file count) E x = TouchedByGiving D file.number x
+Touches D (Delete file) E x = TouchedByGiving D file.number x
 Touches D (Enter dir name version file) E x =
     TouchedByTaking D (Enter dir name version file) E x ⊎ IsHeaderPlace D.layout (dir.number ∷ []) x ⊎ IsBlockOf D dir.number x
 Touches D (Remove dir name pick) E x = IsBlockOf D dir.number x

@@ -10,7 +10,7 @@ use Rattle.ods_directory.specs.declared.slot.Slot.{Slot}
 use Rattle.ods_directory.specs.Mark.{IsSlot}
 use Rattle.ods_mount.specs.Faults.{contents_of, mark_at}
 use Rattle.ods_request.specs.declared.requests.Request.{Request}
-use Rattle.ods_request.specs.declared.requests.Request.TheVariants.{Create, Extend, Delete, Enter, LookUp, Remove, Read, Write, List as Lines, Stat, SetUser}
+use Rattle.ods_request.specs.declared.requests.Request.TheVariants.{Create, Extend, Truncate, Delete, Enter, LookUp, Remove, Read, Write, List as Lines, Stat, SetUser}
 use Rattle.ods_request.specs.declared.refusals.Refusal.{Refusal}
 use Rattle.ods_request.specs.declared.refusals.Refusal.TheVariants as refusal
 use Rattle.ods_request.specs.Faults.{first_of}
@@ -29,6 +29,7 @@ Wants I L (Create name version count stamp) headers blocks n = (headers ≡ []) 
 Wants I L (Extend file count) headers blocks n = HasHeaders I L file.number headers blocks × (n ≡ count)
 Wants I L (Enter dir name version file) headers blocks n =
     HasHeaders I L dir.number headers blocks × EnterGrows I L dir.number blocks × (n ≡ 1)
+Wants I L (Truncate file count) headers blocks n = ⊥
 Wants I L (Delete file) headers blocks n = ⊥
 Wants I L (LookUp dir name pick) headers blocks n = ⊥
 Wants I L (Remove dir name pick) headers blocks n = ⊥

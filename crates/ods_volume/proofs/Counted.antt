@@ -8,7 +8,7 @@ use Rattle.ods_alloc.specs.Counts.{AreCountsAfter, Counts, counts_of}
 use Rattle.ods_request.specs.declared.requests.Query.{Query}
 use Rattle.ods_request.specs.declared.requests.Query.TheVariants as query
 use Rattle.ods_request.specs.declared.requests.Request.{Request}
-use Rattle.ods_request.specs.declared.requests.Request.TheVariants.{Create, Extend, Delete, Enter, LookUp, Remove, Read, Write, List as Lines, Stat, SetUser}
+use Rattle.ods_request.specs.declared.requests.Request.TheVariants.{Create, Extend, Truncate, Delete, Enter, LookUp, Remove, Read, Write, List as Lines, Stat, SetUser}
 use Rattle.ods_request.specs.Queries.{request_of}
 use Rattle.ods_request.specs.Table.{takes_memory}
 use Rattle.ods_state.specs.Moves.{ChangesOnlyTouched, Touches}
@@ -32,6 +32,7 @@ other_takes_memory (Read file vbn) queries = absurd (queries (query.Read file vb
 other_takes_memory (Stat file) queries = absurd (queries (query.Stat file) refl)
 other_takes_memory (Create name version blocks stamp) queries = refl
 other_takes_memory (Extend file blocks) queries = refl
+other_takes_memory (Truncate file blocks) queries = refl
 other_takes_memory (Delete file) queries = refl
 other_takes_memory (Enter dir name version file) queries = refl
 other_takes_memory (Remove dir name pick) queries = refl

@@ -6,7 +6,7 @@ use Rattle.ods_space.specs.Draft.{Changes, applied}
 use Rattle.ods_space.proofs.Drafts.{applied_none}
 use Rattle.ods_mount.specs.Sound.{IsSoundBy}
 use Rattle.ods_request.specs.declared.requests.Request.{Request}
-use Rattle.ods_request.specs.declared.requests.Request.TheVariants.{Create, Extend, Delete, Enter, LookUp, Remove, Read, Write, List as Lines, Stat, SetUser}
+use Rattle.ods_request.specs.declared.requests.Request.TheVariants.{Create, Extend, Truncate, Delete, Enter, LookUp, Remove, Read, Write, List as Lines, Stat, SetUser}
 use Rattle.ods_request.specs.declared.requests.Query.{Query}
 use Rattle.ods_request.specs.declared.requests.Query.TheVariants as query
 use Rattle.ods_request.specs.declared.answers.Answer.{Answer}
@@ -42,6 +42,7 @@ look_moves D (Stat file) a h = nothing_moves D
 look_moves D (Lines dir) a h = nothing_moves D
 look_moves D (Create name version blocks stamp) a h = absurd (cc)
 look_moves D (Extend file blocks) a h = absurd (cc)
+look_moves D (Truncate file blocks) a h = absurd (cc)
 look_moves D (Delete file) a h = absurd (cc)
 look_moves D (Enter dir name version file) a h = absurd (cc)
 look_moves D (Remove dir name pick) a h = absurd (cc)

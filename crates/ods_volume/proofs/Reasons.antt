@@ -6,7 +6,7 @@ use Rattle.ods_base.specs.declared.file_id.Uic.{Uic}
 use Rattle.ods_space.specs.Free.{free_blocks}
 use Rattle.ods_space.specs.Layout.{VolumeLayout}
 use Rattle.ods_request.specs.declared.requests.Request.{Request}
-use Rattle.ods_request.specs.declared.requests.Request.TheVariants.{Create, Extend, Delete, Enter, LookUp, Remove, Read, Write, List as Lines, Stat, SetUser}
+use Rattle.ods_request.specs.declared.requests.Request.TheVariants.{Create, Extend, Truncate, Delete, Enter, LookUp, Remove, Read, Write, List as Lines, Stat, SetUser}
 use Rattle.ods_request.specs.declared.answers.Answer.{Answer}
 use Rattle.ods_request.specs.declared.answers.Answer.TheVariants.{Names}
 use Rattle.ods_request.specs.declared.refusals.Refusal.{Refusal}
@@ -58,6 +58,7 @@ fault_is_other C who (Read file vbn) h e =
 fault_is_other C who (Stat file) h e = file_is_other (map.get C.files file) (λ f. []) (λ f. tt) (sym (fault_stat C who file) ∙ e)
 fault_is_other C who (Create name version blocks stamp) h e = absurd (cc)
 fault_is_other C who (Extend file blocks) h e = absurd (cc)
+fault_is_other C who (Truncate file blocks) h e = absurd (cc)
 fault_is_other C who (Delete file) h e = absurd (cc)
 fault_is_other C who (Enter dir name version file) h e = absurd (cc)
 fault_is_other C who (Remove dir name pick) h e = absurd (cc)

@@ -41,6 +41,7 @@ impl Volume {
         match newest_answer(&self.entries) {
             Answer::Created(file) => Answer::Created(*file),
             Answer::Extended(count) => Answer::Extended(*count),
+            Answer::Truncated(count) => Answer::Truncated(*count),
             Answer::Done => Answer::Done,
             Answer::Entered(version) => Answer::Entered(*version),
             Answer::Found(file, version) => Answer::Found(*file, *version),

@@ -12,7 +12,7 @@ use crate::planned::{Prepared, kept, lines_of};
 use crate::volume::Volume;
 use ods_alloc::FreeCounts;
 use ods_base::{FileId, Image, Uic};
-use ods_change::{Drafted, create, delete, enter, extend, remove, set_user, write};
+use ods_change::{Drafted, create, delete, enter, extend, remove, set_user, truncate, write};
 use ods_look::{list, look_into};
 use ods_request::{Answer, Entry, Query, Refusal, Request};
 use ods_space::{Draft, Layout};
@@ -64,6 +64,7 @@ fn list_only(
 pub(crate) enum Made {
     Created(FileId),
     Extended(u32),
+    Truncated(u32),
     Done,
     Entered(u16),
     Removed(FileId, u16),
@@ -76,6 +77,7 @@ fn put_answer(answer: &mut Answer, made: Made)
     match made {
         Made::Created(file) => *answer = Answer::Created(file),
         Made::Extended(count) => *answer = Answer::Extended(count),
+        Made::Truncated(count) => *answer = Answer::Truncated(count),
         Made::Done => *answer = Answer::Done,
         Made::Entered(version) => *answer = Answer::Entered(version),
         Made::Removed(file, version) => *answer = Answer::Removed(file, version),
@@ -113,6 +115,12 @@ fn change(
         Request::Extend { file, blocks } => {
             match extend(alloc, image, layout, counts, who, *file, *blocks) {
                 Ok((drafted, count)) => Ok((Made::Extended(count), drafted)),
+                Err(refusal) => Err(refusal),
+            }
+        }
+        Request::Truncate { file, blocks } => {
+            match truncate(alloc, image, layout, who, *file, *blocks) {
+                Ok(draft) => Ok((Made::Truncated(*blocks), Drafted::still(alloc, draft))),
                 Err(refusal) => Err(refusal),
             }
         }

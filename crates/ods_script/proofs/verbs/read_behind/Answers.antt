@@ -25,6 +25,9 @@ returns-in-Create c = row c.args.args.now c.map_or-in-Create.result c.in-Create.
 pub returns-in-Extend : goal.returns-in-Extend
 returns-in-Extend c = row c.args.args.now c.map_or-in-Extend.result c.in-Extend.is (the_meaning (IsPair 32 IsId IsNumber) (λ x. spoken.Extend x.0 x.1) (λ x. action.Submit (ask.Extend x.0 x.1)) c.args.args.now _ c.map_or-in-Extend.result (λ x. refl) (λ x p. search rules) c.read-in-Extend.ensures c.map_or-in-Extend.ensures)
 
+pub returns-in-Truncate : goal.returns-in-Truncate
+returns-in-Truncate c = row c.args.args.now c.map_or-in-Truncate.result c.in-Truncate.is (the_meaning (IsPair 32 IsId IsNumber) (λ x. spoken.Truncate x.0 x.1) (λ x. action.Submit (ask.Truncate x.0 x.1)) c.args.args.now _ c.map_or-in-Truncate.result (λ x. refl) (λ x p. search rules) c.read-in-Truncate.ensures c.map_or-in-Truncate.ensures)
+
 pub returns-in-Enter : goal.returns-in-Enter
 returns-in-Enter c = row c.args.args.now c.map_or-in-Enter.result c.in-Enter.is (the_meaning (IsPair 32 IsId (IsPair 32 IsGivenName IsId)) (λ x. spoken.Enter x.0 x.1.0.name x.1.0.version x.1.1) (λ x. action.Submit (ask.Enter x.0 x.1.0.name x.1.0.version x.1.1)) c.args.args.now _ c.map_or-in-Enter.result (λ x. refl) (λ x p. search rules) c.read-in-Enter.ensures c.map_or-in-Enter.ensures)
 

@@ -6,7 +6,7 @@ use Rattle.ods_volume.proofs.prepare.change.Goals as goal
 
 pub unreachable-requires : goal.unreachable-requires
 unreachable-requires c =
-    no_other c.args.request.now c.requires.changes c.in_default.not-Create c.in_default.not-Extend c.in_default.not-Delete c.in_default.not-Enter
+    no_other c.args.request.now c.requires.changes c.in_default.not-Create c.in_default.not-Extend c.in_default.not-Truncate c.in_default.not-Delete c.in_default.not-Enter
     c.in_default.not-Write c.in_default.not-SetUser c.in_default.not-Remove
 
 pub returns-in-Ok-write : goal.returns-in-Ok-write
@@ -39,8 +39,14 @@ returns-in-Ok-extend c = step_as c.in-Extend.is c.in-Ok-extend.ensures
 pub returns-in-Err-extend : goal.returns-in-Err-extend
 returns-in-Err-extend c = refused_as c.args.who c.in-Err-extend.refusal c.in-Extend.is c.in-Err-extend.ensures
 
+pub returns-in-Ok-truncate : goal.returns-in-Ok-truncate
+returns-in-Ok-truncate c = step_as c.in-Truncate.is (step_still c.still.result c.still.ensures.draft c.still.ensures.places c.in-Ok-truncate.ensures)
+
+pub returns-in-Err-truncate : goal.returns-in-Err-truncate
+returns-in-Err-truncate c = refused_as c.args.who c.in-Err-truncate.refusal c.in-Truncate.is c.in-Err-truncate.ensures
+
 pub returns-in-Ok-delete : goal.returns-in-Ok-delete
-returns-in-Ok-delete c = step_as c.in-Delete.is (step_still c.still.result c.still.ensures.draft c.still.ensures.places c.in-Ok-delete.ensures)
+returns-in-Ok-delete c = step_as c.in-Delete.is (step_still c.still-in-Ok-delete.result c.still-in-Ok-delete.ensures.draft c.still-in-Ok-delete.ensures.places c.in-Ok-delete.ensures)
 
 pub returns-in-Err-delete : goal.returns-in-Err-delete
 returns-in-Err-delete c = refused_as c.args.who c.in-Err-delete.refusal c.in-Delete.is c.in-Err-delete.ensures

@@ -1,5 +1,5 @@
 use Rattle.std.proofs.Common.{◌≡◌, true, refl, rules}
-use Rattle.ods_request.specs.declared.requests.Request.TheVariants.{Extend, Delete, Enter, LookUp, Remove, Read, Write, List as Lines, Stat, SetUser}
+use Rattle.ods_request.specs.declared.requests.Request.TheVariants.{Extend, Truncate, Delete, Enter, LookUp, Remove, Read, Write, List as Lines, Stat, SetUser}
 use Rattle.ods_request.specs.Steps.{after, answer_of, is_new}
 use Rattle.ods_plain.proofs.Moves.{moves, looks, makes}
 use Rattle.ods_plain.proofs.catalogue.Catalogue.change.Goals as goal
@@ -12,6 +12,11 @@ returns-in_ok-create-in-Create-clause-ok c =
 pub returns-in_ok-extend-in-Extend-clause-ok : goal.returns-in_ok-extend-in-Extend-clause-ok
 returns-in_ok-extend-in-Extend-clause-ok c =
     moves _ _ _ _ (Extend c.in-Extend.file c.in-Extend.count) _ c.in-Extend.is c.requires refl c.in_ok-extend-in-Extend.ensures.count c.in_ok-extend-in-Extend.ensures.ok
+
+pub returns-in-Truncate-clause-ok : goal.returns-in-Truncate-clause-ok
+unfolding answer_of
+returns-in-Truncate-clause-ok c =
+    moves _ _ _ _ (Truncate c.in-Truncate.file c.in-Truncate.blocks) _ c.in-Truncate.is c.requires refl refl c.truncate.ensures
 
 pub returns-in-Delete-clause-ok : goal.returns-in-Delete-clause-ok
 unfolding answer_of

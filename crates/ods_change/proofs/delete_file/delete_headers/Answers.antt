@@ -1,20 +1,18 @@
 use Rattle.std.proofs.Common.{ℕ, List, [], ◌∷◌, ◌++◌, sym, ◌∙◌, subst}
-use Rattle.ods_space.specs.Chain.{headers_of}
 use Rattle.ods_space.specs.Draft.{Changes, applied}
 use Rattle.ods_space.proofs.Drafts.{applied_none}
 use Rattle.ods_alloc.specs.Marks.{Deletes}
 use Rattle.ods_alloc.proofs.Giving.{none_deleted, passed_by}
-use Rattle.ods_change.proofs.HeldByFiles.{all_noted, chain_read, first_read, none_noted, one_deleted_here, one_noted, places_in, rest_read}
-use Rattle.ods_change.proofs.delete_file.delete_chain.Goals as goal
-use Rattle.ods_change.proofs.delete_file.delete_chain.Goals.{in-Some-place+in_ok-set, in_default-place}
+use Rattle.ods_change.proofs.HeldByFiles.{all_noted, first_read, none_noted, one_deleted_here, one_noted, places_in, rest_read}
+use Rattle.ods_change.proofs.delete_file.delete_headers.Goals as goal
+use Rattle.ods_change.proofs.delete_file.delete_headers.Goals.{in-Some-place+in_ok-set, in_default-place}
 
 pub loop-at-init : goal.loop-at-init
 loop-at-init c =
     let I = c.args.image.now in
-    let L = c.args.layout.now in
-    let has = c.requires.chain in (
-      none_noted (headers_of I L c.args.number) c.from-headers.result c.new-lbns.result.items c.new-numbers.result.items c.from-headers.ensures c.new-lbns.ensures.items c.new-numbers.ensures.items,
-      chain_read I L c.args.number c.from-headers.result has.0 has.1 c.len.ensures.image c.requires.layout has.2 c.from-headers.ensures,
+    let L = c.args.layout.now in (
+      none_noted c.args.lbns.items c.args.headers c.new-numbers.result.items c.new-numbers.ensures.items,
+      c.requires.read,
       subst (λ d. Deletes (applied I []) L c.new-numbers.result.items (applied I d)) (sym c.requires.new)
           (subst (λ xs. Deletes (applied I []) L xs (applied I [])) (sym c.new-numbers.ensures.items) (none_deleted (applied I []) L)),
     )
@@ -29,7 +27,7 @@ loop-at-preserved c =
     let xs = c.loop-at.numbers.items in
     let P : List ℕ → Type 0 = λ ns. Deletes (applied I []) L ns (applied I c.match-place.draft) in
     let Q : Changes → Type 0 = λ d. Deletes (applied I []) L (xs ++ x ∷ []) (applied I d) in (
-      one_noted (headers_of I L c.args.number) c.loop-at.headers c.next.new.self c.loop-at.lbns.items xs c.push_header.new.named.items c.push.new.self.items
+      one_noted c.args.lbns.items c.args.headers c.loop-at.headers c.next.new.self c.loop-at.lbns.items xs c.push_header.new.named.items c.push.new.self.items
           _ next c.in_ok-push_header.ensures c.in_ok-push.ensures.items before.0,
       rest_read I L c.loop-at.headers c.next.new.self _ next before.1,
       subst P (sym c.in_ok-push.ensures.items) (elim c.match-place.branch [
@@ -40,9 +38,7 @@ loop-at-preserved c =
     )
 
 pub returns-clause-held : goal.returns-clause-held
-returns-clause-held c =
-    all_noted c.args.image.now c.args.layout.now c.args.number c.loop-at.headers c.loop-at.lbns.items c.loop-at.numbers.items
-    c.len.ensures.image c.requires.layout c.loop-at.invariant.0 c.in_default.ensures.none
+returns-clause-held c = all_noted c.args.lbns.items c.args.headers c.loop-at.headers c.loop-at.lbns.items c.loop-at.numbers.items c.loop-at.invariant.0 c.in_default.ensures.none
 
 pub returns-clause-deleted : goal.returns-clause-deleted
 returns-clause-deleted c =

@@ -1,13 +1,12 @@
 use Rattle.std.proofs.Common.{[], length}
-use Rattle.ods_space.specs.Chain.{headers_of}
 use Rattle.ods_space.specs.Draft.{applied}
 use Rattle.ods_alloc.specs.Marks.{Deletes}
 use Rattle.ods_change.proofs.HeldByFiles.{AreNoted, AreRead}
-use Rattle.ods_change.proofs.delete_file.delete_chain.Given as goal
+use Rattle.ods_change.proofs.delete_file.delete_headers.Given as goal
 
 abbrev pub invariant-loop-at : goal.invariant-loop-at
 invariant-loop-at l =
-    AreNoted (headers_of l.image l.layout l.number) l.headers l.lbns.items l.numbers.items
+    AreNoted l.initial.lbns.items l.initial.headers l.headers l.lbns.items l.numbers.items
     × AreRead l.image l.layout l.headers
     × Deletes (applied l.image []) l.layout l.numbers.items (applied l.image l.draft)
 

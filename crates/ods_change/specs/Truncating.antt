@@ -1,0 +1,35 @@
+-- Where a chain is cut, and what is known of a file that a user may cut.
+use Rattle.std.specs.Prelude.{◌≡◌, ℕ, ◌+◌, ◌<◌, ◌≤◌, ◌⊎◌, false, List, [], ◌∷◌, ◌++◌, length, None, Some}
+use Rattle.std.specs.FinMap as map
+use Rattle.ods_base.specs.declared.file_id.FileId.{FileId}
+use Rattle.ods_base.specs.declared.file_id.Uic.{Uic}
+use Rattle.ods_header.specs.Header.{IsValidHeader, blocks_of, is_directory_header}
+use Rattle.ods_space.specs.Chain.{headers_of, named_by}
+use Rattle.ods_space.specs.Files.{HasBlocks}
+use Rattle.ods_space.specs.Layout.{VolumeLayout, header_at}
+use Rattle.ods_request.specs.declared.requests.Request.TheVariants.{Truncate}
+use Rattle.ods_request.specs.Catalogue.{Catalogue}
+use Rattle.ods_request.specs.Faults.{fault_of}
+use Rattle.ods_state.specs.Contents.{ShowsBy}
+use Rattle.ods_look.specs.Opening.{IsFileId, file_shown}
+use Rattle.ods_change.specs.declared.truncate_file.CutPlace.{CutPlace}
+
+-- The chain of file n is cut in this header, where the file keeps so many blocks: the headers before it name fewer, and it has the others that are kept, up to `left`.
+pub record IsCutPlace (I : List (List ℕ)) (L : VolumeLayout) (n count : ℕ) (place : CutPlace) : Type 0 where
+  pub front : List (ℕ × List ℕ)
+  pub parts : headers_of I L n ≡ front ++ (place.number, place.header.now) ∷ place.behind
+  pub fewer : (front ≡ []) ⊎ (length (named_by front) < count)
+  pub left : count ≡ length (named_by front) + place.left
+  pub has : place.left ≤ length (blocks_of place.header.now)
+  pub valid : IsValidHeader place.header.now place.number
+
+-- the file is plain and none of the reserved ones, has so many blocks, and the user may cut it
+pub record IsCuttable (I : List (List ℕ)) (L : VolumeLayout) (who : Uic) (id : FileId) (count : ℕ) : Type 0 where
+  pub file : IsFileId I L id
+  pub number : 5 < id.number
+  pub kind : is_directory_header id.number (header_at I L id.number) ≡ false
+  pub lbns : List ℕ
+  pub held : HasBlocks I L id.number lbns
+  pub enough : count ≤ length lbns
+  pub there : (C : Catalogue) → ShowsBy I L C → map.get C.files id ≡ Some (file_shown I L id lbns)
+  pub fine : (C : Catalogue) → ShowsBy I L C → fault_of C who (Truncate id count) ≡ None

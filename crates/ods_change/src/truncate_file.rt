@@ -1,0 +1,170 @@
+//! A Truncate: its checks, and the draft by which the file keeps its first blocks and gives the others back.
+ghost use Rattle.std.specs.Prelude.{◌≡◌, ◌<◌, ◌≤◌, nat_lt, ℕ, List, length, IfOk, IfErr, MatchResult};
+ghost use Rattle.ods_header.specs.Header.{owner_of, protection_of};
+ghost use Rattle.ods_space.specs.{Draft.applied, Layout.header_at, Chain.IsChain, Files.HasBlocks, Files.IsFile, Files.IsLayoutOf, Files.IsWhole};
+ghost use Rattle.ods_mount.specs.Sound.{IsSoundBy};
+ghost use Rattle.ods_request.specs.{declared.answers.Answer.TheVariants.Truncated, declared.requests.Request.TheVariants.Truncate};
+ghost use Rattle.ods_state.specs.{Change.IsFaultBy, Cutting.CutsOff, Served.IsStepOf, Served.IsRefusalOf};
+ghost use Rattle.ods_change.specs.Truncating.{IsCutPlace, IsCuttable};
+
+use crate::delete_file::delete_headers;
+use crate::extend_file::may_extend;
+use crate::taking::mapped;
+use ods_alloc::mark_free;
+use ods_base::{Block, FileId, Image, Uic};
+use ods_header::{cut_header, is_directory};
+use ods_look::opening::named_header;
+use ods_request::Refusal;
+use ods_space::{ChainHeaders, Draft, Layout, count_whole, push_header};
+use std::alloc::{AllocError, Global};
+
+/// The draft by which a file keeps so many of its blocks, the first ones: the others are given back, with the headers
+/// behind the one that has the last of them. Or why that is refused.
+pub fn truncate(
+    alloc: Global,
+    image: &Image,
+    layout: &Layout,
+    who: Uic,
+    file: FileId,
+    count: u32,
+) -> Result<Draft, Refusal>
+    requires { IsSoundBy image.now layout.now }
+    ensures { MatchResult result
+        (λ draft. IsStepOf image.now layout.now who (Truncate file count) (Truncated count) (applied image.now draft) layout.now)
+        (IsRefusalOf image.now layout.now who (Truncate file count)) }
+{
+    let first = match open_to_truncate(image, layout, who, file, count) {
+        Ok(first) => first,
+        Err(refusal) => return Err(refusal),
+    };
+    match cut_off(alloc, image, layout, file.number, first, count) {
+        Ok(draft) => Ok(draft),
+        Err(_) => Err(Refusal::NoMemory),
+    }
+}
+
+/// The first header of a file that the user may cut to so many blocks, or the first fault.
+fn open_to_truncate<'a>(
+    image: &'a Image,
+    layout: &'a Layout,
+    who: Uic,
+    file: FileId,
+    count: u32,
+) -> Result<&'a Block, Refusal>
+    requires { IsSoundBy image.now layout.now }
+    ensures ok { IfOk result (λ first. IsCuttable image.now layout.now who file count × (first.now ≡ header_at image.now layout.now file.number)) }
+    ensures err { IfErr result (IsFaultBy image.now layout.now who (Truncate file count)) }
+{
+    let Some(first) = named_header(image, layout, file) else {
+        return Err(Refusal::NoSuchFile);
+    };
+    if file.number <= 5 {
+        return Err(Refusal::Reserved);
+    }
+    if is_directory(file.number, first) {
+        return Err(Refusal::IsDirectory);
+    }
+    if has_fewer(image, layout, file.number, first, count) {
+        return Err(Refusal::BadCount);
+    }
+    if !may_extend(first, who) {
+        return Err(Refusal::Denied);
+    }
+    Ok(first)
+}
+
+/// Whether the file with this first header has fewer blocks.
+fn has_fewer(image: &Image, layout: &Layout, number: u16, first: &Block, count: u32) -> bool
+    requires sound { IsSoundBy image.now layout.now }
+    requires file { IsFile image.now layout.now number }
+    requires header { first.now ≡ header_at image.now layout.now number }
+    requires above { 5 < number }
+    ensures { (held : List ℕ) → HasBlocks image.now layout.now number held → result ≡ nat_lt (length held) count }
+{
+    count_whole(image, layout, number, first) < count
+}
+
+/// The draft that cuts the file with this first header: the headers behind the cut are deleted along its chain, the
+/// header in which it is cut is written, and then the bits of both bitmaps are marked.
+fn cut_off(
+    alloc: Global,
+    image: &Image,
+    layout: &Layout,
+    number: u16,
+    first: &Block,
+    count: u32,
+) -> Result<Draft, AllocError>
+    requires sound { IsSoundBy image.now layout.now }
+    requires file { IsFile image.now layout.now number }
+    requires above { 5 < number }
+    requires first { first.now ≡ header_at image.now layout.now number }
+    requires enough { (blocks : List ℕ) → HasBlocks image.now layout.now number blocks → count ≤ length blocks }
+    ensures { IfOk result (λ draft. (others blocks : List ℕ) → IsWhole image.now layout.now number others blocks
+        → CutsOff image.now layout.now number others blocks count (applied image.now draft)) }
+{
+    // The blocks of an image have bytes.
+    let _ = image.len();
+    let CutPlace {
+        number: last,
+        header,
+        left,
+        behind,
+    } = cut_place(image, layout, number, first, count);
+    let mut lbns = Vec::new(alloc);
+    push_header(&mut lbns, header)?;
+    let mut draft = Draft::new(alloc);
+    let held = delete_headers(alloc, image, layout, lbns, behind, &mut draft)?;
+    let lbn = layout.place(last).unwrap();
+    draft.set(lbn, cut_header(header, left))?;
+    let given = mark_free(
+        image,
+        layout,
+        &held.lbns[left as usize..],
+        &held.numbers,
+        draft,
+    )?;
+    Ok(given)
+}
+
+/// Where a chain is cut: the header that has the last block that is kept, how many of its blocks are kept, and the
+/// headers behind it.
+#[derive(Drop)]
+struct CutPlace<'a> {
+    number: u16,
+    header: &'a Block,
+    left: u32,
+    behind: ChainHeaders<'a>,
+}
+
+/// Where the chain of a file is cut that keeps so many blocks, by one walk along it: in the header that has the last of
+/// them, and in the first one where none is kept.
+fn cut_place<'a>(
+    image: &'a Image,
+    layout: &'a Layout,
+    number: u16,
+    first: &'a Block,
+    count: u32,
+) -> CutPlace<'a>
+    requires layout { IsLayoutOf image.now layout.now }
+    requires chain { (others : List ℕ) × (blocks : List ℕ) × IsChain image.now layout.now number others blocks × (count ≤ length blocks) }
+    requires first { first.now ≡ header_at image.now layout.now number }
+    ensures { IsCutPlace image.now layout.now number count result }
+{
+    // The blocks of an image have bytes, so a chain has at most 256 headers.
+    let _ = image.len();
+    let mut left = count;
+    let mut headers = ChainHeaders::from(image, layout, number, first);
+    while let Some((at, header)) = headers.next() {
+        let has = mapped(header);
+        if left <= has {
+            return CutPlace {
+                number: at,
+                header,
+                left,
+                behind: headers,
+            };
+        }
+        left -= has;
+    }
+    unreachable!()
+}
