@@ -109,9 +109,17 @@ impl Image {
         requires { lbn < length self.old }
         ensures { self.new ≡ slice_set self.old lbn block }
     {
+        self.copy_block(lbn, &block);
+    }
+
+    /// The block at this LBN becomes this one, which is copied once.
+    pub fn copy_block(&mut self, lbn: u32, block: &Block)
+        requires { lbn < length self.old }
+        ensures { self.new ≡ slice_set self.old lbn block.now }
+    {
         let _ = block.bytes();
         match &mut self.kept {
-            Kept::Alone(blocks) => blocks[lbn as usize] = block,
+            Kept::Alone(blocks) => blocks[lbn as usize] = *block,
             Kept::Over(overlay) => overlay.set_block(lbn, block),
         }
     }

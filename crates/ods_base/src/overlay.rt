@@ -70,9 +70,9 @@ impl Overlay {
     }
 
     /// Replaces the block at this LBN.
-    pub(crate) fn set_block(&mut self, lbn: u32, block: Block)
+    pub(crate) fn set_block(&mut self, lbn: u32, block: &Block)
         requires { lbn < length self.old }
-        ensures { self.new ≡ slice_set self.old lbn block }
+        ensures { self.new ≡ slice_set self.old lbn block.now }
     {
         let _ = block.bytes();
         let count = self.base.len();

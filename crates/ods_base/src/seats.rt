@@ -22,7 +22,7 @@ pub(crate) fn put_block(
     own: &mut Vec<Block>,
     count: u32,
     at: usize,
-    block: Block,
+    block: &Block,
 )
     requires inside { at < count }
     requires small { count ≤ 2 ^ 20 }
@@ -32,16 +32,16 @@ pub(crate) fn put_block(
     ensures seat_room { vec_capacity seats.new ≡ vec_capacity seats.old }
     ensures room { vec_capacity own.new ≡ vec_capacity own.old }
     ensures overlay { IsOverlay count seats.new.items own.new.items }
-    ensures changed { (B : List (List ℕ)) → overlaid B seats.new.items own.new.items ≡ slice_set (overlaid B seats.old.items own.old.items) at block }
+    ensures changed { (B : List (List ℕ)) → overlaid B seats.new.items own.new.items ≡ slice_set (overlaid B seats.old.items own.old.items) at block.now }
 {
     let _ = count;
     reach(seats, at);
     let seat = seats[at] as usize;
     if seat < 2 {
-        own.push_reserved(block);
+        own.push_reserved(*block);
         seats[at] = own.len() as u32;
     } else {
-        own[seat - 1] = block;
+        own[seat - 1].copy_from(block);
     }
 }
 

@@ -26,6 +26,6 @@ fn put(image: &mut Image, lbn: u32, block: &Block, empty: bool)
     if empty {
         image.set_zeros(lbn);
     } else {
-        image.set_block(lbn, *block);
+        image.copy_block(lbn, block);
     }
 }

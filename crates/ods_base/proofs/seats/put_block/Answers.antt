@@ -12,7 +12,7 @@ read c = get_or_read c.reach.new.seats.items c.args.at c.index.result.now c.reac
 
 room : (c : After-index) → c.index.result.now < 2 → length c.args.own.now.items ≤ c.args.count
 room c free =
-    has_room c.args.count c.args.seats.now.items c.reach.new.seats.items c.args.own.now.items c.args.at c.args.block c.requires.overlay c.reach.ensures.same c.requires.inside c.reach.ensures.reached
+    has_room c.args.count c.args.seats.now.items c.reach.new.seats.items c.args.own.now.items c.args.at c.args.block.now c.requires.overlay c.reach.ensures.same c.requires.inside c.reach.ensures.reached
     (subst (λ s. s < 2) (read c) free)
 
 pub push_reserved-requires : goal.push_reserved-requires
@@ -25,18 +25,19 @@ pub returns-then-seat-lt2-clause-overlay : goal.returns-then-seat-lt2-clause-ove
 returns-then-seat-lt2-clause-overlay c =
     let last : c.len.result ≡ suc (length c.args.own.now.items) = search (rules) in
     subst (IsOverlay c.args.count (set c.reach.new.seats.items c.args.at c.len.result)) (sym c.push_reserved.ensures.items)
-    (pushed_overlay c.args.count c.args.seats.now.items c.reach.new.seats.items c.args.own.now.items c.args.at c.args.block c.requires.overlay c.reach.ensures.same c.requires.inside c.reach.ensures.reached
+    (pushed_overlay c.args.count c.args.seats.now.items c.reach.new.seats.items c.args.own.now.items c.args.at c.args.block.now c.requires.overlay c.reach.ensures.same c.requires.inside c.reach.ensures.reached
     (subst (λ s. s < 2) (read (goal.at.returns-then-seat-lt2-clause-overlay c).After-index) c.if-seat-lt2.true) c.len.result last)
 
 pub returns-then-seat-lt2-clause-changed : goal.returns-then-seat-lt2-clause-changed
 returns-then-seat-lt2-clause-changed c B =
     let last : c.len.result ≡ suc (length c.args.own.now.items) = search (rules) in
     ap (overlaid B (set c.reach.new.seats.items c.args.at c.len.result)) c.push_reserved.ensures.items
-    ∙ pushed_changed c.args.count c.args.seats.now.items c.reach.new.seats.items c.args.own.now.items c.args.at c.args.block c.requires.overlay c.reach.ensures.same c.requires.inside c.reach.ensures.reached
+    ∙ pushed_changed c.args.count c.args.seats.now.items c.reach.new.seats.items c.args.own.now.items c.args.at c.args.block.now c.requires.overlay c.reach.ensures.same c.requires.inside c.reach.ensures.reached
     (subst (λ s. s < 2) (read (goal.at.returns-then-seat-lt2-clause-changed c).After-index) c.if-seat-lt2.true) c.len.result last B
 
 pub returns-else-seat-lt2-clause-changed : goal.returns-else-seat-lt2-clause-changed
 returns-else-seat-lt2-clause-changed c B =
     let some : 1 < slice_index c.reach.new.seats.items c.args.at = search (rules, read (goal.at.returns-else-seat-lt2-clause-changed c).After-index) in
-    ap (λ p. overlaid B c.reach.new.seats.items (set c.args.own.now.items (p - 1) c.args.block)) (read (goal.at.returns-else-seat-lt2-clause-changed c).After-index)
-    ∙ renewed_changed c.args.count c.args.seats.now.items c.reach.new.seats.items c.args.own.now.items c.args.at c.args.block c.requires.overlay c.reach.ensures.same c.requires.inside c.reach.ensures.reached some B
+    ap (λ b. overlaid B c.reach.new.seats.items (set c.args.own.now.items (c.index.result.now - 1) b)) c.copy_from.ensures
+    ∙ ap (λ p. overlaid B c.reach.new.seats.items (set c.args.own.now.items (p - 1) c.args.block.now)) (read (goal.at.returns-else-seat-lt2-clause-changed c).After-index)
+    ∙ renewed_changed c.args.count c.args.seats.now.items c.reach.new.seats.items c.args.own.now.items c.args.at c.args.block.now c.requires.overlay c.reach.ensures.same c.requires.inside c.reach.ensures.reached some B

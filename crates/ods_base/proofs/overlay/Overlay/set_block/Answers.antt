@@ -27,5 +27,5 @@ pub invariant_of-self : goal.invariant_of-self
 invariant_of-self c =
     let i = c.self.inside in
     let put = c.put_block in
-    held_set i.base i.seats.items put.new.seats.items i.own.items put.new.own.items _ _ _ _ c.len-count.result c.args.lbn c.args.block c.self.invariant c.bytes.ensures.block
+    held_set i.base i.seats.items put.new.seats.items i.own.items put.new.own.items _ _ _ _ c.len-count.result c.args.lbn c.args.block.now c.self.invariant c.bytes.ensures.block
     c.len-count.ensures.value (put.ensures.changed i.base) put.ensures.overlay put.ensures.seat_room put.ensures.room
