@@ -1,0 +1,32 @@
+-- Laws of the definitions.
+use Rattle.std.specs.Prelude.{◌≡◌, ℕ, ◌≤◌, ◌⊎◌, List, length}
+use Rattle.std.specs.List.{All, flat_map}
+use Rattle.std.specs.Str.Lines.{lines}
+use Rattle.ods_records.specs.declared.kind.RecordKind.{RecordKind}
+use Rattle.ods_records.specs.declared.kind.RecordKind.TheVariants.{Variable}
+use Rattle.ods_records.specs.declared.faults.RecordFault.{RecordFault}
+use Rattle.ods_records.specs.Records.{Spells, text_of}
+use Rattle.ods_records.specs.Faults.{IsFirstFault}
+use Rattle.ods_records.specs.Lines.{IsPlainText}
+use Rattle.ods_records.specs.Written.{written}
+
+-- bytes spell one list of records at most
+abbrev pub OneReading : Type 0
+OneReading = (kind : RecordKind) (bytes : List ℕ) (one other : List (List ℕ)) → Spells kind bytes one → Spells kind bytes other → one ≡ other
+
+-- bytes have one fault at most, and where they have one they spell no records
+abbrev pub OneFault : Type 0
+OneFault = (kind : RecordKind) (bytes : List ℕ) (fault : RecordFault) → IsFirstFault kind bytes fault →
+    ((other : RecordFault) → IsFirstFault kind bytes other → fault ≡ other) × ((records : List (List ℕ)) → Spells kind bytes records → ⊥)
+
+-- bytes spell records, or have a fault
+abbrev pub RecordsOrFault : Type 0
+RecordsOrFault = (kind : RecordKind) (bytes : List ℕ) → ((records : List (List ℕ)) × Spells kind bytes records) ⊎ ((fault : RecordFault) × IsFirstFault kind bytes fault)
+
+-- What records are written as spells these records, and no others, since bytes spell one list at most.
+abbrev pub WrittenIsRead : Type 0
+WrittenIsRead = (records : List (List ℕ)) → All (λ r. length r ≤ 32767) records → Spells Variable (flat_map written records) records
+
+-- The lines of a plain text, each with LF behind it, are the text; and what the text is written as spells its lines.
+abbrev pub PlainTextComesBack : Type 0
+PlainTextComesBack = (text : List ℕ) → IsPlainText text → Spells Variable (flat_map written (lines text)) (lines text) × (text_of (lines text) ≡ text)
