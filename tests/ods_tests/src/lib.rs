@@ -1,5 +1,6 @@
-//! Tests that are run and not proved: of the formats, of mounted images and the program's engine, of requests on a volume, and of sessions. What
-//! they share stands beside them: the volumes that they are made on, the users, files and names that they ask about, and a plain, slow reader.
+//! Tests that are run and not proved: of the formats, of text files as records, of mounted images and the program's engine, of requests
+//! on a volume, and of sessions. What they share stands beside them: the volumes that they are made on, the users, files and names that
+//! they ask about, and a plain, slow reader.
 #![tactic(auto)]
 
 pub mod contiguous;
@@ -10,6 +11,8 @@ mod formats;
 mod mounted;
 pub mod persons;
 pub mod reader;
+#[cfg(test)]
+mod records;
 #[cfg(test)]
 mod requests;
 #[cfg(test)]

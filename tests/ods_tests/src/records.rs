@@ -1,0 +1,7 @@
+//! Text files as records: bytes by hand, each fault with its place, texts there and back, one idea a file.
+mod attributes;
+mod reading;
+mod refused_memory;
+mod texts;
+mod there_and_back;
+mod writing;
