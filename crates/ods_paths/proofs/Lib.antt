@@ -1,0 +1,14 @@
+pub mod Bounds
+pub mod FileTexts
+pub mod FirstRow
+pub mod Firsts
+pub mod Ids
+pub mod ListingOrder
+pub mod Numerals
+pub mod OneMeaning
+pub mod PathTexts
+pub mod PlaceTexts
+pub mod RowLoops
+pub mod RowSteps
+pub mod StepTexts
+pub mod VersionTexts

@@ -1,0 +1,9 @@
+pub mod Bad
+pub mod Lines
+pub mod Numbers
+pub mod Order
+pub mod Paths
+pub mod Patterns
+pub mod Picked
+pub mod Rows
+pub mod Views

@@ -1,0 +1,93 @@
+//! The part of a path that names files.
+ghost use Rattle.std.specs.Prelude.{◌≡◌, ◌↔◌, ◌⊎◌, false, IsTrue, MatchResult};
+ghost use Rattle.std.specs.List.{before_first, after_first};
+ghost use Rattle.ods_paths.specs.{Numbers.IsTheOne, Numbers.IsFirst, Numbers.Has, Numbers.is, Patterns.has_wildcard as wild, Paths.SpellsFiles, Paths.IsVersions, Paths.begins_version, Bad.IsBadFiles, Views.files};
+
+use crate::cuts::{cut_at, has_byte};
+use crate::versions::read_version;
+use crate::{BadPath, Versions, has_wildcard, is_pattern};
+
+/// The most characters of a name, and of a type.
+const NAME_SIZE: usize = 9;
+
+const TYPE_SIZE: usize = 3;
+
+/// Files that a path names: the patterns of their name and of their type, in either case, and their versions, where they are said.
+#[derive(Clone, Copy)]
+pub struct Files<'a> {
+    pub name: &'a [u8],
+    pub kind: &'a [u8],
+    pub versions: Option<Versions>,
+}
+
+/// The files that a text names, as `A*.TXT;1`.
+pub(crate) fn read_files(text: &[u8]) -> Result<Files<'_>, BadPath>
+    ensures { MatchResult result (λ f. SpellsFiles text.now (files f)) (IsBadFiles text.now) }
+{
+    let full = before_version(text);
+    let (name, kind) = split_name(full);
+    if !is_pattern(NAME_SIZE, name) {
+        return Err(BadPath::Name);
+    }
+    if !is_pattern(TYPE_SIZE, kind) {
+        return Err(BadPath::Type);
+    }
+    if !is_dotted(name, full) {
+        return Err(BadPath::NoDot);
+    }
+    let Some(versions) = read_versions(text) else {
+        return Err(BadPath::Version);
+    };
+    Ok(Files {
+        name,
+        kind,
+        versions,
+    })
+}
+
+/// The name and the type, which is empty where there is no `.`.
+fn split_name(full: &[u8]) -> (&[u8], &[u8])
+    ensures { (result.0.now ≡ before_first (is 46) full.now) × (result.1.now ≡ after_first (is 46) full.now) }
+{
+    match cut_at(b'.', full) {
+        Some(parts) => parts,
+        None => (full, &full[full.len()..]),
+    }
+}
+
+/// Whether the name is no pattern, or there is a `.`.
+fn is_dotted(name: &[u8], full: &[u8]) -> bool
+    ensures { IsTrue result ↔ ((wild name.now ≡ false) ⊎ Has 46 full.now) }
+{
+    !has_wildcard(name) || has_byte(b'.', full)
+}
+
+/// What stands before the `;` or `:` of the version, or all where there is none.
+fn before_version(text: &[u8]) -> &[u8]
+    ensures { result.now ≡ before_first begins_version text.now }
+{
+    &text[..place_of_version(text)]
+}
+
+/// The versions that are said.
+fn read_versions(text: &[u8]) -> Option<Option<Versions>>
+    ensures { IsTheOne (IsVersions text.now) result }
+{
+    let place = place_of_version(text);
+    if place == text.len() {
+        return Some(None);
+    }
+    match read_version(&text[place + 1..]) {
+        Some(versions) => Some(Some(versions)),
+        None => None,
+    }
+}
+
+/// The place of the first `;` or `:`, or the length where there is none.
+fn place_of_version(text: &[u8]) -> usize
+    ensures { IsFirst begins_version text.now result }
+{
+    text.iter()
+        .position(|b| *b == b';' || *b == b':')
+        .unwrap_or(text.len())
+}

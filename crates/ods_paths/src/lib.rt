@@ -1,0 +1,26 @@
+//! Paths and patterns of Files-11 volumes: what a text says, which names a pattern matches, the order of a listing, and which versions are picked.
+#![tactic(auto)]
+
+mod bad;
+mod cuts;
+mod files;
+mod folders;
+mod laws;
+mod matching;
+mod numbers;
+mod order;
+mod paths;
+mod patterns;
+mod picking;
+mod versions;
+
+pub use bad::BadPath;
+pub use files::Files;
+pub use folders::{Folder, Place, Steps};
+pub use laws::{bad_says_nothing, says_one_thing};
+pub use matching::matches;
+pub use order::{Shown, compare, is_listing_order};
+pub use paths::{Path, parse_path};
+pub use patterns::{has_wildcard, is_pattern};
+pub use picking::{Span, picked};
+pub use versions::Versions;

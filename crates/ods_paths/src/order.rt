@@ -1,0 +1,28 @@
+//! The order of a listing.
+ghost use Rattle.std.specs.Prelude.{◌≡◌};
+ghost use Rattle.ods_paths.specs.{Order.listing_cmp, Order.IsListingOrder, Lines.line};
+
+use std::cmp::Ordering;
+
+/// What a listing shows of an entry: the texts of its name and of its type, and its version.
+#[derive(Clone, Copy)]
+pub struct Shown<'a> {
+    pub name: &'a [u8],
+    pub kind: &'a [u8],
+    pub version: u16,
+}
+
+/// How two entries stand in a listing: by name, then by type, each compared as bytes; then by version, falling.
+pub fn compare(a: &Shown<'_>, b: &Shown<'_>) -> Ordering
+    ensures { result ≡ listing_cmp (line a.now) (line b.now) }
+{
+    a.name
+        .cmp(&b.name)
+        .then(a.kind.cmp(&b.kind))
+        .then(b.version.cmp(&a.version))
+}
+
+/// The order of a listing is total, and only equal entries are equal in it.
+pub fn is_listing_order()
+    ensures { IsListingOrder }
+{}

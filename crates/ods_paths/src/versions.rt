@@ -1,0 +1,45 @@
+//! Which versions of a name a path chooses.
+ghost use Rattle.ods_paths.specs.Numbers.{IsTheOne, IsVersion, IsExact};
+
+use crate::numbers::{is_text, read_number};
+
+/// The highest version that there is.
+const LAST_VERSION: u16 = 32_767;
+
+/// Which versions of a name are chosen.
+#[derive(Clone, Copy, Debug, PartialEq, Eq)]
+pub enum Versions {
+    Exact(u16),
+    Highest,
+    Lowest,
+    Every,
+}
+
+/// The versions that a text chooses, which stands behind the `;`.
+pub(crate) fn read_version(text: &[u8]) -> Option<Versions>
+    ensures { IsTheOne (IsVersion text.now) result }
+{
+    if is_text(text, b"0") {
+        return Some(Versions::Highest);
+    }
+    if is_text(text, b"-1") {
+        return Some(Versions::Lowest);
+    }
+    if is_text(text, b"*") {
+        return Some(Versions::Every);
+    }
+    read_exact(text)
+}
+
+/// The one version that a text chooses.
+fn read_exact(text: &[u8]) -> Option<Versions>
+    ensures { IsTheOne (IsExact text.now) result }
+{
+    let Some(version) = read_number(text) else {
+        return None;
+    };
+    if version == 0 || LAST_VERSION < version {
+        return None;
+    }
+    Some(Versions::Exact(version))
+}
