@@ -9,6 +9,8 @@ pub mod dice;
 mod formats;
 #[cfg(test)]
 mod mounted;
+#[cfg(test)]
+mod paths;
 pub mod persons;
 pub mod reader;
 #[cfg(test)]
