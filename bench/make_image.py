@@ -28,6 +28,7 @@ def parse_words():
     parser.add_argument("--most-files", type=int, default=12_000, help="H.FMAX, headers that the index file has")
     parser.add_argument("--scattered", type=int, default=100, help="files in pieces of one or two blocks")
     parser.add_argument("--pieces", type=int, default=150, help="pieces of a scattered file")
+    parser.add_argument("--scattered-blocks", type=int, help="blocks of a scattered file; with none, three for two pieces")
     parser.add_argument("--packed", action="store_true", help="leave no free blocks between the pieces of files")
     parser.add_argument("--tree", help="also puts the plain files into this folder, for another file system")
     return parser.parse_args()
@@ -184,7 +185,8 @@ class Volume:
     def plan_plain(self, first, count, blocks):
         """The plain files: some in many pieces, the others in one to three, with free blocks between."""
         words = self.words
-        scattered = [split(words.pieces + words.pieces // 2, words.pieces) for _ in range(words.scattered)]
+        size = words.scattered_blocks or words.pieces + words.pieces // 2
+        scattered = [split(size, words.pieces) for _ in range(words.scattered)]
         left = blocks - sum(map(sum, scattered))
         if left < 0:
             raise SystemExit("make_image: too few blocks for the scattered files")

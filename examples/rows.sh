@@ -73,7 +73,7 @@ run_row() {
     if [ -f bytes ]; then
         while read -r lbn place hex; do
             found=$(dd if=written.dsk bs=1 skip=$((512 * lbn + place)) count=$((${#hex} / 2)) 2>/dev/null | od -An -v -t x1 | tr -d ' \n')
-            [ "$found" = "$hex" ] || { echo "block $lbn has $found at $place, not $hex"; return 1; }
+            [ -n "$hex" ] && [ "$found" = "$hex" ] || { echo "block $lbn has $found at $place, not $hex"; return 1; }
         done <bytes
     fi
     [ -f headers ] || return 0

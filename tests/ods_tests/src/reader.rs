@@ -8,7 +8,7 @@ use std::alloc::{AllocError, Global};
 const DIRECTORY: u16 = 6778;
 
 /// A byte of a block, 0 where there is none.
-fn byte(image: &Image, lbn: u32, at: usize) -> u8 {
+pub fn byte(image: &Image, lbn: u32, at: usize) -> u8 {
     if lbn < image.len() && at < 512 {
         image.block(lbn).byte(at)
     } else {
@@ -17,7 +17,7 @@ fn byte(image: &Image, lbn: u32, at: usize) -> u8 {
 }
 
 /// The word at this byte.
-fn word(image: &Image, lbn: u32, at: usize) -> u16 {
+pub fn word(image: &Image, lbn: u32, at: usize) -> u16 {
     u16::from_le_bytes([byte(image, lbn, at), byte(image, lbn, at.wrapping_add(1))])
 }
 

@@ -262,7 +262,7 @@ fn put_bytes(image: &mut Image, lbn: u32, at: usize, bytes: &[u8]) -> Result<(),
 }
 
 /// Sets a bit of a bitmap block.
-fn set_bit(image: &mut Image, lbn: u32, bit: u32, value: bool) -> Result<(), Fail> {
+pub fn set_bit(image: &mut Image, lbn: u32, bit: u32, value: bool) -> Result<(), Fail> {
     let at = bit as usize / 8;
     if image.len() <= lbn || 512 <= at {
         return Err("no such bit".into());
@@ -278,7 +278,7 @@ fn set_bit(image: &mut Image, lbn: u32, bit: u32, value: bool) -> Result<(), Fai
 }
 
 /// Sets the index bit of a number, in LBN 2.
-fn set_in_use(image: &mut Image, number: u16, is_used: bool) -> Result<(), Fail> {
+pub fn set_in_use(image: &mut Image, number: u16, is_used: bool) -> Result<(), Fail> {
     set_bit(image, 2, (number as u32).saturating_sub(1), is_used)
 }
 

@@ -164,7 +164,7 @@ fn is_extension(
 }
 
 /// Both files have their last block, and an extension header.
-fn are_extended(rt: &impl Abort, alloc: Global, it: &mut Trial) -> Result<(), Fail> {
+pub fn are_extended(rt: &impl Abort, alloc: Global, it: &mut Trial) -> Result<(), Fail> {
     let rows = [
         (read(FIRST, 103), bytes(Block::zeros())),
         (read(SECOND, 103), bytes(Block::zeros())),

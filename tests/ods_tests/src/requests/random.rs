@@ -3,7 +3,7 @@
 use super::growing::two_in_turn;
 use super::rows::{
     Reply, a_txt, create, dat, delete, enter, extend, id, letter, list, look, made, read, remove,
-    set_user, stamp, stat, sub_dir, write,
+    set_user, stamp, stat, sub_dir, truncate, write,
 };
 use super::trial::{Trial, can_be_asked, is_lack, played, same_catalogue, start};
 use crate::dice::Dice;
@@ -129,7 +129,7 @@ fn some_request(rt: &impl Abort, dice: &mut Dice, trial: &Trial) -> Request {
     let dir = some_directory(dice, trial);
     let name = some_name(dice);
     let vbn = dice.roll(5) as u32;
-    match dice.roll(25) {
+    match dice.roll(28) {
         0 | 1 | 2 | 3 | 4 => some_create(rt, dice, name),
         5 | 6 | 7 | 8 => extend(file, some_count(dice)),
         9 | 10 | 11 => delete(file),
@@ -140,6 +140,7 @@ fn some_request(rt: &impl Abort, dice: &mut Dice, trial: &Trial) -> Request {
         21 => write(file, vbn, Block::new([some_byte(dice); 512])),
         22 => set_user(file, [some_byte(dice); 32]),
         23 => list(dir),
+        24 | 25 | 26 => truncate(file, some_count(dice)),
         _ => stat(file),
     }
 }
@@ -151,6 +152,14 @@ fn wanted(request: &Request) -> u32 {
         Request::Extend { blocks, .. } => *blocks,
         _ => 1,
     }
+}
+
+/// Whether a volume may lack something for a request: it may take blocks.
+fn may_lack(request: &Request) -> bool {
+    matches!(
+        request,
+        Request::Create { .. } | Request::Extend { .. } | Request::Enter { .. }
+    )
 }
 
 /// Whether INDEXF.SYS can grow for all the headers that a request may want: it has room for the pointers, and behind the request's own
@@ -178,7 +187,8 @@ pub fn ask_freely(
         Err(refusal) if is_lack(*refusal) => {
             let is_short = free < wanted(request);
             let is_full = *refusal == Refusal::VolumeFull;
-            let is_right = fault.is_none()
+            let is_right = may_lack(request)
+                && fault.is_none()
                 && is_full == is_short
                 && (is_short || numbers < 4 && !grows);
             is_so(rt, request, &answer, is_right);

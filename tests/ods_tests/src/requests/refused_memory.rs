@@ -5,7 +5,7 @@ ghost use Rattle.ods_state.specs.Outcome.{CanBeAsked};
 
 use super::rows::{
     Reply, Row, bytes, create, dat, delete, enter, extend, id, list, look_for_bitmap, made,
-    made_stat, plain, read, remove, set_user, shown, stat, sub_dir, write_a,
+    made_stat, plain, read, remove, set_user, shown, stat, sub_dir, truncate, write_a,
 };
 use super::trial::{can_be_asked, is_answered, is_lack};
 use crate::contiguous::{contiguous_file, contiguous_stat};
@@ -15,7 +15,7 @@ use crate::persons::{
 use crate::settings::{Refusing, ends};
 use crate::volumes::{Variant, added, run, sample_of};
 use ods_alloc::free_count;
-use ods_base::{Block, Image, Pick};
+use ods_base::{Block, FileId, Image, Pick};
 use ods_header::Run;
 use ods_mount::{MountFault, mount};
 use ods_request::{Answer, Refusal, Request};
@@ -165,6 +165,11 @@ fn entered(version: u16) -> Row {
     (request, Ok(Answer::Entered(version)))
 }
 
+/// A Truncate that is accepted.
+fn cut(file: FileId, blocks: u32) -> Row {
+    (truncate(file, blocks), Ok(Answer::Truncated(blocks)))
+}
+
 /// Requests that take and give back blocks, headers and names, and requests for more than there is.
 #[test]
 fn refused_memory_leaves_growth_undone(rt: HostRuntime) -> Result<(), Fail> {
@@ -224,6 +229,24 @@ fn refused_memory_in_extension_headers(rt: HostRuntime) -> Result<(), Fail> {
     ];
     let image = two_full_headers(rt.alloc())?;
     plays_poor(&rt, rt.alloc(), image, &rows, (490, 11))
+}
+
+/// Each of two files gets an extension header, and both are cut: to all they have, so that they keep it, in front of it, and to nothing.
+#[test]
+fn refused_memory_in_cuts(rt: HostRuntime) -> Result<(), Fail> {
+    let rows = [
+        (extend(FIRST, 1), Ok(Answer::Extended(103))),
+        (extend(SECOND, 1), Ok(Answer::Extended(103))),
+        cut(FIRST, 103),
+        cut(FIRST, 102),
+        cut(SECOND, 50),
+        (truncate(SECOND, 51), Err(Refusal::BadCount)),
+        cut(FIRST, 0),
+        (read(FIRST, 1), Err(Refusal::NoSuchBlock)),
+        (read(SECOND, 50), bytes(old_block())),
+    ];
+    let image = two_full_headers(rt.alloc())?;
+    plays_poor(&rt, rt.alloc(), image, &rows, (440, 9))
 }
 
 /// The 33rd name takes a directory's second block.

@@ -62,6 +62,11 @@ pub fn extend(file: FileId, blocks: u32) -> Request {
     Request::Extend { file, blocks }
 }
 
+/// A Truncate.
+pub fn truncate(file: FileId, blocks: u32) -> Request {
+    Request::Truncate { file, blocks }
+}
+
 /// A Delete.
 pub fn delete(file: FileId) -> Request {
     Request::Delete { file }

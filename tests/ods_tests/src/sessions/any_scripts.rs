@@ -4,7 +4,7 @@ ghost use Rattle.ods_share.specs.Scripts.{CanBeObeyed, CanBeRun};
 
 use super::scripts::{
     add, add_script, create, delete, enter, extend, list, look_up, read, read_last, remove, script,
-    set_user, stat, stat_last, write, write_last,
+    set_user, stat, stat_last, truncate, write, write_last,
 };
 use crate::dice::Dice;
 use crate::persons::{
@@ -81,14 +81,15 @@ fn few(dice: &mut Dice) -> u32 {
     1 + dice.roll(3) as u32
 }
 
-/// A request that makes, lengthens or deletes a file, or gives it a name in the master directory.
+/// A request that makes, lengthens, cuts or deletes a file, or gives it a name in the master directory.
 fn any_growth(dice: &mut Dice) -> Action
     ensures { CanBeObeyed result }
 {
-    match dice.roll(9) {
+    match dice.roll(11) {
         0 | 1 => create(any_name(dice), 1, few(dice)),
         2 | 3 => extend(any_id(dice), few(dice)),
         4 | 5 | 6 | 7 => delete(any_id(dice)),
+        8 | 9 => truncate(any_id(dice), dice.roll(3) as u32),
         _ => enter(any_name(dice), None, any_id(dice)),
     }
 }

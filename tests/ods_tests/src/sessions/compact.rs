@@ -11,7 +11,7 @@ use std::alloc::Global;
 use std::test::Fail;
 
 /// How many of the answers are short.
-const SHORT: usize = 8;
+const SHORT: usize = 10;
 
 /// Answers that differ, the short ones first.
 fn answers(alloc: Global) -> Result<Vec<Answer>, Fail> {
@@ -19,6 +19,8 @@ fn answers(alloc: Global) -> Result<Vec<Answer>, Fail> {
     answers.push(Answer::Created(FIRST))?;
     answers.push(Answer::Created(SECOND))?;
     answers.push(Answer::Extended(3))?;
+    answers.push(Answer::Truncated(3))?;
+    answers.push(Answer::Truncated(0))?;
     answers.push(Answer::Done)?;
     answers.push(Answer::Entered(3))?;
     answers.push(Answer::Found(FIRST, 1))?;
@@ -61,6 +63,12 @@ fn requests(alloc: Global) -> Result<Vec<Request>, Fail> {
     requests.push(file_made(stamp()?))?;
     requests.push(Request::Extend { file, blocks: 1 })?;
     requests.push(Request::Extend { file, blocks: 2 })?;
+    requests.push(Request::Truncate { file, blocks: 1 })?;
+    requests.push(Request::Truncate { file, blocks: 0 })?;
+    requests.push(Request::Truncate {
+        file: SECOND,
+        blocks: 1,
+    })?;
     requests.push(Request::Delete { file })?;
     requests.push(Request::Enter {
         dir,

@@ -219,7 +219,7 @@ fn refused_memory_in_a_settlement(rt: HostRuntime) -> Result<(), Fail> {
 
 /// Every command of the language, and lines that are none.
 const ALL: &[u8] =
-    b"USER [1,2]\nCREATE A.TXT;1 2\nWRITE $ 1 48690d0a\nEXTEND $ 3\nENTER 6,1 A.TXT $\n\nLOOK 6,1 A.TXT;-1\nREAD $ 1\n\
+    b"USER [1,2]\nCREATE A.TXT;1 2\nWRITE $ 1 48690d0a\nEXTEND $ 3\nTRUNCATE $ 2\nENTER 6,1 A.TXT $\n\nLOOK 6,1 A.TXT;-1\nREAD $ 1\n\
 LIST 6,1\nSTAT $\nSETUSER $ 0200\nVIEW LOOK 6,1 A.TXT\nVIEW READ $ 1\nVIEW STAT $\nNONE\nREMOVE 6,1 A.TXT\nDELETE 7,1";
 
 #[test]
@@ -235,14 +235,14 @@ fn refused_memory_in_a_script(rt: HostRuntime) -> Result<(), Fail> {
             }
         }
     };
-    assert!(rt; script.commands.len() == 16);
+    assert!(rt; script.commands.len() == 17);
     for (k, command) in script.commands.iter().enumerate() {
         let is_none = matches!(command.action, Action::Bad);
         assert!(rt;
-            command.nth as usize == k + 1 + usize::from(k > 4),
+            command.nth as usize == k + 1 + usize::from(k > 5),
             "command {k}"
         );
-        assert!(rt; is_none == (k == 13), "command {k}");
+        assert!(rt; is_none == (k == 14), "command {k}");
     }
     ends(&rt, rt.alloc());
     Ok(())

@@ -145,6 +145,12 @@ pub fn extend(file: Id, blocks: u32) -> Action
     Action::Submit(Ask::Extend { file, blocks })
 }
 
+pub fn truncate(file: Id, blocks: u32) -> Action
+    ensures { CanBeObeyed result }
+{
+    Action::Submit(Ask::Truncate { file, blocks })
+}
+
 pub fn delete(file: Id) -> Action
     ensures { CanBeObeyed result }
 {
