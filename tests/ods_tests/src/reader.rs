@@ -104,7 +104,7 @@ pub fn plain_growth(image: &Image) -> (u32, u32, u32) {
 }
 
 /// Whether the index bitmap says that a number is in use.
-fn is_marked(image: &Image, number: u16) -> bool {
+pub fn is_marked(image: &Image, number: u16) -> bool {
     let bit = (number as usize).saturating_sub(1);
     byte(image, 2, bit / 8) >> (bit % 8) & 1 == 1
 }

@@ -1,12 +1,14 @@
 //! Random requests on volumes whose INDEXF.SYS can grow, beside the plain program: in one header and in two, with little room for pointers,
-//! with few free blocks, and where files are in pieces. A test fails too where INDEXF.SYS hardly ever grew.
+//! with few free blocks, where files are in pieces, and past numbers in use behind the last. Free blocks have old bytes at first. What is
+//! refused leaves each block; a number behind the last gets sequence 1, and one that is passed over a block of zeros. A test fails too where
+//! INDEXF.SYS hardly ever grew.
 use super::random::{ask_any, mounts, times};
 use super::rows::{create, dat, made};
 use super::trial::{Trial, ask_quickly, same_catalogue, start};
 use crate::dice::Dice;
 use crate::persons::{USER, indexf};
-use crate::reader::plain_last;
-use crate::volumes::{FileHeader, Variant, added, reserved, run, sample_of, set_sum};
+use crate::reader::{header_place, is_marked, plain_last};
+use crate::volumes::{FileHeader, Variant, added, block_of, reserved, run, sample_of, set_sum};
 use ods_base::{Block, Image};
 use std::alloc::Global;
 use std::process::Abort;
@@ -24,6 +26,8 @@ enum Ground {
     Narrow(u16, u8),
     /// No two free blocks are neighbours.
     Scattered(u16),
+    /// Numbers behind the last are in use, of which two are neighbours.
+    Passing(u16),
 }
 
 /// A sample of so many blocks with this H.FMAX.
@@ -64,6 +68,11 @@ fn image_on(alloc: Global, ground: Ground) -> Result<Image, Fail> {
         }
         .image(alloc),
         Ground::Scattered(files) => scattered(alloc, files),
+        Ground::Passing(files) => Variant {
+            index_bits: &[(17, true), (19, true), (20, true), (23, true), (26, true)],
+            ..most(512, files)
+        }
+        .image(alloc),
     }
 }
 
@@ -80,14 +89,57 @@ pub fn scattered(alloc: Global, most_files: u16) -> Result<Image, Fail> {
     .image(alloc)
 }
 
+/// The image with old bytes in its free blocks, and in those of headers behind number 16.
+fn with_old_bytes(mut image: Image) -> Image {
+    for lbn in 22..image.len() {
+        if image.block(lbn).is_zeros() {
+            image.set_block(lbn, Block::new([7; 512]));
+        }
+    }
+    image
+}
+
 /// A trial on this ground, whose numbers 6 to 16 are taken.
 fn trial_on(rt: &impl Abort, alloc: Global, ground: Ground) -> Result<Trial, Fail> {
-    let mut trial = start(rt, alloc, image_on(alloc, ground)?, 65_536)?;
+    let image = with_old_bytes(image_on(alloc, ground)?);
+    let mut trial = start(rt, alloc, image, 65_536)?;
     for number in 6..17 {
         let request = create(rt, dat(b'B'), 0);
         ask_quickly(rt, &mut trial, USER, &request, &made(number, 1))?;
     }
     Ok(trial)
+}
+
+/// A random request, which is refused and leaves each block, or gives sequence 1 to a new file with a number behind the last, which was this.
+fn ask_one(rt: &impl Abort, trial: &mut Trial, dice: &mut Dice, last: u16) -> Result<(), Fail> {
+    let image = trial.volume.image().copy()?;
+    let (entries, given) = (trial.volume.entries().len(), trial.given.len());
+    ask_any(rt, trial, dice)?;
+    if trial.volume.entries().len() == entries {
+        assert!(rt;
+            *trial.volume.image() == image,
+            "what was refused changed the image"
+        );
+    }
+    for file in trial.given.iter().skip(given) {
+        assert!(rt;
+            file.number <= last || file.sequence == 1,
+            "{file:?} is new"
+        );
+    }
+    passed_are_zeros(rt, &image, trial.volume.image())
+}
+
+/// Where INDEXF.SYS grew, the block of each number that was in use is one of zeros.
+fn passed_are_zeros(rt: &impl Abort, before: &Image, after: &Image) -> Result<(), Fail> {
+    for number in plain_last(before)..plain_last(after) {
+        let next = number.wrapping_add(1);
+        if is_marked(before, next) {
+            let block = block_of(after, header_place(after, next))?;
+            assert!(rt; block.is_zeros(), "number {next} has old bytes");
+        }
+    }
+    Ok(())
 }
 
 /// Makes so many random requests, and compares all after each. Returns in how many INDEXF.SYS grew.
@@ -102,7 +154,7 @@ fn try_many(
     let mut growths = 0u32;
     for _k in 0..requests {
         let before = plain_last(trial.volume.image());
-        ask_any(rt, trial, &mut dice)?;
+        ask_one(rt, trial, &mut dice, before)?;
         same_catalogue(rt, alloc, trial)?;
         mounts(rt, alloc, trial.volume.image())?;
         let last = plain_last(trial.volume.image());
@@ -154,4 +206,9 @@ fn few_free_blocks(rt: HostRuntime) -> Result<(), Fail> {
 #[test]
 fn index_beside_files_in_pieces(rt: HostRuntime) -> Result<(), Fail> {
     try_on(&rt, rt.alloc(), Ground::Scattered(40), 10_000, 60, 12)
+}
+
+#[test]
+fn numbers_in_use_are_passed_over(rt: HostRuntime) -> Result<(), Fail> {
+    try_on(&rt, rt.alloc(), Ground::Passing(40), 11_000, 60, 9)
 }
