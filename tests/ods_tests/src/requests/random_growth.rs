@@ -1,6 +1,6 @@
 //! Random requests on volumes whose INDEXF.SYS can grow, beside the plain program: in one header and in two, with little room for pointers,
 //! with few free blocks, where files are in pieces, and past numbers in use behind the last. Free blocks have old bytes at first. What is
-//! refused leaves each block; a number behind the last gets sequence 1, and one that is passed over a block of zeros. A test fails too where
+//! refused lets INDEXF.SYS be; a number behind the last gets sequence 1, and one that is passed over a block of zeros. A test fails too where
 //! INDEXF.SYS hardly ever grew.
 use super::random::{ask_any, mounts, times};
 use super::rows::{create, dat, made};
