@@ -45,7 +45,7 @@ load() {
 line() {
     echo "$(cat "$folder/$1.count") $(cat "$folder/none.count") $(cat "$folder/delete.count") $(least "$1" 2) $(least none 2)" |
         awk -v text="$(cat "$folder/$1")" '{
-            printf "| `%s` | %.2f | %.3f | %s |\n", text, ($1 - $2) / 1e6, $4 - $5, $3 > $2 ? sprintf("%.2f", ($1 - $2) / ($3 - $2)) : "-" }'
+            printf "| `%s` | %.2f | %.3f | %s |\n", text, ($1 - $2) / 1e6, $4 - $5, ($3 > $2 ? sprintf("%.2f", ($1 - $2) / ($3 - $2)) : "-") }'
 }
 
 load none 'STAT 7,1'
