@@ -1,0 +1,60 @@
+-- The bytes of a file: those of its blocks, one block after another, all of them or as many as its attributes say.
+use Rattle.std.specs.Prelude.{◌≡◌, ℕ, ◌+◌, ◌-◌, ◌*◌, ◌<◌, ◌==◌, nat_le, Bool, List, [], length, take, Option, Some, None, if◌then◌else◌}
+use Rattle.std.specs.List.{list_all}
+use Rattle.std.specs.Option.{option_map}
+use Rattle.std.specs.Io.KnownBytes.{Appends}
+use Rattle.ods_base.specs.Image.{image_bytes, TookBytes}
+use Rattle.ods_header.specs.Header.{attributes_of}
+use Rattle.ods_space.specs.Layout.{VolumeLayout, header_at}
+use Rattle.ods_space.specs.Files.{IsFile, HasBlocks}
+use Rattle.ods_space.specs.Faults.{IsChainFault}
+use Rattle.ods_directory.specs.Mark.{end_block, end_byte}
+use Rattle.ods_mount.specs.Faults.{contents_of}
+use Rattle.ods_files.specs.declared.form.Form.{Form}
+use Rattle.ods_files.specs.declared.form.Form.TheVariants.{Binary, Raw}
+use Rattle.ods_files.specs.declared.fault.FileFault.{FileFault}
+use Rattle.ods_files.specs.declared.fault.FileFault.TheVariants.{NoSuchFile, Chain}
+use Rattle.ods_files.specs.declared.fault.CopyFault.{CopyFault}
+use Rattle.ods_files.specs.declared.fault.CopyFault.TheVariants.{EndPastBlocks, Write}
+
+-- a file as its bytes are read: the bytes of each of its blocks, and the 32 bytes of its attributes
+pub record Body : Type 0 where
+  pub blocks : List (List ℕ)
+  pub attributes : List ℕ
+
+-- file n has a whole chain with these blocks, and its first header has these attributes
+pub record HasBody (I : List (List ℕ)) (L : VolumeLayout) (n : ℕ) (body : Body) : Type 0 where
+  pub lbns : List ℕ
+  pub held : HasBlocks I L n lbns
+  pub blocks : body.blocks ≡ contents_of I lbns
+  pub attributes : body.attributes ≡ attributes_of (header_at I L n)
+
+-- why there is no body: the number is no file, or its chain is not whole, or memory is wanted
+abbrev pub IsFileFault : List (List ℕ) → VolumeLayout → ℕ → FileFault → Type 0
+IsFileFault I L n NoSuchFile = ¬ IsFile I L n
+IsFileFault I L n (Chain fault) = IsFile I L n × IsChainFault I L n fault
+
+-- the end of file in bytes: byte F.FFBY of block F.EFBK, counted from 1, and 0 where F.EFBK is 0
+abbrev pub end_of : List ℕ → ℕ
+end_of attributes = if end_block attributes == 0 then 0 else (end_block attributes - 1) * 512 + end_byte attributes
+
+-- nothing was ever written into the attributes
+abbrev pub are_zeros : List ℕ → Bool
+are_zeros attributes = list_all (λ b. b == 0) attributes
+
+-- The bytes of a file in a form: raw those of all blocks; binary those up to the end of file, of which there are none where that lies past the blocks, and all where the attributes are zeros.
+abbrev pub size_in : Form → Body → Option ℕ
+size_in Raw body = Some (512 * length body.blocks)
+size_in Binary body =
+    if are_zeros body.attributes then Some (512 * length body.blocks)
+    else if nat_le (end_of body.attributes) (512 * length body.blocks) then Some (end_of body.attributes)
+    else None
+
+-- the bytes of a file in this form, where it has that form
+abbrev pub bytes_in : Form → Body → Option (List ℕ)
+bytes_in form body = option_map (λ size. take size (image_bytes body.blocks)) (size_in form body)
+
+-- Why the bytes were not written, by what the writer had and has: there is no end of file within the blocks, and it has nothing more; or it failed, and took so many of them.
+abbrev pub IsCopyFault : Form → Body → Option (List ℕ) → Option (List ℕ) → CopyFault → Type 0
+IsCopyFault form body old new EndPastBlocks = (bytes_in form body ≡ None) × Appends old new []
+IsCopyFault form body old new (Write fault) = (bytes : List ℕ) × (bytes_in form body ≡ Some bytes) × TookBytes old new bytes fault.written

@@ -1,0 +1,124 @@
+//! The body of a file: its blocks where they stand in the image, and how far its bytes go.
+ghost use Rattle.std.specs.Prelude.{◌≡◌, ◌*◌, length, ℕ, List, Some, None, IfSome, IfNone, IfOk, IfErr, OnOk};
+ghost use Rattle.std.specs.Io.KnownBytes.{Appends};
+ghost use Rattle.ods_space.specs.Files.{IsLayoutOf};
+ghost use Rattle.ods_files.specs.Body.{HasBody, IsFileFault, are_zeros, size_in, bytes_in, IsCopyFault};
+
+use crate::sending::{push_first, send_first};
+use crate::{CopyFault, FileFault, Form};
+use ods_base::Image;
+use ods_directory::mark_of;
+use ods_header::attributes;
+use ods_space::{Layout, chain, first_header};
+use std::alloc::{AllocError, Global};
+use std::io::Write;
+use std::marker::Model;
+
+/// The blocks of a file with a whole chain, by their LBNs, and the attributes of its first header. The image may be one that is refused.
+#[derive(Drop)]
+pub struct FileBody<'a> {
+    image: &'a Image,
+    lbns: Vec<u32>,
+    attributes: [u8; 32],
+}
+
+impl<'a> Model for FileBody<'a> {
+    ghost use Rattle.std.specs.Prelude.{◌≤◌, length};
+    ghost use Rattle.ods_space.specs.{Files.AreInside, Chain.chain_blocks};
+    ghost use Rattle.ods_mount.specs.Faults.{contents_of};
+    ghost use Rattle.ods_files.specs.Body.{Body};
+
+    ghost Value = { Body };
+
+    ghost view = { λ b. record { blocks = contents_of b.image.now b.lbns.items; attributes = b.attributes } };
+
+    ghost invariant = { λ b. AreInside b.image.now b.lbns.items × (length b.lbns.items ≤ chain_blocks) };
+}
+
+impl<'a> FileBody<'a> {
+    /// The body of a file, where its own chain is whole.
+    pub fn open(
+        alloc: Global,
+        image: &'a Image,
+        layout: &Layout,
+        number: u16,
+    ) -> Result<FileBody<'a>, FileFault>
+        requires { IsLayoutOf image.now layout.now }
+        ensures ok { IfOk result (HasBody image.now layout.now number) }
+        ensures err { IfErr result (IsFileFault image.now layout.now number) }
+    {
+        // An image has few blocks, and so has a chain.
+        let _ = image.len();
+        let Some(first) = first_header(image, layout, number) else {
+            return Err(FileFault::NoSuchFile);
+        };
+        match chain(alloc, image, layout, number) {
+            Ok(lbns) => Ok(FileBody {
+                image,
+                lbns,
+                attributes: attributes(first),
+            }),
+            Err(fault) => Err(FileFault::Chain(fault)),
+        }
+    }
+
+    /// How many blocks there are.
+    pub fn block_count(&self) -> u32
+        ensures { result ≡ length self.now.blocks }
+    {
+        self.lbns.len() as u32
+    }
+
+    /// Whether nothing was ever written into the attributes.
+    pub fn has_no_attributes(&self) -> bool
+        ensures { result ≡ are_zeros self.now.attributes }
+    {
+        self.attributes.iter().all(|byte| *byte == 0)
+    }
+
+    /// How many bytes there are in this form. There is none where the end of file lies past the blocks.
+    pub fn size(&self, form: Form) -> Option<u64>
+        ensures { result ≡ size_in form self.now }
+    {
+        let count = self.block_count();
+        let all = 512 * u64::from(count);
+        match form {
+            Form::Raw => Some(all),
+            Form::Binary => {
+                if self.has_no_attributes() {
+                    return Some(all);
+                }
+                // By one block more, so that an end past the blocks shows.
+                let end = mark_of(&self.attributes, count + 1);
+                if end <= all { Some(end) } else { None }
+            }
+        }
+    }
+
+    /// Writes the bytes in this form, in order, in pieces of 64 KiB. A write of 0 bytes is one that failed.
+    pub fn write_to<W: Write>(&self, form: Form, writer: &mut W) -> Result<(), CopyFault>
+        ensures ok { OnOk result ((bytes : List ℕ) × (bytes_in form self.now ≡ Some bytes) × Appends (W.contents writer.old) (W.contents writer.new) bytes) }
+        ensures err { IfErr result (IsCopyFault form self.now (W.contents writer.old) (W.contents writer.new)) }
+    {
+        let Some(size) = self.size(form) else {
+            return Err(CopyFault::EndPastBlocks);
+        };
+        match send_first(self.image, &self.lbns, size, writer) {
+            Ok(()) => Ok(()),
+            Err(fault) => Err(CopyFault::Write(fault)),
+        }
+    }
+
+    /// The bytes in this form, in memory. There are none where the end of file lies past the blocks.
+    pub fn read(&self, alloc: Global, form: Form) -> Result<Option<Vec<u8>>, AllocError>
+        ensures some { IfOk result (λ read. IfSome read (λ bytes. bytes_in form self.now ≡ Some bytes.items)) }
+        ensures none { IfOk result (λ read. IfNone read (bytes_in form self.now ≡ None)) }
+    {
+        let Some(size) = self.size(form) else {
+            return Ok(None);
+        };
+        let mut bytes = Vec::new(alloc);
+        push_first(self.image, &self.lbns, size, &mut bytes)?;
+        Ok(Some(bytes))
+    }
+}

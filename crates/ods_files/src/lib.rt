@@ -1,0 +1,11 @@
+//! The files of a volume, for programs that get them out: the bytes of a file, by its blocks and its attributes.
+#![tactic(auto)]
+
+mod body;
+mod fault;
+mod form;
+mod sending;
+
+pub use body::FileBody;
+pub use fault::{CopyFault, FileFault};
+pub use form::Form;

@@ -1,0 +1,142 @@
+//! The first bytes of some blocks of an image, one block after another: to a writer, in pieces of 64 KiB, or behind others in memory.
+ghost use Rattle.std.specs.Prelude.{◌≡◌, ◌+◌, ◌*◌, ◌^◌, ◌<◌, ◌≤◌, ◌++◌, ℕ, List, Option, length, take, OnOk, IfOk, IfErr};
+ghost use Rattle.std.specs.Io.KnownBytes.{Appends};
+ghost use Rattle.ods_base.specs.Image.{image_bytes, TookBytes};
+ghost use Rattle.ods_space.specs.{Files.AreInside, Chain.chain_blocks};
+ghost use Rattle.ods_mount.specs.Faults.{contents_of};
+ghost use Rattle.ods_files.specs.Sending.{IsSending};
+
+use arrayvec::ArrayVec;
+use ods_base::{Block, Image, WriteFault, write_bytes};
+use std::alloc::AllocError;
+use std::io::Write;
+
+/// How many bytes are handed to one write.
+const PIECE: usize = 65_536;
+
+/// Writes the first `size` bytes of the blocks at these LBNs, by its own loop over `write`. A fault says how many bytes the writer took
+/// before.
+pub(crate) fn send_first<W: Write>(
+    image: &Image,
+    lbns: &[u32],
+    size: u64,
+    writer: &mut W,
+) -> Result<(), WriteFault>
+    requires inside { AreInside image.now lbns.now }
+    requires few { length lbns.now ≤ chain_blocks }
+    requires size { size ≤ 512 * length lbns.now }
+    ensures ok { OnOk result (Appends (W.contents writer.old) (W.contents writer.new) (take size (image_bytes (contents_of image.now lbns.now)))) }
+    ensures err { IfErr result (λ fault. TookBytes (W.contents writer.old) (W.contents writer.new) (take size (image_bytes (contents_of image.now lbns.now))) fault.written) }
+{
+    // The blocks of an image are whole.
+    let _ = image.len();
+    let mut piece: ArrayVec<u8, PIECE> = ArrayVec::new();
+    let mut written: u64 = 0;
+    for k in 0..size.div_ceil(512) {
+        let count = (size - 512 * k).min(512) as usize;
+        written = match send_on(writer, &mut piece, written, image.block(lbns[k as usize]), count) {
+            Ok(after) => after,
+            Err(fault) => return Err(fault),
+        };
+    }
+    match send_piece(writer, &piece, written) {
+        Ok(_) => Ok(()),
+        Err(fault) => Err(fault),
+    }
+}
+
+/// The piece takes the first `count` bytes of a block; where it has no room for a block, it goes out before. Says how many bytes have gone
+/// out then.
+fn send_on<W: Write>(
+    writer: &mut W,
+    piece: &mut ArrayVec<u8, PIECE>,
+    before: u64,
+    block: &Block,
+    count: usize,
+) -> Result<u64, WriteFault>
+    requires count { count ≤ 512 }
+    requires small { before + length piece.old.items < 2 ^ 64 }
+    ensures ok { IfOk result (λ after. (start : Option (List ℕ)) (bytes : List ℕ) (at : ℕ) → IsSending bytes start (W.contents writer.old) at before piece.old.items
+        → take (at + count) bytes ≡ take at bytes ++ take count block.now → IsSending bytes start (W.contents writer.new) (at + count) after piece.new.items) }
+    ensures err { IfErr result (λ fault. (start : Option (List ℕ)) (bytes : List ℕ) (at : ℕ) → IsSending bytes start (W.contents writer.old) at before piece.old.items
+        → at ≤ length bytes → TookBytes start (W.contents writer.new) bytes fault.written) }
+{
+    let after = match make_room(writer, piece, before) {
+        Ok(after) => after,
+        Err(fault) => return Err(fault),
+    };
+    hold_back(piece, block, count);
+    Ok(after)
+}
+
+/// Where the piece has no room for a block, it goes out. Says how many bytes have gone out then.
+fn make_room<W: Write>(
+    writer: &mut W,
+    piece: &mut ArrayVec<u8, PIECE>,
+    before: u64,
+) -> Result<u64, WriteFault>
+    requires small { before + length piece.old.items < 2 ^ 64 }
+    ensures room { OnOk result (length piece.new.items + 512 ≤ PIECE) }
+    ensures ok { IfOk result (λ after. (start : Option (List ℕ)) (bytes : List ℕ) (at : ℕ) → IsSending bytes start (W.contents writer.old) at before piece.old.items
+        → IsSending bytes start (W.contents writer.new) at after piece.new.items) }
+    ensures err { IfErr result (λ fault. (start : Option (List ℕ)) (bytes : List ℕ) (at : ℕ) → IsSending bytes start (W.contents writer.old) at before piece.old.items
+        → at ≤ length bytes → TookBytes start (W.contents writer.new) bytes fault.written) }
+{
+    if piece.len() <= PIECE - 512 {
+        return Ok(before);
+    }
+    match send_piece(writer, piece, before) {
+        Ok(after) => {
+            piece.clear();
+            Ok(after)
+        }
+        Err(fault) => Err(fault),
+    }
+}
+
+/// The piece takes the first `count` bytes of a block, for which it has room.
+fn hold_back(piece: &mut ArrayVec<u8, PIECE>, block: &Block, count: usize)
+    requires count { count ≤ 512 }
+    requires room { length piece.old.items + count ≤ PIECE }
+    ensures taken { piece.new.items ≡ piece.old.items ++ take count block.now }
+    ensures long { length (take count block.now) ≡ count }
+{
+    let _ = piece.try_extend_from_slice(&block.bytes()[..count]);
+}
+
+/// Writes a piece, where `before` bytes went out already, and says how many have then.
+fn send_piece<W: Write>(writer: &mut W, piece: &[u8], before: u64) -> Result<u64, WriteFault>
+    requires { before + length piece.now < 2 ^ 64 }
+    ensures ok { IfOk result (λ after. (after ≡ before + length piece.now)
+        × Appends (W.contents writer.old) (W.contents writer.new) piece.now) }
+    ensures err { IfErr result (λ fault. (count : ℕ) × (count ≤ length piece.now) × (fault.written ≡ before + count)
+        × Appends (W.contents writer.old) (W.contents writer.new) (take count piece.now)) }
+{
+    match write_bytes(writer, piece) {
+        Ok(()) => Ok(before + piece.len() as u64),
+        Err(fault) => Err(WriteFault {
+            written: before + fault.written,
+        }),
+    }
+}
+
+/// Puts the first `size` bytes of the blocks at these LBNs behind these. After an `Err` some of them may be there.
+pub(crate) fn push_first(
+    image: &Image,
+    lbns: &[u32],
+    size: u64,
+    bytes: &mut Vec<u8>,
+) -> Result<(), AllocError>
+    requires inside { AreInside image.now lbns.now }
+    requires few { length lbns.now ≤ chain_blocks }
+    requires size { size ≤ 512 * length lbns.now }
+    ensures { OnOk result (bytes.new.items ≡ bytes.old.items ++ take size (image_bytes (contents_of image.now lbns.now))) }
+{
+    // The blocks of an image are whole.
+    let _ = image.len();
+    for k in 0..size.div_ceil(512) {
+        let count = (size - 512 * k).min(512) as usize;
+        bytes.extend_from_slice(&image.block(lbns[k as usize]).bytes()[..count])?;
+    }
+    Ok(())
+}
