@@ -1,10 +1,10 @@
 -- The first bytes of blocks, one block after another.
-use Rattle.std.proofs.Common.{◌≡◌, ℕ, zero, suc, ◌+◌, ◌-◌, ◌*◌, ◌<◌, ◌≤◌, min, List, [], ◌∷◌, ◌++◌, length, map, take, get_or, refl, sym, ap, ◌∙◌, subst, arith, append_assoc, length-take-le}
+use Rattle.std.proofs.Common.{◌≡◌, ℕ, zero, suc, ◌+◌, ◌-◌, ◌*◌, ◌<◌, ◌≤◌, min, List, [], ◌∷◌, ◌++◌, length, take, get_or, refl, sym, ap, ◌∙◌, subst, arith, append_assoc, length-take-le}
 use Rattle.std.proofs.Math.Seq.{take-append-add}
 use Rattle.std.proofs.lemmas.List.{take-take, length-map, take-append-le}
 use Rattle.std.specs.List.{All, concat}
 use Rattle.ods_base.specs.Block.{IsBlock}
-use Rattle.ods_base.specs.Image.{IsImage, block_at, image_bytes}
+use Rattle.ods_base.specs.Image.{block_at, image_bytes}
 use Rattle.ods_base.proofs.Images.{length-concat}
 use Rattle.ods_space.specs.Files.{AreInside}
 use Rattle.ods_mount.specs.Faults.{contents_of}

@@ -45,8 +45,8 @@ piece_broken bytes old mid new at written n piece way within few more =
     let seam : written + n ≡ length (take written bytes) + n = omega arith in
     let P : List ℕ → Type 0 = λ l. Appends old new l in
     let parts : take written bytes ++ take n piece ≡ take (written + n) bytes =
-        sym (take-append-add (take written bytes) piece n) ∙ ap (λ m. take m (take written bytes ++ piece)) (sym seam)
-        ∙ ap (take (written + n)) way.held ∙ take-take (written + n) at bytes (omega arith)
+    sym (take-append-add (take written bytes) piece n) ∙ ap (λ m. take m (take written bytes ++ piece)) (sym seam)
+    ∙ ap (take (written + n)) way.held ∙ take-take (written + n) at bytes (omega arith)
     in (omega arith, subst P parts (Appends-trans old mid new (take written bytes) (take n piece) way.sent more))
 
 -- the last piece is sent

@@ -34,7 +34,13 @@ pub(crate) fn send_first<W: Write>(
     let mut written: u64 = 0;
     for k in 0..size.div_ceil(512) {
         let count = (size - 512 * k).min(512) as usize;
-        written = match send_on(writer, &mut piece, written, image.block(lbns[k as usize]), count) {
+        written = match send_on(
+            writer,
+            &mut piece,
+            written,
+            image.block(lbns[k as usize]),
+            count,
+        ) {
             Ok(after) => after,
             Err(fault) => return Err(fault),
         };

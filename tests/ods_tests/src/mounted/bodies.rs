@@ -40,13 +40,13 @@ fn three_blocks(alloc: Global, attributes: [u8; 32], next: u16) -> Result<Image,
     .image(alloc)
 }
 
-/// Zeros, with these bytes at these places.
-fn zeros_but(alloc: Global, len: usize, bytes: &[(usize, u8)]) -> Result<Vec<u8>, Fail> {
-    let mut zeros = vec![in alloc; 0u8; len]?;
+/// What free blocks of a sample have, with these bytes at these places.
+fn old_but(alloc: Global, len: usize, bytes: &[(usize, u8)]) -> Result<Vec<u8>, Fail> {
+    let mut old = vec![in alloc; 0x5au8; len]?;
     for (at, byte) in bytes {
-        zeros[*at] = *byte;
+        old[*at] = *byte;
     }
-    Ok(zeros)
+    Ok(old)
 }
 
 /// A writer that takes at most so many bytes a call, and none after so many in all.
@@ -73,7 +73,7 @@ impl Write for Taker {
 }
 
 /// A writer of at most `a_call` bytes a call and `in_all` bytes.
-fn taker(alloc: Global, a_call: usize, in_all: usize) -> Taker {
+fn taking(alloc: Global, a_call: usize, in_all: usize) -> Taker {
     Taker {
         bytes: Vec::new(alloc),
         a_call,
@@ -97,14 +97,14 @@ fn bytes_up_to_the_end(rt: HostRuntime) -> Result<(), Fail> {
     ] {
         let volume = mounted(alloc, three_blocks(alloc, said, 7)?)?;
         let body = FileBody::open(alloc, volume.image(), volume.layout(), 6)?;
-        let mut out = taker(alloc, 100, 10_000);
+        let mut out = taking(alloc, 100, 10_000);
         let written = body.write_to(Form::Binary, &mut out);
         let read = body.read(alloc, Form::Binary)?;
         assert!(rt; body.size(Form::Binary) == size && body.block_count() == 3);
         assert!(rt; body.has_no_attributes() == (said == [0; 32]));
         match size {
             Some(size) => {
-                let bytes = zeros_but(alloc, size as usize, wanted)?;
+                let bytes = old_but(alloc, size as usize, wanted)?;
                 assert!(rt; written == Ok(()) && out.bytes == bytes, "{size}");
                 assert!(rt; read == Some(bytes));
             }
@@ -113,9 +113,9 @@ fn bytes_up_to_the_end(rt: HostRuntime) -> Result<(), Fail> {
                 assert!(rt; read.is_none());
             }
         }
-        let mut raw = taker(alloc, 512, 10_000);
+        let mut raw = taking(alloc, 512, 10_000);
         assert!(rt; body.write_to(Form::Raw, &mut raw) == Ok(()));
-        assert!(rt; raw.bytes == zeros_but(alloc, 1536, letters)?);
+        assert!(rt; raw.bytes == old_but(alloc, 1536, letters)?);
     }
     Ok(())
 }
@@ -126,7 +126,7 @@ fn writers_that_fail(rt: HostRuntime) -> Result<(), Fail> {
     let volume = mounted(alloc, three_blocks(alloc, attributes(1, 2, 3), 7)?)?;
     let body = FileBody::open(alloc, volume.image(), volume.layout(), 6)?;
     for in_all in 0..515 {
-        let mut out = taker(alloc, 50, in_all);
+        let mut out = taking(alloc, 50, in_all);
         let fault = CopyFault::Write(WriteFault {
             written: in_all as u64,
         });
@@ -149,16 +149,16 @@ fn more_than_a_piece(rt: HostRuntime) -> Result<(), Fail> {
     .image(alloc)?;
     let volume = mounted(alloc, image)?;
     let body = FileBody::open(alloc, volume.image(), volume.layout(), 6)?;
-    let wanted = zeros_but(
+    let wanted = old_but(
         alloc,
         102_400,
         &[(0, 1), (65_535, 2), (65_536, 3), (102_399, 4)],
     )?;
     for a_call in [1_000, 65_536, 100_000] {
-        let mut out = taker(alloc, a_call, 200_000);
+        let mut out = taking(alloc, a_call, 200_000);
         assert!(rt; body.write_to(Form::Raw, &mut out) == Ok(()) && out.bytes == wanted);
     }
-    let mut out = taker(alloc, 65_536, 65_540);
+    let mut out = taking(alloc, 65_536, 65_540);
     let fault = CopyFault::Write(WriteFault { written: 65_540 });
     assert!(rt; body.write_to(Form::Raw, &mut out) == Err(fault));
     Ok(())

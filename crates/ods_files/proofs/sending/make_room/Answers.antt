@@ -1,4 +1,4 @@
-use Rattle.std.proofs.Common.{◌≡◌, ℕ, ◌≤◌, List, length, sym, subst}
+use Rattle.std.proofs.Common.{ℕ, List, sym, subst}
 use Rattle.ods_base.specs.Image.{TookBytes}
 use Rattle.ods_files.specs.Sending.{IsSending}
 use Rattle.ods_files.proofs.Sends.{piece_sent, piece_broken}

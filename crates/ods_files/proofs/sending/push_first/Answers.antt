@@ -12,8 +12,8 @@ loop-k-preserved c =
     let small : c.loop-k.k < length c.args.lbns.now = omega (arith, c.loop-k-test.true, c.div_ceil-k-end.ensures, c.requires.size) in
     let under : 512 * c.loop-k.k < c.args.size = omega (arith, c.loop-k-test.true, c.div_ceil-k-end.ensures) in
     let next = next_at c.args.image.now c.args.lbns.now c.loop-k.k 0 c.args.size c.min-count.result c.block.result.now c.len.ensures.image.blocks c.requires.inside small under
-        (omega (arith, c.min-count.ensures)) c.block.ensures.value in
+    (omega (arith, c.min-count.ensures)) c.block.ensures.value in
     let grown : c.extend_from_slice.new.self.items ≡ c.loop-k.bytes.items ++ part =
-        c.in_ok-extend_from_slice.ensures.items ∙ ap (λ b. c.loop-k.bytes.items ++ take c.min-count.result b) c.bytes.ensures.value in
+    c.in_ok-extend_from_slice.ensures.items ∙ ap (λ b. c.loop-k.bytes.items ++ take c.min-count.result b) c.bytes.ensures.value in
     grown ∙ ap (λ l. l ++ part) c.loop-k.invariant ∙ append_assoc c.args.bytes.now.items (take at bytes) part
     ∙ ap (λ l. c.args.bytes.now.items ++ l) (sym next.0 ∙ ap (λ n. take n bytes) next.1)

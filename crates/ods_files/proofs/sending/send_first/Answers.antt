@@ -1,4 +1,4 @@
-use Rattle.std.proofs.Common.{◌≡◌, ℕ, ◌+◌, ◌*◌, ◌<◌, ◌≤◌, min, List, length, take, sym, subst, arith}
+use Rattle.std.proofs.Common.{ℕ, ◌*◌, ◌<◌, ◌≤◌, min, List, length, take, sym, subst, arith}
 use Rattle.ods_base.specs.Image.{image_bytes, TookBytes}
 use Rattle.ods_mount.specs.Faults.{contents_of}
 use Rattle.ods_files.specs.Sending.{IsSending}
@@ -19,7 +19,7 @@ loop-k-preserved g c =
     let small : c.loop-k.k < length c.args.lbns.now = omega (arith, c.loop-k-test.true, c.div_ceil-k-end.ensures, c.requires.size) in
     let under : 512 * c.loop-k.k < c.args.size = omega (arith, c.loop-k-test.true, c.div_ceil-k-end.ensures) in
     let next = next_at c.args.image.now c.args.lbns.now c.loop-k.k 0 c.args.size c.min-count.result c.block.result.now c.len.ensures.image.blocks c.requires.inside small under
-        (omega (arith, c.min-count.ensures)) c.block.ensures.value in
+    (omega (arith, c.min-count.ensures)) c.block.ensures.value in
     let P : ℕ → Type 0 = λ n. IsSending bytes (g.W.Write.contents c.args.writer.now) (g.W.Write.contents c.send_on.new.writer) n c.in-Ok.after c.send_on.new.piece.items in
     subst P next.1 (c.in-Ok.ensures.ok (g.W.Write.contents c.args.writer.now) bytes (min (512 * c.loop-k.k) c.args.size) c.loop-k.invariant next.0)
 
