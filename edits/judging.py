@@ -22,7 +22,7 @@ def is_of_clause(goal, edit):
     if goal.startswith("returns"):
         clause = re.search(r"-clause-(\w+)", goal)
         return word == "trait" or word in ([clause[1], f"ensures {clause[1]}"] if clause else [word] if word not in NO_CLAUSES else [])
-    if re.search(r"-(init|preserved)$", goal):
+    if re.search(r"-(init|preserved)(-in_\S+)?$", goal):
         return word == "loop"
     if goal.endswith("-smaller") or goal.startswith("decreases"):
         return word == "ends"
