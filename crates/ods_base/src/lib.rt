@@ -28,6 +28,6 @@ pub use laws::{picked_by_keys, picked_by_one_text};
 pub use listed::Listed;
 pub use name::{Name, Pick};
 pub use parse::parse_name;
-pub use print::{print_name, print_words};
+pub use print::{print_name, print_title, print_type, print_words};
 pub use refusal::{Coded, Row};
 pub use write::write_bytes;

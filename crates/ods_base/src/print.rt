@@ -2,7 +2,7 @@
 ghost use Rattle.std.specs.Prelude.{◌≡◌, ◌+◌, ◌-◌, ◌≤◌, ◌==◌, ◌++◌, length, take, slice_index};
 ghost use Rattle.std.specs.List.{suffix_len};
 ghost use Rattle.arrayvec.specs.ArrayString.{array_string_len};
-ghost use Rattle.ods_base.specs.Name.{rad50_codes, rad50_char, part_text, name_version_text};
+ghost use Rattle.ods_base.specs.Name.{rad50_codes, rad50_char, part_text, title, type_text, name_version_text};
 
 use crate::Name;
 use arrayvec::ArrayString;
@@ -13,6 +13,24 @@ pub fn print_name(name: &Name, version: u16) -> ArrayString<19>
     ensures { result.bytes ≡ name_version_text name.now version }
 {
     print_words(name.words(), name.ext(), version)
+}
+
+/// The text of a name without its type, as `A`: at most nine characters.
+pub fn print_title(name: &Name) -> ArrayString<9>
+    ensures { result.bytes ≡ title name.now }
+{
+    let mut text = ArrayString::new();
+    push_part(&mut text, &name_codes(name.words()));
+    text
+}
+
+/// The text of the type of a name, as `TXT`: at most three characters.
+pub fn print_type(name: &Name) -> ArrayString<3>
+    ensures { result.bytes ≡ type_text name.now }
+{
+    let mut text = ArrayString::new();
+    push_part(&mut text, &codes_of(name.ext()));
+    text
 }
 
 /// The text of name words as they stand, with a version; a word of 64,000 or more, which no three
@@ -55,8 +73,8 @@ fn codes_of(word: u16) -> [u8; 3]
 }
 
 /// Appends the text of a part, the name or the type, from its codes.
-fn push_part(text: &mut ArrayString<19>, codes: &[u8])
-    requires { array_string_len text.old + length codes.now ≤ 19 }
+fn push_part<const ROOM: usize>(text: &mut ArrayString<ROOM>, codes: &[u8])
+    requires { array_string_len text.old + length codes.now ≤ ROOM }
     ensures { text.new.bytes ≡ text.old.bytes ++ part_text codes.now }
 {
     for code in without_spaces(codes) {
