@@ -15,3 +15,4 @@ mod mount_faults;
 mod mounts;
 mod poor_chains;
 mod samples;
+mod walks;

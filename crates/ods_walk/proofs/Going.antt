@@ -1,0 +1,217 @@
+-- A walk under way: what is passed and what is still to come make the whole walk.
+use Rattle.std.proofs.Common.{◌≡◌, ◌⊎◌, inl, inr, ℕ, zero, suc, ◌+◌, ◌<◌, refl, sym, ap, ◌∙◌, subst, Bool, true, false, cond, List, [], ◌∷◌, ◌++◌, length, map, set, get_or, append_assoc, Some, None, arith}
+use Rattle.std.specs.Prelude.{not, MatchBool, replicate}
+use Rattle.std.specs.List.{All, Contains, count_by, slice_get}
+use Rattle.std.specs.Option.{option_map_or}
+use Rattle.std.proofs.lemmas.Bool.{cases_eq}
+use Rattle.std.proofs.lemmas.List.{append-nil, map-append, length-set, get_or-set_same, get_or-set_other, length-replicate, get_or-replicate, take_at, drop_at, length_push}
+use Rattle.std.proofs.lemmas.List.Sums.{sum_by-set}
+use Rattle.std.proofs.lemmas.List.Elements.{All-nil, All-head, All-tail, All-push, All-append, All-same, All-take, All-drop, All-weaker, All-map, Contains-append_left, Contains-append_right, Contains-append_cases, Contains-push, Contains-push_cases}
+use Rattle.ods_base.specs.declared.listed.Listed.{Listed}
+use Rattle.ods_space.specs.Layout.{VolumeLayout}
+use Rattle.ods_walk.specs.declared.tables.Entered.{Entered}
+use Rattle.ods_walk.specs.declared.tables.Line.{Line as Placed}
+use Rattle.ods_walk.specs.Listing.{IsListing}
+use Rattle.ods_walk.specs.Paths.{path_to, line_in, led_by, IsWalk}
+use Rattle.ods_walk.specs.Steps.{AreEntered, IsPast, IsStop, from_top, placed}
+use Rattle.ods_walk.specs.Walk.{Line, Walks, IsWalkedInto, below}
+use Rattle.ods_walk.proofs.Ways.{way_stays, way_of_new}
+
+-- the place of each of these lines is one of the table
+abbrev pub ArePlaced : List Entered → List Placed → Type 0
+ArePlaced table lines = All (λ l. l.directory < length table) lines
+
+-- So a walk stands, with this table, these lines passed, these flags and this pile: whatever goes on from here goes on from the start.
+pub record IsUnderWay (I : List (List ℕ)) (L : VolumeLayout) (start : ℕ) (table : List Entered) (lines : List Placed) (flags : List Bool) (pile : List Placed) : Type 0 where
+  pub entered : List ℕ
+  pub are : AreEntered flags entered
+  pub first : List Listed
+  pub listing : IsListing I L start first
+  pub leads : (rest : List Line) → Walks I L entered (map (line_in table) (from_top pile)) rest → Walks I L (start ∷ 4 ∷ []) (below [] start first) (map (line_in table) lines ++ rest)
+  pub lines_placed : ArePlaced table lines
+  pub pile_placed : ArePlaced table (from_top pile)
+
+-- what a flag says of one thing it says of another that holds just where that does
+carried : (b : Bool) (P Q : Type 0) → MatchBool b P (¬ P) → (P → Q) → (Q → P) → MatchBool b Q (¬ Q)
+carried true P Q is there back = there is
+carried false P Q is there back = λ q. is (back q)
+
+is_clear : (b : Bool) (P : Type 0) → MatchBool b P (¬ P) → ¬ P → b ≡ false
+is_clear true P is none = absurd (none is)
+is_clear false P is none = refl
+
+-- one more number is entered
+pub entered_more : (flags : List Bool) (entered : List ℕ) (n : ℕ) → n < 65536 → AreEntered flags entered → AreEntered (set flags n true) (n ∷ entered)
+entered_more flags entered n small are = record { size = length-set flags n true ∙ are.size; each = λ m under. by m under (cases_eq m n) }
+  where
+    Says : ℕ → Bool → Type 0
+    Says m b = MatchBool b (Contains (n ∷ entered) m) (¬ Contains (n ∷ entered) m)
+
+    inside : n < length flags
+    inside = subst (λ k. n < k) (sym are.size) small
+
+    back : (m : ℕ) → ¬ (m ≡ n) → Contains (n ∷ entered) m → Contains entered m
+    back m other has = elim (Contains-append_cases (n ∷ []) entered m has) [
+      | inl one ↦ absurd (elim (Contains-push_cases [] n m one) [ inl none ↦ (let none_below : none.0 < 0 = none.1 in absurd (omega arith)) | inr same ↦ other (sym same) ])
+      | inr rest ↦ rest
+    ]
+
+    by : (m : ℕ) → m < 65536 → (m ≡ n) ⊎ (m ≡ n → ⊥) → Says m (get_or (set flags n true) m false)
+    by m under (inl same) = subst (Says m) (sym (ap (λ k. get_or (set flags n true) k false) same ∙ get_or-set_same flags n true false inside)) (subst (λ k. Contains (n ∷ entered) k) (sym same) (Contains-append_left (n ∷ []) entered n (Contains-push [] n)))
+    by m under (inr other) = subst (Says m) (sym (get_or-set_other flags n m true false other)) (carried (get_or flags m false) (Contains entered m) (Contains (n ∷ entered) m) (are.each m under) (Contains-append_right (n ∷ []) entered m) (back m other))
+
+-- none is entered
+pub entered_none : (flags : List Bool) (size : ℕ) → flags ≡ replicate size false → size ≡ 65536 → AreEntered flags []
+entered_none flags size is all = record {
+  size = ap length is ∙ length-replicate size false ∙ all;
+  each = λ n small. subst (λ b. MatchBool b (Contains [] n) (¬ Contains [] n)) (sym (ap (λ l. get_or l n false) is ∙ get_or-replicate size n false false (subst (λ k. n < k) (sym all) small)))
+      (λ none. absurd (let none_below : none.0 < 0 = none.1 in omega arith));
+}
+
+-- a flag that is set is one less that is not
+pub fewer_left : (flags : List Bool) (entered : List ℕ) (n : ℕ) → n < 65536 → AreEntered flags entered → ¬ Contains entered n → count_by not (set flags n true) < count_by not flags
+fewer_left flags entered n small are new =
+    let inside : n < length flags = subst (λ k. n < k) (sym are.size) small in
+    let clear : get_or flags n false ≡ false = is_clear (get_or flags n false) (Contains entered n) (are.each n small) new in
+    let one : cond {A = ℕ} (not (get_or flags n false)) 1 0 ≡ 1 = ap (λ b. cond {A = ℕ} (not b) 1 0) clear in
+    let sums : count_by not (set flags n true) + cond {A = ℕ} (not (get_or flags n false)) 1 0 ≡ count_by not flags + 0 = sum_by-set (λ x. cond (not x) 1 0) flags n true false inside in
+    omega arith
+
+-- the element at a place of a longer table
+get_stays : (table : List Entered) (e : Entered) (place : ℕ) → place < length table → slice_get (table ++ e ∷ []) place ≡ slice_get table place
+get_stays [] e place within = absurd (omega arith)
+get_stays (x ∷ table) e zero within = refl
+get_stays (x ∷ table) e (suc place) within = get_stays table e place (omega arith)
+
+get_new : (table : List Entered) (e : Entered) → slice_get (table ++ e ∷ []) (length table) ≡ Some e
+get_new [] e = refl
+get_new (x ∷ table) e = get_new table e
+
+-- a directory that is entered changes no line
+pub lines_stay : (table : List Entered) (e : Entered) (lines : List Placed) → ArePlaced table lines → map (line_in (table ++ e ∷ [])) lines ≡ map (line_in table) lines
+lines_stay table e [] are = refl
+lines_stay table e (l ∷ lines) are =
+    let within : l.directory < length table = All-head (λ (x : Placed). x.directory < length table) l lines are in
+    let one : line_in (table ++ e ∷ []) l ≡ line_in table l =
+    λ i. record { path = way_stays table e l.directory within i; directory = option_map_or (λ (x : Entered). x.number) (get_stays table e l.directory within i) 0; entry = l.entry } in
+    λ i. one i ∷ lines_stay table e lines (All-tail (λ (x : Placed). x.directory < length table) l lines are) i
+
+-- and its lines are below it
+pub lines_below : (table : List Entered) (e : Entered) (entries : List Listed) → map (line_in (table ++ e ∷ [])) (map (placed (length table)) entries) ≡ below (led_by (λ at. path_to table at) e.from) e.number entries
+lines_below table e [] = refl
+lines_below table e (x ∷ entries) =
+    let one : line_in (table ++ e ∷ []) (placed (length table) x) ≡ record { path = led_by (λ at. path_to table at) e.from; directory = e.number; entry = x } =
+    λ i. record { path = way_of_new table e i; directory = option_map_or (λ (y : Entered). y.number) (get_new table e i) 0; entry = x } in
+    λ i. one i ∷ lines_below table e entries i
+
+-- the places of a front and of a rest
+front_placed : (table : List Entered) (front rest : List Placed) → ArePlaced table (front ++ rest) → ArePlaced table front
+front_placed table front rest are = subst (ArePlaced table) (take_at front rest (length front) refl) (All-take (λ (x : Placed). x.directory < length table) (length front) (front ++ rest) are)
+
+rest_placed : (table : List Entered) (front rest : List Placed) → ArePlaced table (front ++ rest) → ArePlaced table rest
+rest_placed table front rest are = subst (ArePlaced table) (drop_at front rest (length front) refl) (All-drop (λ (x : Placed). x.directory < length table) (length front) (front ++ rest) are)
+
+more_placed : (table : List Entered) (e : Entered) (lines : List Placed) → ArePlaced table lines → ArePlaced (table ++ e ∷ []) lines
+more_placed table e lines are =
+    let size = length_push table e in
+    All-weaker (λ (x : Placed). x.directory < length table) (λ (x : Placed). x.directory < length (table ++ e ∷ [])) (λ x (below_it : x.directory < length table). omega arith) lines are
+
+new_placed : (table : List Entered) (e : Entered) (entries : List Listed) → ArePlaced (table ++ e ∷ []) (map (placed (length table)) entries)
+new_placed table e entries =
+    let size = length_push table e in
+    let within : length table < length (table ++ e ∷ []) = omega arith in
+    All-map (λ (x : Placed). x.directory < length (table ++ e ∷ [])) (placed (length table)) entries (λ k d small. within)
+
+module _ {I : List (List ℕ)} {L : VolumeLayout} where
+  -- lines that are not walked into are passed one after another
+  pub passing : (table : List Entered) (entered : List ℕ) (passed : List Placed) (pending rest : List Line) → All (λ l. ¬ IsWalkedInto I L entered l.entry) passed → Walks I L entered pending rest
+      → Walks I L entered (map (line_in table) passed ++ pending) (map (line_in table) passed ++ rest)
+  passing table entered [] pending rest none walks = walks
+  passing table entered (p ∷ ps) pending rest none walks = (
+    refl,
+    inr (All-head (λ (l : Placed). ¬ IsWalkedInto I L entered l.entry) p ps none, passing table entered ps pending rest (All-tail (λ (l : Placed). ¬ IsWalkedInto I L entered l.entry) p ps none) walks),
+  )
+
+  module _ {start : ℕ} {table : List Entered} {lines : List Placed} {flags : List Bool} {pile : List Placed} (u : IsUnderWay I L start table lines flags pile) where
+    abbrev pub shown : List Placed → List Line
+    shown ls = map (line_in table) ls
+
+    -- nothing is left
+    pub arrived : (after : List Placed) → IsPast I L flags pile lines after → IsWalk I L start (record { directories = table; lines = after })
+    arrived after past =
+        let all = shown (from_top pile) in
+        let goes : Walks I L u.entered (all ++ []) (all ++ []) = passing table u.entered (from_top pile) [] [] (past.are u.entered u.are) tt in
+        let whole = u.leads all (subst (λ l. Walks I L u.entered l l) (append-nil all) goes) in
+        let same : shown lines ++ all ≡ shown after = sym (map-append (line_in table) lines (from_top pile)) ∙ ap shown (sym past.lines) in
+        (u.first, u.listing, subst (Walks I L (start ∷ 4 ∷ []) (below [] start u.first)) same whole)
+
+    -- a directory is walked into
+    module _ {rest after : List Placed} {line : Placed} (stop : IsStop I L flags pile lines rest after line) where
+      abbrev pub n : ℕ
+      n = line.entry.file.number
+
+      abbrev pub new : Entered
+      new = record { number = n; from = Some (line.directory, line.entry.name) }
+
+      all_placed : ArePlaced table (stop.passed ++ line ∷ from_top rest)
+      all_placed = subst (ArePlaced table) stop.order u.pile_placed
+
+      ahead : ArePlaced table (line ∷ from_top rest)
+      ahead = rest_placed table stop.passed (line ∷ from_top rest) all_placed
+
+      rest_is_placed : ArePlaced table (from_top rest)
+      rest_is_placed = All-tail (λ (x : Placed). x.directory < length table) line (from_top rest) ahead
+
+      after_placed : ArePlaced table after
+      after_placed = All-same (λ (x : Placed). x.directory < length table) after (lines ++ (stop.passed ++ line ∷ [])) stop.lines
+          (All-append (λ (x : Placed). x.directory < length table) lines (stop.passed ++ line ∷ []) u.lines_placed
+          (All-push (λ (x : Placed). x.directory < length table) stop.passed line (front_placed table stop.passed (line ∷ from_top rest) all_placed) (All-head (λ (x : Placed). x.directory < length table) line (from_top rest) ahead)))
+
+      -- what goes on behind the lines that are passed goes on from the start
+      goes_on : (entries : List Listed) → IsListing I L n entries → (more : List Line) → Walks I L (n ∷ u.entered) (below (path_to table line.directory ++ line.entry.name ∷ []) n entries ++ shown (from_top rest)) more
+          → Walks I L (start ∷ 4 ∷ []) (below [] start u.first) (shown after ++ more)
+      goes_on entries listing more walks =
+          let one : Walks I L u.entered (line_in table line ∷ shown (from_top rest)) (line_in table line ∷ more) = (refl, inl (stop.into u.entered u.are, entries, listing, walks)) in
+          let goes = passing table u.entered stop.passed (line_in table line ∷ shown (from_top rest)) (line_in table line ∷ more) (stop.are u.entered u.are) one in
+          let pile_is : shown stop.passed ++ line_in table line ∷ shown (from_top rest) ≡ shown (from_top pile) = sym (map-append (line_in table) stop.passed (line ∷ from_top rest)) ∙ ap shown (sym stop.order) in
+          let whole = u.leads (shown stop.passed ++ line_in table line ∷ more) (subst (λ p. Walks I L u.entered p (shown stop.passed ++ line_in table line ∷ more)) pile_is goes) in
+          let seen : shown after ≡ shown lines ++ (shown stop.passed ++ line_in table line ∷ []) =
+          ap shown stop.lines ∙ map-append (line_in table) lines (stop.passed ++ line ∷ []) ∙ ap (λ l. shown lines ++ l) (map-append (line_in table) stop.passed (line ∷ [])) in
+          let same : shown lines ++ (shown stop.passed ++ line_in table line ∷ more) ≡ shown after ++ more =
+          ap (λ l. shown lines ++ l) (sym (append_assoc (shown stop.passed) (line_in table line ∷ []) more)) ∙ sym (append_assoc (shown lines) (shown stop.passed ++ line_in table line ∷ []) more) ∙ ap (λ l. l ++ more) (sym seen) in
+          subst (Walks I L (start ∷ 4 ∷ []) (below [] start u.first)) same whole
+
+      pub entering : (next : List Placed) (entries : List Listed) → n < 65536 → IsListing I L n entries → from_top next ≡ map (placed (length table)) entries ++ from_top rest
+          → IsUnderWay I L start (table ++ new ∷ []) after (set flags n true) next
+      entering next entries small listing order =
+          let path = path_to table line.directory ++ line.entry.name ∷ [] in
+          let pile_is : map (line_in (table ++ new ∷ [])) (from_top next) ≡ below path n entries ++ shown (from_top rest) =
+          ap (map (line_in (table ++ new ∷ []))) order ∙ map-append (line_in (table ++ new ∷ [])) (map (placed (length table)) entries) (from_top rest)
+          ∙ (λ i. lines_below table new entries i ++ lines_stay table new (from_top rest) rest_is_placed i) in
+          record {
+            entered = n ∷ u.entered;
+            are = entered_more flags u.entered n small u.are;
+            first = u.first;
+            listing = u.listing;
+            leads = λ more walks. subst (λ l. Walks I L (start ∷ 4 ∷ []) (below [] start u.first) (l ++ more)) (sym (lines_stay table new after after_placed))
+                (goes_on entries listing more (subst (λ p. Walks I L (n ∷ u.entered) p more) pile_is walks));
+            lines_placed = more_placed table new after after_placed;
+            pile_placed = All-same (λ (x : Placed). x.directory < length (table ++ new ∷ [])) (from_top next) (map (placed (length table)) entries ++ from_top rest) order
+                (All-append (λ (x : Placed). x.directory < length (table ++ new ∷ [])) (map (placed (length table)) entries) (from_top rest) (new_placed table new entries) (more_placed table new (from_top rest) rest_is_placed));
+          }
+
+-- so it begins
+pub begins : (I : List (List ℕ)) (L : VolumeLayout) (start : ℕ) (flags : List Bool) (pile : List Placed) (entries : List Listed) → AreEntered flags (start ∷ 4 ∷ []) → IsListing I L start entries
+    → from_top pile ≡ map (placed 0) entries → IsUnderWay I L start (record { number = start; from = None } ∷ []) [] flags pile
+begins I L start flags pile entries are listing order =
+    let e : Entered = record { number = start; from = None } in
+    let pile_is : map (line_in (e ∷ [])) (from_top pile) ≡ below [] start entries = ap (map (line_in (e ∷ []))) order ∙ lines_below [] e entries in
+    record {
+      entered = start ∷ 4 ∷ [];
+      are = are;
+      first = entries;
+      listing = listing;
+      leads = λ more walks. subst (λ p. Walks I L (start ∷ 4 ∷ []) p more) pile_is walks;
+      lines_placed = All-nil (λ (x : Placed). x.directory < 1);
+      pile_placed = All-same (λ (x : Placed). x.directory < 1) (from_top pile) (map (placed 0) entries) order (new_placed [] e entries);
+    }

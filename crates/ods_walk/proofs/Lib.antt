@@ -1,0 +1,3 @@
+pub mod Directories
+pub mod Going
+pub mod Ways

@@ -1,0 +1,44 @@
+-- The walk over the directories below one: depth first, in the order of listing, each directory entered once.
+use Rattle.std.specs.Prelude.{◌≡◌, ℕ, ◌⊎◌, List, [], ◌∷◌, ◌++◌, map}
+use Rattle.std.specs.List.{Contains}
+use Rattle.ods_base.specs.Name.{RadName, directory_type}
+use Rattle.ods_base.specs.declared.listed.Listed.{Listed}
+use Rattle.ods_header.specs.Header.{sequence_of}
+use Rattle.ods_space.specs.Layout.{VolumeLayout, header_at}
+use Rattle.ods_mount.specs.Faults.{IsDirectoryFile}
+use Rattle.ods_walk.specs.Listing.{IsListing}
+
+-- a line of a walk: an entry, the directory in which it stands, and the names that lead to that one from where the walk starts
+pub record Line : Type 0 where
+  pub path : List RadName
+  pub directory : ℕ
+  pub entry : Listed
+
+-- the entry names a directory: its type is DIR, and its file is there and a directory
+pub record NamesDirectory (I : List (List ℕ)) (L : VolumeLayout) (e : Listed) : Type 0 where
+  pub type : e.name.ext ≡ directory_type
+  pub file : IsDirectoryFile I L e.file.number
+  pub sequence : sequence_of (header_at I L e.file.number) ≡ e.file.sequence
+
+-- the entry is walked into: it names a directory that is not entered yet
+abbrev pub IsWalkedInto : List (List ℕ) → VolumeLayout → List ℕ → Listed → Type 0
+IsWalkedInto I L entered e = NamesDirectory I L e × ¬ Contains entered e.file.number
+
+-- the lines of directory n, to which this path leads
+abbrev pub below : List RadName → ℕ → List Listed → List Line
+below path n entries = map (λ e. record { path = path; directory = n; entry = e }) entries
+
+-- Where these directories are entered and these lines are still to come, the walk goes so: the first of them is the next one; where it is walked into, the lines of its directory come before the others.
+abbrev pub Walks : List (List ℕ) → VolumeLayout → List ℕ → List Line → List Line → Type 0
+Walks I L entered [] [] = Unit {0}
+Walks I L entered [] (l ∷ ls) = ⊥
+Walks I L entered (p ∷ ps) [] = ⊥
+Walks I L entered (p ∷ ps) (l ∷ ls) =
+    (l ≡ p)
+    × ((IsWalkedInto I L entered p.entry × (entries : List Listed) × IsListing I L p.entry.file.number entries
+    × Walks I L (p.entry.file.number ∷ entered) (below (p.path ++ p.entry.name ∷ []) p.entry.file.number entries ++ ps) ls)
+    ⊎ ((¬ IsWalkedInto I L entered p.entry) × Walks I L entered ps ls))
+
+-- these are the lines of the walk below directory n, which counts as entered, as the master directory does
+abbrev pub IsWalkBelow : List (List ℕ) → VolumeLayout → ℕ → List Line → Type 0
+IsWalkBelow I L n lines = (entries : List Listed) × IsListing I L n entries × Walks I L (n ∷ 4 ∷ []) (below [] n entries) lines

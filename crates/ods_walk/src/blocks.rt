@@ -1,0 +1,41 @@
+//! The blocks of a file, as the blocks of a directory.
+ghost use Rattle.std.specs.Prelude.{◌≡◌, ◌<◌, ◌^◌, length};
+ghost use Rattle.ods_space.specs.Files.{AreInside};
+
+use ods_base::{Block, Image};
+use ods_directory::DirBlocks;
+
+/// The blocks of an image at these LBNs.
+#[derive(Drop)]
+pub(crate) struct FileBlocks<'a> {
+    image: &'a Image,
+    lbns: &'a [u32],
+    ghost inside: { AreInside image.now lbns.now },
+    ghost few: { length lbns.now < 2 ^ 32 },
+}
+
+impl<'a> FileBlocks<'a> {
+    /// The blocks at these LBNs.
+    pub fn new(image: &'a Image, lbns: &'a [u32]) -> FileBlocks<'a>
+        requires inside { AreInside image.now lbns.now }
+        requires few { length lbns.now < 2 ^ 32 }
+        ensures { (result.image.now ≡ image.now) × (result.lbns.now ≡ lbns.now) }
+    {
+        FileBlocks { image, lbns }
+    }
+}
+
+impl DirBlocks for FileBlocks<'_> {
+    ghost use Rattle.std.specs.Prelude.{map};
+    ghost use Rattle.ods_base.specs.Image.{block_at};
+
+    ghost blocks = { λ f. map (block_at f.image.now) f.lbns.now };
+
+    fn count(&self) -> u32 {
+        self.lbns.len() as u32
+    }
+
+    fn block(&self, i: u32) -> &Block {
+        self.image.block(self.lbns[i as usize])
+    }
+}

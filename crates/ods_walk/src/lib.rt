@@ -1,0 +1,11 @@
+//! The directories of a sound volume as people are shown them: the lines of one in the order of a listing, and the walk over all below one.
+#![tactic(auto)]
+
+mod blocks;
+mod ordering;
+mod tables;
+mod walking;
+
+pub use ordering::listing;
+pub use tables::{Entered, Line, Walk};
+pub use walking::walk_from;

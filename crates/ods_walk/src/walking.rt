@@ -1,0 +1,122 @@
+//! The walk over the directories below one: depth first, in the order of listing, each directory entered once.
+ghost use Rattle.std.specs.Prelude.{◌≡◌, ◌++◌, ℕ, List, length, map, IfOk, IfSome, IfNone, OnOk, MatchBool};
+ghost use Rattle.ods_base.specs.declared.listed.Listed.{Listed as Entry};
+ghost use Rattle.ods_mount.specs.{Faults.IsDirectoryFile, Sound.IsSoundBy};
+ghost use Rattle.ods_walk.specs.{Listing.IsListing, Paths.IsWalk, Steps.AreEntered, Steps.IsPast, Steps.IsStop, Steps.from_top, Steps.placed, Walk.NamesDirectory, Walk.IsWalkedInto};
+
+use crate::ordering::listing;
+use crate::tables::{Entered, Line, Walk};
+use ods_base::{Image, Listed};
+use ods_header::{file_sequence, is_directory};
+use ods_space::{Layout, first_header};
+use std::alloc::{AllocError, Global};
+
+/// The type word of a directory, DIR.
+const DIRECTORY: u16 = 6_778;
+
+/// Goes through all lines below directory `start`. That one and the master directory count as entered.
+pub fn walk_from(
+    alloc: Global,
+    image: &Image,
+    layout: &Layout,
+    start: u16,
+) -> Result<Walk, AllocError>
+    requires sound { IsSoundBy image.now layout.now }
+    requires directory { IsDirectoryFile image.now layout.now start }
+    ensures { IfOk result (λ walk. IsWalk image.now layout.now start walk) }
+{
+    let mut directories = Vec::new(alloc);
+    let mut lines = Vec::new(alloc);
+    let mut is_entered = vec![in alloc; false; 65_536]?;
+    let mut pile = Vec::new(alloc);
+    is_entered[4] = true;
+    is_entered[start as usize] = true;
+    put_lines(alloc, image, layout, start, 0, &mut pile)?;
+    directories.push(Entered {
+        number: start,
+        from: None,
+    })?;
+    'directories: while let Some(line) = next_directory(
+        image,
+        layout,
+        &is_entered,
+        &mut lines,
+        &mut pile,
+    )? {
+        let number = line.entry.file.number;
+        is_entered[number as usize] = true;
+        put_lines(alloc, image, layout, number, directories.len(), &mut pile)?;
+        directories.push(Entered {
+            number,
+            from: Some((line.directory, line.entry.name)),
+        })?;
+    }
+    Ok(Walk { directories, lines })
+}
+
+/// Passes the lines on top of the pile, up to one that is walked into, which is passed too and given.
+fn next_directory(
+    image: &Image,
+    layout: &Layout,
+    is_entered: &[bool],
+    lines: &mut Vec<Line>,
+    pile: &mut Vec<Line>,
+) -> Result<Option<Line>, AllocError>
+    requires { length is_entered.now ≡ 65536 }
+    ensures none { IfOk result (λ found. IfNone found (IsPast image.now layout.now is_entered.now pile.old.items lines.old.items lines.new.items)) }
+    ensures some { IfOk result (λ found. IfSome found (IsStop image.now layout.now is_entered.now pile.old.items lines.old.items pile.new.items lines.new.items)) }
+{
+    'lines: while let Some(line) = pile.pop() {
+        lines.push(line)?;
+        if is_walked_into(image, layout, is_entered, &line.entry) {
+            return Ok(Some(line));
+        }
+    }
+    Ok(None)
+}
+
+/// Whether an entry is walked into: it names a directory that is not entered yet.
+fn is_walked_into(image: &Image, layout: &Layout, is_entered: &[bool], entry: &Listed) -> bool
+    requires { length is_entered.now ≡ 65536 }
+    ensures { (entered : List ℕ) → AreEntered is_entered.now entered
+        → MatchBool result (IsWalkedInto image.now layout.now entered entry.now) (¬ IsWalkedInto image.now layout.now entered entry.now) }
+{
+    !is_entered[entry.file.number as usize] && names_directory(image, layout, entry)
+}
+
+/// Whether an entry names a directory: its type is DIR, and its file is there and a directory.
+fn names_directory(image: &Image, layout: &Layout, entry: &Listed) -> bool
+    ensures { MatchBool result (NamesDirectory image.now layout.now entry.now) (¬ NamesDirectory image.now layout.now entry.now) }
+{
+    if entry.name.ext() != DIRECTORY {
+        return false;
+    }
+    let Some(header) = first_header(image, layout, entry.file.number) else {
+        return false;
+    };
+    file_sequence(header) == entry.file.sequence && is_directory(entry.file.number, header)
+}
+
+/// Puts the lines of a directory on the pile, the first one on top.
+fn put_lines(
+    alloc: Global,
+    image: &Image,
+    layout: &Layout,
+    number: u16,
+    place: usize,
+    pile: &mut Vec<Line>,
+) -> Result<(), AllocError>
+    requires sound { IsSoundBy image.now layout.now }
+    requires directory { IsDirectoryFile image.now layout.now number }
+    ensures { OnOk result ((entries : List Entry) × IsListing image.now layout.now number entries
+        × (from_top pile.new.items ≡ map (placed place) entries ++ from_top pile.old.items)) }
+{
+    let mut entries = listing(alloc, image, layout, number)?;
+    'entries: while let Some(entry) = entries.pop() {
+        pile.push(Line {
+            directory: place,
+            entry,
+        })?;
+    }
+    Ok(())
+}
