@@ -1,3 +1,4 @@
+pub mod Completeness
 pub mod Directories
 pub mod Going
 pub mod Ways

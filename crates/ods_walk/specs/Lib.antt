@@ -1,3 +1,4 @@
+pub mod Complete
 pub mod Listing
 pub mod Paths
 pub mod Steps

@@ -2,10 +2,12 @@
 #![tactic(auto)]
 
 mod blocks;
+mod laws;
 mod ordering;
 mod tables;
 mod walking;
 
+pub use laws::walks_are_complete;
 pub use ordering::listing;
 pub use tables::{Entered, Line, Walk};
 pub use walking::walk_from;

@@ -1,0 +1,28 @@
+-- What a walk from the master directory leaves out: nothing to which names lead.
+use Rattle.std.specs.Prelude.{◌≡◌, ℕ, List, [], ◌∷◌}
+use Rattle.std.specs.List.{Contains}
+use Rattle.ods_base.specs.Name.{RadName}
+use Rattle.ods_base.specs.declared.listed.Listed.{Listed}
+use Rattle.ods_space.specs.Layout.{VolumeLayout}
+use Rattle.ods_walk.specs.Listing.{IsListing}
+use Rattle.ods_walk.specs.Walk.{Line, NamesDirectory, IsWalkBelow}
+
+-- directory n has this entry
+pub record HasEntry (I : List (List ℕ)) (L : VolumeLayout) (n : ℕ) (e : Listed) : Type 0 where
+  pub lines : List Listed
+  pub listing : IsListing I L n lines
+  pub among : Contains lines e
+
+-- from directory n these names lead to directory m, each by an entry that names a directory
+abbrev pub LeadsTo : List (List ℕ) → VolumeLayout → ℕ → List RadName → ℕ → Type 0
+LeadsTo I L n [] m = n ≡ m
+LeadsTo I L n (name ∷ names) m = (e : Listed) × HasEntry I L n e × (e.name ≡ name) × NamesDirectory I L e × LeadsTo I L e.file.number names m
+
+-- Each line is an entry of a directory to which its path leads from the master directory, and each entry of a directory to which names lead from there is on some line of that directory.
+pub record IsComplete (I : List (List ℕ)) (L : VolumeLayout) (lines : List Line) : Type 0 where
+  pub only : (l : Line) → Contains lines l → LeadsTo I L 4 l.path l.directory × HasEntry I L l.directory l.entry
+  pub all : (names : List RadName) (n : ℕ) (e : Listed) → LeadsTo I L 4 names n → HasEntry I L n e → (l : Line) × Contains lines l × (l.directory ≡ n) × (l.entry ≡ e)
+
+-- the walk from the master directory is complete
+abbrev pub WalksAreComplete : Type 0
+WalksAreComplete = (I : List (List ℕ)) (L : VolumeLayout) (lines : List Line) → IsWalkBelow I L 4 lines → IsComplete I L lines
