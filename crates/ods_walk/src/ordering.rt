@@ -1,10 +1,12 @@
 //! The lines of a directory as people are shown them: by name, then by type, each as text, and of one name the highest version first.
 ghost use Rattle.std.specs.Prelude.{◌≡◌, IfOk, IsPermutation, IsSortedByKey};
 ghost use Rattle.ods_mount.specs.{Faults.IsDirectoryFile, Sound.IsSoundBy};
-ghost use Rattle.ods_paths.specs.Order.{listing_cmp};
+ghost use Rattle.ods_base.specs.Name.{title as title_of, type_text};
+ghost use Rattle.ods_paths.specs.{Order.listing_cmp, Lines.line};
 ghost use Rattle.ods_walk.specs.Listing.{IsListing, AreEntries, shown};
 
 use crate::blocks::FileBlocks;
+use arrayvec::ArrayString;
 use ods_base::{Image, Listed, print_title, print_type};
 use ods_directory::{DirBlocks, entries, mark_of};
 use ods_header::attributes;
@@ -24,9 +26,8 @@ pub fn listing(
     requires directory { IsDirectoryFile image.now layout.now number }
     ensures { IfOk result (λ lines. IsListing image.now layout.now number lines.items) }
 {
-    let mut lines = read_entries(alloc, image, layout, number)?;
-    sort(&mut lines);
-    Ok(lines)
+    let entries = read_entries(alloc, image, layout, number)?;
+    in_order(alloc, &entries)
 }
 
 /// The entries of a directory, in the order of their keys.
@@ -56,30 +57,60 @@ fn read_entries(
     entries(alloc, &blocks, mark)
 }
 
-/// Puts lines into the order of a listing.
-fn sort(lines: &mut Vec<Listed>)
-    ensures permutation { IsPermutation lines.old.items lines.new.items }
-    ensures order { IsSortedByKey shown listing_cmp lines.new.items }
+/// These lines in the order of a listing.
+fn in_order(alloc: Global, entries: &[Listed]) -> Result<Vec<Listed>, AllocError>
+    ensures permutation { IfOk result (λ lines. IsPermutation entries.now lines.items) }
+    ensures order { IfOk result (λ lines. IsSortedByKey shown listing_cmp lines.items) }
 {
-    lines.sort_unstable_by(compare_lines);
+    let mut titled = Vec::with_capacity(alloc, entries.len())?;
+    for entry in entries {
+        titled.push(Titled::of(*entry))?;
+    }
+    titled.sort_unstable_by(compare_titled);
+    let mut lines = Vec::with_capacity(alloc, entries.len())?;
+    for line in titled.iter() {
+        lines.push(line.entry)?;
+    }
+    Ok(lines)
+}
+
+/// A line with the texts by which a listing is in order, made once.
+#[derive(Clone, Copy)]
+struct Titled {
+    entry: Listed,
+    title: ArrayString<9>,
+    kind: ArrayString<3>,
+    ghost title_is: { title.bytes ≡ title_of entry.name },
+    ghost kind_is: { kind.bytes ≡ type_text entry.name },
+}
+
+impl Titled {
+    /// The line with its texts.
+    fn of(entry: Listed) -> Titled
+        ensures { result.entry ≡ entry }
+    {
+        Titled {
+            entry,
+            title: print_title(&entry.name),
+            kind: print_type(&entry.name),
+        }
+    }
+
+    /// What a listing shows of it.
+    fn shown(&self) -> Shown<'_>
+        ensures { line result ≡ shown self.now.entry }
+    {
+        Shown {
+            name: self.title.as_bytes(),
+            kind: self.kind.as_bytes(),
+            version: self.entry.version,
+        }
+    }
 }
 
 /// How two lines stand in a listing.
-fn compare_lines(one: &Listed, other: &Listed) -> Ordering
-    ensures { result ≡ listing_cmp (shown one.now) (shown other.now) }
+fn compare_titled(one: &Titled, other: &Titled) -> Ordering
+    ensures { result ≡ listing_cmp (shown one.now.entry) (shown other.now.entry) }
 {
-    let (title, kind) = (print_title(&one.name), print_type(&one.name));
-    let (other_title, other_kind) = (print_title(&other.name), print_type(&other.name));
-    compare(
-        &Shown {
-            name: title.as_bytes(),
-            kind: kind.as_bytes(),
-            version: one.version,
-        },
-        &Shown {
-            name: other_title.as_bytes(),
-            kind: other_kind.as_bytes(),
-            version: other.version,
-        },
-    )
+    compare(&one.shown(), &other.shown())
 }
