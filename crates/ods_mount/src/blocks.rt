@@ -7,7 +7,7 @@ use ods_directory::DirBlocks;
 
 /// The blocks of an image at these LBNs.
 #[derive(Drop)]
-pub(crate) struct FileBlocks<'a> {
+pub struct FileBlocks<'a> {
     image: &'a Image,
     lbns: &'a [u32],
     ghost inside: { AreInside image.now lbns.now },

@@ -25,9 +25,9 @@ pub fn mount(alloc: Global, image: Image) -> Result<Mounted, (Image, MountFault)
     }
 }
 
-/// The layout of an image that passes each check.
+/// The layout of an image that is sound: it passes each check. Else one of its faults.
 #[tactic(auto, using(crate::proofs::Unlaid::true_by_layout))]
-fn check_image(alloc: Global, image: &Image) -> Result<Layout, MountFault>
+pub fn check_image(alloc: Global, image: &Image) -> Result<Layout, MountFault>
     ensures ok { IfOk result (IsChecked image.now) }
     ensures err { IfErr result (λ e. e ≢ MountFault.NoMemory → FaultIsTrue image.now e) }
 {

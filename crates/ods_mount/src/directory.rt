@@ -15,7 +15,7 @@ use ods_space::{Layout, chain, header_block};
 use std::alloc::Global;
 
 /// Where this file is a directory, its used entries are good and distinct. `attributes` are those of its header.
-pub(crate) fn check_directory(
+pub fn check_directory(
     alloc: Global,
     image: &Image,
     layout: &Layout,
@@ -67,7 +67,7 @@ fn file_blocks(
 }
 
 /// Whether this file is a directory: file 4, or one above 5 whose ident has the type DIR.
-fn is_directory_file(image: &Image, layout: &Layout, number: u16) -> bool
+pub fn is_directory_file(image: &Image, layout: &Layout, number: u16) -> bool
     requires { IsFile image.now layout.now number }
     ensures { MatchBool result (IsDirectoryFile image.now layout.now number) (¬ IsDirectoryFile image.now layout.now number) }
 {

@@ -27,7 +27,7 @@ pub(crate) fn check_formats(image: &Image, layout: &Layout) -> Result<(), MountF
 }
 
 /// Whether the header of this number is right but for the format of its pointers.
-fn has_other_format(image: &Image, layout: &Layout, number: u16) -> bool
+pub fn has_other_format(image: &Image, layout: &Layout, number: u16) -> bool
     ensures { MatchBool result
         (IsHeader (header_at image.now layout.now number) number × ¬ IsFormat1 (header_at image.now layout.now number))
         (IsHeader (header_at image.now layout.now number) number → IsFormat1 (header_at image.now layout.now number)) }

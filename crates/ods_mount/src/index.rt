@@ -9,7 +9,7 @@ use ods_base::Image;
 use ods_space::Layout;
 
 /// INDEXF.SYS maps what headers are found by and the home block, and no lower place of a home block is free.
-pub(crate) fn check_index(image: &Image, layout: &Layout, home_lbn: u32) -> Result<(), MountFault>
+pub fn check_index(image: &Image, layout: &Layout, home_lbn: u32) -> Result<(), MountFault>
     requires { IsHomeAt image.now home_lbn }
     ensures ok { OnOk result (IsWellIndexed layout.now home_lbn × NoPlaceIsFree image.now layout.now home_lbn) }
     ensures err { IfErr result (IsTrueOf image.now layout.now) }

@@ -11,7 +11,7 @@ use ods_space::{ChainFault, Layout, LayoutFault};
 use std::alloc::Global;
 
 /// The LBN of the home block, and the layout of the volume.
-pub(crate) fn read_layout(alloc: Global, image: &Image) -> Result<(u32, Layout), MountFault>
+pub fn read_layout(alloc: Global, image: &Image) -> Result<(u32, Layout), MountFault>
     ensures home { IfOk result (λ found. IsHomeAt image.now found.0) }
     ensures layout { IfOk result (λ found. IsLayoutOf image.now found.1) }
     ensures err { IfErr result (λ e. e ≢ MountFault.NoMemory → FaultIsTrue image.now e) }
@@ -46,7 +46,7 @@ fn mount_fault(fault: LayoutFault) -> MountFault
 }
 
 /// The fault of a file whose chain has this one.
-pub(crate) fn chain_fault(number: u16, fault: ChainFault) -> MountFault
+pub fn chain_fault(number: u16, fault: ChainFault) -> MountFault
     ensures { result ≡ mount_fault_of (LayoutFault.Chain number fault) }
 {
     match fault {

@@ -18,7 +18,14 @@ mod places;
 mod set;
 mod system;
 
-pub use check::mount;
+pub use blocks::FileBlocks;
+pub use check::{check_image, mount};
+pub use directory::{check_directory, is_directory_file};
 pub use fault::MountFault;
+pub use formats::has_other_format;
+pub use index::check_index;
 pub use laws::sound_has_no_fault;
+pub use layout::{chain_fault, read_layout};
 pub use mounted::Mounted;
+pub use places::is_loose_place;
+pub use set::NumberSet;

@@ -35,7 +35,7 @@ pub(crate) fn check_free_places(
 
 /// Whether this block of a file, by its index counted from 0, is a place of a home block below this one, and a request can change
 /// it. None changes files 3 and 5, nor the first two blocks of INDEXF.SYS, the boot block and the home block.
-pub(crate) fn is_loose_place(home_lbn: u32, number: u16, index: u32, lbn: u32) -> bool
+pub fn is_loose_place(home_lbn: u32, number: u16, index: u32, lbn: u32) -> bool
     ensures { MatchBool result
         (IsHomePlace lbn × (lbn < home_lbn) × ¬ IsFixed number index)
         (IsHomePlace lbn → lbn < home_lbn → IsFixed number index) }

@@ -7,7 +7,7 @@ use std::marker::Model;
 
 /// A set of numbers below 64 times the count of its words.
 #[derive(Drop)]
-pub(crate) struct NumberSet {
+pub struct NumberSet {
     words: Vec<u64>,
 }
 
