@@ -1,0 +1,56 @@
+-- When the faults of a volume as a whole are true, and are told.
+use Rattle.std.proofs.Common.{ℕ, Bool, true, false, ◌<◌, ◌≤◌, List, [], length, inl, inr, refl, ap, arith}
+use Rattle.std.specs.Prelude.{IsTrue, MatchBool}
+use Rattle.ods_space.specs.Layout.{VolumeLayout}
+use Rattle.ods_space.specs.Chain.{index_for}
+use Rattle.ods_space.specs.Files.{IsLayoutOf}
+use Rattle.ods_space.proofs.Chains.{same_chain}
+use Rattle.ods_mount.specs.declared.fault.MountFault.{MountFault}
+use Rattle.ods_mount.specs.declared.fault.MountFault.TheVariants.{BadStorageMap, BadMaster, UnsupportedMap}
+use Rattle.ods_mount.specs.Faults.{IsTrueOf}
+use Rattle.ods_mount.specs.Sound.{IsSoundBy}
+use Rattle.ods_mount.proofs.Soundness.{none_true_of}
+use Rattle.ods_check.specs.Lists.{Adds}
+use Rattle.ods_check.specs.Faults.{TellsAll}
+use Rattle.ods_check.proofs.Adding.{told_still}
+
+-- a test after another one
+pub both : (b : Bool) (U H F : Type 0) → U → MatchBool b (H × ¬ F) (H → F) → MatchBool b (U × H × ¬ F) (¬ (U × H × ¬ F))
+both true U H F u h = (u, h.0, h.1)
+both false U H F u h = λ t. t.2 (h t.1)
+
+-- a test that answers both ways tells whether it holds
+pub true_holds : (b : Bool) (T : Type 0) → MatchBool b T (¬ T) → IsTrue b → T
+true_holds true T h e = h
+true_holds false T h e = absurd (cc)
+
+pub holds_true : (b : Bool) (T : Type 0) → MatchBool b T (¬ T) → T → IsTrue b
+holds_true true T h t = refl
+holds_true false T h t = absurd (h t)
+
+module _ (I : List (List ℕ)) (L : VolumeLayout) where
+  pub long_enough : IsLayoutOf I L → 2 ≤ length L.bitmap → ¬ IsTrueOf I L BadStorageMap
+  long_enough l size (inl f) = f l.bitmap.file
+  long_enough l size (inr (file, ns, bs, chain, few)) =
+      let has = l.bitmap in
+      let same = same_chain I L.home (index_for L 2) [] 0 2 ns bs has.others L.bitmap chain has.whole.chain in
+      absurd (omega (arith, ap length same.1))
+
+  pub too_short : IsLayoutOf I L → length L.bitmap < 2 → IsTrueOf I L BadStorageMap
+  too_short l size = let has = l.bitmap in inr (has.file, has.others, L.bitmap, has.whole.chain, size)
+
+-- what is told of a volume stays told
+pub told_all_still : (P : MountFault → Type 0) (I : List (List ℕ)) (L : VolumeLayout) (old new : List MountFault) → Adds P old new → TellsAll I L old → TellsAll I L new
+told_all_still P I L old new a t = record {
+  storage = λ h. told_still P old new BadStorageMap a (t.storage h);
+  master = λ h. told_still P old new BadMaster a (t.master h);
+  formats = λ n h. told_still P old new (UnsupportedMap n) a (t.formats n h);
+}
+
+-- a sound image has nothing to tell
+pub none_to_tell : (I : List (List ℕ)) (L : VolumeLayout) (faults : List MountFault) → IsSoundBy I L → TellsAll I L faults
+none_to_tell I L faults s = record {
+  storage = λ h. absurd (none_true_of I L s BadStorageMap h);
+  master = λ h. absurd (none_true_of I L s BadMaster h);
+  formats = λ n h. absurd (none_true_of I L s (UnsupportedMap n) h);
+}

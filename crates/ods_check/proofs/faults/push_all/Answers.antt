@@ -1,0 +1,23 @@
+use Rattle.ods_mount.specs.declared.fault.MountFault.TheVariants.{BadStorageMap, BadMaster}
+use Rattle.ods_mount.specs.Faults.{IsTrueOf}
+use Rattle.ods_check.proofs.Adding.{adds_more, told_still}
+use Rattle.ods_check.proofs.faults.push_all.Goals as goal
+
+pub returns-clause-adds : goal.returns-clause-adds
+returns-clause-adds c =
+    let P = IsTrueOf c.args.image.now c.args.layout.now in
+    let start = c.args.faults.now.items in
+    let system = adds_more P start c.push_index.new.faults.items c.push_system.new.faults.items c.in_ok-push_index.ensures c.in_ok-push_system.ensures.adds in
+    adds_more P start c.push_system.new.faults.items c.push_formats.new.faults.items system c.in_ok-push_formats.ensures.adds
+
+pub returns-clause-all : goal.returns-clause-all
+returns-clause-all c =
+    let P = IsTrueOf c.args.image.now c.args.layout.now in
+    let middle = c.push_system.new.faults.items in
+    let end = c.push_formats.new.faults.items in
+    let later = c.in_ok-push_formats.ensures.adds in
+    record {
+      storage = λ t. told_still P middle end BadStorageMap later (c.in_ok-push_system.ensures.storage t);
+      master = λ t. told_still P middle end BadMaster later (c.in_ok-push_system.ensures.master t);
+      formats = c.in_ok-push_formats.ensures.all;
+    }

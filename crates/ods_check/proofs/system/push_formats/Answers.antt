@@ -1,0 +1,52 @@
+use Rattle.std.proofs.Common.{◌≡◌, ℕ, ◌+◌, ◌*◌, ◌≤◌, true, false, sym, ap, subst, arith, inl, inr}
+use Rattle.std.proofs.lemmas.Bool.{cases_lt}
+use Rattle.std.specs.List.{Contains}
+use Rattle.ods_space.specs.Layout.{is_in_use}
+use Rattle.ods_mount.specs.declared.fault.MountFault.TheVariants.{UnsupportedMap}
+use Rattle.ods_mount.specs.Faults.{IsTrueOf}
+use Rattle.ods_mount.proofs.Headers.{number_small, number_in_bitmap}
+use Rattle.ods_check.proofs.Adding.{adds_none, adds_if, adds_more, told_if, told_still}
+use Rattle.ods_check.proofs.Telling.{true_holds, holds_true}
+use Rattle.ods_check.proofs.system.push_formats.Goals as goal
+
+pub loop-k-init : goal.loop-k-init
+loop-k-init c = record {
+  adds = adds_none (IsTrueOf c.args.image.now c.args.layout.now) c.args.faults.now.items;
+  all = λ n low t.
+      let e : n ≡ 0 = omega arith in
+      let none : false ≡ true = subst (λ x. is_in_use c.args.image.now c.args.layout.now.home x ≡ true) e t.0 in
+      absurd (cc);
+}
+
+pub loop-k-preserved : goal.loop-k-preserved
+loop-k-preserved c =
+    let P = IsTrueOf c.args.image.now c.args.layout.now in
+    let T : ℕ → Type 0 = λ n. IsTrueOf c.args.image.now c.args.layout.now (UnsupportedMap n) in
+    let left = c.is_left_aside-is_left.result in
+    let x = UnsupportedMap (c.loop-k.k + 1) in
+    let added = adds_if P c.loop-k.faults.items c.push_if.new.faults.items x left c.in_ok-push_if.ensures (true_holds left (T (c.loop-k.k + 1)) c.is_left_aside-is_left.ensures) in
+    record {
+      adds = adds_more P c.args.faults.now.items c.loop-k.faults.items c.push_if.new.faults.items c.loop-k.invariant.adds added;
+      all = λ n low t. elim (cases_lt n (c.loop-k.k + 1)) [
+        | inl less ↦ told_still P c.loop-k.faults.items c.push_if.new.faults.items (UnsupportedMap n) added (c.loop-k.invariant.all n (omega arith) t)
+        | inr more ↦
+            let e : c.loop-k.k + 1 ≡ n = omega arith in
+            let Q : ℕ → Type 0 = λ x. T x → Contains c.push_if.new.faults.items (UnsupportedMap x) in
+            subst Q e (λ here. told_if c.loop-k.faults.items c.push_if.new.faults.items x left c.in_ok-push_if.ensures (holds_true c.is_left_aside-is_left.result (T (c.loop-k.k + 1)) c.is_left_aside-is_left.ensures here)) t
+      ];
+    }
+
+pub returns-clause-adds : goal.returns-clause-adds
+returns-clause-adds c = c.loop-k.invariant.adds
+
+pub returns-clause-all : goal.returns-clause-all
+returns-clause-all c n t =
+    let I = c.args.image.now in
+    let L = c.args.layout.now in
+    let small = number_small I L n c.len.ensures.image t.1 in
+    let within = number_in_bitmap I L.home n t.0 in
+    let P : ℕ → Type 0 = λ x. n ≤ 4096 * x in
+    let low : n ≤ 4096 * c.home.result.index_bitmap_size = subst P (ap (λ h. h.index_bitmap_size) (sym c.home.ensures)) within in
+    let last = c.min-last.ensures in
+    let end = c.loop-k-test.false in
+    c.loop-k.invariant.all n (omega arith) t

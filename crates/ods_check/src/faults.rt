@@ -1,0 +1,132 @@
+//! The faults of an image that are looked for beyond the first.
+ghost use Rattle.std.specs.Prelude.{◌≡◌, ◌≢◌, ◌⊎◌, ◌++◌, ◌∷◌, [], IsTrue, MatchBool, OnOk, IfOk, IfSome};
+ghost use Rattle.std.specs.List.{All};
+ghost use Rattle.ods_header.specs.Home.{IsHomeAt};
+ghost use Rattle.ods_space.specs.Files.{IsLayoutOf};
+ghost use Rattle.ods_mount.specs.Faults.{IsSound, FaultIsTrue, IsTrueOf};
+ghost use Rattle.ods_check.specs.{Lists.Adds, Faults.TellsAll};
+
+use crate::system::{push_formats, push_index, push_system};
+use ods_base::Image;
+use ods_mount::{MountFault, check_image, read_layout};
+use ods_space::Layout;
+use std::alloc::{AllocError, Global};
+
+/// What a check of an image finds: the layout, where there is one, and its faults.
+#[derive(Drop)]
+pub struct Checked {
+    pub layout: Option<Layout>,
+    pub faults: Vec<MountFault>,
+}
+
+/// Faults of an image, each of which is true, and its layout where it has one. A sound image has none, and every other image has one
+/// at least: that which a mount answers. Where there is a layout each true fault of three kinds is told: a storage bitmap that is too
+/// short, no master directory, and each header whose pointers have another format.
+pub fn check_all(alloc: Global, image: &Image) -> Result<Checked, AllocError>
+    ensures true_of { IfOk result (λ c. All (FaultIsTrue image.now) c.faults.items) }
+    ensures sound { IfOk result (λ c. c.faults.items ≡ [] → IsSound image.now) }
+    ensures layout { IfOk result (λ c. IfSome c.layout (λ layout. IsLayoutOf image.now layout × TellsAll image.now layout c.faults.items)) }
+{
+    match check_image(alloc, image) {
+        Ok(layout) => Ok(Checked {
+            layout: Some(layout),
+            faults: Vec::new(alloc),
+        }),
+        Err(fault) => {
+            if is_memory(&fault) {
+                return Err(AllocError);
+            }
+            all_faults(alloc, image, fault)
+        }
+    }
+}
+
+/// Whether the fault is that memory was refused.
+fn is_memory(fault: &MountFault) -> bool
+    ensures { MatchBool result (fault.now ≡ MountFault.NoMemory) (fault.now ≢ MountFault.NoMemory) }
+{
+    match fault {
+        MountFault::NoMemory => true,
+        MountFault::NoHome => false,
+        MountFault::UnsupportedMap(_) => false,
+        MountFault::BadChain(_) => false,
+        MountFault::OutsideVolume(_, _) => false,
+        MountFault::BadIndex => false,
+        MountFault::BadStorageMap => false,
+        MountFault::BadMaster => false,
+        MountFault::DoublyUsed(_, _, _) => false,
+        MountFault::MarkedFree(_, _) => false,
+        MountFault::BadDirectory(_) => false,
+        MountFault::DuplicateName(_) => false,
+    }
+}
+
+/// The faults of an image that is not sound, of which one is known.
+fn all_faults(alloc: Global, image: &Image, known: MountFault) -> Result<Checked, AllocError>
+    requires { FaultIsTrue image.now known }
+    ensures true_of { IfOk result (λ c. All (FaultIsTrue image.now) c.faults.items) }
+    ensures some { IfOk result (λ c. c.faults.items ≢ []) }
+    ensures layout { IfOk result (λ c. IfSome c.layout (λ layout. IsLayoutOf image.now layout × TellsAll image.now layout c.faults.items)) }
+{
+    let mut faults = Vec::new(alloc);
+    match read_layout(alloc, image) {
+        Ok((home_lbn, layout)) => {
+            push_all(image, &layout, home_lbn, &mut faults)?;
+            tell(known, &mut faults)?;
+            Ok(Checked {
+                layout: Some(layout),
+                faults,
+            })
+        }
+        Err(MountFault::NoMemory) => Err(AllocError),
+        Err(_) => {
+            tell(known, &mut faults)?;
+            Ok(Checked {
+                layout: None,
+                faults,
+            })
+        }
+    }
+}
+
+/// Adds a fault that is known, where none of these is the same. So there is one at least.
+fn tell(known: MountFault, faults: &mut Vec<MountFault>) -> Result<(), AllocError>
+    ensures added { OnOk result ((faults.new.items ≡ faults.old.items) ⊎ (faults.new.items ≡ faults.old.items ++ known ∷ [])) }
+    ensures some { OnOk result (faults.new.items ≢ []) }
+{
+    if is_told(known, faults) {
+        return Ok(());
+    }
+    faults.push(known)?;
+    Ok(())
+}
+
+/// Whether one of these faults is this one.
+fn is_told(known: MountFault, faults: &[MountFault]) -> bool
+    ensures { IsTrue result → faults.now ≢ [] }
+{
+    for i in 0..faults.len() {
+        if faults[i] == known {
+            return true;
+        }
+    }
+    false
+}
+
+/// Adds the faults of a volume with this layout that its index, its system files and the format of its headers show.
+fn push_all(
+    image: &Image,
+    layout: &Layout,
+    home_lbn: u32,
+    faults: &mut Vec<MountFault>,
+) -> Result<(), AllocError>
+    requires layout { IsLayoutOf image.now layout.now }
+    requires home { IsHomeAt image.now home_lbn }
+    ensures adds { OnOk result (Adds (IsTrueOf image.now layout.now) faults.old.items faults.new.items) }
+    ensures all { OnOk result (TellsAll image.now layout.now faults.new.items) }
+{
+    push_index(image, layout, home_lbn, faults)?;
+    push_system(image, layout, faults)?;
+    push_formats(image, layout, faults)?;
+    Ok(())
+}
