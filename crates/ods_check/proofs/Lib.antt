@@ -1,2 +1,4 @@
 pub mod Adding
 pub mod Telling
+pub mod Sweeping
+pub mod StillTold

@@ -1,2 +1,4 @@
 pub mod Lists
 pub mod Faults
+pub mod Sets
+pub mod Findings

@@ -2,7 +2,12 @@
 #![tactic(auto)]
 
 mod add;
+mod all_findings;
 mod faults;
+mod finding;
+mod headers;
 mod system;
 
+pub use all_findings::findings;
 pub use faults::{Checked, check_all};
+pub use finding::{Finding, NoHeader};

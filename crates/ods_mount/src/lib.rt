@@ -27,5 +27,5 @@ pub use index::check_index;
 pub use laws::sound_has_no_fault;
 pub use layout::{chain_fault, read_layout};
 pub use mounted::Mounted;
-pub use places::is_loose_place;
+pub use places::{is_home_place, is_loose_place};
 pub use set::NumberSet;

@@ -9,7 +9,7 @@ use ods_base::Image;
 use ods_space::{Layout, is_free};
 
 /// Whether the LBN is a place of a home block: 1, 256, 512, 768 and so on.
-fn is_home_place(lbn: u32) -> bool
+pub fn is_home_place(lbn: u32) -> bool
     ensures { IsTrue result ↔ IsHomePlace lbn }
 {
     lbn == 1 || (0 < lbn && lbn % 256 == 0)

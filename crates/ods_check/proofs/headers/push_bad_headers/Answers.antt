@@ -1,0 +1,25 @@
+use Rattle.std.proofs.Common.{ℕ, ◌*◌, ◌≤◌, sym, ap, subst, arith}
+use Rattle.ods_mount.proofs.Headers.{number_in_bitmap}
+use Rattle.ods_check.specs.Findings.{IsFound, TellsHeader}
+use Rattle.ods_check.proofs.StillTold.{told_header_still}
+use Rattle.ods_check.proofs.Sweeping.{sweeps_more}
+use Rattle.ods_check.proofs.headers.push_bad_headers.Goals as goal
+
+pub loop-number-preserved : goal.loop-number-preserved
+loop-number-preserved c =
+    let I = c.args.image.now in
+    let L = c.args.layout.now in
+    let adds = c.in_ok-push_bad_header.ensures.adds in
+    sweeps_more (IsFound I L) (TellsHeader I L) c.args.findings.now.items c.loop-number.findings.items c.push_bad_header.new.findings.items c.loop-number.number
+    (λ n. told_header_still I L n c.loop-number.findings.items c.push_bad_header.new.findings.items adds) c.loop-number.invariant adds c.in_ok-push_bad_header.ensures.told
+
+pub returns-clause-all : goal.returns-clause-all
+returns-clause-all c n small used =
+    let I = c.args.image.now in
+    let L = c.args.layout.now in
+    let within = number_in_bitmap I L.home n used in
+    let P : ℕ → Type 0 = λ x. n ≤ 4096 * x in
+    let low : n ≤ 4096 * c.home.result.index_bitmap_size = subst P (ap (λ h. h.index_bitmap_size) (sym c.home.ensures)) within in
+    let last = c.min-last.ensures in
+    let end = c.loop-number-test.false in
+    c.loop-number.invariant.told n (omega arith) used

@@ -1,0 +1,100 @@
+-- What a mount does not refuse, of a volume that has a layout, sound or not: what each finding says, and that all of a kind are told.
+use Rattle.std.specs.Prelude.{◌≡◌, ◌≢◌, ℕ, ◌+◌, ◌-◌, ◌*◌, ◌<◌, ◌==◌, IsTrue, false, List, [], length, if◌then◌else◌}
+use Rattle.std.specs.List.{Contains}
+use Rattle.ods_base.specs.declared.file_id.FileId.{FileId}
+use Rattle.ods_base.specs.declared.listed.Listed.{Listed}
+use Rattle.ods_base.specs.Names.{lines_of}
+use Rattle.ods_header.specs.declared.header.HeaderFault.TheVariants as fault
+use Rattle.ods_header.specs.Header.{IsValidHeader, IsFirstFault, segment_of, sequence_of, attributes_of}
+use Rattle.ods_header.specs.Home.{IsHomePlace}
+use Rattle.ods_space.specs.Layout.{VolumeLayout, header_at, is_in_use}
+use Rattle.ods_space.specs.Files.{IsFile, HasBlocks, Holds}
+use Rattle.ods_space.specs.Free.{is_covered, storage_bit}
+use Rattle.ods_directory.specs.Mark.{end_block, end_byte}
+use Rattle.ods_directory.specs.Names.{IsDirectory, names_of}
+use Rattle.ods_mount.specs.Faults.{IsDirectoryFile, contents_of, mark_at}
+use Rattle.ods_mount.specs.Checks.{HasHeader}
+use Rattle.ods_check.specs.declared.finding.NoHeader.{NoHeader}
+use Rattle.ods_check.specs.declared.finding.NoHeader.TheVariants.{NoBlock, Checksum, Number, Level, Areas, Format}
+use Rattle.ods_check.specs.declared.finding.Finding.{Finding}
+use Rattle.ods_check.specs.declared.finding.Finding.TheVariants.{BadHeader, LostHeader, HeldByNone, NamesNone, LostFile, EndPast}
+
+-- There is no valid header n: it has no block, or this is the first check of it that fails.
+abbrev pub IsWithout : List (List ℕ) → VolumeLayout → ℕ → NoHeader → Type 0
+IsWithout I L n NoBlock = header_at I L n ≡ []
+IsWithout I L n Checksum = IsFirstFault (header_at I L n) n fault.BadSum
+IsWithout I L n Number = IsFirstFault (header_at I L n) n fault.WrongNumber
+IsWithout I L n Level = IsFirstFault (header_at I L n) n fault.BadLevel
+IsWithout I L n Areas = IsFirstFault (header_at I L n) n fault.BadLayout
+IsWithout I L n Format = IsFirstFault (header_at I L n) n fault.UnsupportedMap
+
+-- the bit of number n in the index bitmap is set, and there is no valid header n, for this reason
+abbrev pub IsBadHeader : List (List ℕ) → VolumeLayout → ℕ → NoHeader → Type 0
+IsBadHeader I L n why = IsTrue (is_in_use I L.home n) × IsWithout I L n why
+
+-- The storage bitmap has a 0, used, for LBN b, and no file with a whole chain holds it. The boot block, LBN 0, and the places of home blocks are used with no file.
+pub record IsHeldByNone (I : List (List ℕ)) (L : VolumeLayout) (b : ℕ) : Type 0 where
+  pub first : 0 < b
+  pub inside : b < length I
+  pub covered : IsTrue (is_covered L b)
+  pub used : storage_bit I L b ≡ false
+  pub place : ¬ IsHomePlace b
+  pub none : (m v : ℕ) → ¬ Holds I L m v b
+
+-- the ID of header n: its number, and the sequence number that it has
+abbrev pub id_at : List (List ℕ) → VolumeLayout → ℕ → FileId
+id_at I L n = record { number = n; sequence = sequence_of (header_at I L n) }
+
+-- File d is a directory with a whole chain, its used entries are good and distinct, and this is a line of it.
+pub record HasName (I : List (List ℕ)) (L : VolumeLayout) (d : ℕ) (line : Listed) : Type 0 where
+  pub blocks : List ℕ
+  pub has : HasBlocks I L d blocks
+  pub file : IsDirectoryFile I L d
+  pub good : IsDirectory (contents_of I blocks) (mark_at I L d blocks)
+  pub named : Contains (lines_of (names_of (contents_of I blocks) (mark_at I L d blocks))) line
+
+-- the file ID is that of a file, by number and sequence number
+abbrev pub IsIdOfFile : List (List ℕ) → VolumeLayout → FileId → Type 0
+IsIdOfFile I L id = IsFile I L id.number × (sequence_of (header_at I L id.number) ≡ id.sequence)
+
+-- this line of directory d names no file
+abbrev pub IsNamingNone : List (List ℕ) → VolumeLayout → ℕ → Listed → Type 0
+IsNamingNone I L d line = HasName I L d line × ¬ IsIdOfFile I L line.file
+
+-- File n, none of the reserved files 1 to 5, is named by no line of any directory.
+pub record IsLostFile (I : List (List ℕ)) (L : VolumeLayout) (n : ℕ) : Type 0 where
+  pub other : 5 < n
+  pub file : IsFile I L n
+  pub lost : (d : ℕ) (line : Listed) → HasName I L d line → line.file ≢ id_at I L n
+
+-- Header n is in use and valid, an extension header by M.ESQN, and in the chain of no file.
+pub record IsLostHeader (I : List (List ℕ)) (L : VolumeLayout) (n : ℕ) : Type 0 where
+  pub in_use : IsTrue (is_in_use I L.home n)
+  pub valid : IsValidHeader (header_at I L n) n
+  pub later : segment_of (header_at I L n) ≢ 0
+  pub lost : (m v : ℕ) → ¬ HasHeader I L m v n
+
+-- where the file attributes say that a file ends, in bytes: (F.EFBK - 1) * 512 + F.FFBY, or 0 where F.EFBK is 0
+abbrev pub end_of : List ℕ → ℕ
+end_of attributes = if end_block attributes == 0 then 0 else (end_block attributes - 1) * 512 + end_byte attributes
+
+-- File n has a whole chain and is no directory, and ends past its blocks. INDEXF.SYS and BITMAP.SYS, files 1 and 2, have no end of their own.
+pub record IsEndPast (I : List (List ℕ)) (L : VolumeLayout) (n : ℕ) : Type 0 where
+  pub other : 2 < n
+  pub plain : ¬ IsDirectoryFile I L n
+  pub blocks : List ℕ
+  pub has : HasBlocks I L n blocks
+  pub past : 512 * length blocks < end_of (attributes_of (header_at I L n))
+
+-- what is found is so
+abbrev pub IsFound : List (List ℕ) → VolumeLayout → Finding → Type 0
+IsFound I L (BadHeader n why) = IsBadHeader I L n why
+IsFound I L (HeldByNone b) = IsHeldByNone I L b
+IsFound I L (NamesNone d line) = IsNamingNone I L d line
+IsFound I L (LostFile id) = IsLostFile I L id.number × (id ≡ id_at I L id.number)
+IsFound I L (LostHeader id) = IsLostHeader I L id.number × (id ≡ id_at I L id.number)
+IsFound I L (EndPast id) = IsEndPast I L id.number × (id ≡ id_at I L id.number)
+
+-- where number n is in use and has no valid header, that is among the findings
+abbrev pub TellsHeader : List (List ℕ) → VolumeLayout → ℕ → List Finding → Type 0
+TellsHeader I L n findings = IsTrue (is_in_use I L.home n) → ¬ IsValidHeader (header_at I L n) n → (why : NoHeader) × Contains findings (BadHeader n why)

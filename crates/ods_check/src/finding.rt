@@ -1,0 +1,49 @@
+//! What a mount does not refuse, and whoever keeps a volume wants to know: one line of text each.
+use ods_base::{FileId, Listed, print_name};
+use thiserror::Error;
+
+/// Why a number in use has no valid header: the first check that fails.
+#[derive(Clone, Copy, Debug, PartialEq, Eq, Error)]
+pub enum NoHeader {
+    /// INDEXF.SYS has no block for the header, or the image lacks the block.
+    #[error("no block")]
+    NoBlock,
+    /// H.CKSM is not the sum of the words before it.
+    #[error("checksum")]
+    Checksum,
+    /// H.FNUM is another number.
+    #[error("file number")]
+    Number,
+    /// H.FLEV is not 401 octal.
+    #[error("structure level")]
+    Level,
+    /// The areas or the pointers overlap, or run past the block.
+    #[error("areas")]
+    Areas,
+    /// The pointers are not of format 1.
+    #[error("pointer format")]
+    Format,
+}
+
+/// Something odd on a volume, whether it is sound or not.
+#[derive(Clone, Copy, Debug, PartialEq, Eq, Error)]
+pub enum Finding {
+    /// The index bit of this number says that it is in use, and its header is not valid.
+    #[error("file number {0} is marked as used and has no header: {1}")]
+    BadHeader(u16, NoHeader),
+    /// The storage bit of this block says that it is used, and no file holds it.
+    #[error("block {0} is marked as used and no file holds it")]
+    HeldByNone(u32),
+    /// A name in this directory names no file.
+    #[error("directory {0} has {name}, which names {number},{sequence}, and that is no file", name = print_name(&.1.name, .1.version), number = .1.file.number, sequence = .1.file.sequence)]
+    NamesNone(u16, Listed),
+    /// No name in any directory names this file.
+    #[error("file {number},{sequence} is named by no directory", number = .0.number, sequence = .0.sequence)]
+    LostFile(FileId),
+    /// The header with this number and sequence number is valid and a later one of a chain, and no file has it.
+    #[error("header {number},{sequence} is an extension header that no file reaches", number = .0.number, sequence = .0.sequence)]
+    LostHeader(FileId),
+    /// The end of this file lies past its blocks.
+    #[error("file {number},{sequence} ends past its blocks", number = .0.number, sequence = .0.sequence)]
+    EndPast(FileId),
+}
