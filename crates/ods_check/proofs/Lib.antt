@@ -2,3 +2,4 @@ pub mod Adding
 pub mod Telling
 pub mod Sweeping
 pub mod StillTold
+pub mod Noting

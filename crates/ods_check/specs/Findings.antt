@@ -32,12 +32,20 @@ IsWithout I L n Format = IsFirstFault (header_at I L n) n fault.UnsupportedMap
 abbrev pub IsBadHeader : List (List ℕ) → VolumeLayout → ℕ → NoHeader → Type 0
 IsBadHeader I L n why = IsTrue (is_in_use I L.home n) × IsWithout I L n why
 
--- The storage bitmap has a 0, used, for LBN b, and no file with a whole chain holds it. The boot block, LBN 0, and the places of home blocks are used with no file.
-pub record IsHeldByNone (I : List (List ℕ)) (L : VolumeLayout) (b : ℕ) : Type 0 where
-  pub first : 0 < b
+-- LBN b is one of the image, and the storage bitmap has a 0, used, for it.
+pub record IsMarkedUsed (I : List (List ℕ)) (L : VolumeLayout) (b : ℕ) : Type 0 where
   pub inside : b < length I
   pub covered : IsTrue (is_covered L b)
   pub used : storage_bit I L b ≡ false
+
+-- file m has a whole chain, and holds LBN b
+abbrev pub HasBlock : List (List ℕ) → VolumeLayout → ℕ → ℕ → Type 0
+HasBlock I L m b = (v : ℕ) × Holds I L m v b
+
+-- LBN b is marked as used, and no file with a whole chain holds it. The boot block, LBN 0, and the places of home blocks are used with no file.
+pub record IsHeldByNone (I : List (List ℕ)) (L : VolumeLayout) (b : ℕ) : Type 0 where
+  pub marked : IsMarkedUsed I L b
+  pub other : b ≢ 0
   pub place : ¬ IsHomePlace b
   pub none : (m v : ℕ) → ¬ Holds I L m v b
 

@@ -1,20 +1,15 @@
-//! Faults that are added to the list.
+//! What is added to a list where it holds.
 ghost use Rattle.std.specs.Prelude.{◌≡◌, ◌++◌, ◌∷◌, [], cond, OnOk};
 
-use ods_mount::MountFault;
 use std::alloc::AllocError;
 
-/// Adds a fault where it holds.
-pub(crate) fn push_if(
-    faults: &mut Vec<MountFault>,
-    fault: MountFault,
-    holds: bool,
-) -> Result<(), AllocError>
-    ensures { OnOk result (faults.new.items ≡ cond holds (faults.old.items ++ fault ∷ []) faults.old.items) }
+/// Adds a fault or a finding where it holds.
+pub(crate) fn push_if<T: Copy>(list: &mut Vec<T>, one: T, holds: bool) -> Result<(), AllocError>
+    ensures { OnOk result (list.new.items ≡ cond holds (list.old.items ++ one ∷ []) list.old.items) }
 {
     if !holds {
         return Ok(());
     }
-    faults.push(fault)?;
+    list.push(one)?;
     Ok(())
 }

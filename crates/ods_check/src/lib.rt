@@ -7,6 +7,7 @@ mod faults;
 mod finding;
 mod headers;
 mod system;
+mod unheld;
 
 pub use all_findings::findings;
 pub use faults::{Checked, check_all};

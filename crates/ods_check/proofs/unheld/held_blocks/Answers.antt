@@ -1,0 +1,35 @@
+use Rattle.std.proofs.Common.{ℕ, ◌*◌, ◌≤◌, length, sym, ap, subst, arith}
+use Rattle.ods_space.specs.Files.{Holds}
+use Rattle.ods_mount.proofs.Holders.{file_small}
+use Rattle.ods_check.proofs.Noting.{files_none, files_more, files_all}
+use Rattle.ods_check.proofs.unheld.held_blocks.Goals as goal
+
+pub loop-number-init : goal.loop-number-init
+loop-number-init c =
+    let I = c.args.image.now in
+    let L = c.args.layout.now in
+    let room = c.in_ok-held.ensures.room in
+    let size = c.len.ensures.value in
+    record {
+      files = files_none (λ m b. (v : ℕ) × Holds I L m v b) c.in_ok-held.held c.in_ok-held.ensures.empty;
+      room = omega arith;
+    }
+
+pub loop-number-preserved : goal.loop-number-preserved
+loop-number-preserved c =
+    let I = c.args.image.now in
+    let L = c.args.layout.now in
+    let same = c.in_ok-note_blocks.ensures.room in
+    let room = c.loop-number.invariant.room in
+    record {
+      files = files_more (λ m b. (v : ℕ) × Holds I L m v b) c.loop-number.number c.loop-number.held c.note_blocks.new.held c.loop-number.invariant.files c.in_ok-note_blocks.ensures.with;
+      room = let P : ℕ → Type 0 = λ l. length I ≤ 64 * l in subst P (sym same) room;
+    }
+
+pub returns : goal.returns
+returns c =
+    let I = c.args.image.now in
+    let L = c.args.layout.now in
+    let end = c.loop-number-test.false in
+    let last = ap (λ h. h.max_files) c.home.ensures in
+    files_all (λ m b. (v : ℕ) × Holds I L m v b) c.loop-number.number c.loop-number.held (λ m b held. let small = file_small I L m held.1.file.file in omega arith) c.loop-number.invariant.files

@@ -1,0 +1,8 @@
+use Rattle.std.specs.List.{Contains}
+use Rattle.ods_check.specs.declared.finding.Finding.TheVariants.{HeldByNone}
+use Rattle.ods_check.specs.Findings.{IsFound, IsHeldByNone}
+use Rattle.ods_check.proofs.Sweeping.{Sweeps}
+use Rattle.ods_check.proofs.unheld.push_unheld.Given as goal
+
+abbrev pub invariant-loop-lbn : goal.invariant-loop-lbn
+invariant-loop-lbn l = Sweeps (IsFound l.image l.layout) (λ b found. IsHeldByNone l.image l.layout b → Contains found (HeldByNone b)) l.initial.findings.items l.findings.items l.lbn
