@@ -3,3 +3,4 @@ pub mod Telling
 pub mod Sweeping
 pub mod StillTold
 pub mod Noting
+pub mod Directories

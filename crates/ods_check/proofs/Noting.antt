@@ -95,3 +95,33 @@ module _ (Has : ℕ → ℕ → Type 0) where
   -- all files
   pub files_all : (n : ℕ) (set : List ℕ) → ((m b : ℕ) → Has m b → m < n) → IsOfFiles Has n set → IsSetOf (λ b. (m : ℕ) × Has m b) set
   files_all n set few s = set_as (λ b. (m : ℕ) × (m < n) × Has m b) (λ b. (m : ℕ) × Has m b) set (λ x p. (p.0, p.2)) (λ x p. (p.0, few p.0 x p.1, p.1)) s
+
+-- the set is another one, with what the numbers below n give: `Has m b` says that m gives b
+abbrev pub IsGrown : (ℕ → ℕ → Type 0) → List ℕ → ℕ → List ℕ → Type 0
+IsGrown Has start n set = IsSetOf (λ b. (has start b ≡ true) ⊎ ((m : ℕ) × (m < n) × Has m b)) set
+
+module _ (Has : ℕ → ℕ → Type 0) (start : List ℕ) where
+  pub grown_none : IsGrown Has start 0 start
+  grown_none = set_same (λ b. (m : ℕ) × (m < 0) × Has m b) start (λ x p. let low = p.1 in omega arith)
+
+  pub grown_more : (n : ℕ) (old new : List ℕ) → IsGrown Has start n old → IsSetOf (λ b. (has old b ≡ true) ⊎ Has n b) new → IsGrown Has start (n + 1) new
+  grown_more n old new s t = set_as (λ b. (has old b ≡ true) ⊎ Has n b) (λ b. (has start b ≡ true) ⊎ ((m : ℕ) × (m < n + 1) × Has m b)) new
+      (λ x o. elim o [
+        | inl m ↦ elim (s.only x m) [
+          | inl was ↦ inl was
+          | inr (k, low, h) ↦ inr (k, omega arith, h)
+        ]
+        | inr h ↦ inr (n, omega arith, h)
+      ])
+      (λ x o. elim o [
+        | inl was ↦ inl (s.all x (inl was))
+        | inr (k, low, h) ↦ elim (cases_lt k n) [
+          | inl less ↦ inl (s.all x (inr (k, less, h)))
+          | inr more ↦ let e : k ≡ n = omega arith in let Q : ℕ → Type 0 = λ y. Has y x in inr (subst Q e h)
+        ]
+      ]) t
+
+  pub grown_all : (n : ℕ) (set : List ℕ) → ((m b : ℕ) → Has m b → m < n) → IsGrown Has start n set → IsSetOf (λ b. (has start b ≡ true) ⊎ ((m : ℕ) × Has m b)) set
+  grown_all n set few s = set_as (λ b. (has start b ≡ true) ⊎ ((m : ℕ) × (m < n) × Has m b)) (λ b. (has start b ≡ true) ⊎ ((m : ℕ) × Has m b)) set
+      (λ x o. elim o [ inl was ↦ inl was | inr (k, low, h) ↦ inr (k, h) ])
+      (λ x o. elim o [ inl was ↦ inl was | inr (k, h) ↦ inr (k, few k x h, h) ]) s

@@ -1,5 +1,5 @@
 -- Loops over numbers that add what they find of each.
-use Rattle.std.proofs.Common.{◌≡◌, Bool, cond, ℕ, ◌+◌, ◌<◌, List, [], ◌∷◌, ◌++◌, inl, inr, subst, arith}
+use Rattle.std.proofs.Common.{◌≡◌, Bool, cond, ℕ, ◌+◌, ◌<◌, List, [], ◌∷◌, ◌++◌, inl, inr, subst, ap, ◌∙◌, arith}
 use Rattle.std.specs.List.{Contains}
 use Rattle.std.specs.Prelude.{MatchBool}
 use Rattle.std.proofs.lemmas.Bool.{cases_lt}
@@ -32,3 +32,8 @@ pub sweeps_if : {X : Type 0} (P : X → Type 0) (T : ℕ → Type 0) (f : ℕ �
 sweeps_if P T f old mid new k b test holds is s =
     let a = adds_if P mid new (f k) b is (λ e. holds (true_holds b (T k) test e)) in
     sweeps_more P (λ n xs. T n → Contains xs (f n)) old mid new k (λ n t h. told_still P mid new (f n) a (t h)) s a (λ h. told_if mid new (f k) b is (holds_true b (T k) test h))
+
+-- the same of what is made from a number in another way
+pub sweeps_at : {X : Type 0} (P : X → Type 0) (T : ℕ → Type 0) (f : ℕ → X) (old mid new : List X) (k : ℕ) (x : X) → x ≡ f k → (b : Bool) → MatchBool b (T k) (¬ T k) → (T k → P (f k))
+    → new ≡ cond b (mid ++ x ∷ []) mid → Sweeps P (λ n xs. T n → Contains xs (f n)) old mid k → Sweeps P (λ n xs. T n → Contains xs (f n)) old new (k + 1)
+sweeps_at P T f old mid new k x same b test holds is s = sweeps_if P T f old mid new k b test holds (is ∙ ap (λ y. cond b (mid ++ y ∷ []) mid) same) s

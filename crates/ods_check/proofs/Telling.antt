@@ -54,3 +54,8 @@ none_to_tell I L faults s = record {
   master = λ h. absurd (none_true_of I L s BadMaster h);
   formats = λ n h. absurd (none_true_of I L s (UnsupportedMap n) h);
 }
+
+-- a test by another word for what it says
+pub match_as : (b : Bool) (P Q : Type 0) → (P → Q) → (Q → P) → MatchBool b P (¬ P) → MatchBool b Q (¬ Q)
+match_as true P Q to from h = to h
+match_as false P Q to from h = λ q. h (from q)

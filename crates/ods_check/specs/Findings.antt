@@ -1,6 +1,6 @@
 -- What a mount does not refuse, of a volume that has a layout, sound or not: what each finding says, and that all of a kind are told.
-use Rattle.std.specs.Prelude.{◌≡◌, ◌≢◌, ℕ, ◌+◌, ◌-◌, ◌*◌, ◌<◌, ◌==◌, IsTrue, false, List, [], length, if◌then◌else◌}
-use Rattle.std.specs.List.{Contains}
+use Rattle.std.specs.Prelude.{◌≡◌, ◌≢◌, ℕ, ◌+◌, ◌-◌, ◌*◌, ◌<◌, ◌==◌, IsTrue, false, List, [], length, slice_get, Some, if◌then◌else◌}
+use Rattle.std.specs.List.{All, Contains}
 use Rattle.ods_base.specs.declared.file_id.FileId.{FileId}
 use Rattle.ods_base.specs.declared.listed.Listed.{Listed}
 use Rattle.ods_base.specs.Names.{lines_of}
@@ -65,6 +65,23 @@ pub record HasName (I : List (List ℕ)) (L : VolumeLayout) (d : ℕ) (line : Li
 abbrev pub IsIdOfFile : List (List ℕ) → VolumeLayout → FileId → Type 0
 IsIdOfFile I L id = IsFile I L id.number × (sequence_of (header_at I L id.number) ≡ id.sequence)
 
+-- these are all lines of directory d; a number that is no such directory has none
+pub record AreNames (I : List (List ℕ)) (L : VolumeLayout) (d : ℕ) (lines : List Listed) : Type 0 where
+  pub each : All (HasName I L d) lines
+  pub all : (line : Listed) → HasName I L d line → Contains lines line
+
+-- the line names file n, which is there
+abbrev pub IsNumberOf : List (List ℕ) → VolumeLayout → Listed → ℕ → Type 0
+IsNumberOf I L line n = IsIdOfFile I L line.file × (line.file.number ≡ n)
+
+-- line i of these names file n, which is there
+abbrev pub NamesAt : List (List ℕ) → VolumeLayout → List Listed → ℕ → ℕ → Type 0
+NamesAt I L lines i n = (line : Listed) × (slice_get lines i ≡ Some line) × IsNumberOf I L line n
+
+-- a line of directory d names file n, which is there
+abbrev pub NamesFile : List (List ℕ) → VolumeLayout → ℕ → ℕ → Type 0
+NamesFile I L d n = (line : Listed) × HasName I L d line × IsNumberOf I L line n
+
 -- this line of directory d names no file
 abbrev pub IsNamingNone : List (List ℕ) → VolumeLayout → ℕ → Listed → Type 0
 IsNamingNone I L d line = HasName I L d line × ¬ IsIdOfFile I L line.file
@@ -106,3 +123,11 @@ IsFound I L (EndPast id) = IsEndPast I L id.number × (id ≡ id_at I L id.numbe
 -- where number n is in use and has no valid header, that is among the findings
 abbrev pub TellsHeader : List (List ℕ) → VolumeLayout → ℕ → List Finding → Type 0
 TellsHeader I L n findings = IsTrue (is_in_use I L.home n) → ¬ IsValidHeader (header_at I L n) n → (why : NoHeader) × Contains findings (BadHeader n why)
+
+-- Whatever there is to find is among the findings.
+pub record FindsAll (I : List (List ℕ)) (L : VolumeLayout) (findings : List Finding) : Type 0 where
+  pub headers : (n : ℕ) → n < 65536 → TellsHeader I L n findings
+  pub unheld : (b : ℕ) → IsHeldByNone I L b → Contains findings (HeldByNone b)
+  pub names : (d : ℕ) (line : Listed) → IsNamingNone I L d line → Contains findings (NamesNone d line)
+  pub lost : (n : ℕ) → IsLostFile I L n → Contains findings (LostFile (id_at I L n))
+  pub ends : (n : ℕ) → IsEndPast I L n → Contains findings (EndPast (id_at I L n))

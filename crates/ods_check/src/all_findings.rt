@@ -1,26 +1,31 @@
 //! What a mount does not refuse, of a volume that has a layout.
-ghost use Rattle.std.specs.Prelude.{◌<◌, ℕ, IfOk};
-ghost use Rattle.std.specs.List.{All, Contains};
+ghost use Rattle.std.specs.Prelude.{IfOk};
+ghost use Rattle.std.specs.List.{All};
 ghost use Rattle.ods_space.specs.Files.{IsLayoutOf};
-ghost use Rattle.ods_check.specs.{Findings.IsFound, Findings.TellsHeader, Findings.IsHeldByNone};
+ghost use Rattle.ods_check.specs.Findings.{IsFound, FindsAll};
 
 use crate::Finding;
+use crate::ends::push_ends;
 use crate::headers::push_bad_headers;
+use crate::naming::push_naming;
 use crate::unheld::push_unheld;
 use ods_base::Image;
 use ods_space::Layout;
 use std::alloc::{AllocError, Global};
 
-/// What a mount does not refuse, of a volume with this layout, sound or not: each number in use that has no valid header, and each block that is
-/// marked used and that no file holds.
+/// What a mount does not refuse, of a volume with this layout, sound or not: each number in use that has no valid header, each block that
+/// is marked used and that no file holds, each name that names no file, each file above 5 that no name names, and each file that ends past
+/// its blocks. Each finding is so, and each thing of these kinds is found. Of files whose chains are not whole no blocks are known, and of
+/// directories whose entries are not good and distinct no names: what `check_all` tells of them comes first.
 pub fn findings(alloc: Global, image: &Image, layout: &Layout) -> Result<Vec<Finding>, AllocError>
     requires { IsLayoutOf image.now layout.now }
     ensures each { IfOk result (λ found. All (IsFound image.now layout.now) found.items) }
-    ensures headers { IfOk result (λ found. (n : ℕ) → n < 65536 → TellsHeader image.now layout.now n found.items) }
-    ensures unheld { IfOk result (λ found. (b : ℕ) → IsHeldByNone image.now layout.now b → Contains found.items (Finding.HeldByNone b)) }
+    ensures all { IfOk result (λ found. FindsAll image.now layout.now found.items) }
 {
     let mut found = Vec::new(alloc);
     push_bad_headers(image, layout, &mut found)?;
     push_unheld(alloc, image, layout, &mut found)?;
+    push_naming(alloc, image, layout, &mut found)?;
+    push_ends(image, layout, &mut found)?;
     Ok(found)
 }

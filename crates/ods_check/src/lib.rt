@@ -3,9 +3,13 @@
 
 mod add;
 mod all_findings;
+mod ends;
 mod faults;
 mod finding;
 mod headers;
+mod ids;
+mod names;
+mod naming;
 mod system;
 mod unheld;
 

@@ -1,0 +1,134 @@
+-- The lines of directories, and the files that they name.
+use Rattle.std.proofs.Common.{◌≡◌, ◌≢◌, ◌⊎◌, ◌<◌, ℕ, Bool, true, false, List, [], length, map, slice_get, Some, not, inl, inr, refl, sym, ap, ◌∙◌, subst, arith}
+use Rattle.std.specs.List.{Contains}
+use Rattle.std.specs.Prelude.{MatchBool, slice_index_or}
+use Rattle.std.proofs.lemmas.List.{length-map}
+use Rattle.std.proofs.lemmas.List.Elements.{All-contains_itself}
+use Rattle.std.proofs.lemmas.Option.{slice_get_within, get_or_from_slice_get, slice_get-get_or}
+use Rattle.ods_base.specs.Image.{block_at}
+use Rattle.ods_base.specs.Names.{lines_of}
+use Rattle.ods_base.specs.declared.listed.Listed.{Listed}
+use Rattle.ods_base.specs.declared.file_id.FileId.{FileId}
+use Rattle.ods_header.specs.Header.{sequence_of}
+use Rattle.ods_directory.specs.Entry.{IsGoodEntry, used_entries}
+use Rattle.ods_directory.specs.Mark.{mark_in}
+use Rattle.ods_directory.specs.Names.{IsDirectory, HasBadEntry, HasTwins, names_of}
+use Rattle.ods_space.specs.Layout.{VolumeLayout, header_at}
+use Rattle.ods_space.specs.Chain.{index_for}
+use Rattle.ods_space.specs.Files.{IsFile, HasBlocks, AreInside}
+use Rattle.ods_space.specs.Faults.{IsChainFault}
+use Rattle.ods_space.specs.declared.fault.ChainFault.{ChainFault}
+use Rattle.ods_space.specs.declared.fault.ChainFault.TheVariants.{BadChain, OutsideVolume, NoMemory}
+use Rattle.ods_space.proofs.Chains.{same_chain}
+use Rattle.ods_space.proofs.Surveyed.{same_blocks}
+use Rattle.ods_mount.specs.Faults.{IsDirectoryFile, contents_of, mark_at}
+use Rattle.ods_mount.specs.Tables.{has}
+use Rattle.ods_mount.proofs.Soundness.{all_at}
+use Rattle.ods_check.specs.declared.finding.Finding.{Finding}
+use Rattle.ods_check.specs.declared.finding.Finding.TheVariants.{NamesNone}
+use Rattle.ods_check.specs.Sets.{IsSetOf}
+use Rattle.ods_check.specs.Findings.{HasName, AreNames, IsIdOfFile, IsNumberOf, NamesAt, NamesFile, IsLostFile, id_at}
+use Rattle.ods_check.proofs.StillTold.{TellsLine}
+use Rattle.ods_check.proofs.Noting.{set_as}
+
+-- where the chain has a fault there is no list of blocks
+pub no_blocks : (I : List (List ℕ)) (L : VolumeLayout) (n : ℕ) (fault : ChainFault) → IsChainFault I L n fault → fault ≢ NoMemory → (blocks : List ℕ) → ¬ HasBlocks I L n blocks
+no_blocks I L n BadChain none some blocks h = none h.others blocks h.whole.chain
+no_blocks I L n (OutsideVolume lbn) (ns, bs, chain, one, past) some blocks h =
+    let same = same_chain I L.home (index_for L n) [] 0 n ns bs h.others blocks chain h.whole.chain in
+    let P : List ℕ → Type 0 = λ xs. AreInside I xs in
+    let within : lbn < length I = all_at bs (length I) lbn (subst P (sym same.1) h.whole.inside) one in
+    omega arith
+no_blocks I L n NoMemory none some blocks h = some refl
+
+-- a directory has neither a bad entry nor two of one name
+pub good_names : (blocks : List (List ℕ)) (mark : ℕ) → IsDirectory blocks mark → (HasBadEntry (used_entries blocks mark) ⊎ HasTwins (used_entries blocks mark)) → ⊥
+good_names blocks mark d (inl bad) =
+    bad.bad (subst IsGoodEntry (get_or_from_slice_get (used_entries blocks mark) bad.i bad.entry bad.entry bad.found) (d.good bad.i bad.entry (slice_get_within (used_entries blocks mark) bad.i bad.entry bad.found)))
+good_names blocks mark d (inr twins) = d.distinct twins.i twins.j twins.apart twins.one twins.other twins.first twins.second twins.same
+
+-- what was found of the blocks and the mark at hand is so of those of the file
+pub moved : (P : List (List ℕ) → ℕ → Type 0) (I J : List (List ℕ)) (xs ys : List ℕ) (attributes at_hand : List ℕ) (mark count : ℕ) → (J ≡ I) → (ys ≡ xs) → (at_hand ≡ attributes)
+    → count ≡ length (map (block_at J) ys) → mark ≡ mark_in at_hand count → P (map (block_at J) ys) mark → P (map (block_at I) xs) (mark_in attributes (length xs))
+moved P I J xs ys attributes at_hand mark count same_image same_list same_attributes count_is mark_is found =
+    let size : count ≡ length xs = count_is ∙ length-map ys (block_at J) ∙ ap length same_list in
+    let end : mark ≡ mark_in attributes (length xs) = mark_is ∙ ap (λ l. mark_in l count) same_attributes ∙ ap (mark_in attributes) size in
+    let Q : ℕ → Type 0 = λ m. P (map (block_at J) ys) m in
+    let R : List ℕ → Type 0 = λ l. P (map (block_at J) l) (mark_in attributes (length xs)) in
+    let S : List (List ℕ) → Type 0 = λ K. P (map (block_at K) xs) (mark_in attributes (length xs)) in
+    subst S same_image (subst R same_list (subst Q end found))
+
+module _ (I : List (List ℕ)) (L : VolumeLayout) where
+  -- a number that has no line
+  pub none_are : (d : ℕ) (lines : List Listed) → lines ≡ [] → ((line : Listed) → ¬ HasName I L d line) → AreNames I L d lines
+  none_are d lines is none = record {
+    each = λ k x low. let size : length lines ≡ 0 = ap length is in absurd (omega arith);
+    all = λ line h. absurd (none line h);
+  }
+
+  -- the lines of a directory
+  pub names_are : (d : ℕ) (blocks : List ℕ) (lines : List Listed) → HasBlocks I L d blocks → IsDirectoryFile I L d → IsDirectory (contents_of I blocks) (mark_at I L d blocks)
+      → lines ≡ lines_of (names_of (contents_of I blocks) (mark_at I L d blocks)) → AreNames I L d lines
+  names_are d blocks lines own file good is = record {
+    each = λ k x low.
+        let there : Contains (lines_of (names_of (contents_of I blocks) (mark_at I L d blocks))) (slice_index_or lines k x) = subst (λ l. Contains l (slice_index_or lines k x)) is (All-contains_itself lines k x low) in
+        record { blocks = blocks; has = own; file = file; good = good; named = there };
+    all = λ line h.
+        let P : List ℕ → Type 0 = λ xs. Contains (lines_of (names_of (contents_of I xs) (mark_at I L d xs))) line in
+        subst (λ l. Contains l line) (sym is) (subst P (same_blocks I L d h.blocks blocks h.has own) h.named);
+  }
+
+  -- a directory with a fault in its names has no line
+  pub no_names : (d : ℕ) (blocks : List ℕ) → HasBlocks I L d blocks
+      → (HasBadEntry (used_entries (contents_of I blocks) (mark_at I L d blocks)) ⊎ HasTwins (used_entries (contents_of I blocks) (mark_at I L d blocks))) → (line : Listed) → ¬ HasName I L d line
+  no_names d blocks own fault line h =
+      let P : List ℕ → Type 0 = λ xs. IsDirectory (contents_of I xs) (mark_at I L d xs) in
+      good_names (contents_of I blocks) (mark_at I L d blocks) (subst P (same_blocks I L d h.blocks blocks h.has own) h.good) fault
+
+  module _ (lines : List Listed) (i : ℕ) (x : Listed) (at : slice_get lines i ≡ Some x) where
+    is_x : (line : Listed) → slice_get lines i ≡ Some line → x ≡ line
+    is_x line other = let same : Some x ≡ Some line = sym at ∙ other in cc
+
+    pub line_named : (old new : List ℕ) → IsSetOf (λ n. (has old n ≡ true) ⊎ IsNumberOf I L x n) new → IsSetOf (λ n. (has old n ≡ true) ⊎ NamesAt I L lines i n) new
+    line_named old new s = set_as (λ n. (has old n ≡ true) ⊎ IsNumberOf I L x n) (λ n. (has old n ≡ true) ⊎ NamesAt I L lines i n) new
+        (λ n o. elim o [ inl m ↦ inl m | inr h ↦ inr (x, at, h) ])
+        (λ n o. elim o [ inl m ↦ inl m | inr (line, other, h) ↦ (let P : Listed → Type 0 = λ l. IsNumberOf I L l n in inr (subst P (sym (is_x line other)) h)) ]) s
+
+    pub line_told : (d : ℕ) (found : List Finding) → (¬ IsIdOfFile I L x.file → Contains found (NamesNone d x)) → TellsLine I L d lines i found
+    line_told d found told line other =
+        let P : Listed → Type 0 = λ l. ¬ IsIdOfFile I L l.file → Contains found (NamesNone d l) in
+        subst P (is_x line other) told
+
+  module _ (d : ℕ) (lines : List Listed) (are : AreNames I L d lines) where
+    place_of : (line : Listed) → HasName I L d line → (k : ℕ) × (slice_get lines k ≡ Some line)
+    place_of line h = let c = are.all line h in (c.0, slice_get-get_or lines c.0 line c.1 ∙ ap Some c.2)
+
+    -- each line of the directory is told
+    pub names_told : (found : List Finding) → ((k : ℕ) → TellsLine I L d lines k found) → (line : Listed) → HasName I L d line → ¬ IsIdOfFile I L line.file → Contains found (NamesNone d line)
+    names_told found told line h none = let p = place_of line h in told p.0 line p.1 none
+
+    has_at : (k : ℕ) (line : Listed) → slice_get lines k ≡ Some line → HasName I L d line
+    has_at k line at = let P : Listed → Type 0 = λ l. HasName I L d l in subst P (get_or_from_slice_get lines k line line at) (are.each k line (slice_get_within lines k line at))
+
+    pub names_noted : (old new : List ℕ) → IsSetOf (λ n. (has old n ≡ true) ⊎ ((k : ℕ) × NamesAt I L lines k n)) new → IsSetOf (λ n. (has old n ≡ true) ⊎ NamesFile I L d n) new
+    names_noted old new s = set_as (λ n. (has old n ≡ true) ⊎ ((k : ℕ) × NamesAt I L lines k n)) (λ n. (has old n ≡ true) ⊎ NamesFile I L d n) new
+        (λ n o. elim o [ inl m ↦ inl m | inr (k, (line, at, h)) ↦ inr (line, has_at k line at, h) ])
+        (λ n o. elim o [ inl m ↦ inl m | inr (line, own, h) ↦ (let p = place_of line own in inr (p.0, (line, p.1, h))) ]) s
+
+  -- whether a file is lost, by the set of the files that are named
+  pub lost_is : (n : ℕ) (set : List ℕ) (b : Bool) → b ≡ has set n → IsSetOf (λ k. (d : ℕ) × NamesFile I L d k) set → 5 < n → IsFile I L n → MatchBool (not b) (IsLostFile I L n) (¬ IsLostFile I L n)
+  lost_is n set true is s above file = λ h.
+      let named = s.only n (sym is) in
+      let number = named.1.2.1 in
+      let sequence : sequence_of (header_at I L n) ≡ named.1.0.file.sequence = ap (λ k. sequence_of (header_at I L k)) (sym number) ∙ named.1.2.0.1 in
+      let id : named.1.0.file ≡ id_at I L n = λ i. record { number = number i; sequence = sym sequence i } in
+      h.lost named.0 named.1.0 named.1.1 id
+  lost_is n set false is s above file = record {
+    other = above;
+    file = file;
+    lost = λ d line own id.
+        let P : FileId → Type 0 = λ f. IsIdOfFile I L f in
+        let named : has set n ≡ true = s.all n (d, (line, own, (subst P (sym id) (file, refl), ap (λ f. f.number) id))) in
+        let clash : false ≡ true = is ∙ named in
+        absurd cc;
+  }

@@ -1,0 +1,20 @@
+use Rattle.std.proofs.Common.{ap, refl, arith}
+use Rattle.ods_mount.proofs.Holders.{file_small}
+use Rattle.ods_check.specs.declared.finding.Finding.TheVariants.{EndPast}
+use Rattle.ods_check.specs.Findings.{IsFound, IsEndPast, id_at}
+use Rattle.ods_check.proofs.Sweeping.{sweeps_at}
+use Rattle.ods_check.proofs.ends.push_ends.Goals as goal
+
+pub loop-number-preserved : goal.loop-number-preserved
+loop-number-preserved c =
+    let I = c.args.image.now in
+    let L = c.args.layout.now in
+    sweeps_at (IsFound I L) (IsEndPast I L) (λ n. EndPast (id_at I L n)) c.args.findings.now.items c.loop-number.findings.items c.push_if.new.list.items c.loop-number.number (EndPast c.id_of-file.result)
+    (ap EndPast c.id_of-file.ensures) c.ends_past-past.result c.ends_past-past.ensures (λ h. (h, refl)) c.in_ok-push_if.ensures c.loop-number.invariant
+
+pub returns-clause-all : goal.returns-clause-all
+returns-clause-all c n h =
+    let end = c.loop-number-test.false in
+    let last = ap (λ h. h.max_files) c.home.ensures in
+    let small = file_small c.args.image.now c.args.layout.now n h.has.file in
+    c.loop-number.invariant.told n (omega arith) h

@@ -1,0 +1,8 @@
+use Rattle.std.specs.List.{Contains}
+use Rattle.ods_check.specs.declared.finding.Finding.TheVariants.{EndPast}
+use Rattle.ods_check.specs.Findings.{IsFound, IsEndPast, id_at}
+use Rattle.ods_check.proofs.Sweeping.{Sweeps}
+use Rattle.ods_check.proofs.ends.push_ends.Given as goal
+
+abbrev pub invariant-loop-number : goal.invariant-loop-number
+invariant-loop-number l = Sweeps (IsFound l.image l.layout) (λ n found. IsEndPast l.image l.layout n → Contains found (EndPast (id_at l.image l.layout n))) l.initial.findings.items l.findings.items l.number

@@ -1,0 +1,13 @@
+use Rattle.std.proofs.Common.{◌≡◌, length}
+use Rattle.ods_check.specs.Findings.{IsFound, NamesAt}
+use Rattle.ods_check.proofs.Noting.{IsGrown}
+use Rattle.ods_check.proofs.Sweeping.{Sweeps}
+use Rattle.ods_check.proofs.StillTold.{TellsLine}
+use Rattle.ods_check.proofs.naming.push_lines.Given as goal
+
+abbrev pub invariant-loop-i : goal.invariant-loop-i
+invariant-loop-i l = record {
+  told : Sweeps (IsFound l.image l.layout) (TellsLine l.image l.layout l.directory l.lines) l.initial.findings.items l.findings.items l.i;
+  named : IsGrown (NamesAt l.image l.layout l.lines) l.initial.named l.i l.named;
+  room : length l.named ≡ length l.initial.named;
+}
