@@ -4,3 +4,4 @@ pub mod Sweeping
 pub mod StillTold
 pub mod Noting
 pub mod Directories
+pub mod Reaching

@@ -92,6 +92,10 @@ pub record IsLostFile (I : List (List ℕ)) (L : VolumeLayout) (n : ℕ) : Type 
   pub file : IsFile I L n
   pub lost : (d : ℕ) (line : Listed) → HasName I L d line → line.file ≢ id_at I L n
 
+-- file m has a chain, of which n is a header
+abbrev pub HasAsHeader : List (List ℕ) → VolumeLayout → ℕ → ℕ → Type 0
+HasAsHeader I L m n = (v : ℕ) × HasHeader I L m v n
+
 -- Header n is in use and valid, an extension header by M.ESQN, and in the chain of no file.
 pub record IsLostHeader (I : List (List ℕ)) (L : VolumeLayout) (n : ℕ) : Type 0 where
   pub in_use : IsTrue (is_in_use I L.home n)
@@ -127,6 +131,7 @@ TellsHeader I L n findings = IsTrue (is_in_use I L.home n) → ¬ IsValidHeader 
 -- Whatever there is to find is among the findings.
 pub record FindsAll (I : List (List ℕ)) (L : VolumeLayout) (findings : List Finding) : Type 0 where
   pub headers : (n : ℕ) → n < 65536 → TellsHeader I L n findings
+  pub lost_headers : (n : ℕ) → IsLostHeader I L n → Contains findings (LostHeader (id_at I L n))
   pub unheld : (b : ℕ) → IsHeldByNone I L b → Contains findings (HeldByNone b)
   pub names : (d : ℕ) (line : Listed) → IsNamingNone I L d line → Contains findings (NamesNone d line)
   pub lost : (n : ℕ) → IsLostFile I L n → Contains findings (LostFile (id_at I L n))

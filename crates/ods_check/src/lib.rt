@@ -8,6 +8,7 @@ mod faults;
 mod finding;
 mod headers;
 mod ids;
+mod lost_headers;
 mod names;
 mod naming;
 mod system;

@@ -1,4 +1,5 @@
 //! Mounts, looks and drafts of changes, and the engine of the program with its words, one idea a file.
+mod all_faults;
 mod ample;
 mod bodies;
 mod broken;
