@@ -10,6 +10,7 @@ mod creations;
 mod cut_images;
 mod deletes;
 mod devices;
+mod findings;
 mod header_runs;
 mod looks;
 mod mount_faults;

@@ -1,7 +1,9 @@
 //! All faults of an image at once: a sound one has none, and one with several has each.
 use crate::persons::{a_txt, b_txt};
 use crate::volumes::{FileHeader, Variant, added, run, sample_of};
-use MountFault::{BadMaster, BadStorageMap, MarkedFree, NoHome, UnsupportedMap};
+use MountFault::{
+    BadChain, BadDirectory, BadMaster, BadStorageMap, MarkedFree, NoHome, OutsideVolume, UnsupportedMap,
+};
 use ods_check::check_all;
 use ods_mount::MountFault;
 use std::alloc::Global;
@@ -58,6 +60,29 @@ fn each_fault_is_told(rt: HostRuntime) -> Result<(), Fail> {
         ..sample_of(40)
     };
     tells(&rt, rt.alloc(), &volume, true, &[MarkedFree(7, 23)])
+}
+
+#[test]
+fn each_file_is_told(rt: HostRuntime) -> Result<(), Fail> {
+    let volume = Variant {
+        headers: &[
+            (8, added(6, a_txt()).mapping(&[run(22, 3)])),
+            (9, added(7, b_txt()).mapping(&[run(39, 2)])),
+            (11, added(9, b_txt()).before(10).mapping(&[])),
+        ],
+        storage_bits: &[(22, true), (24, true)],
+        // The first entry of the master directory has no version.
+        bytes: &[(21, 14, 0), (21, 15, 0)],
+        ..sample_of(40)
+    };
+    let wanted = [
+        BadDirectory(4),
+        MarkedFree(6, 22),
+        MarkedFree(6, 24),
+        OutsideVolume(7, 40),
+        BadChain(9),
+    ];
+    tells(&rt, rt.alloc(), &volume, true, &wanted)
 }
 
 #[test]

@@ -1,0 +1,66 @@
+//! What a mount does not refuse, as lines of text: a sample has none of it, and one volume that is sound has something of each kind.
+use crate::persons::a_txt;
+use crate::volumes::{FileHeader, Variant, added, directory_attributes, run, sample_of};
+use ods_check::{check_all, findings};
+use std::alloc::Global;
+use std::process::Abort;
+use std::test::Fail;
+
+/// Fails where the volume is not sound, or these are not the lines of what is found on it, in this order.
+fn finds(
+    rt: &impl Abort,
+    alloc: Global,
+    volume: &Variant<'_>,
+    wanted: &[&str],
+) -> Result<(), Fail> {
+    let image = volume.image(alloc)?;
+    let checked = check_all(alloc, &image)?;
+    assert!(rt; checked.faults.is_empty(), "{:?}", checked.faults);
+    let Some(layout) = &checked.layout else {
+        return Err("it has no layout".into());
+    };
+    let found = findings(alloc, &image, layout)?;
+    assert!(rt; found.len() == wanted.len(), "{found:?}");
+    for i in 0..wanted.len() {
+        let text = format!(in alloc; "{}", found[i])?;
+        assert!(rt; text.as_str() == wanted[i], "{text}");
+    }
+    Ok(())
+}
+
+#[test]
+fn samples_have_none(rt: HostRuntime) -> Result<(), Fail> {
+    for blocks in [40, 512, 4_200] {
+        finds(&rt, rt.alloc(), &sample_of(blocks), &[])?;
+    }
+    Ok(())
+}
+
+#[test]
+fn each_kind_is_found(rt: HostRuntime) -> Result<(), Fail> {
+    let file = FileHeader {
+        attributes: directory_attributes(1, 3, 0),
+        ..added(6, a_txt())
+    };
+    let volume = Variant {
+        headers: &[
+            (8, file.mapping(&[run(22, 1)])),
+            (10, added(8, a_txt()).second().mapping(&[])),
+        ],
+        index_bits: &[(9, true), (10, true)],
+        storage_bits: &[(30, false)],
+        // A word of header 10, and the sequence number in the first entry of the master directory.
+        bytes: &[(12, 0, 1), (21, 2, 9)],
+        ..sample_of(40)
+    };
+    let wanted = [
+        "file number 9 is marked as used and has no header: file number",
+        "file number 10 is marked as used and has no header: checksum",
+        "header 8,1 is an extension header that no file reaches",
+        "block 30 is marked as used and no file holds it",
+        "directory 4 has INDEXF.SYS;1, which names 1,9, and that is no file",
+        "file 6,1 is named by no directory",
+        "file 6,1 ends past its blocks",
+    ];
+    finds(&rt, rt.alloc(), &volume, &wanted)
+}
