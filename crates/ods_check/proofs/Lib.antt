@@ -5,3 +5,4 @@ pub mod StillTold
 pub mod Noting
 pub mod Directories
 pub mod Reaching
+pub mod FileFaults

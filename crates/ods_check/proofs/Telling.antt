@@ -6,13 +6,14 @@ use Rattle.ods_space.specs.Chain.{index_for}
 use Rattle.ods_space.specs.Files.{IsLayoutOf}
 use Rattle.ods_space.proofs.Chains.{same_chain}
 use Rattle.ods_mount.specs.declared.fault.MountFault.{MountFault}
-use Rattle.ods_mount.specs.declared.fault.MountFault.TheVariants.{BadStorageMap, BadMaster, UnsupportedMap}
+use Rattle.ods_mount.specs.declared.fault.MountFault.TheVariants.{BadStorageMap, BadMaster, UnsupportedMap, BadChain, OutsideVolume, MarkedFree, BadDirectory, DuplicateName}
 use Rattle.ods_mount.specs.Faults.{IsTrueOf}
 use Rattle.ods_mount.specs.Sound.{IsSoundBy}
 use Rattle.ods_mount.proofs.Soundness.{none_true_of}
 use Rattle.ods_check.specs.Lists.{Adds}
 use Rattle.ods_check.specs.Faults.{TellsAll}
 use Rattle.ods_check.proofs.Adding.{told_still}
+use Rattle.ods_check.proofs.FileFaults.{told_file_still}
 
 -- a test after another one
 pub both : (b : Bool) (U H F : Type 0) → U → MatchBool b (H × ¬ F) (H → F) → MatchBool b (U × H × ¬ F) (¬ (U × H × ¬ F))
@@ -45,6 +46,7 @@ told_all_still P I L old new a t = record {
   storage = λ h. told_still P old new BadStorageMap a (t.storage h);
   master = λ h. told_still P old new BadMaster a (t.master h);
   formats = λ n h. told_still P old new (UnsupportedMap n) a (t.formats n h);
+  files = λ n. told_file_still I L n P old new a (t.files n);
 }
 
 -- a sound image has nothing to tell
@@ -53,6 +55,12 @@ none_to_tell I L faults s = record {
   storage = λ h. absurd (none_true_of I L s BadStorageMap h);
   master = λ h. absurd (none_true_of I L s BadMaster h);
   formats = λ n h. absurd (none_true_of I L s (UnsupportedMap n) h);
+  files = λ n. record {
+    chain = λ file gone. absurd (none_true_of I L s (BadChain n) (file, inl gone));
+    outside = λ b h. absurd (none_true_of I L s (OutsideVolume n b) h);
+    free = λ b h. absurd (none_true_of I L s (MarkedFree n b) h);
+    names = λ h. absurd (elim h [ inl d ↦ none_true_of I L s (BadDirectory n) d | inr d ↦ none_true_of I L s (DuplicateName n) d ]);
+  };
 }
 
 -- a test by another word for what it says

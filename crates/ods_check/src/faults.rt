@@ -6,6 +6,7 @@ ghost use Rattle.ods_space.specs.Files.{IsLayoutOf};
 ghost use Rattle.ods_mount.specs.Faults.{IsSound, FaultIsTrue, IsTrueOf};
 ghost use Rattle.ods_check.specs.{Lists.Adds, Faults.TellsAll};
 
+use crate::chains::push_files;
 use crate::system::{push_formats, push_index, push_system};
 use ods_base::Image;
 use ods_mount::{MountFault, check_image, read_layout};
@@ -20,8 +21,9 @@ pub struct Checked {
 }
 
 /// Faults of an image, each of which is true, and its layout where it has one. A sound image has none, and every other image has one
-/// at least: that which a mount answers. Where there is a layout each true fault of three kinds is told: a storage bitmap that is too
-/// short, no master directory, and each header whose pointers have another format.
+/// at least: that which a mount answers. Where there is a layout these are told: a storage bitmap that is too short, no master directory,
+/// each header whose pointers have another format, each file with no chain, of each chain that names blocks which the image lacks one of
+/// these, each block of a whole chain that is marked free, and each directory whose names are no good or no distinct ones.
 pub fn check_all(alloc: Global, image: &Image) -> Result<Checked, AllocError>
     ensures true_of { IfOk result (λ c. All (FaultIsTrue image.now) c.faults.items) }
     ensures sound { IfOk result (λ c. c.faults.items ≡ [] → IsSound image.now) }
@@ -71,7 +73,7 @@ fn all_faults(alloc: Global, image: &Image, known: MountFault) -> Result<Checked
     let mut faults = Vec::new(alloc);
     match read_layout(alloc, image) {
         Ok((home_lbn, layout)) => {
-            push_all(image, &layout, home_lbn, &mut faults)?;
+            push_all(alloc, image, &layout, home_lbn, &mut faults)?;
             tell(known, &mut faults)?;
             Ok(Checked {
                 layout: Some(layout),
@@ -113,8 +115,9 @@ fn is_told(known: MountFault, faults: &[MountFault]) -> bool
     false
 }
 
-/// Adds the faults of a volume with this layout that its index, its system files and the format of its headers show.
+/// Adds the faults of a volume with this layout that its index, its system files, the format of its headers and each file by itself show.
 fn push_all(
+    alloc: Global,
     image: &Image,
     layout: &Layout,
     home_lbn: u32,
@@ -128,5 +131,6 @@ fn push_all(
     push_index(image, layout, home_lbn, faults)?;
     push_system(image, layout, faults)?;
     push_formats(image, layout, faults)?;
+    push_files(alloc, image, layout, faults)?;
     Ok(())
 }

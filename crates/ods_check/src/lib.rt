@@ -3,6 +3,7 @@
 
 mod add;
 mod all_findings;
+mod chains;
 mod ends;
 mod faults;
 mod finding;

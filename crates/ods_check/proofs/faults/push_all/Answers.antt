@@ -1,4 +1,4 @@
-use Rattle.ods_mount.specs.declared.fault.MountFault.TheVariants.{BadStorageMap, BadMaster}
+use Rattle.ods_mount.specs.declared.fault.MountFault.TheVariants.{BadStorageMap, BadMaster, UnsupportedMap}
 use Rattle.ods_mount.specs.Faults.{IsTrueOf}
 use Rattle.ods_check.proofs.Adding.{adds_more, told_still}
 use Rattle.ods_check.proofs.faults.push_all.Goals as goal
@@ -8,16 +8,20 @@ returns-clause-adds c =
     let P = IsTrueOf c.args.image.now c.args.layout.now in
     let start = c.args.faults.now.items in
     let system = adds_more P start c.push_index.new.faults.items c.push_system.new.faults.items c.in_ok-push_index.ensures c.in_ok-push_system.ensures.adds in
-    adds_more P start c.push_system.new.faults.items c.push_formats.new.faults.items system c.in_ok-push_formats.ensures.adds
+    let formats = adds_more P start c.push_system.new.faults.items c.push_formats.new.faults.items system c.in_ok-push_formats.ensures.adds in
+    adds_more P start c.push_formats.new.faults.items c.push_files.new.faults.items formats c.in_ok-push_files.ensures.adds
 
 pub returns-clause-all : goal.returns-clause-all
 returns-clause-all c =
     let P = IsTrueOf c.args.image.now c.args.layout.now in
     let middle = c.push_system.new.faults.items in
-    let end = c.push_formats.new.faults.items in
-    let later = c.in_ok-push_formats.ensures.adds in
+    let formats = c.push_formats.new.faults.items in
+    let end = c.push_files.new.faults.items in
+    let last = c.in_ok-push_files.ensures.adds in
+    let later = adds_more P middle formats end c.in_ok-push_formats.ensures.adds last in
     record {
       storage = λ t. told_still P middle end BadStorageMap later (c.in_ok-push_system.ensures.storage t);
       master = λ t. told_still P middle end BadMaster later (c.in_ok-push_system.ensures.master t);
-      formats = c.in_ok-push_formats.ensures.all;
+      formats = λ n t. told_still P formats end (UnsupportedMap n) last (c.in_ok-push_formats.ensures.all n t);
+      files = c.in_ok-push_files.ensures.files;
     }
