@@ -2,7 +2,8 @@
 use crate::persons::{a_txt, b_txt};
 use crate::volumes::{FileHeader, Variant, added, run, sample_of};
 use MountFault::{
-    BadChain, BadDirectory, BadMaster, BadStorageMap, MarkedFree, NoHome, OutsideVolume, UnsupportedMap,
+    BadChain, BadDirectory, BadMaster, BadStorageMap, MarkedFree, NoHome, OutsideVolume,
+    UnsupportedMap,
 };
 use ods_check::check_all;
 use ods_mount::MountFault;
@@ -20,7 +21,11 @@ fn tells(
 ) -> Result<(), Fail> {
     let checked = check_all(alloc, &volume.image(alloc)?)?;
     assert!(rt; checked.layout.is_some() == has_layout);
-    assert!(rt; checked.faults.len() == wanted.len(), "{:?}", checked.faults);
+    assert!(rt;
+        checked.faults.len() == wanted.len(),
+        "{:?}",
+        checked.faults
+    );
     for i in 0..wanted.len() {
         let fault = checked.faults[i];
         assert!(rt; fault == wanted[i], "{fault:?}");
