@@ -6,3 +6,4 @@ pub mod Noting
 pub mod Directories
 pub mod Reaching
 pub mod FileFaults
+pub mod Pairs

@@ -1,12 +1,12 @@
 -- When the faults of a volume as a whole are true, and are told.
-use Rattle.std.proofs.Common.{ℕ, Bool, true, false, ◌<◌, ◌≤◌, List, [], length, inl, inr, refl, ap, arith}
+use Rattle.std.proofs.Common.{◌≢◌, ℕ, Bool, true, false, ◌<◌, ◌≤◌, List, [], length, inl, inr, refl, ap, arith}
 use Rattle.std.specs.Prelude.{IsTrue, MatchBool}
 use Rattle.ods_space.specs.Layout.{VolumeLayout}
 use Rattle.ods_space.specs.Chain.{index_for}
 use Rattle.ods_space.specs.Files.{IsLayoutOf}
 use Rattle.ods_space.proofs.Chains.{same_chain}
 use Rattle.ods_mount.specs.declared.fault.MountFault.{MountFault}
-use Rattle.ods_mount.specs.declared.fault.MountFault.TheVariants.{BadStorageMap, BadMaster, UnsupportedMap, BadChain, OutsideVolume, MarkedFree, BadDirectory, DuplicateName}
+use Rattle.ods_mount.specs.declared.fault.MountFault.TheVariants.{BadStorageMap, BadMaster, UnsupportedMap, BadChain, OutsideVolume, DoublyUsed, MarkedFree, BadDirectory, DuplicateName}
 use Rattle.ods_mount.specs.Faults.{IsTrueOf}
 use Rattle.ods_mount.specs.Sound.{IsSoundBy}
 use Rattle.ods_mount.proofs.Soundness.{none_true_of}
@@ -14,6 +14,7 @@ use Rattle.ods_check.specs.Lists.{Adds}
 use Rattle.ods_check.specs.Faults.{TellsAll}
 use Rattle.ods_check.proofs.Adding.{told_still}
 use Rattle.ods_check.proofs.FileFaults.{told_file_still}
+use Rattle.ods_check.proofs.Pairs.{told_pair_still}
 
 -- a test after another one
 pub both : (b : Bool) (U H F : Type 0) → U → MatchBool b (H × ¬ F) (H → F) → MatchBool b (U × H × ¬ F) (¬ (U × H × ¬ F))
@@ -47,6 +48,7 @@ told_all_still P I L old new a t = record {
   master = λ h. told_still P old new BadMaster a (t.master h);
   formats = λ n h. told_still P old new (UnsupportedMap n) a (t.formats n h);
   files = λ n. told_file_still I L n P old new a (t.files n);
+  shared = λ m n low. told_pair_still I L P old new a m n (t.shared m n low);
 }
 
 -- a sound image has nothing to tell
@@ -61,6 +63,7 @@ none_to_tell I L faults s = record {
     free = λ b h. absurd (none_true_of I L s (MarkedFree n b) h);
     names = λ h. absurd (elim h [ inl d ↦ none_true_of I L s (BadDirectory n) d | inr d ↦ none_true_of I L s (DuplicateName n) d ]);
   };
+  shared = λ m n low b h k. let apart : m ≢ n = λ e. omega arith in absurd (none_true_of I L s (DoublyUsed m n b) (h.0, k.0, h.1, k.1, inl apart));
 }
 
 -- a test by another word for what it says

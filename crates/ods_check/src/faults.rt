@@ -7,6 +7,7 @@ ghost use Rattle.ods_mount.specs.Faults.{IsSound, FaultIsTrue, IsTrueOf};
 ghost use Rattle.ods_check.specs.{Lists.Adds, Faults.TellsAll};
 
 use crate::chains::push_files;
+use crate::sharing::push_shared;
 use crate::system::{push_formats, push_index, push_system};
 use ods_base::Image;
 use ods_mount::{MountFault, check_image, read_layout};
@@ -23,7 +24,8 @@ pub struct Checked {
 /// Faults of an image, each of which is true, and its layout where it has one. A sound image has none, and every other image has one
 /// at least: that which a mount answers. Where there is a layout these are told: a storage bitmap that is too short, no master directory,
 /// each header whose pointers have another format, each file with no chain, of each chain that names blocks which the image lacks one of
-/// these, each block of a whole chain that is marked free, and each directory whose names are no good or no distinct ones.
+/// these, each block of a whole chain that is marked free, each directory whose names are no good or no distinct ones, and each pair of
+/// files with whole chains that hold the same blocks, with one of these.
 pub fn check_all(alloc: Global, image: &Image) -> Result<Checked, AllocError>
     ensures true_of { IfOk result (λ c. All (FaultIsTrue image.now) c.faults.items) }
     ensures sound { IfOk result (λ c. c.faults.items ≡ [] → IsSound image.now) }
@@ -91,7 +93,7 @@ fn all_faults(alloc: Global, image: &Image, known: MountFault) -> Result<Checked
     }
 }
 
-/// Adds a fault that is known, where none of these is the same. So there is one at least.
+/// Adds a fault that is known, where none of these is the same, or of the same pair of files. So there is one at least.
 fn tell(known: MountFault, faults: &mut Vec<MountFault>) -> Result<(), AllocError>
     ensures added { OnOk result ((faults.new.items ≡ faults.old.items) ⊎ (faults.new.items ≡ faults.old.items ++ known ∷ [])) }
     ensures some { OnOk result (faults.new.items ≢ []) }
@@ -103,19 +105,36 @@ fn tell(known: MountFault, faults: &mut Vec<MountFault>) -> Result<(), AllocErro
     Ok(())
 }
 
-/// Whether one of these faults is this one.
+/// Whether one of these faults is this one, or is of the same pair of files.
 fn is_told(known: MountFault, faults: &[MountFault]) -> bool
     ensures { IsTrue result → faults.now ≢ [] }
 {
     for i in 0..faults.len() {
-        if faults[i] == known {
+        if is_same(faults[i], known) {
             return true;
         }
     }
     false
 }
 
-/// Adds the faults of a volume with this layout that its index, its system files, the format of its headers and each file by itself show.
+/// Whether two faults are the same, or of the same pair of files that hold a block.
+fn is_same(one: MountFault, other: MountFault) -> bool {
+    match pair_of(one) {
+        Some(pair) => pair_of(other) == Some(pair),
+        None => one == other,
+    }
+}
+
+/// The files of a fault that says which two hold a block.
+fn pair_of(fault: MountFault) -> Option<(u16, u16)> {
+    match fault {
+        MountFault::DoublyUsed(one, other, _) => Some((one, other)),
+        _ => None,
+    }
+}
+
+/// Adds the faults of a volume with this layout that its index, its system files, the format of its headers and each file by itself show,
+/// and the pairs of files that hold the same blocks.
 fn push_all(
     alloc: Global,
     image: &Image,
@@ -132,5 +151,6 @@ fn push_all(
     push_system(image, layout, faults)?;
     push_formats(image, layout, faults)?;
     push_files(alloc, image, layout, faults)?;
+    push_shared(alloc, image, layout, faults)?;
     Ok(())
 }

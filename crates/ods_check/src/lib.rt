@@ -12,6 +12,7 @@ mod ids;
 mod lost_headers;
 mod names;
 mod naming;
+mod sharing;
 mod system;
 mod unheld;
 

@@ -87,7 +87,7 @@ fn note_blocks(
 }
 
 /// Puts all these numbers into the set.
-fn insert_all(numbers: &[u32], set: &mut NumberSet)
+pub(crate) fn insert_all(numbers: &[u32], set: &mut NumberSet)
     requires { All (λ b. b < 64 * length set.old) numbers.now }
     ensures with { IsSetOf (λ b. (has set.old b ≡ true) ⊎ ((j : ℕ) × (slice_get numbers.now j ≡ Some b))) set.new }
     ensures room { length set.new ≡ length set.old }

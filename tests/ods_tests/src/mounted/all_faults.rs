@@ -2,8 +2,8 @@
 use crate::persons::{a_txt, b_txt};
 use crate::volumes::{FileHeader, Variant, added, run, sample_of};
 use MountFault::{
-    BadChain, BadDirectory, BadMaster, BadStorageMap, MarkedFree, NoHome, OutsideVolume,
-    UnsupportedMap,
+    BadChain, BadDirectory, BadMaster, BadStorageMap, DoublyUsed, MarkedFree, NoHome,
+    OutsideVolume, UnsupportedMap,
 };
 use ods_check::check_all;
 use ods_mount::MountFault;
@@ -86,6 +86,25 @@ fn each_file_is_told(rt: HostRuntime) -> Result<(), Fail> {
         MarkedFree(6, 24),
         OutsideVolume(7, 40),
         BadChain(9),
+    ];
+    tells(&rt, rt.alloc(), &volume, true, &wanted)
+}
+
+#[test]
+fn each_pair_of_files_is_told_once(rt: HostRuntime) -> Result<(), Fail> {
+    let c_header = added(8, a_txt()).mapping(&[run(22, 1), run(25, 1)]);
+    let volume = Variant {
+        headers: &[
+            (8, added(6, a_txt()).mapping(&[run(22, 3)])),
+            (9, added(7, b_txt()).mapping(&[run(23, 3)])),
+            (10, c_header),
+        ],
+        ..sample_of(40)
+    };
+    let wanted = [
+        DoublyUsed(6, 7, 23),
+        DoublyUsed(6, 8, 22),
+        DoublyUsed(7, 8, 25),
     ];
     tells(&rt, rt.alloc(), &volume, true, &wanted)
 }
