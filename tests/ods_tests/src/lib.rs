@@ -17,6 +17,7 @@ pub mod reader;
 mod records;
 #[cfg(test)]
 mod requests;
+pub mod same;
 #[cfg(test)]
 mod sessions;
 pub mod settings;

@@ -8,6 +8,7 @@ use super::rows::{create, dat, extend, made, truncate};
 use super::trial::{Trial, ask_quickly, same_catalogue, start};
 use crate::dice::Dice;
 use crate::persons::{FIRST, SECOND, USER};
+use crate::same::same_image;
 use ods_base::FileId;
 use ods_plain::Body;
 use std::alloc::Global;
@@ -80,7 +81,10 @@ fn cuts(rt: &impl Abort, trial: &mut Trial, file: FileId, count: u32) -> Result<
     };
     let numbers = trial.volume.number_count();
     ask_freely(rt, trial, USER, &truncate(file, count))?;
-    assert!(rt; *trial.volume.image() == wanted, "{file:?} cut to {count}");
+    assert!(rt;
+        same_image(trial.volume.image(), &wanted),
+        "{file:?} cut to {count}"
+    );
     Ok(numbers < trial.volume.number_count())
 }
 

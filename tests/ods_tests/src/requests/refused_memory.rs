@@ -12,6 +12,7 @@ use crate::contiguous::{contiguous_file, contiguous_stat};
 use crate::persons::{
     FIRST, MASTER, PROTECTION, SECOND, USER, a_txt, old_block, reserved_id, reserved_lines,
 };
+use crate::same::same_image;
 use crate::settings::{Refusing, ends};
 use crate::volumes::{Variant, added, run, sample_of};
 use ods_alloc::free_count;
@@ -33,11 +34,11 @@ fn refused_memory_hands_the_image_back(rt: HostRuntime) -> Result<(), Fail> {
     match mount(rt.alloc(), image) {
         Ok(mounted) => {
             let free = free_count(mounted.image(), mounted.layout());
-            assert!(rt; *mounted.image() == same && free == 490);
+            assert!(rt; same_image(mounted.image(), &same) && free == 490);
         }
         Err((back, fault)) => {
             assert!(rt; fault == MountFault::NoMemory, "another fault");
-            assert!(rt; back == same, "another image");
+            assert!(rt; same_image(&back, &same), "another image");
             refusing.meets(&rt);
         }
     }
@@ -60,7 +61,7 @@ pub fn poor_volume(
         Ok(volume) => Ok(volume),
         Err((mounted, _)) => {
             refusing.meets(rt);
-            assert!(rt; *mounted.image() == same, "another image");
+            assert!(rt; same_image(mounted.image(), &same), "another image");
             match Volume::new(alloc, mounted, 4_096) {
                 Ok(volume) => Ok(volume),
                 Err(_) => Err("refused twice".into()),
@@ -71,7 +72,7 @@ pub fn poor_volume(
 
 /// The volume has this image, so many entries, and that mounted image.
 fn is_as_before(rt: &impl Abort, volume: &Volume, image: &Image, mounted: &Image, entries: usize) {
-    assert!(rt; *volume.image() == *image, "the image changed");
+    assert!(rt; same_image(volume.image(), image), "the image changed");
     assert!(rt; volume.mounted().is(mounted), "the mounted image changed");
     assert!(rt; volume.entries().len() == entries, "the list changed");
 }

@@ -8,6 +8,7 @@ use crate::persons::{NONE, USER};
 use crate::reader::{
     plain_catalogue, plain_counts, plain_free_blocks, plain_free_numbers, plain_id, plain_last,
 };
+use crate::same::same_blocks;
 use crate::volumes::sample_of;
 use ods_base::{FileId, Image, Uic};
 use ods_mount::mount;
@@ -59,7 +60,7 @@ fn same_body(alloc: Global, shown: &Body, plain: &Body) -> Result<bool, Fail> {
                 attributes: others,
                 blocks: more,
             },
-        ) => Ok(attributes == others && blocks.as_slice() == more.as_slice()),
+        ) => Ok(attributes == others && same_blocks(blocks, more)),
         _ => Ok(false),
     }
 }

@@ -9,6 +9,7 @@ use super::requests::{block_read, block_viewed, block_written, file_made};
 use super::runs::{stamp, volume_of};
 use crate::persons::{FIRST, MASTER, USER, letter_a, reserved_lines};
 use crate::reader::image_of;
+use crate::same::same_image;
 use crate::settings::{Refusing, ends};
 use crate::volumes::sample_of;
 use ods_base::Image;
@@ -65,7 +66,10 @@ fn as_it_is(alloc: Global, volume: &Volume) -> Result<Noted, Fail> {
 
 /// The volume is as it was.
 fn is_as_noted(rt: &impl Abort, volume: &Volume, noted: &Noted) {
-    assert!(rt; *volume.image() == noted.image, "the image changed");
+    assert!(rt;
+        same_image(volume.image(), &noted.image),
+        "the image changed"
+    );
     assert!(rt;
         volume.mounted().is(&noted.mounted),
         "the mounted image changed"
