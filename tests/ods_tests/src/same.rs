@@ -1,5 +1,5 @@
-//! Whether blocks and images are the same, byte by byte in one loop: `==` of a block makes several calls for each byte, which in a program with
-//! checks took most of the time of random requests.
+//! Whether blocks and images are the same, byte by byte in one loop. Their own `==` makes several calls for each byte, which in a program
+//! with checks was most of what random requests took.
 use ods_base::{Block, Image};
 
 /// Whether two blocks have the same bytes.
