@@ -41,7 +41,7 @@ pub(crate) fn put_block(
         own.push_reserved(*block);
         seats[at] = own.len() as u32;
     } else {
-        own[seat - 1].copy_from(block);
+        own[seat - 1] = *block;
     }
 }
 

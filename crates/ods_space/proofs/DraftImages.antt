@@ -11,7 +11,7 @@ use Rattle.ods_space.specs.declared.draft.Change.{Change}
 use Rattle.ods_space.proofs.Drafts.{applied_more, applied_none, block_at-applied, length-applied, of_inside, of_outside}
 
 -- one change
-pub image_changed : (I : List (List ℕ)) (c : Change) → IsImage I → IsBlock c.block → IsImage (applied I (changed c []))
+pub image_changed : (I : List (List ℕ)) (c : Change) → IsImage I → IsBlock c.filling.0 → IsImage (applied I (changed c []))
 image_changed I c image block = record {
   size = subst (λ n. n ≤ 2 ^ 20) (sym long) image.size;
   blocks = λ i d low.
@@ -38,7 +38,7 @@ image_changed I c image block = record {
 pub image_none : (I : List (List ℕ)) → IsImage I → IsImage (applied I [])
 image_none I image = subst IsImage (applied_none I) image
 
-pub image_more : (I : List (List ℕ)) (cs : List Change) (k : ℕ) (c : Change) → k < length cs → c ≡ get_or cs k c → IsBlock c.block → IsImage (applied I (changes_of (take k cs)))
+pub image_more : (I : List (List ℕ)) (cs : List Change) (k : ℕ) (c : Change) → k < length cs → c ≡ get_or cs k c → IsBlock c.filling.0 → IsImage (applied I (changes_of (take k cs)))
     → IsImage (applied I (changes_of (take (k + 1) cs)))
 image_more I cs k c within is block image =
     subst IsImage (applied_more I (applied I (changes_of (take k cs))) cs k c within is refl) (image_changed (applied I (changes_of (take k cs))) c image block)

@@ -3,7 +3,8 @@ use Rattle.std.proofs.Common.{◌≡◌, ◌≢◌, ℕ, zero, suc, ◌+◌, ◌
 use Rattle.std.specs.Prelude.{◌⊎◌, unwrap_or, is_some}
 use Rattle.std.specs.List.{range_with_len}
 use Rattle.std.proofs.lemmas.Bool.{cases_lt, cases_eq, eq-eqb, eqb-true, eqb-false}
-use Rattle.std.proofs.lemmas.List.{append-nil, take_more, length-set, get_or_default, get_or-set_same, get_or-set_other, set_past}
+use Rattle.std.proofs.Math.Seq.{set-append_seam}
+use Rattle.std.proofs.lemmas.List.{append-nil, get_or_push, take_more, length-set, get_or_default, get_or-set_same, get_or-set_other, set_past}
 use Rattle.std.proofs.lemmas.List.FromFn.{fill_by_all, length-map-range_with_len, get_or-map-range_with_len}
 use Rattle.ods_base.specs.Bits.{HasBit}
 use Rattle.ods_base.specs.Image.{block_at}
@@ -104,11 +105,11 @@ module _ (r : Run) (b : List ℕ) (lbn : ℕ) where
       ∙ change_at-outside b r.lbn r.count lbn (λ k small e. elim away [ inl low ↦ absurd (omega (arith, e)) | inr high ↦ absurd (omega (arith, e)) ])
 
 -- which blocks one change is of
-pub of_inside : (c : Change) (lbn : ℕ) → c.run.lbn ≤ lbn → lbn < c.run.lbn + c.run.count → change_at (changed c []) lbn ≡ Some c.block
-of_inside c lbn = filled_inside c.run c.block lbn
+pub of_inside : (c : Change) (lbn : ℕ) → c.run.lbn ≤ lbn → lbn < c.run.lbn + c.run.count → change_at (changed c []) lbn ≡ Some c.filling.0
+of_inside c lbn = filled_inside c.run c.filling.0 lbn
 
 pub of_outside : (c : Change) (lbn : ℕ) → (lbn < c.run.lbn) ⊎ (c.run.lbn + c.run.count ≤ lbn) → change_at (changed c []) lbn ≡ None
-of_outside c lbn = filled_outside c.run c.block lbn
+of_outside c lbn = filled_outside c.run c.filling.0 lbn
 
 -- an image whose blocks of the run are this one, and the others as they were
 pub record IsFilled (I J : List (List ℕ)) (b : List ℕ) (from to : ℕ) : Type 0 where
@@ -148,7 +149,7 @@ filled_all I J b r to done few rest = applied_is I J (filled r b []) done.size e
     ]
 
 pub changed_is : (c : Change) (d : Changes) → changed c d ≡ changed c [] ++ d
-changed_is c d = ap (λ l. l ++ d) (sym (append-nil (all_from c.block c.run.lbn c.run.count)))
+changed_is c d = ap (λ l. l ++ d) (sym (append-nil (all_from c.filling.0 c.run.lbn c.run.count)))
 
 changes_after_push : (d : Changes) (cs : List Change) (c : Change) → changes_after d (cs ++ c ∷ []) ≡ changed c (changes_after d cs)
 changes_after_push d [] c = refl
@@ -233,12 +234,12 @@ ends_in d (c ∷ e ∷ cs) (suc k) old new other size last =
     record { older = rest.older; was = rest.was; now = rest.now }
 
 -- a change of one block
-pub changed_one : (c : Change) (lbn : ℕ) (d : Changes) → IsOf lbn c → changed c d ≡ (lbn, c.block) ∷ d
+pub changed_one : (c : Change) (lbn : ℕ) (d : Changes) → IsOf lbn c → changed c d ≡ (lbn, c.filling.0) ∷ d
 changed_one c lbn d is =
-    ap (λ n. map (λ x. (x, c.block)) (range_with_len c.run.lbn n) ++ d) is.1
-    ∙ ap (λ a. (a, c.block) ∷ d) is.0
+    ap (λ n. map (λ x. (x, c.filling.0)) (range_with_len c.run.lbn n) ++ d) is.1
+    ∙ ap (λ a. (a, c.filling.0) ∷ d) is.0
 
-pub pushed_one : (cs : List Change) (c : Change) (lbn : ℕ) → IsOf lbn c → changes_of (cs ++ c ∷ []) ≡ (lbn, c.block) ∷ changes_of cs
+pub pushed_one : (cs : List Change) (c : Change) (lbn : ℕ) → IsOf lbn c → changes_of (cs ++ c ∷ []) ≡ (lbn, c.filling.0) ∷ changes_of cs
 pushed_one cs c lbn is = changes_of_push cs c ∙ changed_one c lbn (changes_of cs) is
 
 -- of two changes of one block the newer counts
@@ -258,23 +259,38 @@ module _ (cs : List Change) (n lbn : ℕ) (old again : Change) (some : 0 < n) (s
   ends new = ends_in [] cs (n - 1) again new again (omega (arith, some, size)) (sym reread)
 
   -- another block in its place is as good as one change more
-  pub renewed : (b : List ℕ) (I : List (List ℕ)) → applied I (changes_of (set cs (n - 1) (record { run = again.run; block = b }))) ≡ applied I ((lbn, b) ∷ changes_of cs)
+  pub renewed : (f : List ℕ × Bool) (I : List (List ℕ)) → applied I (changes_of (set cs (n - 1) (record { filling = f; run = again.run }))) ≡ applied I ((lbn, f.0) ∷ changes_of cs)
   unfolding applied
-  renewed b I =
-      let new : Change = record { run = again.run; block = b } in
+  renewed f I =
+      let new : Change = record { filling = f; run = again.run } in
       let e = ends new in
       ap (λ d. map (seen_at I d) (range_with_len 0 (length I))) (e.now ∙ changed_one new lbn e.older one)
-      ∙ (λ i. map (λ x. over_older I e.older lbn again.block b x i) (range_with_len 0 (length I)))
-      ∙ ap (λ d. map (seen_at I ((lbn, b) ∷ d)) (range_with_len 0 (length I))) (sym (e.was ∙ changed_one again lbn e.older one))
+      ∙ (λ i. map (λ x. over_older I e.older lbn again.filling.0 f.0 x i) (range_with_len 0 (length I)))
+      ∙ ap (λ d. map (seen_at I ((lbn, f.0) ∷ d)) (range_with_len 0 (length I))) (sym (e.was ∙ changed_one again lbn e.older one))
 
   -- its block is the one that is seen
-  seen_last : (I : List (List ℕ)) → seen_at I (changes_of cs) lbn ≡ again.block
+  seen_last : (I : List (List ℕ)) → seen_at I (changes_of cs) lbn ≡ again.filling.0
   seen_last I =
       let e = ends again in
       ap (λ d. seen_at I d lbn) (e.was ∙ changed_one again lbn e.older one)
-      ∙ ap (λ t. unwrap_or (cond t (Some again.block) (change_at e.older lbn)) (block_at I lbn)) (eq-eqb lbn lbn refl)
+      ∙ ap (λ t. unwrap_or (cond t (Some again.filling.0) (change_at e.older lbn)) (block_at I lbn)) (eq-eqb lbn lbn refl)
 
   -- a bit of it that is put is a bit of the draft
-  pub bit_renewed : (b : List ℕ) (I : List (List ℕ)) (i : ℕ) (value : Bool) → HasBit again.block i value b
-      → ChangesBit I (changes_of cs) lbn i value (changes_of (set cs (n - 1) (record { run = again.run; block = b })))
-  bit_renewed b I i value bits = record { block = b; bit = subst (λ l. HasBit l i value b) (sym (seen_last I)) bits; becomes = renewed b }
+  pub bit_renewed : (f : List ℕ × Bool) (I : List (List ℕ)) (i : ℕ) (value : Bool) → HasBit again.filling.0 i value f.0
+      → ChangesBit I (changes_of cs) lbn i value (changes_of (set cs (n - 1) (record { filling = f; run = again.run })))
+  bit_renewed f I i value bits = record { block = f.0; bit = subst (λ l. HasBit l i value f.0) (sym (seen_last I)) bits; becomes = renewed f }
+
+-- a bit of the block that is seen is put in one change more, which is made of that block
+pub bit_added : (cs items : List Change) (n lbn : ℕ) (c again : Change) (f : List ℕ × Bool) (I : List (List ℕ)) (i : ℕ) (value : Bool) → items ≡ cs ++ c ∷ [] → n ≡ length cs → again ≡ get_or items n again
+    → IsOf lbn c → c.filling.0 ≡ seen_at I (changes_of cs) lbn → HasBit again.filling.0 i value f.0
+    → ChangesBit I (changes_of cs) lbn i value (changes_of (set items n (record { filling = f; run = again.run })))
+bit_added cs items n lbn c again f I i value more last read is seen bits =
+    let new : Change = record { filling = f; run = again.run } in
+    let same : again ≡ c = read ∙ ap (λ l. get_or l n again) more ∙ get_or_push cs c again n (sym last) in
+    let one : IsOf lbn new = (ap (λ x. x.run.lbn) same ∙ is.0, ap (λ x. x.run.count) same ∙ is.1) in
+    let list : set items n new ≡ cs ++ new ∷ [] = ap (λ l. set l n new) more ∙ ap (λ k. set (cs ++ c ∷ []) k new) last ∙ set-append_seam cs c [] new in
+    record {
+      block = f.0;
+      bit = subst (λ l. HasBit l i value f.0) (ap (λ x. x.filling.0) same ∙ seen) bits;
+      becomes = λ J. ap (applied J) (ap changes_of list ∙ pushed_one cs new lbn one);
+    }

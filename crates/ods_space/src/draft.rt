@@ -1,6 +1,6 @@
 //! Drafts: changes of single blocks, to be made all at once.
-use crate::fill::fill;
-use ods_base::{Block, Image, set_bit};
+use crate::fill::{Filling, fill};
+use ods_base::{Block, Image};
 use ods_header::Run;
 use std::alloc::{AllocError, Global};
 use std::marker::Model;
@@ -8,8 +8,8 @@ use std::marker::Model;
 /// One change: each block of the run becomes this one.
 #[derive(Clone, Copy)]
 struct Change {
+    filling: Filling,
     run: Run,
-    block: Block,
 }
 
 impl Change {
@@ -40,9 +40,8 @@ impl Change {
         ensures block { IfSome result (λ block. IsBlock block.now) }
         ensures none { IfNone result (change_at (changed self.now []) lbn ≡ None) }
     {
-        let _ = self.block.bytes();
         if self.run.lbn <= lbn && lbn - self.run.lbn < self.run.count as u32 {
-            Some(&self.block)
+            Some(self.filling.block())
         } else {
             None
         }
@@ -50,16 +49,16 @@ impl Change {
 
     /// What it puts is a block.
     fn is_block(&self)
-        ensures { IsBlock self.now.block }
+        ensures { IsBlock self.now.filling.0 }
     {
-        let _ = self.block.bytes();
+        let _ = self.filling.block();
     }
 
     /// Makes this change.
     fn make(&self, image: &mut Image)
         ensures { image.new ≡ applied image.old (changed self.now []) }
     {
-        fill(image, &self.run, &self.block);
+        fill(image, &self.run, &self.filling);
     }
 }
 
@@ -126,8 +125,9 @@ impl Draft {
         ensures err { OnErr result (self.new ≡ self.old) }
     {
         self.changes.reserve(1)?;
+        let filling = Filling::of(block);
         let run = Run { lbn, count: 1 };
-        self.changes.push_reserved(Change { run, block });
+        self.changes.push_reserved(Change { filling, run });
         Ok(())
     }
 
@@ -139,7 +139,7 @@ impl Draft {
     {
         let count = self.changes.len();
         if 0 < count && self.changes[count - 1].is_of(lbn) {
-            self.changes[count - 1].block = block;
+            self.changes[count - 1].filling = Filling::of(block);
             return Ok(());
         }
         self.set(lbn, block)
@@ -161,7 +161,7 @@ impl Draft {
     {
         let count = self.changes.len();
         if 0 < count && self.changes[count - 1].is_of(lbn) {
-            set_bit(&mut self.changes[count - 1].block, i, value);
+            self.changes[count - 1].filling.set_bit(i, value);
             return Ok(());
         }
         self.add_bit(image, lbn, i, value)
@@ -174,11 +174,12 @@ impl Draft {
         ensures ok { OnOk result (ChangesBit image.now self.old lbn i value self.new) }
         ensures err { OnErr result (self.new ≡ self.old) }
     {
-        let mut block = *self.block(image, lbn);
-        set_bit(&mut block, i, value);
-        let one = Run { lbn, count: 1 };
+        let count = self.changes.len();
         self.changes.reserve(1)?;
-        self.changes.push_reserved(Change { run: one, block });
+        let filling = Filling::of(*self.block(image, lbn));
+        let one = Run { lbn, count: 1 };
+        self.changes.push_reserved(Change { filling, run: one });
+        self.changes[count].filling.set_bit(i, value);
         Ok(())
     }
 
@@ -188,8 +189,8 @@ impl Draft {
         ensures err { OnErr result (self.new ≡ self.old) }
     {
         self.changes.reserve(1)?;
-        let block = Block::zeros();
-        self.changes.push_reserved(Change { run, block });
+        let filling = Filling::zeros();
+        self.changes.push_reserved(Change { filling, run });
         Ok(())
     }
 

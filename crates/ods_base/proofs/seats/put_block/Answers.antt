@@ -38,6 +38,5 @@ returns-then-seat-lt2-clause-changed c B =
 pub returns-else-seat-lt2-clause-changed : goal.returns-else-seat-lt2-clause-changed
 returns-else-seat-lt2-clause-changed c B =
     let some : 1 < slice_index c.reach.new.seats.items c.args.at = search (rules, read (goal.at.returns-else-seat-lt2-clause-changed c).After-index) in
-    ap (λ b. overlaid B c.reach.new.seats.items (set c.args.own.now.items (c.index.result.now - 1) b)) c.copy_from.ensures
-    ∙ ap (λ p. overlaid B c.reach.new.seats.items (set c.args.own.now.items (p - 1) c.args.block.now)) (read (goal.at.returns-else-seat-lt2-clause-changed c).After-index)
+    ap (λ p. overlaid B c.reach.new.seats.items (set c.args.own.now.items (p - 1) c.args.block.now)) (read (goal.at.returns-else-seat-lt2-clause-changed c).After-index)
     ∙ renewed_changed c.args.count c.args.seats.now.items c.reach.new.seats.items c.args.own.now.items c.args.at c.args.block.now c.requires.overlay c.reach.ensures.same c.requires.inside c.reach.ensures.reached some B

@@ -8,6 +8,6 @@ pub returns-clause-ok : goal.returns-clause-ok
 returns-clause-ok c =
     let lbn = c.args.lbn in
     let b = c.args.block in
-    let new : Change = record { run = record { lbn = lbn; count = 1 }; block = b } in
+    let new : Change = record { filling = c.of-filling.result; run = record { lbn = lbn; count = 1 } } in
     ap changes_of (c.push_reserved.ensures.items ∙ ap (λ cs. cs ++ new ∷ []) c.in_ok-reserve.ensures.items)
-    ∙ pushed_one c.self.inside.changes.items new lbn (refl, refl) ∙ ap (λ d. (lbn, b) ∷ d) c.self.view_is
+    ∙ pushed_one c.self.inside.changes.items new lbn (refl, refl) ∙ ap (λ f. (lbn, f.0) ∷ changes_of c.self.inside.changes.items) c.of-filling.ensures ∙ ap (λ d. (lbn, b) ∷ d) c.self.view_is

@@ -9,6 +9,6 @@ pub returns-clause-ok : goal.returns-clause-ok
 returns-clause-ok c =
     let r = c.args.run in
     let cs = c.self.inside.changes.items in
-    let new : Change = record { run = r; block = c.zeros-block.result } in
+    let new : Change = record { filling = c.zeros-filling.result; run = r } in
     ap changes_of (c.push_reserved.ensures.items ∙ ap (λ xs. xs ++ new ∷ []) c.in_ok-reserve.ensures.items) ∙ changes_of_push cs new
-    ∙ ap (λ b. filled r b (changes_of cs)) c.zeros-block.ensures.value ∙ ap (zeroed r) c.self.view_is
+    ∙ ap (λ f. filled r f.0 (changes_of cs)) c.zeros-filling.ensures ∙ ap (zeroed r) c.self.view_is
