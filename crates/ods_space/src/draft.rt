@@ -5,7 +5,8 @@ use ods_header::Run;
 use std::alloc::{AllocError, Global};
 use std::marker::Model;
 
-/// One change: each block of the run becomes this one.
+/// One change: each block of the run becomes this one. The block comes first, so that a block of an image is copied once where it
+/// becomes part of a change.
 #[derive(Clone, Copy)]
 struct Change {
     filling: Filling,
