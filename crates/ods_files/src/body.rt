@@ -69,6 +69,13 @@ impl<'a> FileBody<'a> {
         self.lbns.len() as u32
     }
 
+    /// The attributes of the first header.
+    pub fn attributes(&self) -> [u8; 32]
+        ensures { result ≡ self.now.attributes }
+    {
+        self.attributes
+    }
+
     /// Whether nothing was ever written into the attributes.
     pub fn has_no_attributes(&self) -> bool
         ensures { result ≡ are_zeros self.now.attributes }

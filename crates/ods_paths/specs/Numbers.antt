@@ -1,5 +1,5 @@
 -- The numbers in paths: file IDs, versions, groups and members.
-use Rattle.std.specs.Prelude.{◌≡◌, ◌≢◌, ℕ, ◌+◌, ◌*◌, ◌-◌, ◌^◌, ◌<◌, ◌≤◌, ◌==◌, Bool, true, false, slice_index, List, [], ◌∷◌, length, codes, Option, Some, None}
+use Rattle.std.specs.Prelude.{◌≡◌, ◌≢◌, ℕ, ◌+◌, ◌*◌, ◌-◌, ◌^◌, ◌<◌, ◌≤◌, ◌==◌, Bool, true, false, slice_index, List, [], ◌∷◌, length, take, drop, codes, Option, Some, None}
 use Rattle.std.specs.List.{All, position_or_len, before_first, after_first}
 use Rattle.std.specs.Fmt.{decimal}
 use Rattle.ods_base.specs.declared.file_id.FileId.{FileId}
@@ -65,3 +65,9 @@ pub record IsOctal (text : List ℕ) (n : ℕ) : Type 0 where
 abbrev pub IsChoice : List ℕ → Option ℕ → Type 0
 IsChoice text None = text ≡ codes "*"
 IsChoice text (Some n) = IsOctal text n
+
+-- the name of the directory of a group and a member: three octal digits for each
+pub record IsNumberedName (name : List ℕ) (group : ℕ) (member : ℕ) : Type 0 where
+  pub six : length name ≡ 6
+  pub first : IsOctal (take 3 name) group
+  pub last : IsOctal (drop 3 name) member

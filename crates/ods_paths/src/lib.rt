@@ -19,6 +19,7 @@ pub use files::Files;
 pub use folders::{Folder, Place, Steps};
 pub use laws::{bad_says_nothing, says_one_thing};
 pub use matching::matches;
+pub use numbers::numbered_name;
 pub use order::{Shown, compare, is_listing_order};
 pub use paths::{Path, parse_path};
 pub use patterns::{has_wildcard, is_pattern};

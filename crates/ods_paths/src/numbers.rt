@@ -1,7 +1,7 @@
 //! Numbers in decimal and in octal.
-ghost use Rattle.std.specs.Prelude.{◌≡◌, ◌-◌, ◌≤◌, ◌↔◌, length, IsTrue};
+ghost use Rattle.std.specs.Prelude.{◌≡◌, ◌-◌, ◌≤◌, ◌↔◌, ℕ, length, IsTrue, MatchOption};
 ghost use Rattle.std.specs.List.{All};
-ghost use Rattle.ods_paths.specs.Numbers.{IsTheOne, IsNumber, IsOctal, IsChoice, octal_value as value_of_octal};
+ghost use Rattle.ods_paths.specs.Numbers.{IsTheOne, IsNumber, IsOctal, IsChoice, IsNumberedName, octal_value as value_of_octal};
 
 use std::str;
 
@@ -86,4 +86,20 @@ pub(crate) fn read_choice(text: &[u8]) -> Option<Option<u8>>
         Some(value) => Some(Some(value)),
         None => None,
     }
+}
+
+/// The group and the member of which a directory's name is the six octal digits, as `001002`; `None` for every other name.
+pub fn numbered_name(name: &[u8]) -> Option<(u8, u8)>
+    ensures { MatchOption result ((group member : ℕ) → IsNumberedName name.now group member → ⊥) (λ n. IsNumberedName name.now n.0 n.1) }
+{
+    if name.len() != 6 {
+        return None;
+    }
+    let Some(group) = read_octal(&name[..3]) else {
+        return None;
+    };
+    let Some(member) = read_octal(&name[3..]) else {
+        return None;
+    };
+    Some((group, member))
 }

@@ -10,4 +10,4 @@ mod walking;
 pub use laws::walks_are_complete;
 pub use ordering::listing;
 pub use tables::{Entered, Line, Walk};
-pub use walking::walk_from;
+pub use walking::{names_directory, walk_from};

@@ -85,7 +85,7 @@ fn is_walked_into(image: &Image, layout: &Layout, is_entered: &[bool], entry: &L
 }
 
 /// Whether an entry names a directory: its type is DIR, and its file is there and a directory.
-fn names_directory(image: &Image, layout: &Layout, entry: &Listed) -> bool
+pub fn names_directory(image: &Image, layout: &Layout, entry: &Listed) -> bool
     ensures { MatchBool result (NamesDirectory image.now layout.now entry.now) (¬ NamesDirectory image.now layout.now entry.now) }
 {
     if entry.name.ext() != DIRECTORY {
