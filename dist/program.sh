@@ -1,13 +1,36 @@
-# Where the program f11 stands, what it is made of, and how it is built. A script sets `top` to the repository's folder before it
-# reads this file. Nothing here goes by dates: what is compared are sums.
+# Where the programs f11 and f11fs stand, what they are made of, and how they are built. A script sets `top` to the repository's folder
+# before it reads this file. Nothing here goes by dates: what is compared are sums.
 
-program=$top/crates/f11/out/f11      # as it was proved and built here
-made=$top/out/f11.made               # of which sources and which program that is true: the sum of `sums`, and of the program
-shipped=$top/dist/f11-x86_64-linux   # as dist/make put it there
+# Which program the other functions speak of, f11 where nothing else is said: about NAME
+about() {
+    name=$1
+    program=$top/crates/$name/out/$name   # as it was proved and built here
+    made=$top/out/$name.made              # of which sources and which program that is true: the sum of `sums`, and of the program
+    shipped=$top/dist/$name-x86_64-linux  # as dist/make put it there
+    listed=$top/dist/SOURCES              # what that was made of
+    [ "$name" = f11 ] || listed+=.$name
+}
+about f11
+
+# The programs that there are.
+programs() {
+    grep -oE '^(f11|f11fs)[ :]' "$top/crates.txt" | tr -d ' :'
+}
+
+# Does something for each program: each COMMAND..
+each() {
+    local one status=0
+    for one in $(programs); do
+        about "$one"
+        "$@" || status=1
+    done
+    about f11
+    return $status
+}
 
 # The crates that the program is made of, lowest first.
 crates() {
-    awk -F: '
+    awk -F: -v program="$name" '
         function visit(name,   count, i, words) {
             if (!(name in uses) || name in seen) return
             seen[name] = 1
@@ -17,7 +40,7 @@ crates() {
         }
         { sub(/#.*/, "") }
         NF == 2 { split($1, head, " "); uses[head[1]] = $2 }
-        END { visit("f11") }' <"$top/crates.txt"
+        END { visit(program) }' <"$top/crates.txt"
 }
 
 # The sum of each file that the program is made of: its crates' sources, definitions and proofs, and crates.txt.
@@ -26,10 +49,10 @@ sums() (
     find crates.txt $(crates | sed 's,.*,crates/&/src crates/&/specs crates/&/proofs,') -type f -print0 2>/dev/null | LC_ALL=C sort -z | xargs -0 sha256sum
 )
 
-# The text of dist/SOURCES: these sums, and the toolchain. Where the machine has no toolchain, its line is taken from there as it stands.
+# The text of dist/SOURCES or dist/SOURCES.f11fs: these sums, and the toolchain. Where the machine has no toolchain, its line is taken from there as it stands.
 sources() {
     sums
-    if command -v rt >/dev/null; then rt version; else tail -n 1 "$top/dist/SOURCES"; fi
+    if command -v rt >/dev/null; then rt version; else tail -n 1 "$listed"; fi
 }
 
 # The sum of a file, or of what is read: sum [FILE]
@@ -56,8 +79,8 @@ is_built() {
 
 # Whether dist/ has the program, made of these sums, with the sum that stands beside it: is_shipped SUMS
 is_shipped() {
-    [ -x "$shipped" ] && [ -f "$top/dist/SOURCES" ] && [ "$1" = "$(sed '$d' "$top/dist/SOURCES")" ] &&
-        (cd "$top/dist" && sha256sum --check --status SHA256SUMS)
+    [ -x "$shipped" ] && [ -f "$listed" ] && [ "$1" = "$(sed '$d' "$listed")" ] &&
+        (cd "$top/dist" && grep " ${shipped##*/}\$" SHA256SUMS | sha256sum --check --status)
 }
 
 # The program that is here and made of these sums, as it was built or in dist/, if there is one: ready SUMS
@@ -65,15 +88,20 @@ ready() {
     if is_built "$1"; then echo "$program"; elif is_shipped "$1"; then echo "$shipped"; else return 1; fi
 }
 
-# What a green gate leaves in out/check/green: what the program was made of, and the sum of the program.
+# What a green gate leaves in out/check/green: what each program was made of, and its sum.
 green() {
-    sources
+    each sources
+    each own_sum
+}
+
+# The sum of the program that stands here.
+own_sum() {
     sum "$program"
 }
 
 # Proves the crates and builds the program, with a line on standard error for each crate.
 build() {
-    local crate number=0 began=$SECONDS log=$top/out/f11.log list total before
+    local crate number=0 began=$SECONDS log=$top/out/$name.log list total before
     list=$(crates)
     total=$(echo "$list" | wc -l)
     before=$(sums)
@@ -82,18 +110,18 @@ build() {
     rm -f "$program" "$made"
     for crate in $list; do
         number=$((number + 1))
-        echo "f11: proving $crate, $number of $total, $((SECONDS - began)) s so far" >&2
-        if [ "$crate" = f11 ]; then
-            (cd "$top/crates/f11" && rt run) </dev/null >>"$log" 2>&1 || true # its status is the program's own
+        echo "$name: proving $crate, $number of $total, $((SECONDS - began)) s so far" >&2
+        if [ "$crate" = "$name" ]; then
+            (cd "$top/crates/$name" && rt run) </dev/null >>"$log" 2>&1 || true # its status is the program's own
         else
             (cd "$top/crates/$crate" && rt lib) </dev/null >>"$log" 2>&1 || break
         fi
     done
     if [ ! -x "$program" ]; then
-        echo "f11: $crate is not proved or does not build; what the toolchain says is in $log" >&2
+        echo "$name: $crate is not proved or does not build; what the toolchain says is in $log" >&2
         exit 3
     elif [ "$(sums)" != "$before" ]; then
-        echo 'f11: the sources changed while the program was proved and built; run it once more' >&2
+        echo "$name: the sources changed while the program was proved and built; run it once more" >&2
         exit 3
     fi
     note_made "$before"
