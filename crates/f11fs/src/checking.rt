@@ -1,0 +1,150 @@
+//! `check`: what is wrong with an image, sound or not.
+ghost use Rattle.ods_space.specs.Files.{IsLayoutOf};
+
+use crate::commands::{Stop, send};
+use crate::volume::{VolumeFault, open_image};
+use ods_base::Image;
+use ods_check::{Checked, Finding, check_all, findings};
+use ods_mount::MountFault;
+use ods_shell::{Status, spoiled_records};
+use ods_space::{Layout, last_number, sequence};
+use std::alloc::{AllocError, Global};
+use std::rt::Files;
+
+/// `check` of the image at this path.
+pub fn check<'a, R: Files + AllocGlobal + Print>(
+    rt: &R,
+    path: &'a str,
+    all: bool,
+) -> Result<Status, Stop<'a>> {
+    match open_image(rt, path) {
+        Ok(image) => check_image(rt, &image, all),
+        Err(VolumeFault::Read) => Err(Stop::Read(path)),
+        Err(VolumeFault::NoMemory) => Err(Stop::NoMemory),
+        Err(fault) => {
+            let text = format!(in rt.alloc(); "{fault}\n")?;
+            send(rt, text.as_str())?;
+            Ok(Status::Found)
+        }
+    }
+}
+
+/// `check` of an image.
+fn check_image<'a, R: AllocGlobal + Print>(
+    rt: &R,
+    image: &Image,
+    all: bool,
+) -> Result<Status, Stop<'a>> {
+    let checked = check_all(rt.alloc(), image)?;
+    let mut lines = Vec::new(rt.alloc());
+    if let Some(layout) = &checked.layout {
+        let all_read = !checked.faults.iter().any(is_of_names);
+        add_findings(rt.alloc(), image, layout, all_read, &mut lines)?;
+        add_spoiled(rt.alloc(), image, layout, &mut lines)?;
+    }
+    if checked.faults.is_empty() && lines.is_empty() {
+        return send(rt, "sound\n");
+    }
+    let text = if all {
+        all_lines(rt.alloc(), &checked, &lines)?
+    } else {
+        first_lines(rt.alloc(), &checked, lines.len())?
+    };
+    send(rt, text.as_str())?;
+    Ok(Status::Found)
+}
+
+/// Whether the fault is one of a directory's names, so that these are not read.
+fn is_of_names(fault: &MountFault) -> bool {
+    matches!(
+        fault,
+        MountFault::BadDirectory(_) | MountFault::DuplicateName(_)
+    )
+}
+
+/// Adds a line for each finding. Where some directory is not read, a file that no other names may be named there: it is not said to be
+/// named by none.
+fn add_findings(
+    alloc: Global,
+    image: &Image,
+    layout: &Layout,
+    all_read: bool,
+    lines: &mut Vec<String>,
+) -> Result<(), AllocError>
+    requires { IsLayoutOf image.now layout.now }
+{
+    for finding in &findings(alloc, image, layout)? {
+        if all_read || !is_lost(finding) {
+            add(lines, format!(in alloc; "{finding}")?)?;
+        }
+    }
+    Ok(())
+}
+
+/// Whether the finding is a file that no directory names.
+fn is_lost(finding: &Finding) -> bool {
+    matches!(finding, Finding::LostFile(_))
+}
+
+/// Adds a line for each file above 2 whose records are not whole.
+fn add_spoiled(
+    alloc: Global,
+    image: &Image,
+    layout: &Layout,
+    lines: &mut Vec<String>,
+) -> Result<(), AllocError>
+    requires { IsLayoutOf image.now layout.now }
+{
+    for number in 3..=last_number(layout) {
+        if let Some(fault) = spoiled_records(alloc, image, layout, number)? {
+            let sequence = sequence(image, layout, number);
+            add(
+                lines,
+                format!(in alloc; "file {number},{sequence}: {fault}")?,
+            )?;
+        }
+    }
+    Ok(())
+}
+
+/// Adds a line.
+fn add(lines: &mut Vec<String>, line: String) -> Result<(), AllocError> {
+    match lines.push(line) {
+        Ok(()) => Ok(()),
+        Err(_) => Err(AllocError),
+    }
+}
+
+/// A line for each fault, and for each finding.
+fn all_lines(alloc: Global, checked: &Checked, found: &[String]) -> Result<String, AllocError> {
+    let mut text = String::new(alloc);
+    for fault in &checked.faults {
+        writeln!(text, "{fault}")?;
+    }
+    if checked.faults.iter().any(is_of_names) {
+        text.push_str(
+            "files that no directory names are not listed, since a directory is not read\n",
+        )?;
+    }
+    for line in found {
+        writeln!(text, "{}", line.as_str())?;
+    }
+    Ok(text)
+}
+
+/// The fault that a mount answers, and how many findings there are.
+fn first_lines(alloc: Global, checked: &Checked, count: usize) -> Result<String, AllocError> {
+    let mut text = String::new(alloc);
+    if let Some(fault) = checked.faults.first() {
+        writeln!(text, "{fault}")?;
+    }
+    match count {
+        0 => {}
+        1 => text.push_str("1 finding that a mount does not refuse; check --all lists it\n")?,
+        _ => writeln!(
+            text,
+            "{count} findings that a mount does not refuse; check --all lists them"
+        )?,
+    }
+    Ok(text)
+}

@@ -1,0 +1,174 @@
+//! `cmp`: which files of two images differ.
+use crate::commands::{Stop, find_all, send, volume_at};
+use ods_base::FileId;
+use ods_mount::Mounted;
+use ods_shell::{Facts, FormFault, Kind, Status, facts_of, have_same_bytes, push_path};
+use std::alloc::AllocError;
+use std::cmp::Ordering;
+use std::rt::Files;
+
+/// A path of a volume, and the ID of its file.
+#[derive(Drop)]
+struct Known {
+    path: String,
+    file: FileId,
+}
+
+/// `cmp` with the image at the first path.
+pub fn compare_all<'a, R: Files + AllocGlobal + Print + Eprint>(
+    rt: &R,
+    volume: &Mounted,
+    paths: &[&'a str],
+    all: bool,
+) -> Result<Status, Stop<'a>> {
+    let Some(path) = paths.first() else {
+        return Ok(Status::Words);
+    };
+    let other = volume_at(rt, *path)?;
+    let ours = all_known(rt, volume)?;
+    let theirs = all_known(rt, &other)?;
+    let mut text = String::new(rt.alloc());
+    for one in &ours {
+        match place_of(&theirs, one.path.as_str()) {
+            Some(place) => {
+                if let Some(found) = theirs.get(place) {
+                    push_difference(rt, volume, one, &other, found.file, all, &mut text)?;
+                }
+            }
+            None => writeln!(text, "{}: only in the first image", one.path.as_str())?,
+        }
+    }
+    for one in &theirs {
+        if place_of(&ours, one.path.as_str()).is_none() {
+            writeln!(text, "{}: only in the second image", one.path.as_str())?;
+        }
+    }
+    send(rt, text.as_str())?;
+    if text.is_empty() {
+        Ok(Status::Done)
+    } else {
+        Ok(Status::Found)
+    }
+}
+
+/// All paths of a volume, in the order of their bytes.
+fn all_known<'a, R: AllocGlobal>(rt: &R, volume: &Mounted) -> Result<Vec<Known>, Stop<'a>> {
+    let found = find_all(rt, volume)?;
+    let mut all = Vec::new(rt.alloc());
+    for line in &found.lines {
+        let mut path = String::new(rt.alloc());
+        if let Some(directory) = found.directories.get(line.directory) {
+            push_path(&mut path, &directory.names, &line.entry)?;
+        }
+        let file = line.entry.file;
+        if all.push(Known { path, file }).is_err() {
+            return Err(Stop::NoMemory);
+        }
+    }
+    all.sort_unstable_by(compare_paths);
+    Ok(all)
+}
+
+/// How two paths stand to one another.
+fn compare_paths(one: &Known, other: &Known) -> Ordering {
+    one.path.as_str().cmp(other.path.as_str())
+}
+
+/// The place of a path.
+fn place_of(all: &[Known], path: &str) -> Option<usize> {
+    match all.binary_search_by(|known| known.path.as_str().cmp(path)) {
+        Ok(place) => Some(place),
+        Err(_) => None,
+    }
+}
+
+/// Appends a line where two files differ. Directories differ by their names alone, and files 1 and 2 are not looked at.
+fn push_difference<'a, R: AllocGlobal>(
+    rt: &R,
+    volume: &Mounted,
+    one: &Known,
+    other: &Mounted,
+    file: FileId,
+    all: bool,
+    text: &mut String,
+) -> Result<(), Stop<'a>> {
+    let path = one.path.as_str();
+    if one.file.number <= 2 && file.number <= 2 {
+        return Ok(());
+    }
+    let word = match (facts_by_id(volume, one.file), facts_by_id(other, file)) {
+        (None, None) => None,
+        (Some(facts), Some(others)) => difference(rt, volume, &facts, other, &others)?,
+        _ => Some("only one names a file"),
+    };
+    if let Some(word) = word {
+        writeln!(text, "{path}: {word}")?;
+    }
+    if all {
+        if let (Some(facts), Some(others)) = (
+            facts_by_id(volume, one.file),
+            facts_by_id(other, file),
+        ) {
+            push_others(path, &facts, &others, text)?;
+        }
+    }
+    Ok(())
+}
+
+/// Appends a line for each of ID, owner, protection and dates that differ.
+fn push_others(
+    path: &str,
+    facts: &Facts,
+    others: &Facts,
+    text: &mut String,
+) -> Result<(), AllocError> {
+    if facts.file != others.file {
+        writeln!(text, "{path}: IDs differ")?;
+    }
+    if facts.owner != others.owner {
+        writeln!(text, "{path}: owners differ")?;
+    }
+    if facts.protection != others.protection {
+        writeln!(text, "{path}: protection differs")?;
+    }
+    if facts.created() != others.created() || facts.revised() != others.revised() {
+        writeln!(text, "{path}: dates differ")?;
+    }
+    Ok(())
+}
+
+/// What is known of the file with this ID.
+fn facts_by_id(volume: &Mounted, file: FileId) -> Option<Facts> {
+    match facts_of(volume, file.number) {
+        Some(facts) if facts.file == file => Some(facts),
+        _ => None,
+    }
+}
+
+/// What differs between two files.
+fn difference<'a, R: AllocGlobal>(
+    rt: &R,
+    volume: &Mounted,
+    facts: &Facts,
+    other: &Mounted,
+    others: &Facts,
+) -> Result<Option<&'static str>, Stop<'a>> {
+    if facts.kind == Kind::Directory && others.kind == Kind::Directory {
+        return Ok(None);
+    }
+    if facts.attributes != others.attributes {
+        return Ok(Some("attributes differ"));
+    }
+    match have_same_bytes(
+        rt.alloc(),
+        volume,
+        facts.file.number,
+        other,
+        others.file.number,
+    ) {
+        Ok(true) => Ok(None),
+        Ok(false) => Ok(Some("bytes differ")),
+        Err(FormFault::NoMemory) => Err(Stop::NoMemory),
+        Err(_) => Ok(Some("only one has bytes")),
+    }
+}

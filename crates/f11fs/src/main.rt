@@ -1,0 +1,57 @@
+//! `f11fs`: looks at RSX-11 volumes, structure level 1, and gets files out of them. What a path finds and what is printed is settled by
+//! `ods_shell`; here are the words, the files, the streams and the exit status.
+#![tactic(auto)]
+
+mod checking;
+mod commands;
+mod comparing;
+mod getting;
+mod rescuing;
+mod volume;
+mod words;
+
+use commands::run_command;
+use ods_shell::Status;
+use std::process::ExitCode;
+use std::rt::{Env, Files};
+use std::{env, io};
+use words::{WordsFault, parse_words};
+
+fn main(rt: HostRuntime) -> ExitCode {
+    ExitCode::from(run(&rt).code())
+}
+
+/// Does what the words of the command line ask for.
+fn run<R: Env + Files + AllocGlobal + Print + Eprint>(rt: &R) -> Status {
+    let args = match env::args(rt) {
+        Ok(args) => args,
+        Err(error) if error.kind() == io::ErrorKind::InvalidData => {
+            return wrong(rt, "error: a word is no UTF-8 text");
+        }
+        Err(_) => return no_memory(rt),
+    };
+    let Ok(words) = args.skip(1).collect::<Vec<String>>(rt.alloc()) else {
+        return no_memory(rt);
+    };
+    match parse_words(rt.alloc(), words.as_slice()) {
+        Ok(found) => run_command(rt, &found),
+        Err(WordsFault::Help(text)) => match print!(rt; "{text}") {
+            Ok(()) => Status::Done,
+            Err(_) => Status::Host,
+        },
+        Err(WordsFault::Wrong(line)) => wrong(rt, line.as_str()),
+        Err(WordsFault::NoMemory) => no_memory(rt),
+    }
+}
+
+/// One line about wrong words.
+fn wrong(rt: &impl Eprint, line: &str) -> Status {
+    let _ = eprintln!(rt; "{line}");
+    Status::Words
+}
+
+/// A line that memory ran out.
+fn no_memory(rt: &impl Eprint) -> Status {
+    let _ = eprintln!(rt; "f11fs: no memory");
+    Status::Host
+}

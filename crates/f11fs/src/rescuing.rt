@@ -1,0 +1,168 @@
+//! `rescue`: each file whose own chain is whole, copied out of an image that may be refused.
+ghost use Rattle.ods_space.specs.Files.{IsLayoutOf};
+
+use crate::commands::Stop;
+use crate::volume::VolumeFault;
+use ods_base::{FileId, Image, ImageError};
+use ods_check::{Finding, check_all, findings};
+use ods_shell::{Contents, Rescued, Status, open_rescued};
+use ods_space::{Layout, last_number};
+use std::fs;
+use std::fs::OpenOptions;
+use std::io::ErrorKind;
+use std::rt::Files;
+
+/// The number from which on files are no reserved ones.
+const FIRST: u16 = 6;
+
+/// The bytes of a block.
+const BLOCK: usize = 512;
+
+/// `rescue` into the folder of the first word.
+pub fn rescue<'a, R: Files + AllocGlobal + Print + Eprint>(
+    rt: &R,
+    path: &'a str,
+    words: &[&'a str],
+    text: bool,
+) -> Result<Status, Stop<'a>> {
+    let Some(folder) = words.first() else {
+        return Ok(Status::Words);
+    };
+    let (image, rest) = whole_blocks(rt, path)?;
+    let mut status = Status::Done;
+    if rest > 0 {
+        say(
+            rt,
+            format!(in rt.alloc();
+                "{path}: {rest} bytes behind the last whole block are left"
+            )?.as_str(),
+        )?;
+        status = Status::Found;
+    }
+    let checked = check_all(rt.alloc(), &image)?;
+    if let Some(fault) = checked.faults.first() {
+        say(rt, format!(in rt.alloc(); "{path}: {fault}")?.as_str())?;
+    }
+    let Some(layout) = &checked.layout else {
+        return Ok(Status::Found);
+    };
+    make_folder(rt, *folder)?;
+    for number in FIRST..=last_number(layout) {
+        status = status.or(rescue_file(rt, &image, layout, number, *folder, text)?);
+    }
+    for finding in &findings(rt.alloc(), &image, layout)? {
+        if let Finding::BadHeader(_, _) = finding {
+            say(rt, format!(in rt.alloc(); "left: {finding}")?.as_str())?;
+            status = status.or(Status::Found);
+        }
+    }
+    Ok(status)
+}
+
+/// The image of the whole blocks at this path, and how many bytes stand behind them.
+fn whole_blocks<'a, R: Files + AllocGlobal>(
+    rt: &R,
+    path: &'a str,
+) -> Result<(Image, usize), Stop<'a>> {
+    let Ok(bytes) = fs::read(rt, path) else {
+        return Err(Stop::Read(path));
+    };
+    let rest = bytes.len() % BLOCK;
+    let mut whole = &bytes[..bytes.len() - rest];
+    match Image::read_from(rt.alloc(), &mut whole) {
+        Ok(image) => Ok((image, rest)),
+        Err(ImageError::NoMemory) => Err(Stop::NoMemory),
+        Err(ImageError::ReadFailed) => Err(Stop::Read(path)),
+        Err(refusal) => Err(Stop::Image(path, VolumeFault::Image(refusal))),
+    }
+}
+
+/// Makes the folder, or takes one that is there and empty.
+fn make_folder<'a, R: Files + AllocGlobal + Eprint>(
+    rt: &R,
+    folder: &'a str,
+) -> Result<(), Stop<'a>> {
+    match fs::create_dir(rt, folder) {
+        Ok(()) => Ok(()),
+        Err(error) if error.kind() == ErrorKind::AlreadyExists && is_made_anew(rt, folder) => Ok(
+            (),
+        ),
+        Err(_) => {
+            let _ = eprintln!(rt; "f11fs: {folder}: an empty folder, or none, is wanted there");
+            Err(Stop::Said(Status::Host))
+        }
+    }
+}
+
+/// Whether there was an empty folder of this name, in whose place there is a new one. The host takes none away that is not empty.
+fn is_made_anew<R: Files>(rt: &R, folder: &str) -> bool {
+    fs::remove_dir(rt, folder).is_ok() && fs::create_dir(rt, folder).is_ok()
+}
+
+/// Writes a line to standard output.
+fn say<'a, R: Print>(rt: &R, line: &str) -> Result<(), Stop<'a>> {
+    match println!(rt; "{line}") {
+        Ok(()) => Ok(()),
+        Err(_) => Err(Stop::Write),
+    }
+}
+
+/// Copies the file with this number, where its own chain is whole.
+fn rescue_file<'a, R: Files + AllocGlobal + Print + Eprint>(
+    rt: &R,
+    image: &Image,
+    layout: &Layout,
+    number: u16,
+    folder: &str,
+    text: bool,
+) -> Result<Status, Stop<'a>>
+    requires { IsLayoutOf image.now layout.now }
+{
+    match open_rescued(rt.alloc(), image, layout, number, text)? {
+        Rescued::Nothing => Ok(Status::Done),
+        Rescued::Broken(file, fault) => {
+            say(
+                rt,
+                format!(in rt.alloc();
+                    "left: file {},{}: {fault}",
+                    file.number, file.sequence
+                )?.as_str(),
+            )?;
+            Ok(Status::Found)
+        }
+        Rescued::Whole(file, name, contents) => { keep(rt, folder, file, name.as_str(), &contents) }
+    }
+}
+
+/// Writes what is got out of a file into a new file of the folder, under its name, or with its ID behind that where the name is taken.
+fn keep<'a, R: Files + AllocGlobal + Print + Eprint>(
+    rt: &R,
+    folder: &str,
+    file: FileId,
+    name: &str,
+    contents: &Contents<'_>,
+) -> Result<Status, Stop<'a>> {
+    let path = format!(in rt.alloc(); "{folder}/{name}")?;
+    if write_new(rt, path.as_str(), contents) {
+        say(rt, name)?;
+        return Ok(Status::Done);
+    }
+    let other = format!(in rt.alloc(); "{name} #{},{}", file.number, file.sequence)?;
+    let path = format!(in rt.alloc(); "{folder}/{}", other.as_str())?;
+    if write_new(rt, path.as_str(), contents) {
+        say(rt, other.as_str())?;
+        return Ok(Status::Done);
+    }
+    let _ = eprintln!(rt; "f11fs: {}: writing failed", path.as_str());
+    Err(Stop::Said(Status::Host))
+}
+
+/// Whether a new file was made at this path, and all was written into it.
+fn write_new<R: Files>(rt: &R, path: &str, contents: &Contents<'_>) -> bool {
+    let mut options = OpenOptions::new();
+    options.write(true).create_new(true);
+    match options.open(rt, path) {
+        Ok(mut file) => contents.write_to(&mut file).is_ok(),
+        Err(_) => false,
+    }
+}

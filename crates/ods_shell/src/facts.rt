@@ -1,0 +1,154 @@
+//! What is known of a file: the fields of its first header, how many blocks it has, and how many bytes.
+ghost use Rattle.std.specs.Prelude.{◌≡◌, ◌≤◌, MatchOption};
+ghost use Rattle.ods_header.specs.Header.{IsLaidOut};
+ghost use Rattle.ods_files.specs.Body.{are_zeros as all_zeros};
+ghost use Rattle.ods_shell.specs.Facts.{AreFacts, facts_in as facts_shown, kind_by as kind_shown, bytes_by};
+
+use ods_base::{Block, FileId, Uic};
+use ods_header::{
+    attributes, file_sequence, ident, is_directory, owner, protection, system_char, user_char,
+};
+use ods_mount::Mounted;
+use ods_records::{end_of_file, kind_of};
+use ods_space::{block_count, first_header};
+
+/// What a file holds, by its header.
+#[derive(Clone, Copy, Debug, PartialEq, Eq)]
+pub enum Kind {
+    Directory,
+    /// Records of variable length, each a line.
+    Text,
+    Binary,
+}
+
+impl Kind {
+    /// The word for it.
+    pub fn word(&self) -> &'static str {
+        match self {
+            Kind::Directory => "directory",
+            Kind::Text => "text",
+            Kind::Binary => "binary",
+        }
+    }
+}
+
+/// What is known of a file.
+#[derive(Clone, Copy, Debug)]
+pub struct Facts {
+    pub file: FileId,
+    pub kind: Kind,
+    pub blocks: u32,
+    /// The bytes up to the end of file; those of all blocks where the attributes are zeros.
+    pub bytes: u64,
+    pub owner: Uic,
+    pub protection: u16,
+    pub user_char: u8,
+    pub system_char: u8,
+    /// The ident area: name, revision and dates.
+    pub ident: [u8; 46],
+    /// The record attributes, F.RTYP first.
+    pub attributes: [u8; 32],
+}
+
+/// What is known of the file with this number; `None` where it is no file.
+pub fn facts_of(volume: &Mounted, number: u16) -> Option<Facts>
+    ensures { MatchOption result ((facts : Facts) → AreFacts volume.now.image volume.now.layout number facts → ⊥) (AreFacts volume.now.image volume.now.layout number) }
+{
+    let image = volume.image();
+    let layout = volume.layout();
+    let Some(header) = first_header(image, layout, number) else {
+        return None;
+    };
+    let Some(blocks) = block_count(image, layout, number) else {
+        return None;
+    };
+    Some(facts_in(number, header, blocks))
+}
+
+/// What a first header says of the file with this number, which has so many blocks.
+fn facts_in(number: u16, header: &Block, blocks: u32) -> Facts
+    requires { IsLaidOut header.now }
+    ensures { result ≡ facts_shown number header.now blocks }
+{
+    let attributes = attributes(header);
+    Facts {
+        file: FileId {
+            number,
+            sequence: file_sequence(header),
+        },
+        kind: kind_by(number, header),
+        blocks,
+        bytes: size(&attributes, blocks),
+        owner: owner(header),
+        protection: protection(header),
+        user_char: user_char(header),
+        system_char: system_char(header),
+        ident: ident(header),
+        attributes,
+    }
+}
+
+/// What a file holds, by its first header.
+fn kind_by(number: u16, header: &Block) -> Kind
+    requires { IsLaidOut header.now }
+    ensures { result ≡ kind_shown number header.now }
+{
+    if is_directory(number, header) {
+        return Kind::Directory;
+    }
+    match kind_of(&attributes(header)) {
+        Some(_) => Kind::Text,
+        None => Kind::Binary,
+    }
+}
+
+/// How many bytes a file has.
+fn size(attributes: &[u8; 32], blocks: u32) -> u64
+    ensures { result ≡ bytes_by attributes.now blocks }
+{
+    if are_zeros(attributes) {
+        512 * u64::from(blocks)
+    } else {
+        end_of_file(attributes)
+    }
+}
+
+/// Whether nothing was ever written into the attributes.
+fn are_zeros(attributes: &[u8; 32]) -> bool
+    ensures { result ≡ all_zeros attributes.now }
+{
+    attributes.iter().all(|byte| *byte == 0)
+}
+
+impl Facts {
+    /// Whether nothing was ever written into the attributes.
+    pub fn has_no_attributes(&self) -> bool
+        ensures { result ≡ all_zeros self.now.attributes }
+    {
+        are_zeros(&self.attributes)
+    }
+
+    /// The date and time of creation: `01JAN80` and `103000`.
+    pub fn created(&self) -> [u8; 13] {
+        self.date_at(25)
+    }
+
+    /// The date and time of the last revision.
+    pub fn revised(&self) -> [u8; 13] {
+        self.date_at(12)
+    }
+
+    /// The 13 bytes of the ident area from this one on.
+    fn date_at(&self, at: usize) -> [u8; 13]
+        requires { at ≤ 33 }
+    {
+        let mut date = [0; 13];
+        date.copy_from_slice(&self.ident[at..at + 13]);
+        date
+    }
+
+    /// How often the file was revised.
+    pub fn revision(&self) -> u16 {
+        u16::from_le_bytes([self.ident[10], self.ident[11]])
+    }
+}

@@ -1,0 +1,83 @@
+//! What is got out of an image that may be refused: each file whose own chain is whole.
+ghost use Rattle.ods_space.specs.Files.{IsLayoutOf};
+
+use crate::form::Contents;
+use ods_base::{FileId, Image};
+use ods_files::{FileBody, FileFault, Form};
+use ods_header::{file_sequence, ident, is_directory, print_ident};
+use ods_records::{RecordFault, kind_of, records_to_text};
+use ods_space::{ChainFault, Layout, first_header};
+use std::alloc::{AllocError, Global};
+
+/// What is got out of a number.
+#[derive(Drop)]
+pub enum Rescued<'a> {
+    /// It is no file, or a directory.
+    Nothing,
+    /// The chain of this file is not whole.
+    Broken(FileId, ChainFault),
+    /// The file with this name in its header, and its bytes.
+    Whole(FileId, String, Contents<'a>),
+}
+
+/// What is got out of the file with this number: its bytes up to the end of file where that lies in its blocks, else of all blocks; with
+/// `text` the lines of its records where these are whole.
+pub fn open_rescued<'a>(
+    alloc: Global,
+    image: &'a Image,
+    layout: &Layout,
+    number: u16,
+    text: bool,
+) -> Result<Rescued<'a>, AllocError>
+    requires { IsLayoutOf image.now layout.now }
+{
+    let Some(header) = first_header(image, layout, number) else {
+        return Ok(Rescued::Nothing);
+    };
+    if is_directory(number, header) {
+        return Ok(Rescued::Nothing);
+    }
+    let file = FileId {
+        number,
+        sequence: file_sequence(header),
+    };
+    match FileBody::open(alloc, image, layout, number) {
+        Ok(body) => {
+            let name = String::from_str(alloc, print_ident(&ident(header)).as_str())?;
+            Ok(Rescued::Whole(file, name, kept(alloc, body, text)?))
+        }
+        Err(FileFault::NoSuchFile) => Ok(Rescued::Nothing),
+        Err(FileFault::Chain(ChainFault::NoMemory)) => Err(AllocError),
+        Err(FileFault::Chain(fault)) => Ok(Rescued::Broken(file, fault)),
+    }
+}
+
+/// What is kept of a file with this body.
+fn kept<'a>(alloc: Global, body: FileBody<'a>, text: bool) -> Result<Contents<'a>, AllocError> {
+    if text {
+        if let Some(lines) = whole_lines(alloc, &body)? {
+            return Ok(Contents::Lines(lines));
+        }
+    }
+    let form = if body.size(Form::Binary).is_some() {
+        Form::Binary
+    } else {
+        Form::Raw
+    };
+    Ok(Contents::Body(body, form))
+}
+
+/// The lines of a file, where it is one of records, and these are whole.
+fn whole_lines(alloc: Global, body: &FileBody<'_>) -> Result<Option<Vec<u8>>, AllocError> {
+    let Some(kind) = kind_of(&body.attributes()) else {
+        return Ok(None);
+    };
+    let Some(bytes) = body.read(alloc, Form::Binary)? else {
+        return Ok(None);
+    };
+    match records_to_text(alloc, kind, &bytes) {
+        Ok(lines) => Ok(Some(lines)),
+        Err(RecordFault::NoMemory) => Err(AllocError),
+        Err(_) => Ok(None),
+    }
+}

@@ -1,0 +1,45 @@
+//! Files whose records are not whole, on an image that may be refused.
+ghost use Rattle.std.specs.Prelude.{IfOk, IfSome};
+ghost use Rattle.ods_space.specs.Files.{IsLayoutOf};
+ghost use Rattle.ods_shell.specs.Spoiled.{HasSpoiledRecords, IsSpoiled};
+
+use ods_base::Image;
+use ods_files::{FileBody, FileFault, Form};
+use ods_records::{RecordFault, kind_of, records_to_text};
+use ods_space::{ChainFault, Layout};
+use std::alloc::{AllocError, Global};
+
+/// What is wrong with the records of the file with this number; `None` where they are whole, where it is not of records, and where it is no
+/// file with a whole chain and an end within its blocks.
+pub fn spoiled_records(
+    alloc: Global,
+    image: &Image,
+    layout: &Layout,
+    number: u16,
+) -> Result<Option<RecordFault>, AllocError>
+    requires { IsLayoutOf image.now layout.now }
+    ensures { IfOk result (λ found. IfSome found (HasSpoiledRecords image.now layout.now number)) }
+{
+    match FileBody::open(alloc, image, layout, number) {
+        Ok(body) => fault_in(alloc, &body),
+        Err(FileFault::Chain(ChainFault::NoMemory)) => Err(AllocError),
+        Err(_) => Ok(None),
+    }
+}
+
+/// What is wrong with the records of a file with this body.
+fn fault_in(alloc: Global, body: &FileBody<'_>) -> Result<Option<RecordFault>, AllocError>
+    ensures { IfOk result (λ found. IfSome found (IsSpoiled body.now)) }
+{
+    let Some(kind) = kind_of(&body.attributes()) else {
+        return Ok(None);
+    };
+    let Some(bytes) = body.read(alloc, Form::Binary)? else {
+        return Ok(None);
+    };
+    match records_to_text(alloc, kind, &bytes) {
+        Ok(_) => Ok(None),
+        Err(RecordFault::NoMemory) => Err(AllocError),
+        Err(fault) => Ok(Some(fault)),
+    }
+}

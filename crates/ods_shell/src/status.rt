@@ -1,0 +1,42 @@
+//! How a command ends.
+
+/// How a command ends: the exit status of the program.
+#[derive(Clone, Copy, Debug, PartialEq, Eq)]
+pub enum Status {
+    Done,
+    /// The image is refused.
+    Image,
+    /// Wrong words, or a path that is none.
+    Words,
+    /// The host: reading, writing, memory.
+    Host,
+    /// A file that is refused.
+    Refused,
+    /// Nothing there by this path.
+    Nothing,
+    /// `check` or `cmp` found something.
+    Found,
+}
+
+impl Status {
+    /// The number of the status.
+    pub fn code(&self) -> u8 {
+        match self {
+            Status::Done => 0,
+            Status::Image => 1,
+            Status::Words => 2,
+            Status::Host => 3,
+            Status::Refused => 5,
+            Status::Nothing => 6,
+            Status::Found => 7,
+        }
+    }
+
+    /// This one, or where nothing was wrong the other: several faults end with the status of the first.
+    pub fn or(self, later: Status) -> Status {
+        match self {
+            Status::Done => later,
+            _ => self,
+        }
+    }
+}

@@ -1,0 +1,88 @@
+//! The lines of `du`: how many blocks the files of each directory have, each file once, under the first path that names it.
+use crate::finding::{Finding, Line};
+use crate::ls::found_facts;
+use crate::texts::{push_directory, push_path};
+use ods_mount::Mounted;
+use std::alloc::{AllocError, Global};
+
+/// A line that was found first of its file, and how many blocks the file has.
+#[derive(Clone, Copy)]
+struct Use {
+    line: Line,
+    blocks: u32,
+}
+
+/// The lines that name a file first, with its blocks.
+fn uses(alloc: Global, volume: &Mounted, finding: &Finding) -> Result<Vec<Use>, AllocError> {
+    let mut is_seen = vec![in alloc; false; 65_536]?;
+    let mut all = Vec::new(alloc);
+    for line in &finding.lines {
+        let Some(facts) = found_facts(volume, &line.entry) else {
+            continue;
+        };
+        if let Some(seen) = is_seen.get_mut(facts.file.number as usize) {
+            if *seen {
+                continue;
+            }
+            *seen = true;
+        }
+        all.push(Use {
+            line: *line,
+            blocks: facts.blocks,
+        })?;
+    }
+    Ok(all)
+}
+
+/// A line for each directory: the blocks of its files, and its name.
+pub fn usage_lines(
+    alloc: Global,
+    volume: &Mounted,
+    finding: &Finding,
+) -> Result<String, AllocError> {
+    let mut blocks = vec![in alloc; 0; finding.directories.len()]?;
+    for used in &uses(alloc, volume, finding)? {
+        if let Some(sum) = blocks.get_mut(used.line.directory) {
+            *sum = add(*sum, used.blocks);
+        }
+    }
+    let mut text = String::new(alloc);
+    for (place, directory) in finding.directories.iter().enumerate() {
+        let sum = blocks.get(place).copied().unwrap_or(0);
+        write!(text, "{sum:>8}  ")?;
+        push_directory(&mut text, &directory.names)?;
+        text.push('\n')?;
+    }
+    Ok(text)
+}
+
+/// A sum of blocks.
+fn add(sum: u64, blocks: u32) -> u64 {
+    sum.saturating_add(u64::from(blocks))
+}
+
+/// A line for each of the largest files, at most so many: its blocks, and its path.
+pub fn largest_lines(
+    alloc: Global,
+    volume: &Mounted,
+    finding: &Finding,
+    most: usize,
+) -> Result<String, AllocError> {
+    let mut all = uses(alloc, volume, finding)?;
+    all.sort_by_key(falling)?;
+    let mut text = String::new(alloc);
+    for used in all.iter().take(most) {
+        let blocks = used.blocks;
+        write!(text, "{blocks:>8}  ")?;
+        if let Some(directory) = finding.directories.get(used.line.directory) {
+            push_path(&mut text, &directory.names, &used.line.entry)?;
+        }
+        text.push('\n')?;
+    }
+    Ok(text)
+}
+
+/// The key by which the largest stand first.
+fn falling(used: &Use) -> u32 {
+    u32::MAX - used.blocks
+}

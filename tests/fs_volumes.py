@@ -1,0 +1,112 @@
+"""The volumes that tests/fs runs the program on, and what is spoiled in some of them."""
+from fs_image import BLOCK, ZEROS, Volume, attributes, changed, sequenced, variable
+
+TASK = bytes(i % 251 for i in range(700))
+SPOILT = variable(b"good") + b"\x32\x00short"
+LONG = variable(b"a" * 500) + b"\xff\xff" + b"\x77" * 8 + variable(b"second")
+NAMES = "$.TXT;1 %.TXT;1 &.TXT;1 1.TXT;1 A.;32767 A.;1 A.$;1 A.1;1 A.A;1 A$.TXT;1 A1.TXT;1 AA.TXT;1 A_A.TXT;1 Z.TXT;12 Z.TXT;3"
+
+
+def odd_volume():
+    """A volume that is served, with much that is out of the ordinary."""
+    it = Volume()
+    it.directory(4, "000000.DIR;1", ("SUB.DIR;1", 7, 1), ("INDEXF.SYS;1", 1, 1), ("LONG.TXT;1", 21, 1), ("000000.DIR;1", 4, 4), ("BITMAP.SYS;1", 2, 2),
+                 None, ("CORIMG.SYS;1", 5, 5), ("001002.DIR;1", 6, 1), ("BADBLK.SYS;1", 3, 3), ("EMPTY.DIR;1", 20, 1))
+    it.directory(6, "001002.DIR;1", ("TASK.TSK;3", 12, 1), ("NOTES.TXT;1", 9, 1), None, ("SHORT.DAT;1", 14, 1), ("NOTES.TXT;2", 10, 1), ("PLAIN.DAT;1", 13, 1),
+                 ("GONE.TXT;1", 30, 1), ("SPOILT.TXT;1", 15, 1), ("NUMBERED.TXT;1", 11, 1), owner=0o402)
+    it.directory(7, "SUB.DIR;1", ("STALE.TXT;1", 17, 9), ("README.;1", 18, 1), ("NOTES.MAC;1", 22, 1), ("LOW.DIR;1", 8, 1), ("EMPTY.TXT;1", 19, 1))
+    it.directory(8, "LOW.DIR;1", ("LOW.DIR;1", 8, 1), ("DEEP.TXT;1", 16, 1))
+    it.directory(20, "EMPTY.DIR;1")
+    it.file(9, "NOTES.TXT;1", variable(b"first", b"", b"third line"), control=2, size=10)
+    it.file(10, "NOTES.TXT;2", variable(b"new", b"two"), control=2, size=3)
+    it.file(11, "NUMBERED.TXT;1", sequenced((10, b"ten"), (20, b"twenty!")), kind=3, control=2, size=9)
+    it.file(13, "PLAIN.DAT;1", b"plain" * 100, attr=ZEROS, dates=bytes(26))
+    it.file(14, "SHORT.DAT;1", b"x" * 512, attr=attributes(1, 0, 512, 1, 600))
+    it.file(15, "SPOILT.TXT;1", SPOILT)
+    it.file(16, "DEEP.TXT;1", variable(b"even", b"odd", pad=False), control=2, size=4)
+    it.file(17, "LOST.TXT;5", variable(b"lost", b"found"), control=2, size=5)
+    it.file(18, "README.;1", variable(b" page", b"1top"), control=1, size=5)
+    it.file(19, "EMPTY.TXT;1", control=2)
+    it.file(21, "LONG.TXT;1", LONG, control=2, size=500, flags=0o200)
+    it.file(22, "NOTES.MAC;1", b"MACRO\r\n", kind=7)
+    it.file(12, "TASK.TSK;3", TASK, places=[70, 72], kind=1, size=512, owner=0o200 << 8 | 0o40, rights=0xFE80)
+    return it
+
+
+def plain_volume(notes=b"first", numbers=(6, 9), **more):
+    """A sound volume: a directory, two text files and a binary one."""
+    folder, text = numbers
+    it = Volume()
+    it.directory(4, "000000.DIR;1", ("000000.DIR;1", 4, 4), ("001002.DIR;1", folder, 1), ("INDEXF.SYS;1", 1, 1), ("BITMAP.SYS;1", 2, 2),
+                 ("BADBLK.SYS;1", 3, 3), ("CORIMG.SYS;1", 5, 5))
+    it.directory(folder, "001002.DIR;1", ("NOTES.TXT;1", text, 1), ("OTHER.TXT;1", 10, 1), ("TASK.TSK;3", 12, 1))
+    it.file(text, "NOTES.TXT;1", variable(notes), **{"control": 2, "size": 5, **more})
+    it.file(10, "OTHER.TXT;1", variable(b"other"), control=2, size=5)
+    it.file(12, "TASK.TSK;3", TASK, kind=1, size=512)
+    return it
+
+
+def images():
+    """The images by name. In the plain ones NOTES.TXT is file 9 in block 47, and header n stands in block n + 2."""
+    odd, plain = odd_volume().bytes(), plain_volume().bytes()
+    first = plain[BLOCK * 46 + 6 : BLOCK * 46 + 16]  # the name of the first entry of [1,2]
+    return {
+        "odd": odd,
+        "plain": plain,
+        "same": plain_volume(numbers=(7, 20), owner=0o1003, rights=0, dates=b"03MAR90000000" * 2).bytes(),
+        "other": plain_volume(b"fIrst").bytes(),
+        "attributes": plain_volume(size=80).bytes(),
+        "cut": plain[:-7],
+        "empty": b"",
+        "homeless": changed(plain, 1, 0, b"\2", has_sum=False),
+        "free": plain_volume().bytes(free=[47]),
+        "two": changed(plain_volume().bytes(free=[47]), 46, 16 + 6, first, has_sum=False),
+        "twin": changed(plain, 46, 16 + 6, first, has_sum=False),
+        "format": changed(plain, 2 + 9, 98, b"\2"),
+        "used": plain_volume().bytes(used=[65, 66]),
+        "headless": changed(plain, 2, 25 // 8, bytes([plain[2 * BLOCK + 25 // 8] | 1]), has_sum=False),
+    }
+
+
+def names_volume():
+    """A volume whose names stand in another order than they are listed, in two blocks."""
+    it = Volume()
+    it.directory(4, "000000.DIR;1", *((text, 30, 1) for text in reversed(NAMES.split())), ("000000.DIR;1", 4, 4), *[None] * 20, ("MIDDLE.TXT;1", 30, 1), places=it.take(2))
+    return it
+
+
+def ring_volume():
+    """A volume with directories that name one another, and with names of type DIR that are none."""
+    it = Volume()
+    it.directory(4, "000000.DIR;1", ("B.DIR;1", 7, 1), ("A.DIR;1", 6, 1), ("FAKE.DIR;1", 9, 1), ("HIDDEN.DAT;1", 7, 1))
+    it.directory(6, "A.DIR;1", ("B.DIR;1", 7, 1), ("ROOT.DIR;1", 4, 4), ("X.TXT;1", 9, 1))
+    it.directory(7, "B.DIR;1", ("A.DIR;1", 6, 1), ("Y.TXT;1", 9, 1))
+    it.file(9, "X.TXT;1", variable(b"x"))
+    return it
+
+
+def more_images():
+    """Images for cmp and rescue."""
+    few, stale, same, plain = Volume(), plain_volume(), Volume(), plain_volume().bytes()
+    few.directory(4, "000000.DIR;1", ("000000.DIR;1", 4, 4), ("001002.DIR;1", 6, 1), ("INDEXF.SYS;1", 1, 1), ("BITMAP.SYS;1", 2, 2), ("BADBLK.SYS;1", 3, 3), ("CORIMG.SYS;1", 5, 5), ("MORE.TXT;1", 10, 1))
+    few.directory(6, "001002.DIR;1", ("NOTES.TXT;1", 9, 1), ("TASK.TSK;3", 12, 1))
+    few.file(9, "NOTES.TXT;1", variable(b"first"), control=2, size=5)
+    few.file(10, "MORE.TXT;1", variable(b"more"), control=2, size=4)
+    few.file(12, "TASK.TSK;3", TASK, kind=1, size=512)
+    stale = changed(plain, 46, 16 + 2, b"\7", has_sum=False)
+    same.directory(4, "000000.DIR;1")
+    same.file(9, "SAME.TXT;1", b"one", kind=1)
+    same.file(10, "SAME.TXT;1", b"two", kind=1)
+    later = plain_volume()
+    later.file(26, "LATER.TXT;1")
+    doubly = plain_volume()
+    doubly.file(10, "OTHER.TXT;1", variable(b"other"), places=[47])
+    doubly.is_held[48] = False
+    long = plain_volume(variable(b"x" * 600)[2:], kind=1)  # its second block stands in another header
+    long.file(9, "NOTES.TXT;1", b"1" * 512, places=[70], attr=attributes(1, 0, 512, 2, 700))
+    long.file(27, "NOTES.TXT;1", b"2" * 512, places=[60])
+    long.is_held[47] = long.is_held[48] = False
+    long = changed(changed(long.bytes(), 2 + 9, 94, b"\x1b\0\1\0"), 2 + 27, 92, b"\1")
+    bits = [changed(plain, 2, 0, bytes([plain[2 * BLOCK] & ~(1 << bit)]), has_sum=False) for bit in (0, 1, 3)]
+    rest = {"noindex": bits[0], "nomap": bits[1], "nomaster": bits[2], "badentry": changed(plain, 46, 14, b"\0", has_sum=False), "outside": changed(plain, 2 + 9, 104, b"\xc8\0")}
+    return {**rest, "later": changed(later.bytes(), 2 + 26, 92, b"\1"), "doubly": doubly.bytes(), "long": long, "ring": ring_volume().bytes(), "names": names_volume().bytes(), "few": few.bytes(), "stale": stale, "twonames": same.bytes(), "broken": changed(plain, 2 + 9, 94, b"\x1e\0\1\0")}
