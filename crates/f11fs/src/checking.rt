@@ -6,7 +6,7 @@ use crate::volume::{VolumeFault, open_image};
 use ods_base::Image;
 use ods_check::{Checked, Finding, check_all, findings};
 use ods_mount::MountFault;
-use ods_shell::{Status, spoiled_records};
+use ods_shell::{Status, number_object, spoiled_records, text_object};
 use ods_space::{Layout, last_number, sequence};
 use std::alloc::{AllocError, Global};
 use std::rt::Files;
@@ -16,13 +16,19 @@ pub fn check<'a, R: Files + AllocGlobal + Print>(
     rt: &R,
     path: &'a str,
     all: bool,
+    json: bool,
 ) -> Result<Status, Stop<'a>> {
     match open_image(rt, path) {
-        Ok(image) => check_image(rt, &image, all),
+        Ok(image) => check_image(rt, &image, all, json),
         Err(VolumeFault::Read) => Err(Stop::Read(path)),
         Err(VolumeFault::NoMemory) => Err(Stop::NoMemory),
         Err(fault) => {
-            let text = format!(in rt.alloc(); "{fault}\n")?;
+            let mut text = format!(in rt.alloc(); "{fault}")?;
+            if json {
+                text = text_object(rt.alloc(), "fault", text.as_str())?;
+            } else {
+                text.push('\n')?;
+            }
             send(rt, text.as_str())?;
             Ok(Status::Found)
         }
@@ -34,6 +40,7 @@ fn check_image<'a, R: AllocGlobal + Print>(
     rt: &R,
     image: &Image,
     all: bool,
+    json: bool,
 ) -> Result<Status, Stop<'a>> {
     let checked = check_all(rt.alloc(), image)?;
     let mut lines = Vec::new(rt.alloc());
@@ -43,9 +50,18 @@ fn check_image<'a, R: AllocGlobal + Print>(
         add_spoiled(rt.alloc(), image, layout, &mut lines)?;
     }
     if checked.faults.is_empty() && lines.is_empty() {
-        return send(rt, "sound\n");
+        return send(
+            rt,
+            if json {
+                "{\"answer\":\"sound\"}\n"
+            } else {
+                "sound\n"
+            },
+        );
     }
-    let text = if all {
+    let text = if json {
+        objects(rt.alloc(), &checked, &lines, all)?
+    } else if all {
         all_lines(rt.alloc(), &checked, &lines)?
     } else {
         first_lines(rt.alloc(), &checked, lines.len())?
@@ -128,6 +144,29 @@ fn all_lines(alloc: Global, checked: &Checked, found: &[String]) -> Result<Strin
     }
     for line in found {
         writeln!(text, "{}", line.as_str())?;
+    }
+    Ok(text)
+}
+
+/// An object for each fault, and for each finding; without `all` the fault that a mount answers, and how many findings there are.
+fn objects(
+    alloc: Global,
+    checked: &Checked,
+    found: &[String],
+    all: bool,
+) -> Result<String, AllocError> {
+    let mut text = String::new(alloc);
+    let most = if all { checked.faults.len() } else { 1 };
+    for fault in checked.faults.iter().take(most) {
+        let line = format!(in alloc; "{fault}")?;
+        text.push_str(text_object(alloc, "fault", line.as_str())?.as_str())?;
+    }
+    if !all {
+        text.push_str(number_object(alloc, "findings", found.len() as u64)?.as_str())?;
+        return Ok(text);
+    }
+    for line in found {
+        text.push_str(text_object(alloc, "finding", line.as_str())?.as_str())?;
     }
     Ok(text)
 }

@@ -11,8 +11,8 @@ use ods_paths::{Folder, Path, Place, Versions, parse_path};
 use ods_request::{Right, permits};
 use ods_shell::{
     Columns, Facts, Finding, FormFault, PathFault, Status, Target, Wanted, find_files, find_lines,
-    largest_lines, lost_lines, ls_lines, open_contents, space_lines, space_of, stat_lines, targets,
-    unreached_lines, usage_lines,
+    largest_lines, lost_lines, ls_lines, ls_objects, open_contents, space_lines, space_object,
+    space_of, stat_lines, stat_object, targets, unreached_lines, usage_lines,
 };
 use ods_space::chain;
 use std::alloc::AllocError;
@@ -44,7 +44,7 @@ impl<'a> From<AllocError> for Stop<'a> {
 /// Does what the words ask for.
 pub fn run_command<R: Files + AllocGlobal + Print + Eprint>(rt: &R, words: &Words<'_>) -> Status {
     let done = match words.action {
-        Action::Check { all } => check(rt, words.image, all),
+        Action::Check { all } => check(rt, words.image, all, words.json),
         Action::Rescue { text } => rescue(rt, words.image, &words.paths, text),
         _ => on_volume(rt, words),
     };
@@ -107,17 +107,22 @@ fn obey<'a, R: Files + AllocGlobal + Print + Eprint>(
     words: &Words<'a>,
 ) -> Result<Status, Stop<'a>> {
     match words.action {
-        Action::Ls { columns, below } => ls(rt, volume, &words.paths, columns, below),
-        Action::Find { lost } => find(rt, volume, &words.paths, lost),
-        Action::Stat => stat(rt, volume, &words.paths),
+        Action::Ls { columns, below } => ls(rt, volume, words, columns, below),
+        Action::Find { lost } => find(rt, volume, words, lost),
+        Action::Stat => stat(rt, volume, words),
         Action::Cat(wanted) => cat(rt, volume, &words.paths, wanted, words.user),
         Action::Get { wanted, target } => { get(rt, volume, words, target, wanted) }
         Action::Df => {
-            let text = space_lines(rt.alloc(), &space_of(volume))?;
+            let space = space_of(volume);
+            let text = if words.json {
+                space_object(rt.alloc(), &space)?
+            } else {
+                space_lines(rt.alloc(), &space)?
+            };
             send(rt, text.as_str())
         }
-        Action::Du { top } => du(rt, volume, top),
-        Action::Cmp { all } => compare_all(rt, volume, &words.paths, all),
+        Action::Du { top } => du(rt, volume, top, words.json),
+        Action::Cmp { all } => compare_all(rt, volume, words, all),
         Action::Check { .. } | Action::Rescue { .. } => Ok(Status::Done),
     }
 }
@@ -134,15 +139,15 @@ pub fn send<'a, R: Print>(rt: &R, text: &str) -> Result<Status, Stop<'a>> {
 fn ls<'a, R: AllocGlobal + Print>(
     rt: &R,
     volume: &Mounted,
-    paths: &[&'a str],
+    words: &Words<'a>,
     columns: Columns,
     below: bool,
 ) -> Result<Status, Stop<'a>> {
-    if paths.is_empty() {
-        return ls_path(rt, volume, "/", columns, below);
+    if words.paths.is_empty() {
+        return ls_path(rt, volume, "/", columns, below, words.json);
     }
-    for path in paths {
-        ls_path(rt, volume, *path, columns, below)?;
+    for path in &words.paths {
+        ls_path(rt, volume, *path, columns, below, words.json)?;
     }
     Ok(Status::Done)
 }
@@ -154,6 +159,7 @@ fn ls_path<'a, R: AllocGlobal + Print>(
     path: &'a str,
     columns: Columns,
     below: bool,
+    json: bool,
 ) -> Result<Status, Stop<'a>> {
     match parse_path(path.as_bytes()) {
         Ok(Path::Within(folder, files)) => {
@@ -166,7 +172,11 @@ fn ls_path<'a, R: AllocGlobal + Print>(
             let mut columns = columns;
             columns.headings = columns.headings || found.directories.len() > 1;
             columns.empty = files.is_none();
-            let text = ls_lines(rt.alloc(), volume, &found, columns)?;
+            let text = if json {
+                ls_objects(rt.alloc(), volume, &found)?
+            } else {
+                ls_lines(rt.alloc(), volume, &found, columns)?
+            };
             send(rt, text.as_str())
         }
         Ok(Path::File(_)) => Err(Stop::Path(path, PathFault::IsId)),
@@ -178,23 +188,39 @@ fn ls_path<'a, R: AllocGlobal + Print>(
 fn find<'a, R: AllocGlobal + Print>(
     rt: &R,
     volume: &Mounted,
-    paths: &[&'a str],
+    words: &Words<'a>,
     lost: bool,
 ) -> Result<Status, Stop<'a>> {
     if lost {
-        return find_lost(rt, volume);
-    }
-    if paths.is_empty() {
-        let all = find_all(rt, volume)?;
-        send(rt, find_lines(rt.alloc(), &all)?.as_str())?;
-        let text = unreached_lines(rt.alloc(), volume, &all)?;
+        let text = lost_lines(rt.alloc(), volume, words.json)?;
         return send(rt, text.as_str());
     }
-    for path in paths {
+    if words.paths.is_empty() {
+        let all = find_all(rt, volume)?;
+        send_found(rt, volume, &all, words.json)?;
+        let text = unreached_lines(rt.alloc(), volume, &all, words.json)?;
+        return send(rt, text.as_str());
+    }
+    for path in &words.paths {
         let found = found_by(rt, volume, *path)?;
-        send(rt, find_lines(rt.alloc(), &found)?.as_str())?;
+        send_found(rt, volume, &found, words.json)?;
     }
     Ok(Status::Done)
+}
+
+/// Writes what was found: a line, or an object, for each path.
+fn send_found<'a, R: AllocGlobal + Print>(
+    rt: &R,
+    volume: &Mounted,
+    found: &Finding,
+    json: bool,
+) -> Result<Status, Stop<'a>> {
+    let text = if json {
+        ls_objects(rt.alloc(), volume, found)?
+    } else {
+        find_lines(rt.alloc(), found)?
+    };
+    send(rt, text.as_str())
 }
 
 /// All that a walk from the master directory reaches.
@@ -204,12 +230,6 @@ pub fn find_all<'a, R: AllocGlobal>(rt: &R, volume: &Mounted) -> Result<Finding,
         below: true,
     };
     Ok(find_files(rt.alloc(), volume, &everywhere, &None, Versions::Every)?)
-}
-
-/// `find --lost`: the files that no name in any directory names.
-fn find_lost<'a, R: AllocGlobal + Print>(rt: &R, volume: &Mounted) -> Result<Status, Stop<'a>> {
-    let text = lost_lines(rt.alloc(), volume)?;
-    send(rt, text.as_str())
 }
 
 /// What a path finds, with all versions where it says none; a name or a pattern alone is looked for in all directories.
@@ -246,11 +266,12 @@ fn du<'a, R: AllocGlobal + Print>(
     rt: &R,
     volume: &Mounted,
     top: Option<u32>,
+    json: bool,
 ) -> Result<Status, Stop<'a>> {
     let all = find_all(rt, volume)?;
     let text = match top {
-        Some(most) => largest_lines(rt.alloc(), volume, &all, most as usize)?,
-        None => usage_lines(rt.alloc(), volume, &all)?,
+        Some(most) => largest_lines(rt.alloc(), volume, &all, most as usize, json)?,
+        None => usage_lines(rt.alloc(), volume, &all, json)?,
     };
     send(rt, text.as_str())
 }
@@ -272,11 +293,11 @@ pub fn named<'a, R: AllocGlobal>(
 fn stat<'a, R: AllocGlobal + Print + Eprint>(
     rt: &R,
     volume: &Mounted,
-    paths: &[&'a str],
+    words: &Words<'a>,
 ) -> Result<Status, Stop<'a>> {
-    for path in paths {
+    for path in &words.paths {
         for target in &named(rt, volume, *path)? {
-            stat_file(rt, volume, target)?;
+            stat_file(rt, volume, target, words.json)?;
         }
     }
     Ok(Status::Done)
@@ -287,12 +308,17 @@ fn stat_file<'a, R: AllocGlobal + Print + Eprint>(
     rt: &R,
     volume: &Mounted,
     target: &Target,
+    json: bool,
 ) -> Result<Status, Stop<'a>> {
     let path = target.path.as_str();
     let Some(facts) = &target.facts else {
         let _ = eprintln!(rt; "f11fs: {path}: no such file");
         return Err(Stop::Said(Status::Refused));
     };
+    if json {
+        let text = stat_object(rt.alloc(), path, facts)?;
+        return send(rt, text.as_str());
+    }
     let Ok(lbns) = chain(
         rt.alloc(),
         volume.image(),

@@ -1,9 +1,12 @@
 //! `cmp`: which files of two images differ.
 use crate::commands::{Stop, find_all, send, volume_at};
+use crate::words::Words;
 use ods_base::FileId;
 use ods_mount::Mounted;
-use ods_shell::{Facts, FormFault, Kind, Status, facts_of, have_same_bytes, push_path};
-use std::alloc::AllocError;
+use ods_shell::{
+    Facts, FormFault, Kind, Status, facts_of, have_same_bytes, pair_object, push_path,
+};
+use std::alloc::{AllocError, Global};
 use std::cmp::Ordering;
 use std::rt::Files;
 
@@ -18,10 +21,10 @@ struct Known {
 pub fn compare_all<'a, R: Files + AllocGlobal + Print + Eprint>(
     rt: &R,
     volume: &Mounted,
-    paths: &[&'a str],
+    words: &Words<'a>,
     all: bool,
 ) -> Result<Status, Stop<'a>> {
-    let Some(path) = paths.first() else {
+    let Some(path) = words.paths.first() else {
         return Ok(Status::Words);
     };
     let other = volume_at(rt, *path)?;
@@ -43,12 +46,25 @@ pub fn compare_all<'a, R: Files + AllocGlobal + Print + Eprint>(
             writeln!(text, "{}: only in the second image", one.path.as_str())?;
         }
     }
-    send(rt, text.as_str())?;
     if text.is_empty() {
-        Ok(Status::Done)
-    } else {
-        Ok(Status::Found)
+        return Ok(Status::Done);
     }
+    if words.json {
+        text = objects(rt.alloc(), text.as_str())?;
+    }
+    send(rt, text.as_str())?;
+    Ok(Status::Found)
+}
+
+/// The lines as objects: the path, and what differs.
+fn objects(alloc: Global, text: &str) -> Result<String, AllocError> {
+    let mut objects = String::new(alloc);
+    for line in text.lines() {
+        if let Some((path, word)) = line.split_once(": ") {
+            objects.push_str(pair_object(alloc, "path", path, "differs", word)?.as_str())?;
+        }
+    }
+    Ok(objects)
 }
 
 /// All paths of a volume, in the order of their bytes.

@@ -16,6 +16,8 @@ pub struct Words<'a> {
     pub paths: Vec<&'a str>,
     /// A host file may be replaced.
     pub force: bool,
+    /// What is printed is JSON, an object a line.
+    pub json: bool,
     /// Who reads: with none every file is read, as the keeper of the image may.
     pub user: Option<Uic>,
 }
@@ -109,6 +111,7 @@ fn found_words<'a>(alloc: Global, matches: &ArgMatches<'a>) -> Result<Words<'a>,
         action,
         paths: texts(alloc, own, "path")?,
         force: own.get_flag("force"),
+        json: own.get_flag("json"),
     })
 }
 
@@ -211,6 +214,22 @@ fn matches<'a, S: AsStr>(alloc: Global, words: &'a [S]) -> Result<ArgMatches<'a>
         .subcommand_required(true)
         .disable_help_subcommand(true)
         .arg(image(alloc))?
+        .arg(user(alloc).global(true))?
+        .arg(
+            flag(alloc, "force", "Files of the host may be replaced")
+                .long("force")
+                .global(true),
+        )?
+        .arg(
+            flag(alloc, "json", "Print JSON, an object a line")
+                .long("json")
+                .global(true),
+        )?
+        .arg(
+            flag(alloc, "quiet", "Show no progress")
+                .short('q')
+                .global(true),
+        )?
         .subcommand(ls(alloc)?)?
         .subcommand(find(alloc)?)?
         .subcommand(stat(alloc)?)?
@@ -233,6 +252,13 @@ fn image<'a>(alloc: Global) -> Arg<'a> {
         .value_name("IMAGE")
         .required(true)
         .help("The image of a volume")
+}
+
+fn user<'a>(alloc: Global) -> Arg<'a> {
+    Arg::new(alloc, "user")
+        .short('u')
+        .value_name("USER")
+        .help("Read what this user may, as [1,2]; with none, everything")
 }
 
 fn flag<'a>(alloc: Global, id: &'a str, help: &'a str) -> Arg<'a> {
@@ -281,7 +307,7 @@ fn cat<'a>(alloc: Global) -> Result<Command<'a>, AllocError> {
     with_forms(
         alloc,
         Command::new(alloc, "cat")
-            .override_usage("f11fs IMAGE cat [-t|-b|--raw] [-u USER] PATH..")
+            .override_usage("f11fs IMAGE cat [OPTIONS] [-t|-b|--raw] PATH..")
             .about("Writes files to standard output"),
     )?
     .arg(paths(alloc, true))
@@ -295,11 +321,10 @@ fn get<'a>(alloc: Global) -> Result<Command<'a>, AllocError> {
     with_forms(
         alloc,
         Command::new(alloc, "get")
-            .override_usage("f11fs IMAGE get [-t|-b|--raw] [-u USER] [--force] PATH.. [TARGET]")
+            .override_usage("f11fs IMAGE get [OPTIONS] [-t|-b|--raw] PATH.. [TARGET]")
             .about("Writes files to the host"),
     )?
     .arg(target)?
-    .arg(flag(alloc, "force", "Files of the host may be replaced").long("force"))?
     .arg(paths(alloc, true))
 }
 
@@ -368,18 +393,13 @@ fn with_word<'a>(
 
 /// The command with the words for a form.
 fn with_forms<'a>(alloc: Global, command: Command<'a>) -> Result<Command<'a>, AllocError> {
-    let user = Arg::new(alloc, "user")
-        .short('u')
-        .value_name("USER")
-        .help("Read what this user may, as [1,2]; with none, everything");
     let text = flag(alloc, "text", "Records as lines").short('t');
     let binary = flag(alloc, "binary", "The bytes up to the end of file").short('b');
     let raw = flag(alloc, "raw", "The bytes of all blocks").long("raw");
     command
         .arg(text.conflicts_with("binary")?.conflicts_with("raw")?)?
         .arg(binary.conflicts_with("raw")?)?
-        .arg(raw)?
-        .arg(user)
+        .arg(raw)
 }
 
 /// What `--version` prints behind the name.

@@ -1,6 +1,7 @@
 //! The lines of `find`: every file with its path, or `-` where no walk over the directories reaches it.
 use crate::finding::Finding;
 use crate::folders::lines_of;
+use crate::json::text_object;
 use crate::texts::{push_id, push_path};
 use ods_base::{FileId, Listed};
 use ods_header::file_sequence;
@@ -27,23 +28,24 @@ pub fn unreached_lines(
     alloc: Global,
     volume: &Mounted,
     finding: &Finding,
+    json: bool,
 ) -> Result<String, AllocError> {
     let mut is_named = vec![in alloc; false; 65_536]?;
     for line in &finding.lines {
         note(volume, &line.entry, &mut is_named);
     }
-    unnamed_lines(alloc, volume, &is_named)
+    unnamed_lines(alloc, volume, &is_named, json)
 }
 
 /// A line for each file that no line of any directory names, whether a walk reaches that or not.
-pub fn lost_lines(alloc: Global, volume: &Mounted) -> Result<String, AllocError> {
+pub fn lost_lines(alloc: Global, volume: &Mounted, json: bool) -> Result<String, AllocError> {
     let mut is_named = vec![in alloc; false; 65_536]?;
     for number in 1..=last_number(volume.layout()) {
         for entry in &lines_of(alloc, volume, number)? {
             note(volume, entry, &mut is_named);
         }
     }
-    unnamed_lines(alloc, volume, &is_named)
+    unnamed_lines(alloc, volume, &is_named, json)
 }
 
 /// Notes the number of the file that an entry names, where it names one.
@@ -57,7 +59,12 @@ fn note(volume: &Mounted, entry: &Listed, is_named: &mut [bool]) {
 }
 
 /// A line for each file whose number is not noted.
-fn unnamed_lines(alloc: Global, volume: &Mounted, is_named: &[bool]) -> Result<String, AllocError> {
+fn unnamed_lines(
+    alloc: Global,
+    volume: &Mounted,
+    is_named: &[bool],
+    json: bool,
+) -> Result<String, AllocError> {
     let mut text = String::new(alloc);
     for number in 1..=last_number(volume.layout()) {
         if is_named.get(number as usize) == Some(&true) {
@@ -65,7 +72,12 @@ fn unnamed_lines(alloc: Global, volume: &Mounted, is_named: &[bool]) -> Result<S
         }
         if let Some(header) = first_header(volume.image(), volume.layout(), number) {
             let sequence = file_sequence(header);
-            push_unnamed(&mut text, FileId { number, sequence })?;
+            if json {
+                let id = format!(in alloc; "{number},{sequence}")?;
+                text.push_str(text_object(alloc, "id", id.as_str())?.as_str())?;
+            } else {
+                push_unnamed(&mut text, FileId { number, sequence })?;
+            }
         }
     }
     Ok(text)

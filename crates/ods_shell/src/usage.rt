@@ -1,5 +1,6 @@
 //! The lines of `du`: how many blocks the files of each directory have, each file once, under the first path that names it.
 use crate::finding::{Finding, Line};
+use crate::json::push_blocks;
 use crate::ls::found_facts;
 use crate::texts::{push_directory, push_path};
 use ods_mount::Mounted;
@@ -39,6 +40,7 @@ pub fn usage_lines(
     alloc: Global,
     volume: &Mounted,
     finding: &Finding,
+    json: bool,
 ) -> Result<String, AllocError> {
     let mut blocks = vec![in alloc; 0; finding.directories.len()]?;
     for used in &uses(alloc, volume, finding)? {
@@ -49,11 +51,27 @@ pub fn usage_lines(
     let mut text = String::new(alloc);
     for (place, directory) in finding.directories.iter().enumerate() {
         let sum = blocks.get(place).copied().unwrap_or(0);
-        write!(text, "{sum:>8}  ")?;
-        push_directory(&mut text, &directory.names)?;
-        text.push('\n')?;
+        let mut name = String::new(alloc);
+        push_directory(&mut name, &directory.names)?;
+        push_use(alloc, &mut text, "directory", name.as_str(), sum, json)?;
     }
     Ok(text)
+}
+
+/// Appends how many blocks something has: a line, or an object.
+fn push_use(
+    alloc: Global,
+    text: &mut String,
+    what: &str,
+    name: &str,
+    blocks: u64,
+    json: bool,
+) -> Result<(), AllocError> {
+    if json {
+        push_blocks(alloc, text, what, name, blocks)
+    } else {
+        writeln!(text, "{blocks:>8}  {name}")
+    }
 }
 
 /// A sum of blocks.
@@ -67,17 +85,24 @@ pub fn largest_lines(
     volume: &Mounted,
     finding: &Finding,
     most: usize,
+    json: bool,
 ) -> Result<String, AllocError> {
     let mut all = uses(alloc, volume, finding)?;
     all.sort_by_key(falling)?;
     let mut text = String::new(alloc);
     for used in all.iter().take(most) {
-        let blocks = used.blocks;
-        write!(text, "{blocks:>8}  ")?;
+        let mut path = String::new(alloc);
         if let Some(directory) = finding.directories.get(used.line.directory) {
-            push_path(&mut text, &directory.names, &used.line.entry)?;
+            push_path(&mut path, &directory.names, &used.line.entry)?;
         }
-        text.push('\n')?;
+        push_use(
+            alloc,
+            &mut text,
+            "path",
+            path.as_str(),
+            u64::from(used.blocks),
+            json,
+        )?;
     }
     Ok(text)
 }
