@@ -1,5 +1,5 @@
 -- The entries of a directory are those of its blocks, 32 in each.
-use Rattle.std.proofs.Common.{◌≡◌, ℕ, ◌+◌, ◌*◌, ◌/◌, ◌%◌, ◌<◌, ◌≤◌, ◌-◌, min, zero, suc, Bool, true, false, cond, List, [], ◌∷◌, ◌++◌, fold, refl, sym, ap, ◌∙◌, arith}
+use Rattle.std.proofs.Common.{◌≡◌, ℕ, ◌+◌, ◌*◌, ◌/◌, ◌%◌, ◌<◌, ◌≤◌, ◌-◌, min, zero, suc, Bool, true, false, cond, List, [], ◌∷◌, ◌++◌, length, drop, fold, refl, sym, ap, ◌∙◌, arith}
 use Rattle.std.specs.List.{range_with_len}
 use Rattle.std.proofs.lemmas.List.{append-nil}
 use Rattle.std.proofs.lemmas.List.FromFn.{filter_of_map_range_with_len_more}
@@ -81,3 +81,11 @@ used_from_used entry n used = used_from_more entry n ∙ ap (λ b. used_from ent
 
 pub used_from_unused : (entry : ℕ → Entry) (n : ℕ) → is_used (entry n) ≡ false → used_from entry 0 (n + 1) ≡ used_from entry 0 n
 used_from_unused entry n unused = used_from_more entry n ∙ ap (λ b. used_from entry 0 n ++ cond b (entry n ∷ []) []) unused ∙ append-nil (used_from entry 0 n)
+
+-- the blocks from i on begin with block i
+pub blocks_from : (blocks : List (List ℕ)) (i : ℕ) → i < length blocks → drop i blocks ≡ block_at blocks i ∷ drop (i + 1) blocks
+blocks_from [] i within = absurd (omega arith)
+blocks_from (b ∷ blocks) zero within = refl
+blocks_from (b ∷ blocks) (suc i) within =
+    let next : suc (i + 1) ≡ suc i + 1 = omega arith in
+    blocks_from blocks i (omega arith) ∙ ap (λ j. block_at blocks i ∷ drop j (b ∷ blocks)) next

@@ -30,12 +30,13 @@ pub fn scan<B: DirBlocks, G: Pass>(blocks: &B, mark: u64, into: &mut G)
     ensures after { into.new ≡ fold (λ s k. G.after s k (entry_at (B.blocks blocks.now) k)) into.old (range_with_len 0 (mark / 16)) }
     ensures count { length (B.blocks blocks.now) < 2 ^ 32 }
 {
+    let mut cursor = blocks.cursor();
     for i in 0..blocks.count() {
         let count = entries_in(mark, i);
         if count == 0 || into.is_done() {
             return;
         }
-        scan_block(blocks.block(i), 32 * u64::from(i), count, into);
+        scan_block(blocks.next(&mut cursor), 32 * u64::from(i), count, into);
     }
 }
 

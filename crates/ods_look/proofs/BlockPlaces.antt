@@ -6,7 +6,7 @@ use Rattle.std.proofs.lemmas.Option.{slice_get-map, get_or_from_slice_get, slice
 use Rattle.std.proofs.lemmas.List.{length-map}
 use Rattle.ods_base.specs.Image.{IsImage, block_at}
 use Rattle.ods_space.specs.Layout.{VolumeLayout}
-use Rattle.ods_space.specs.Chain.{index_for, named_by}
+use Rattle.ods_space.specs.Chain.{index_for, headers_of, named_by}
 use Rattle.ods_space.specs.Files.{IsFile, HasBlocks, Holds}
 use Rattle.ods_space.proofs.Sizes.{chain_size}
 use Rattle.ods_space.proofs.Wholes.{chain_seen}
@@ -15,6 +15,11 @@ use Rattle.ods_mount.specs.Sound.{IsSoundBy}
 use Rattle.ods_space.proofs.Chains.{same_chain}
 use Rattle.ods_space.specs.Chain.{chain_blocks}
 use Rattle.ods_look.specs.Blocks.{blocks_in_order}
+
+-- what the headers of a file name is its blocks in order
+pub named_in_order : (I : List (List ℕ)) (L : VolumeLayout) (n : ℕ) → named_by (headers_of I L n) ≡ blocks_in_order I L n
+unfolding blocks_in_order
+named_in_order I L n = refl
 
 module _ {I : List (List ℕ)} {L : VolumeLayout} {n : ℕ} where
   pub blocks_are_one : {xs ys : List ℕ} → HasBlocks I L n xs → HasBlocks I L n ys → xs ≡ ys

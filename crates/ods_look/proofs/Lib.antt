@@ -5,3 +5,4 @@ pub mod BlockPlaces
 pub mod BlocksRead
 pub mod OpenDirectories
 pub mod StatAnswers
+mod Coming

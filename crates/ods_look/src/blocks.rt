@@ -5,7 +5,7 @@ ghost use Rattle.ods_mount.specs.{Faults.contents_of, Sound.IsSoundBy};
 
 use ods_base::{Block, Image};
 use ods_directory::DirBlocks;
-use ods_space::{Layout, count_whole, locate_whole};
+use ods_space::{BlockCursor, Layout, count_whole, locate_whole};
 use std::marker::Model;
 
 /// The blocks of a file of a sound image, any but INDEXF.SYS. A contract sees the list of them.
@@ -60,8 +60,46 @@ impl<'a> DirectoryBlocks<'a> {
     }
 }
 
-impl DirBlocks for DirectoryBlocks<'_> {
+/// The blocks of a file that are still to come, found one behind another with no memory. A contract sees the list of them.
+#[derive(Drop)]
+pub struct BlocksToCome<'a> {
+    image: &'a Image,
+    lbns: BlockCursor<'a>,
+}
+
+impl<'a> Model for BlocksToCome<'a> {
+    ghost use Rattle.std.specs.Prelude.{ℕ, List};
+    ghost use Rattle.ods_space.specs.Files.{AreInside};
+    ghost use Rattle.ods_mount.specs.Faults.{contents_of};
+
+    ghost Value = { List (List ℕ) };
+
+    ghost view = { λ c. contents_of c.image.now c.lbns };
+
+    ghost invariant = { λ c. AreInside c.image.now c.lbns };
+}
+
+impl<'a> BlocksToCome<'a> {
+    ghost use Rattle.std.specs.Prelude.{◌≡◌, ◌≢◌, [], ◌∷◌};
+
+    /// The next block. There is one.
+    fn next(&mut self) -> &'a Block
+        requires { self.old ≢ [] }
+        ensures { self.old ≡ result.now ∷ self.new }
+    {
+        let lbn = self.lbns.next().unwrap();
+        self.image.block(lbn)
+    }
+}
+
+impl<'a> DirBlocks for DirectoryBlocks<'a> {
+    ghost use Rattle.std.specs.Prelude.{◌≡◌};
+
     ghost blocks = { λ d. d };
+
+    type Cursor = BlocksToCome<'a>;
+
+    ghost leads = { λ d c rest. c ≡ rest };
 
     fn count(&self) -> u32 {
         self.count
@@ -70,5 +108,16 @@ impl DirBlocks for DirectoryBlocks<'_> {
     fn block(&self, i: u32) -> &Block {
         let lbn = locate_whole(self.image, self.layout, self.number, self.header, i + 1).unwrap();
         self.image.block(lbn)
+    }
+
+    fn cursor(&self) -> BlocksToCome<'a> {
+        BlocksToCome {
+            image: self.image,
+            lbns: BlockCursor::from(self.image, self.layout, self.number, self.header),
+        }
+    }
+
+    fn next(&self, cursor: &mut BlocksToCome<'a>) -> &Block {
+        cursor.next()
     }
 }

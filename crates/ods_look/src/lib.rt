@@ -9,7 +9,7 @@ mod query;
 mod reading;
 mod shown;
 
-pub use blocks::DirectoryBlocks;
+pub use blocks::{BlocksToCome, DirectoryBlocks};
 pub use directory::{list, look_up};
 pub use query::{look, look_into};
 pub use reading::read;

@@ -11,3 +11,4 @@ pub mod Sharing
 pub mod Soundness
 pub mod Tables
 pub mod Unlaid
+mod Coming

@@ -26,16 +26,31 @@ impl<'a> FileBlocks<'a> {
 }
 
 impl DirBlocks for FileBlocks<'_> {
-    ghost use Rattle.std.specs.Prelude.{map};
+    ghost use Rattle.std.specs.Prelude.{◌≡◌, map, drop};
     ghost use Rattle.ods_base.specs.Image.{block_at};
 
     ghost blocks = { λ f. map (block_at f.image.now) f.lbns.now };
+
+    /// The number of the next block.
+    type Cursor = u32;
+
+    ghost leads = { λ f i rest. rest ≡ drop i (map (block_at f.image.now) f.lbns.now) };
 
     fn count(&self) -> u32 {
         self.lbns.len() as u32
     }
 
     fn block(&self, i: u32) -> &Block {
+        self.image.block(self.lbns[i as usize])
+    }
+
+    fn cursor(&self) -> u32 {
+        0
+    }
+
+    fn next(&self, cursor: &mut u32) -> &Block {
+        let i = *cursor;
+        *cursor += 1;
         self.image.block(self.lbns[i as usize])
     }
 }

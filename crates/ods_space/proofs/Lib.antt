@@ -9,5 +9,6 @@ pub mod Surveyed
 pub mod Layouts
 pub mod Growing
 pub mod Onward
+mod Located
 pub mod Parts
 pub mod Wholes

@@ -24,7 +24,7 @@ slice_get-append_right (x ∷ xs) ys i =
     let e : suc (length xs) + i ≡ suc (length xs + i) = omega arith in
     ap (slice_get (x ∷ (xs ++ ys))) e ∙ slice_get-append_right xs ys i
 
-length-run_blocks : (r : Run) → length (run_blocks r) ≡ r.count
+pub length-run_blocks : (r : Run) → length (run_blocks r) ≡ r.count
 length-run_blocks r = length-range_with_len r.lbn r.count
 
 -- block i of a run

@@ -3,6 +3,7 @@
 
 mod bits;
 mod collect;
+mod cursor;
 mod draft;
 mod fault;
 mod files;
@@ -10,6 +11,7 @@ mod fill;
 mod headers;
 mod laws;
 mod layout;
+mod mapped;
 mod survey;
 mod system;
 mod walk;
@@ -17,6 +19,7 @@ mod whole_chain;
 
 pub use bits::{in_use, is_free};
 pub use collect::push_header;
+pub use cursor::BlockCursor;
 pub use draft::Draft;
 pub use fault::{ChainFault, LayoutFault};
 pub use files::{block_count, chain, check_chain, file_header, first_header, locate};

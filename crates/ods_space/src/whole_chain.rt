@@ -4,8 +4,7 @@ ghost use Rattle.ods_space.specs.{Layout.header_at, Chain.IsChain, Files.HasBloc
 
 use crate::Layout;
 use crate::headers::header_block;
-use crate::survey::Surveyor;
-use crate::walk::Notes;
+use crate::mapped::{mapped_block, mapped_count};
 use ods_base::{Block, Image};
 use ods_header::next_number;
 use std::marker::Model;
@@ -89,6 +88,7 @@ impl<'a> ChainHeaders<'a> {
 }
 
 /// One block of a file with a whole chain, counted from 1. `first` is its first header. INDEXF.SYS has its blocks in the layout.
+/// Headers before that of the block are passed over by the counts of their pointers.
 pub fn locate_whole(
     image: &Image,
     layout: &Layout,
@@ -103,16 +103,19 @@ pub fn locate_whole(
     ensures found { IfSome result (Holds image.now layout.now number vbn) }
     ensures none { IfNone result ((lbn : ℕ) → ¬ Holds image.now layout.now number vbn lbn) }
 {
+    // The blocks of an image have bytes, so a chain names few blocks.
+    let _ = image.len();
     if vbn == 0 {
         return None;
     }
-    let mut surveyor = Surveyor::new(layout.index(), image.len(), vbn - 1);
+    let mut index = vbn - 1;
     let mut headers = ChainHeaders::from(image, layout, number, first);
     while let Some((_, header)) = headers.next() {
-        let Ok(()) = surveyor.note(header);
-        if let Some(lbn) = surveyor.survey.found {
-            return Some(lbn);
+        let count = mapped_count(header);
+        if index < count {
+            return mapped_block(header, index);
         }
+        index -= count;
     }
     None
 }
@@ -125,10 +128,12 @@ pub fn count_whole(image: &Image, layout: &Layout, number: u16, first: &Block) -
     requires first { first.now ≡ header_at image.now layout.now number }
     ensures { (blocks : List ℕ) × HasBlocks image.now layout.now number blocks × (result ≡ length blocks) }
 {
-    let mut surveyor = Surveyor::new(layout.index(), image.len(), 0);
+    // The blocks of an image have bytes, so a chain names few blocks.
+    let _ = image.len();
+    let mut count = 0;
     let mut headers = ChainHeaders::from(image, layout, number, first);
     while let Some((_, header)) = headers.next() {
-        let Ok(()) = surveyor.note(header);
+        count += mapped_count(header);
     }
-    surveyor.survey.count
+    count
 }
