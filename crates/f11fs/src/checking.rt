@@ -4,7 +4,7 @@ ghost use Rattle.ods_space.specs.Files.{IsLayoutOf};
 use crate::commands::{Stop, send};
 use crate::volume::{VolumeFault, open_image};
 use ods_base::Image;
-use ods_check::{Checked, Finding, check_all, findings};
+use ods_check::{Checked, FaultLine, Finding, check_all, findings};
 use ods_mount::MountFault;
 use ods_shell::{Status, number_object, spoiled_records, text_object};
 use ods_space::{Layout, last_number, sequence};
@@ -71,10 +71,10 @@ fn check_image<'a, R: AllocGlobal + Print>(
 }
 
 /// Whether the fault is one of a directory's names, so that these are not read.
-fn is_of_names(fault: &MountFault) -> bool {
+fn is_of_names(fault: &FaultLine) -> bool {
     matches!(
         fault,
-        MountFault::BadDirectory(_) | MountFault::DuplicateName(_)
+        FaultLine::Plain(MountFault::BadDirectory(_) | MountFault::DuplicateName(_))
     )
 }
 
@@ -156,14 +156,17 @@ fn objects(
     all: bool,
 ) -> Result<String, AllocError> {
     let mut text = String::new(alloc);
-    let most = if all { checked.faults.len() } else { 1 };
-    for fault in checked.faults.iter().take(most) {
-        let line = format!(in alloc; "{fault}")?;
-        text.push_str(text_object(alloc, "fault", line.as_str())?.as_str())?;
-    }
     if !all {
+        if let Some(fault) = &checked.answer {
+            let line = format!(in alloc; "{fault}")?;
+            text.push_str(text_object(alloc, "fault", line.as_str())?.as_str())?;
+        }
         text.push_str(number_object(alloc, "findings", found.len() as u64)?.as_str())?;
         return Ok(text);
+    }
+    for fault in &checked.faults {
+        let line = format!(in alloc; "{fault}")?;
+        text.push_str(text_object(alloc, "fault", line.as_str())?.as_str())?;
     }
     for line in found {
         text.push_str(text_object(alloc, "finding", line.as_str())?.as_str())?;
@@ -174,7 +177,7 @@ fn objects(
 /// The fault that a mount answers, and how many findings there are.
 fn first_lines(alloc: Global, checked: &Checked, count: usize) -> Result<String, AllocError> {
     let mut text = String::new(alloc);
-    if let Some(fault) = checked.faults.first() {
+    if let Some(fault) = &checked.answer {
         writeln!(text, "{fault}")?;
     }
     match count {

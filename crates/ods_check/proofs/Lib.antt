@@ -7,3 +7,8 @@ pub mod Directories
 pub mod Reaching
 pub mod FileFaults
 pub mod Pairs
+pub mod Lines
+pub mod SharedHeaders
+pub mod Counted
+pub mod Repeating
+pub mod HeldPlaces

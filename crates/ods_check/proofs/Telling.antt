@@ -1,18 +1,21 @@
 -- When the faults of a volume as a whole are true, and are told.
-use Rattle.std.proofs.Common.{◌≢◌, ℕ, Bool, true, false, ◌<◌, ◌≤◌, List, [], length, inl, inr, refl, ap, arith}
+use Rattle.std.proofs.Common.{ℕ, Bool, true, false, ◌<◌, ◌≤◌, List, [], length, inl, inr, refl, ap, arith}
 use Rattle.std.specs.Prelude.{IsTrue, MatchBool}
 use Rattle.ods_space.specs.Layout.{VolumeLayout}
 use Rattle.ods_space.specs.Chain.{index_for}
 use Rattle.ods_space.specs.Files.{IsLayoutOf}
 use Rattle.ods_space.proofs.Chains.{same_chain}
-use Rattle.ods_mount.specs.declared.fault.MountFault.{MountFault}
-use Rattle.ods_mount.specs.declared.fault.MountFault.TheVariants.{BadStorageMap, BadMaster, UnsupportedMap, BadChain, OutsideVolume, DoublyUsed, MarkedFree, BadDirectory, DuplicateName}
+use Rattle.ods_mount.specs.declared.fault.MountFault.TheVariants.{BadIndex, BadStorageMap, BadMaster, UnsupportedMap, BadChain, OutsideVolume, DoublyUsed, MarkedFree, BadDirectory, DuplicateName}
 use Rattle.ods_mount.specs.Faults.{IsTrueOf}
 use Rattle.ods_mount.specs.Sound.{IsSoundBy}
 use Rattle.ods_mount.proofs.Soundness.{none_true_of}
+use Rattle.ods_check.specs.declared.fault_line.IndexFault.TheVariants.{HeldPlace}
+use Rattle.ods_check.specs.declared.fault_line.FaultLine.{FaultLine}
+use Rattle.ods_check.specs.declared.fault_line.FaultLine.TheVariants.{Plain, Index}
 use Rattle.ods_check.specs.Lists.{Adds}
 use Rattle.ods_check.specs.Faults.{TellsAll}
 use Rattle.ods_check.proofs.Adding.{told_still}
+use Rattle.ods_check.proofs.Lines.{index_true}
 use Rattle.ods_check.proofs.FileFaults.{told_file_still}
 use Rattle.ods_check.proofs.Pairs.{told_pair_still}
 
@@ -42,28 +45,35 @@ module _ (I : List (List ℕ)) (L : VolumeLayout) where
   too_short l size = let has = l.bitmap in inr (has.file, has.others, L.bitmap, has.whole.chain, size)
 
 -- what is told of a volume stays told
-pub told_all_still : (P : MountFault → Type 0) (I : List (List ℕ)) (L : VolumeLayout) (old new : List MountFault) → Adds P old new → TellsAll I L old → TellsAll I L new
+pub told_all_still : (P : FaultLine → Type 0) (I : List (List ℕ)) (L : VolumeLayout) (old new : List FaultLine) → Adds P old new → TellsAll I L old → TellsAll I L new
 told_all_still P I L old new a t = record {
-  storage = λ h. told_still P old new BadStorageMap a (t.storage h);
-  master = λ h. told_still P old new BadMaster a (t.master h);
-  formats = λ n h. told_still P old new (UnsupportedMap n) a (t.formats n h);
+  index = λ why h. told_still P old new (Index why) a (t.index why h);
+  bad_index = λ h. let was = t.bad_index h in (was.0, told_still P old new (Index was.0) a was.1);
+  storage = λ h. told_still P old new (Plain BadStorageMap) a (t.storage h);
+  master = λ h. told_still P old new (Plain BadMaster) a (t.master h);
+  formats = λ n h. told_still P old new (Plain (UnsupportedMap n)) a (t.formats n h);
   files = λ n. told_file_still I L n P old new a (t.files n);
   shared = λ m n low. told_pair_still I L P old new a m n (t.shared m n low);
 }
 
 -- a sound image has nothing to tell
-pub none_to_tell : (I : List (List ℕ)) (L : VolumeLayout) (faults : List MountFault) → IsSoundBy I L → TellsAll I L faults
+pub none_to_tell : (I : List (List ℕ)) (L : VolumeLayout) (faults : List FaultLine) → IsSoundBy I L → TellsAll I L faults
 none_to_tell I L faults s = record {
+  index = λ why h. absurd (none_true_of I L s BadIndex (index_true I L why h));
+  bad_index = λ h. absurd (none_true_of I L s BadIndex h);
   storage = λ h. absurd (none_true_of I L s BadStorageMap h);
   master = λ h. absurd (none_true_of I L s BadMaster h);
   formats = λ n h. absurd (none_true_of I L s (UnsupportedMap n) h);
   files = λ n. record {
-    chain = λ file gone. absurd (none_true_of I L s (BadChain n) (file, inl gone));
+    chain = λ h. absurd (none_true_of I L s (BadChain n) h);
     outside = λ b h. absurd (none_true_of I L s (OutsideVolume n b) h);
-    free = λ b h. absurd (none_true_of I L s (MarkedFree n b) h);
-    names = λ h. absurd (elim h [ inl d ↦ none_true_of I L s (BadDirectory n) d | inr d ↦ none_true_of I L s (DuplicateName n) d ]);
+    whole = record {
+      free = λ b h. absurd (none_true_of I L s (MarkedFree n b) h);
+      places = λ k h. absurd (none_true_of I L s BadIndex (index_true I L (HeldPlace k n) h));
+      names = λ h. absurd (elim h [ inl d ↦ none_true_of I L s (BadDirectory n) d | inr d ↦ none_true_of I L s (DuplicateName n) d ]);
+    };
   };
-  shared = λ m n low b h k. let apart : m ≢ n = λ e. omega arith in absurd (none_true_of I L s (DoublyUsed m n b) (h.0, k.0, h.1, k.1, inl apart));
+  shared = λ m n low b h. absurd (none_true_of I L s (DoublyUsed m n b) h);
 }
 
 -- a test by another word for what it says

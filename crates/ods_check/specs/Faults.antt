@@ -1,29 +1,52 @@
 -- Which faults a list of all faults has.
-use Rattle.std.specs.Prelude.{ℕ, ◌<◌, ◌⊎◌, List}
+use Rattle.std.specs.Prelude.{ℕ, ◌≤◌, ◌⊎◌, List}
 use Rattle.std.specs.List.{Contains}
 use Rattle.ods_space.specs.Layout.{VolumeLayout}
-use Rattle.ods_space.specs.Chain.{IsChain}
-use Rattle.ods_space.specs.Files.{IsFile}
 use Rattle.ods_mount.specs.declared.fault.MountFault.{MountFault}
-use Rattle.ods_mount.specs.declared.fault.MountFault.TheVariants.{BadStorageMap, BadMaster, UnsupportedMap, BadChain, OutsideVolume, DoublyUsed, MarkedFree, BadDirectory, DuplicateName}
+use Rattle.ods_mount.specs.declared.fault.MountFault.TheVariants.{BadIndex, BadStorageMap, BadMaster, UnsupportedMap, BadChain, OutsideVolume, MarkedFree, BadDirectory, DuplicateName}
 use Rattle.ods_mount.specs.Faults.{IsTrueOf}
-use Rattle.ods_check.specs.Findings.{HasBlock}
+use Rattle.ods_check.specs.declared.fault_line.IndexFault.{IndexFault}
+use Rattle.ods_check.specs.declared.fault_line.IndexFault.TheVariants.{TooShort, Misplaced, OtherHome, FreePlace, HeldPlace}
+use Rattle.ods_check.specs.declared.fault_line.FaultLine.{FaultLine}
+use Rattle.ods_check.specs.declared.fault_line.FaultLine.TheVariants.{Plain, Shared, Index}
+use Rattle.ods_check.specs.Lines.{Share, IsElsewhere, IsIndexFault}
 
--- Of file n it is told that it has no chain; of a chain that names blocks which the image lacks, one of them; of a whole one each block that is marked free; and of a directory that its names are no good or no distinct ones, one of both.
-pub record TellsFile (I : List (List ℕ)) (L : VolumeLayout) (faults : List MountFault) (n : ℕ) : Type 0 where
-  pub chain : IsFile I L n → ((ns bs : List ℕ) → ¬ IsChain I L n ns bs) → Contains faults (BadChain n)
-  pub outside : (b : ℕ) → IsTrueOf I L (OutsideVolume n b) → (lbn : ℕ) × Contains faults (OutsideVolume n lbn)
-  pub free : (b : ℕ) → IsTrueOf I L (MarkedFree n b) → Contains faults (MarkedFree n b)
-  pub names : (IsTrueOf I L (BadDirectory n) ⊎ IsTrueOf I L (DuplicateName n)) → Contains faults (BadDirectory n) ⊎ Contains faults (DuplicateName n)
+-- a line has this fault in the mount's words
+abbrev pub Tells : List FaultLine → MountFault → Type 0
+Tells faults fault = Contains faults (Plain fault)
 
--- where files m and n, each with a whole chain, hold the same block, that is told of one such block
-abbrev pub TellsPair : List (List ℕ) → VolumeLayout → List MountFault → ℕ → ℕ → Type 0
-TellsPair I L faults m n = (b : ℕ) → HasBlock I L m b → HasBlock I L n b → (lbn : ℕ) × Contains faults (DoublyUsed m n lbn)
+-- Of file n, where its chain is whole, each block that is marked free is told, and each place of a lower home block in it that a request can change; and of a directory that its names are no
+-- good or no distinct ones, one of both.
+pub record TellsWhole (I : List (List ℕ)) (L : VolumeLayout) (faults : List FaultLine) (n : ℕ) : Type 0 where
+  pub free : (b : ℕ) → IsTrueOf I L (MarkedFree n b) → Tells faults (MarkedFree n b)
+  pub places : (k : ℕ) → IsIndexFault I L (HeldPlace k n) → Contains faults (Index (HeldPlace k n))
+  pub names : (IsTrueOf I L (BadDirectory n) ⊎ IsTrueOf I L (DuplicateName n)) → Tells faults (BadDirectory n) ⊎ Tells faults (DuplicateName n)
 
--- Each fault of these kinds that is true of a volume with this layout is in the list: a storage bitmap too short, no master directory, headers of another format, those of each file, and each pair of files that hold the same block.
-pub record TellsAll (I : List (List ℕ)) (L : VolumeLayout) (faults : List MountFault) : Type 0 where
-  pub storage : IsTrueOf I L BadStorageMap → Contains faults BadStorageMap
-  pub master : IsTrueOf I L BadMaster → Contains faults BadMaster
-  pub formats : (n : ℕ) → IsTrueOf I L (UnsupportedMap n) → Contains faults (UnsupportedMap n)
+-- Of file n it is told that it has no chain, or shares a header with another file; of a chain that names blocks which the image lacks, one of them; and what there is to tell of a whole one.
+pub record TellsFile (I : List (List ℕ)) (L : VolumeLayout) (faults : List FaultLine) (n : ℕ) : Type 0 where
+  pub chain : IsTrueOf I L (BadChain n) → Tells faults (BadChain n)
+  pub outside : (b : ℕ) → IsTrueOf I L (OutsideVolume n b) → (lbn : ℕ) × Tells faults (OutsideVolume n lbn)
+  pub whole : TellsWhole I L faults n
+
+-- each reason why the index is bad that is found in INDEXF.SYS or in a free place is told
+pub record TellsIndex (I : List (List ℕ)) (L : VolumeLayout) (faults : List FaultLine) : Type 0 where
+  pub short : IsIndexFault I L TooShort → Contains faults (Index TooShort)
+  pub misplaced : (i : ℕ) → IsElsewhere L i → (v : ℕ) × Contains faults (Index (Misplaced v))
+  pub first : (v : ℕ) → IsIndexFault I L (Misplaced v) → Contains faults (Index (Misplaced v))
+  pub home : (lbn : ℕ) → IsIndexFault I L (OtherHome lbn) → Contains faults (Index (OtherHome lbn))
+  pub free : (k : ℕ) → IsIndexFault I L (FreePlace k) → Contains faults (Index (FreePlace k))
+
+-- where files m and n share a block, or m = n holds one twice, there is a line of the pair
+abbrev pub TellsPair : List (List ℕ) → VolumeLayout → List FaultLine → ℕ → ℕ → Type 0
+TellsPair I L faults m n = (b : ℕ) → Share I L m n b → (lbn : ℕ) × (count : ℕ) × Contains faults (Shared m n lbn count)
+
+-- Each fault of a volume with this layout is in the list: each reason why the index is bad, a storage bitmap too short, no master directory, headers of another format, those of each file,
+-- and each pair of files that share blocks, a file that holds blocks twice among these.
+pub record TellsAll (I : List (List ℕ)) (L : VolumeLayout) (faults : List FaultLine) : Type 0 where
+  pub index : (why : IndexFault) → IsIndexFault I L why → Contains faults (Index why)
+  pub bad_index : IsTrueOf I L BadIndex → (why : IndexFault) × Contains faults (Index why)
+  pub storage : IsTrueOf I L BadStorageMap → Tells faults BadStorageMap
+  pub master : IsTrueOf I L BadMaster → Tells faults BadMaster
+  pub formats : (n : ℕ) → IsTrueOf I L (UnsupportedMap n) → Tells faults (UnsupportedMap n)
   pub files : (n : ℕ) → TellsFile I L faults n
-  pub shared : (m n : ℕ) → m < n → TellsPair I L faults m n
+  pub shared : (m n : ℕ) → m ≤ n → TellsPair I L faults m n

@@ -1,4 +1,6 @@
 pub mod Lists
+pub mod Lines
 pub mod Faults
 pub mod Sets
+pub mod Marks
 pub mod Findings

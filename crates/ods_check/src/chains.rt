@@ -1,16 +1,22 @@
-//! Faults of one file: its chain, its blocks that are marked free, and its names where it is a directory.
-ghost use Rattle.std.specs.Prelude.{◌≡◌, ℕ, ◌⊎◌, OnOk};
+//! Faults of one file: its chain, its blocks that are marked free or places of a home block, and its names where it is a directory.
+ghost use Rattle.std.specs.Prelude.{◌≡◌, ◌+◌, ℕ, ◌⊎◌, OnOk};
 ghost use Rattle.std.specs.List.{Contains};
+ghost use Rattle.ods_header.specs.Home.{IsHomeAt};
 ghost use Rattle.ods_header.specs.Header.{attributes_of};
-ghost use Rattle.ods_space.specs.{Layout.header_at, Files.HasBlocks, Files.IsLayoutOf};
-ghost use Rattle.ods_mount.specs.Faults.{IsTrueOf};
-ghost use Rattle.ods_check.specs.{Lists.Adds, Faults.TellsFile};
+ghost use Rattle.ods_space.specs.{Layout.header_at, Files.HasBlocks, Files.IsFile, Files.IsLayoutOf};
+ghost use Rattle.ods_mount.specs.Faults.{IsTrueOf, SharesHeader};
+ghost use Rattle.ods_check.specs.{Lists.Adds, Sets.IsSetOf, Lines.IsLineOf, Lines.IsIndexFault, Faults.Tells, Faults.TellsFile, Faults.TellsWhole, Marks.IsOfTwo};
 
 use crate::add::push_if;
+use crate::shared_headers::{header_numbers, shared_headers};
+use crate::sharing::first_in;
+use crate::{FaultLine, IndexFault};
 use ods_base::Image;
 use ods_directory::{DirBlocks, Verdict, check, mark_of};
 use ods_header::attributes;
-use ods_mount::{FileBlocks, MountFault, chain_fault, is_directory_file};
+use ods_mount::{
+    FileBlocks, MountFault, NumberSet, chain_fault, is_directory_file, is_loose_place,
+};
 use ods_space::{Layout, chain, check_chain, first_header, is_free};
 use std::alloc::{AllocError, Global};
 
@@ -19,49 +25,93 @@ pub(crate) fn push_files(
     alloc: Global,
     image: &Image,
     layout: &Layout,
-    faults: &mut Vec<MountFault>,
+    home_lbn: u32,
+    faults: &mut Vec<FaultLine>,
 ) -> Result<(), AllocError>
-    requires { IsLayoutOf image.now layout.now }
-    ensures adds { OnOk result (Adds (IsTrueOf image.now layout.now) faults.old.items faults.new.items) }
+    requires layout { IsLayoutOf image.now layout.now }
+    requires home { IsHomeAt image.now home_lbn }
+    ensures adds { OnOk result (Adds (IsLineOf image.now layout.now) faults.old.items faults.new.items) }
     ensures files { OnOk result ((n : ℕ) → TellsFile image.now layout.now faults.new.items n) }
 {
+    let shared = shared_headers(alloc, image, layout)?;
     for number in 0..layout.home().max_files as u32 + 1 {
-        push_file(alloc, image, layout, number as u16, faults)?;
+        push_file(
+            alloc,
+            image,
+            layout,
+            home_lbn,
+            number as u16,
+            &shared,
+            faults,
+        )?;
     }
     Ok(())
 }
 
-/// Adds the faults of a file, where the number is one.
+/// Adds the faults of a file, where the number is one. `shared` has the headers that chains of two files have.
 fn push_file(
     alloc: Global,
     image: &Image,
     layout: &Layout,
+    home_lbn: u32,
     number: u16,
-    faults: &mut Vec<MountFault>,
+    shared: &NumberSet,
+    faults: &mut Vec<FaultLine>,
 ) -> Result<(), AllocError>
-    requires { IsLayoutOf image.now layout.now }
-    ensures adds { OnOk result (Adds (IsTrueOf image.now layout.now) faults.old.items faults.new.items) }
+    requires layout { IsLayoutOf image.now layout.now }
+    requires home { IsHomeAt image.now home_lbn }
+    requires shared { IsSetOf (IsOfTwo image.now layout.now (layout.now.home.max_files + 1)) shared.now }
+    ensures adds { OnOk result (Adds (IsLineOf image.now layout.now) faults.old.items faults.new.items) }
     ensures file { OnOk result (TellsFile image.now layout.now faults.new.items number) }
 {
     let Some(first) = first_header(image, layout, number) else {
         return Ok(());
     };
+    push_sharing(alloc, image, layout, number, shared, faults)?;
     if let Err(fault) = check_chain(image, layout, number) {
-        faults.push(chain_fault(number, fault))?;
+        faults.push(FaultLine::Plain(chain_fault(number, fault)))?;
         return Ok(());
     }
     match chain(alloc, image, layout, number) {
-        Ok(blocks) => push_whole(
-            alloc,
-            image,
-            layout,
-            number,
-            &attributes(first),
-            &blocks,
-            faults,
-        ),
+        Ok(blocks) => {
+            let attributes = attributes(first);
+            push_whole(
+                alloc,
+                image,
+                layout,
+                home_lbn,
+                number,
+                &attributes,
+                &blocks,
+                faults,
+            )?;
+            Ok(())
+        }
         Err(_) => Err(AllocError),
     }
+}
+
+/// Adds that a file shares a header with another one, where it does. `shared` has the headers that chains of two files have.
+fn push_sharing(
+    alloc: Global,
+    image: &Image,
+    layout: &Layout,
+    number: u16,
+    shared: &NumberSet,
+    faults: &mut Vec<FaultLine>,
+) -> Result<(), AllocError>
+    requires layout { IsLayoutOf image.now layout.now }
+    requires file { IsFile image.now layout.now number }
+    requires shared { IsSetOf (IsOfTwo image.now layout.now (layout.now.home.max_files + 1)) shared.now }
+    ensures adds { OnOk result (Adds (IsLineOf image.now layout.now) faults.old.items faults.new.items) }
+    ensures shares { OnOk result (SharesHeader image.now layout.now number → Tells faults.new.items (MountFault.BadChain number)) }
+{
+    let headers = header_numbers(alloc, image, layout, number)?;
+    let Some(_) = first_in(&headers, shared) else {
+        return Ok(());
+    };
+    faults.push(FaultLine::Plain(MountFault::BadChain(number)))?;
+    Ok(())
 }
 
 /// Adds the faults of a file that has these blocks.
@@ -69,18 +119,46 @@ fn push_whole(
     alloc: Global,
     image: &Image,
     layout: &Layout,
+    home_lbn: u32,
     number: u16,
     attributes: &[u8; 32],
     lbns: &[u32],
-    faults: &mut Vec<MountFault>,
+    faults: &mut Vec<FaultLine>,
 ) -> Result<(), AllocError>
+    requires home { IsHomeAt image.now home_lbn }
     requires whole { HasBlocks image.now layout.now number lbns.now }
     requires attributes { attributes.now ≡ attributes_of (header_at image.now layout.now number) }
-    ensures adds { OnOk result (Adds (IsTrueOf image.now layout.now) faults.old.items faults.new.items) }
-    ensures file { OnOk result (TellsFile image.now layout.now faults.new.items number) }
+    ensures adds { OnOk result (Adds (IsLineOf image.now layout.now) faults.old.items faults.new.items) }
+    ensures file { OnOk result (TellsWhole image.now layout.now faults.new.items number) }
 {
     push_free(image, layout, number, lbns, faults)?;
+    push_places(image, layout, home_lbn, number, lbns, faults)?;
     push_names(alloc, image, layout, number, attributes, lbns, faults)?;
+    Ok(())
+}
+
+/// Adds each place of a home block below that in force which this file holds, and a request can change.
+fn push_places(
+    image: &Image,
+    layout: &Layout,
+    home_lbn: u32,
+    number: u16,
+    lbns: &[u32],
+    faults: &mut Vec<FaultLine>,
+) -> Result<(), AllocError>
+    requires home { IsHomeAt image.now home_lbn }
+    requires whole { HasBlocks image.now layout.now number lbns.now }
+    ensures adds { OnOk result (Adds (IsLineOf image.now layout.now) faults.old.items faults.new.items) }
+    ensures places { OnOk result ((k : ℕ) → IsIndexFault image.now layout.now (IndexFault.HeldPlace k number) → Contains faults.new.items (FaultLine.Index (IndexFault.HeldPlace k number))) }
+{
+    // An image has few blocks, and so has a chain.
+    let _ = image.len();
+    for i in 0..lbns.len() {
+        let lbn = lbns[i];
+        let loose = is_loose_place(home_lbn, number, i as u32, lbn);
+        let place = FaultLine::Index(IndexFault::HeldPlace(lbn, number));
+        push_if(faults, place, loose)?;
+    }
     Ok(())
 }
 
@@ -90,16 +168,20 @@ fn push_free(
     layout: &Layout,
     number: u16,
     lbns: &[u32],
-    faults: &mut Vec<MountFault>,
+    faults: &mut Vec<FaultLine>,
 ) -> Result<(), AllocError>
     requires { HasBlocks image.now layout.now number lbns.now }
-    ensures adds { OnOk result (Adds (IsTrueOf image.now layout.now) faults.old.items faults.new.items) }
-    ensures free { OnOk result ((b : ℕ) → IsTrueOf image.now layout.now (MountFault.MarkedFree number b) → Contains faults.new.items (MountFault.MarkedFree number b)) }
+    ensures adds { OnOk result (Adds (IsLineOf image.now layout.now) faults.old.items faults.new.items) }
+    ensures free { OnOk result ((b : ℕ) → IsTrueOf image.now layout.now (MountFault.MarkedFree number b) → Tells faults.new.items (MountFault.MarkedFree number b)) }
 {
     for i in 0..lbns.len() {
         let lbn = lbns[i];
         let free = is_free(image, layout, lbn);
-        push_if(faults, MountFault::MarkedFree(number, lbn), free)?;
+        push_if(
+            faults,
+            FaultLine::Plain(MountFault::MarkedFree(number, lbn)),
+            free,
+        )?;
     }
     Ok(())
 }
@@ -112,13 +194,13 @@ fn push_names(
     number: u16,
     attributes: &[u8; 32],
     lbns: &[u32],
-    faults: &mut Vec<MountFault>,
+    faults: &mut Vec<FaultLine>,
 ) -> Result<(), AllocError>
     requires whole { HasBlocks image.now layout.now number lbns.now }
     requires attributes { attributes.now ≡ attributes_of (header_at image.now layout.now number) }
-    ensures adds { OnOk result (Adds (IsTrueOf image.now layout.now) faults.old.items faults.new.items) }
+    ensures adds { OnOk result (Adds (IsLineOf image.now layout.now) faults.old.items faults.new.items) }
     ensures names { OnOk result ((IsTrueOf image.now layout.now (MountFault.BadDirectory number) ⊎ IsTrueOf image.now layout.now (MountFault.DuplicateName number))
-        → Contains faults.new.items (MountFault.BadDirectory number) ⊎ Contains faults.new.items (MountFault.DuplicateName number)) }
+        → Tells faults.new.items (MountFault.BadDirectory number) ⊎ Tells faults.new.items (MountFault.DuplicateName number)) }
 {
     if !is_directory_file(image, layout, number) {
         return Ok(());
@@ -130,11 +212,11 @@ fn push_names(
     match check(alloc, &blocks, mark) {
         Ok(Verdict::Good) => Ok(()),
         Ok(Verdict::BadEntry) => {
-            faults.push(MountFault::BadDirectory(number))?;
+            faults.push(FaultLine::Plain(MountFault::BadDirectory(number)))?;
             Ok(())
         }
         Ok(Verdict::Twice) => {
-            faults.push(MountFault::DuplicateName(number))?;
+            faults.push(FaultLine::Plain(MountFault::DuplicateName(number)))?;
             Ok(())
         }
         Err(error) => Err(error),

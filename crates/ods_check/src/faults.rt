@@ -1,39 +1,50 @@
-//! The faults of an image that are looked for beyond the first.
-ghost use Rattle.std.specs.Prelude.{◌≡◌, ◌≢◌, ◌⊎◌, ◌++◌, ◌∷◌, [], IsTrue, MatchBool, OnOk, IfOk, IfSome};
+//! All faults of an image.
+ghost use Rattle.std.specs.Prelude.{◌≡◌, ◌≢◌, ◌⊎◌, ◌++◌, ◌∷◌, [], IsTrue, MatchBool, OnOk, IfOk, IfSome, IfNone, Some};
 ghost use Rattle.std.specs.List.{All};
 ghost use Rattle.ods_header.specs.Home.{IsHomeAt};
 ghost use Rattle.ods_space.specs.Files.{IsLayoutOf};
-ghost use Rattle.ods_mount.specs.Faults.{IsSound, FaultIsTrue, IsTrueOf};
-ghost use Rattle.ods_check.specs.{Lists.Adds, Faults.TellsAll};
+ghost use Rattle.ods_mount.specs.Faults.{IsSound, FaultIsTrue};
+ghost use Rattle.ods_check.specs.{Lists.Adds, Lines.fault_of, Lines.IsLineOf, Lines.LineIsTrue, Faults.TellsAll};
 
+use crate::FaultLine;
 use crate::chains::push_files;
+use crate::index_faults::push_index;
 use crate::sharing::push_shared;
-use crate::system::{push_formats, push_index, push_system};
+use crate::system::{push_formats, push_system};
 use ods_base::Image;
 use ods_mount::{MountFault, check_image, read_layout};
 use ods_space::Layout;
 use std::alloc::{AllocError, Global};
 
-/// What a check of an image finds: the layout, where there is one, and its faults.
+/// What a check of an image finds: the layout, where there is one; the fault that a mount answers; and a line for each fault.
 #[derive(Drop)]
 pub struct Checked {
     pub layout: Option<Layout>,
-    pub faults: Vec<MountFault>,
+    pub answer: Option<MountFault>,
+    pub faults: Vec<FaultLine>,
 }
 
-/// Faults of an image, each of which is true, and its layout where it has one. A sound image has none, and every other image has one
-/// at least: that which a mount answers. Where there is a layout these are told: a storage bitmap that is too short, no master directory,
-/// each header whose pointers have another format, each file with no chain, of each chain that names blocks which the image lacks one of
-/// these, each block of a whole chain that is marked free, each directory whose names are no good or no distinct ones, and each pair of
-/// files with whole chains that hold the same blocks, with one of these.
+/// Every fault of an image, and its layout where it has one. A sound image has none. Where there is no layout it is the one that a
+/// mount answers. Where there is one these are told, and each line is true: each reason why the index is bad, a storage bitmap that
+/// is too short, no master directory, each header whose pointers have another format, each file with no chain or a header of another
+/// file's, of each chain that names blocks which the image lacks one of these, each block of a whole chain that is marked free, each
+/// directory whose names are no good or no distinct ones, and each pair of files with whole chains that share blocks, with the first
+/// of these and how many they are, and so each file that holds blocks twice.
+///
+/// A sound image costs a mount. Any other costs a few walks over all its chains; and each file that has a block of one before it costs
+/// a walk over the chains of all files before it, and four bytes for each block of the image, which it lets go again. So the time is
+/// at most that of as many walks over all chains as there are files: files times blocks.
 pub fn check_all(alloc: Global, image: &Image) -> Result<Checked, AllocError>
-    ensures true_of { IfOk result (λ c. All (FaultIsTrue image.now) c.faults.items) }
+    ensures true_of { IfOk result (λ c. All (λ line. FaultIsTrue image.now (fault_of line)) c.faults.items) }
+    ensures lines { IfOk result (λ c. All (LineIsTrue image.now) c.faults.items) }
+    ensures answer { IfOk result (λ c. IfSome c.answer (FaultIsTrue image.now) × IfNone c.answer (IsSound image.now)) }
     ensures sound { IfOk result (λ c. c.faults.items ≡ [] → IsSound image.now) }
     ensures layout { IfOk result (λ c. IfSome c.layout (λ layout. IsLayoutOf image.now layout × TellsAll image.now layout c.faults.items)) }
 {
     match check_image(alloc, image) {
         Ok(layout) => Ok(Checked {
             layout: Some(layout),
+            answer: None,
             faults: Vec::new(alloc),
         }),
         Err(fault) => {
@@ -68,7 +79,9 @@ fn is_memory(fault: &MountFault) -> bool
 /// The faults of an image that is not sound, of which one is known.
 fn all_faults(alloc: Global, image: &Image, known: MountFault) -> Result<Checked, AllocError>
     requires { FaultIsTrue image.now known }
-    ensures true_of { IfOk result (λ c. All (FaultIsTrue image.now) c.faults.items) }
+    ensures true_of { IfOk result (λ c. All (λ line. FaultIsTrue image.now (fault_of line)) c.faults.items) }
+    ensures lines { IfOk result (λ c. All (LineIsTrue image.now) c.faults.items) }
+    ensures answer { IfOk result (λ c. c.answer ≡ Some known) }
     ensures some { IfOk result (λ c. c.faults.items ≢ []) }
     ensures layout { IfOk result (λ c. IfSome c.layout (λ layout. IsLayoutOf image.now layout × TellsAll image.now layout c.faults.items)) }
 {
@@ -79,6 +92,7 @@ fn all_faults(alloc: Global, image: &Image, known: MountFault) -> Result<Checked
             tell(known, &mut faults)?;
             Ok(Checked {
                 layout: Some(layout),
+                answer: Some(known),
                 faults,
             })
         }
@@ -87,6 +101,7 @@ fn all_faults(alloc: Global, image: &Image, known: MountFault) -> Result<Checked
             tell(known, &mut faults)?;
             Ok(Checked {
                 layout: None,
+                answer: Some(known),
                 faults,
             })
         }
@@ -94,23 +109,23 @@ fn all_faults(alloc: Global, image: &Image, known: MountFault) -> Result<Checked
 }
 
 /// Adds a fault that is known, where none of these is the same, or of the same pair of files. So there is one at least.
-fn tell(known: MountFault, faults: &mut Vec<MountFault>) -> Result<(), AllocError>
-    ensures added { OnOk result ((faults.new.items ≡ faults.old.items) ⊎ (faults.new.items ≡ faults.old.items ++ known ∷ [])) }
+fn tell(known: MountFault, faults: &mut Vec<FaultLine>) -> Result<(), AllocError>
+    ensures added { OnOk result ((faults.new.items ≡ faults.old.items) ⊎ (faults.new.items ≡ faults.old.items ++ FaultLine.Plain known ∷ [])) }
     ensures some { OnOk result (faults.new.items ≢ []) }
 {
     if is_told(known, faults) {
         return Ok(());
     }
-    faults.push(known)?;
+    faults.push(FaultLine::Plain(known))?;
     Ok(())
 }
 
 /// Whether one of these faults is this one, or is of the same pair of files.
-fn is_told(known: MountFault, faults: &[MountFault]) -> bool
+fn is_told(known: MountFault, faults: &[FaultLine]) -> bool
     ensures { IsTrue result → faults.now ≢ [] }
 {
     for i in 0..faults.len() {
-        if is_same(faults[i], known) {
+        if is_same(faults[i].fault(), known) {
             return true;
         }
     }
@@ -140,17 +155,17 @@ fn push_all(
     image: &Image,
     layout: &Layout,
     home_lbn: u32,
-    faults: &mut Vec<MountFault>,
+    faults: &mut Vec<FaultLine>,
 ) -> Result<(), AllocError>
     requires layout { IsLayoutOf image.now layout.now }
     requires home { IsHomeAt image.now home_lbn }
-    ensures adds { OnOk result (Adds (IsTrueOf image.now layout.now) faults.old.items faults.new.items) }
+    ensures adds { OnOk result (Adds (IsLineOf image.now layout.now) faults.old.items faults.new.items) }
     ensures all { OnOk result (TellsAll image.now layout.now faults.new.items) }
 {
     push_index(image, layout, home_lbn, faults)?;
     push_system(image, layout, faults)?;
     push_formats(image, layout, faults)?;
-    push_files(alloc, image, layout, faults)?;
+    push_files(alloc, image, layout, home_lbn, faults)?;
     push_shared(alloc, image, layout, faults)?;
     Ok(())
 }

@@ -1,25 +1,30 @@
-//! Blocks that two files hold.
-ghost use Rattle.std.specs.Prelude.{◌≡◌, ◌*◌, ◌+◌, ◌<◌, ◌≤◌, ℕ, Some, true, false, slice_get, length, OnOk, IfSome, IfNone};
+//! Blocks that two files share, and those that one file holds twice.
+ghost use Rattle.std.specs.Prelude.{◌≡◌, ◌*◌, ◌+◌, ◌<◌, ◌≤◌, ℕ, Some, true, false, slice_get, slice_index, length, OnOk, IfSome, IfNone};
 ghost use Rattle.ods_space.specs.Files.{HasBlocks, IsLayoutOf};
-ghost use Rattle.ods_mount.specs.{Faults.IsTrueOf, Tables.has};
-ghost use Rattle.ods_check.specs.{Lists.Adds, Sets.IsSetOf, Findings.HasBlock, Faults.TellsPair};
+ghost use Rattle.ods_mount.specs.{Tables.has};
+ghost use Rattle.ods_check.specs.{Lists.Adds, Lists.AreDistinct, Sets.IsSetOf, Findings.HasBlock, Lines.IsLineOf, Faults.TellsPair, Marks.HasShared, Marks.IsFirstIn};
 
+use crate::FaultLine;
+use crate::counting::{count_of, new_counted};
+use crate::repeats::{insert_new, insert_twice};
 use crate::unheld::insert_all;
 use ods_base::Image;
-use ods_mount::{MountFault, NumberSet};
+use ods_mount::NumberSet;
 use ods_space::{ChainFault, Layout, chain};
 use std::alloc::{AllocError, Global};
 
-/// Adds each pair of files with whole chains that hold the same blocks, with the first of these.
+/// Adds each pair of files with whole chains that share blocks, and each such file that holds blocks twice, with the first of these
+/// and how many they are. Only a file that has a block of one before it is compared with each of these. So this takes one walk over
+/// all chains where no blocks are shared, and at most one for each file, with a number for each block of the image made for it.
 pub(crate) fn push_shared(
     alloc: Global,
     image: &Image,
     layout: &Layout,
-    faults: &mut Vec<MountFault>,
+    faults: &mut Vec<FaultLine>,
 ) -> Result<(), AllocError>
     requires { IsLayoutOf image.now layout.now }
-    ensures adds { OnOk result (Adds (IsTrueOf image.now layout.now) faults.old.items faults.new.items) }
-    ensures all { OnOk result ((m n : ℕ) → m < n → TellsPair image.now layout.now faults.new.items m n) }
+    ensures adds { OnOk result (Adds (IsLineOf image.now layout.now) faults.old.items faults.new.items) }
+    ensures all { OnOk result ((m n : ℕ) → m ≤ n → TellsPair image.now layout.now faults.new.items m n) }
 {
     let mut held = NumberSet::new(alloc, image.len())?;
     for number in 0..layout.home().max_files as u32 + 1 {
@@ -28,27 +33,28 @@ pub(crate) fn push_shared(
     Ok(())
 }
 
-/// Adds each pair of this file with one before it, and notes its blocks. `held` has the blocks of the files before it.
+/// Adds each pair of this file with one before it and with itself, and notes its blocks. `held` has the blocks of the files before it.
 fn push_shared_of(
     alloc: Global,
     image: &Image,
     layout: &Layout,
     number: u16,
     held: &mut NumberSet,
-    faults: &mut Vec<MountFault>,
+    faults: &mut Vec<FaultLine>,
 ) -> Result<(), AllocError>
     requires layout { IsLayoutOf image.now layout.now }
     requires held { IsSetOf (λ b. (m : ℕ) × (m < number) × HasBlock image.now layout.now m b) held.old }
     requires room { length image.now ≤ 64 * length held.old }
-    ensures adds { OnOk result (Adds (IsTrueOf image.now layout.now) faults.old.items faults.new.items) }
-    ensures told { OnOk result ((m : ℕ) → m < number → TellsPair image.now layout.now faults.new.items m number) }
+    ensures adds { OnOk result (Adds (IsLineOf image.now layout.now) faults.old.items faults.new.items) }
+    ensures told { OnOk result ((m : ℕ) → m ≤ number → TellsPair image.now layout.now faults.new.items m number) }
     ensures held { OnOk result (IsSetOf (λ b. (m : ℕ) × (m < number + 1) × HasBlock image.now layout.now m b) held.new) }
     ensures room { length held.new ≡ length held.old }
 {
     match chain(alloc, image, layout, number) {
         Ok(lbns) => {
             push_pairs(alloc, image, layout, number, &lbns, held, faults)?;
-            insert_all(&lbns, held);
+            let is_new = insert_new(&lbns, held);
+            push_own(alloc, image, layout, number, &lbns, is_new, faults)?;
             Ok(())
         }
         Err(ChainFault::NoMemory) => Err(AllocError),
@@ -65,27 +71,47 @@ fn push_pairs(
     number: u16,
     lbns: &[u32],
     held: &NumberSet,
-    faults: &mut Vec<MountFault>,
+    faults: &mut Vec<FaultLine>,
 ) -> Result<(), AllocError>
     requires layout { IsLayoutOf image.now layout.now }
     requires whole { HasBlocks image.now layout.now number lbns.now }
     requires held { IsSetOf (λ b. (m : ℕ) × (m < number) × HasBlock image.now layout.now m b) held.now }
-    ensures adds { OnOk result (Adds (IsTrueOf image.now layout.now) faults.old.items faults.new.items) }
+    ensures adds { OnOk result (Adds (IsLineOf image.now layout.now) faults.old.items faults.new.items) }
     ensures told { OnOk result ((m : ℕ) → m < number → TellsPair image.now layout.now faults.new.items m number) }
 {
-    // Only a file that has a block of another one's is compared with each.
     let Some(_) = first_in(lbns, held) else {
         return Ok(());
     };
     let mut own = NumberSet::new(alloc, image.len())?;
     insert_all(lbns, &mut own);
+    let mut counted = new_counted(alloc, image.len())?;
+    push_each_pair(alloc, image, layout, number, &own, &mut counted, faults)
+}
+
+/// Adds each pair of this file, which has the blocks `own`, with one before it.
+fn push_each_pair(
+    alloc: Global,
+    image: &Image,
+    layout: &Layout,
+    number: u16,
+    own: &NumberSet,
+    counted: &mut [u32],
+    faults: &mut Vec<FaultLine>,
+) -> Result<(), AllocError>
+    requires layout { IsLayoutOf image.now layout.now }
+    requires own { IsSetOf (HasBlock image.now layout.now number) own.now }
+    requires size { length counted.old ≡ length image.now }
+    requires counted { (i : ℕ) → slice_index counted.old i ≡ 0 }
+    ensures adds { OnOk result (Adds (IsLineOf image.now layout.now) faults.old.items faults.new.items) }
+    ensures told { OnOk result ((m : ℕ) → m < number → TellsPair image.now layout.now faults.new.items m number) }
+{
     for one in 0..number {
-        push_pair(alloc, image, layout, one, number, &own, faults)?;
+        push_pair(alloc, image, layout, one, number, own, counted, faults)?;
     }
     Ok(())
 }
 
-/// Adds this pair of files, where they hold the same block. `own` has the blocks of the second.
+/// Adds this pair of files, where they share blocks. `own` has the blocks of the second.
 fn push_pair(
     alloc: Global,
     image: &Image,
@@ -93,31 +119,108 @@ fn push_pair(
     one: u16,
     other: u16,
     own: &NumberSet,
-    faults: &mut Vec<MountFault>,
+    counted: &mut [u32],
+    faults: &mut Vec<FaultLine>,
 ) -> Result<(), AllocError>
     requires layout { IsLayoutOf image.now layout.now }
     requires before { one < other }
     requires own { IsSetOf (HasBlock image.now layout.now other) own.now }
-    ensures adds { OnOk result (Adds (IsTrueOf image.now layout.now) faults.old.items faults.new.items) }
+    requires size { length counted.old ≡ length image.now }
+    requires counted { (i : ℕ) → slice_index counted.old i ≤ one }
+    ensures adds { OnOk result (Adds (IsLineOf image.now layout.now) faults.old.items faults.new.items) }
     ensures told { OnOk result (TellsPair image.now layout.now faults.new.items one other) }
+    ensures size { length counted.new ≡ length image.now }
+    ensures counted { (i : ℕ) → slice_index counted.new i ≤ one + 1 }
 {
     match chain(alloc, image, layout, one) {
-        Ok(lbns) => {
-            let Some(lbn) = first_in(&lbns, own) else {
-                return Ok(());
-            };
-            faults.push(MountFault::DoublyUsed(one, other, lbn))?;
-            Ok(())
-        }
+        Ok(lbns) => push_common(
+            image,
+            layout,
+            one,
+            other,
+            &lbns,
+            own,
+            counted,
+            one as u32 + 1,
+            faults,
+        ),
         Err(ChainFault::NoMemory) => Err(AllocError),
         Err(ChainFault::BadChain) => Ok(()),
         Err(ChainFault::OutsideVolume(_)) => Ok(()),
     }
 }
 
+/// Adds that this file holds blocks twice, where it does. `is_new` says that no block of it was met before.
+fn push_own(
+    alloc: Global,
+    image: &Image,
+    layout: &Layout,
+    number: u16,
+    lbns: &[u32],
+    is_new: bool,
+    faults: &mut Vec<FaultLine>,
+) -> Result<(), AllocError>
+    requires layout { IsLayoutOf image.now layout.now }
+    requires whole { HasBlocks image.now layout.now number lbns.now }
+    requires new { is_new ≡ true → AreDistinct lbns.now }
+    ensures adds { OnOk result (Adds (IsLineOf image.now layout.now) faults.old.items faults.new.items) }
+    ensures told { OnOk result (TellsPair image.now layout.now faults.new.items number number) }
+{
+    if is_new {
+        return Ok(());
+    }
+    let mut once = NumberSet::new(alloc, image.len())?;
+    let mut twice = NumberSet::new(alloc, image.len())?;
+    insert_twice(lbns, &mut once, &mut twice);
+    let mut counted = new_counted(alloc, image.len())?;
+    push_common(
+        image,
+        layout,
+        number,
+        number,
+        lbns,
+        &twice,
+        &mut counted,
+        1,
+        faults,
+    )
+}
+
+/// Adds a pair of files, where they share blocks. `lbns` are the blocks of the first, of which `shared` has those that they share.
+/// `counted` has a number for each block of the image, none of which is `stamp`.
+fn push_common(
+    image: &Image,
+    layout: &Layout,
+    one: u16,
+    other: u16,
+    lbns: &[u32],
+    shared: &NumberSet,
+    counted: &mut [u32],
+    stamp: u32,
+    faults: &mut Vec<FaultLine>,
+) -> Result<(), AllocError>
+    requires whole { HasBlocks image.now layout.now one lbns.now }
+    requires shared { HasShared image.now layout.now one other shared.now }
+    requires size { length counted.old ≡ length image.now }
+    requires counted { (i : ℕ) → slice_index counted.old i < stamp }
+    ensures adds { OnOk result (Adds (IsLineOf image.now layout.now) faults.old.items faults.new.items) }
+    ensures told { OnOk result (TellsPair image.now layout.now faults.new.items one other) }
+    ensures size { length counted.new ≡ length image.now }
+    ensures counted { (i : ℕ) → slice_index counted.new i ≤ stamp }
+{
+    // An image has few blocks, and so has a chain.
+    let _ = image.len();
+    let Some(lbn) = first_in(lbns, shared) else {
+        return Ok(());
+    };
+    let count = count_of(lbns, shared, counted, stamp);
+    faults.push(FaultLine::Shared(one, other, lbn, count))?;
+    Ok(())
+}
+
 /// The first of these numbers that is in the set.
-fn first_in(numbers: &[u32], set: &NumberSet) -> Option<u32>
-    ensures some { IfSome result (λ x. (j : ℕ) × (slice_get numbers.now j ≡ Some x) × (has set.now x ≡ true)) }
+pub(crate) fn first_in(numbers: &[u32], set: &NumberSet) -> Option<u32>
+    ensures some { IfSome result (λ x. IsFirstIn numbers.now set.now x) }
     ensures none { IfNone result ((j x : ℕ) → slice_get numbers.now j ≡ Some x → has set.now x ≡ false) }
 {
     for i in 0..numbers.len() {

@@ -1,50 +1,31 @@
-//! Faults of the volume as a whole: its index, its storage bitmap, its master directory, and headers of another format.
+//! Faults of the volume as a whole: its storage bitmap, its master directory, and headers of another format.
 ghost use Rattle.std.specs.Prelude.{◌≡◌, ℕ, OnOk, MatchBool};
-ghost use Rattle.std.specs.List.{Contains};
-ghost use Rattle.ods_header.specs.Home.{IsHomeAt};
 ghost use Rattle.ods_space.specs.Files.{IsLayoutOf};
 ghost use Rattle.ods_mount.specs.Faults.{IsTrueOf};
-ghost use Rattle.ods_check.specs.Lists.{Adds};
+ghost use Rattle.ods_check.specs.{Lists.Adds, Lines.IsLineOf, Faults.Tells};
 
+use crate::FaultLine;
 use crate::add::push_if;
 use ods_base::Image;
-use ods_mount::{MountFault, check_index, has_other_format};
+use ods_mount::{MountFault, has_other_format};
 use ods_space::{Layout, first_header, in_use};
 use std::alloc::AllocError;
-
-/// Adds that the index is bad, where it is.
-#[tactic(auto, using(crate::proofs::Adding::adds_none, crate::proofs::Adding::adds_one))]
-pub(crate) fn push_index(
-    image: &Image,
-    layout: &Layout,
-    home_lbn: u32,
-    faults: &mut Vec<MountFault>,
-) -> Result<(), AllocError>
-    requires { IsHomeAt image.now home_lbn }
-    ensures { OnOk result (Adds (IsTrueOf image.now layout.now) faults.old.items faults.new.items) }
-{
-    match check_index(image, layout, home_lbn) {
-        Ok(()) => Ok(()),
-        Err(fault) => {
-            faults.push(fault)?;
-            Ok(())
-        }
-    }
-}
 
 /// Adds that the storage bitmap is too short, and that there is no master directory, where it is so.
 pub(crate) fn push_system(
     image: &Image,
     layout: &Layout,
-    faults: &mut Vec<MountFault>,
+    faults: &mut Vec<FaultLine>,
 ) -> Result<(), AllocError>
     requires { IsLayoutOf image.now layout.now }
-    ensures adds { OnOk result (Adds (IsTrueOf image.now layout.now) faults.old.items faults.new.items) }
-    ensures storage { OnOk result (IsTrueOf image.now layout.now MountFault.BadStorageMap → Contains faults.new.items MountFault.BadStorageMap) }
-    ensures master { OnOk result (IsTrueOf image.now layout.now MountFault.BadMaster → Contains faults.new.items MountFault.BadMaster) }
+    ensures adds { OnOk result (Adds (IsLineOf image.now layout.now) faults.old.items faults.new.items) }
+    ensures storage { OnOk result (IsTrueOf image.now layout.now MountFault.BadStorageMap → Tells faults.new.items MountFault.BadStorageMap) }
+    ensures master { OnOk result (IsTrueOf image.now layout.now MountFault.BadMaster → Tells faults.new.items MountFault.BadMaster) }
 {
-    push_if(faults, MountFault::BadStorageMap, is_short(image, layout))?;
-    push_if(faults, MountFault::BadMaster, lacks_master(image, layout))?;
+    let short = FaultLine::Plain(MountFault::BadStorageMap);
+    push_if(faults, short, is_short(image, layout))?;
+    let without = FaultLine::Plain(MountFault::BadMaster);
+    push_if(faults, without, lacks_master(image, layout))?;
     Ok(())
 }
 
@@ -74,10 +55,10 @@ fn lacks_master(image: &Image, layout: &Layout) -> bool
 pub(crate) fn push_formats(
     image: &Image,
     layout: &Layout,
-    faults: &mut Vec<MountFault>,
+    faults: &mut Vec<FaultLine>,
 ) -> Result<(), AllocError>
-    ensures adds { OnOk result (Adds (IsTrueOf image.now layout.now) faults.old.items faults.new.items) }
-    ensures all { OnOk result ((n : ℕ) → IsTrueOf image.now layout.now (MountFault.UnsupportedMap n) → Contains faults.new.items (MountFault.UnsupportedMap n)) }
+    ensures adds { OnOk result (Adds (IsLineOf image.now layout.now) faults.old.items faults.new.items) }
+    ensures all { OnOk result ((n : ℕ) → IsTrueOf image.now layout.now (MountFault.UnsupportedMap n) → Tells faults.new.items (MountFault.UnsupportedMap n)) }
 {
     // The blocks of an image have bytes, so no header has a greater number than a word.
     let _ = image.len();
@@ -85,7 +66,8 @@ pub(crate) fn push_formats(
     for k in 0..last {
         let number = (k + 1) as u16;
         let is_left = is_left_aside(image, layout, number);
-        push_if(faults, MountFault::UnsupportedMap(number), is_left)?;
+        let other = FaultLine::Plain(MountFault::UnsupportedMap(number));
+        push_if(faults, other, is_left)?;
     }
     Ok(())
 }

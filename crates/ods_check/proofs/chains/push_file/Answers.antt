@@ -1,29 +1,60 @@
 use Rattle.std.proofs.Common.{sym, subst}
-use Rattle.std.specs.List.{Contains}
 use Rattle.ods_space.specs.Files.{HasBlocks}
 use Rattle.ods_mount.specs.declared.fault.MountFault.{MountFault}
+use Rattle.ods_mount.specs.declared.fault.MountFault.TheVariants.{BadChain}
 use Rattle.ods_mount.specs.Faults.{IsTrueOf}
-use Rattle.ods_check.proofs.Adding.{adds_none, adds_one, told_one}
-use Rattle.ods_check.proofs.FileFaults.{no_file, bad_file, chain_true}
+use Rattle.ods_check.specs.declared.fault_line.FaultLine.TheVariants.{Plain}
+use Rattle.ods_check.specs.Faults.{Tells}
+use Rattle.ods_check.specs.Lines.{IsLineOf}
+use Rattle.ods_check.proofs.Adding.{adds_none, adds_one, adds_more, told_one, told_still}
+use Rattle.ods_check.proofs.FileFaults.{no_file, bad_file, whole_file, chain_true}
 use Rattle.ods_check.proofs.chains.push_file.Goals as goal
 
 pub returns-in_default-clause-adds : goal.returns-in_default-clause-adds
-returns-in_default-clause-adds c = adds_none (IsTrueOf c.args.image.now c.args.layout.now) c.args.faults.now.items
+returns-in_default-clause-adds c = adds_none (IsLineOf c.args.image.now c.args.layout.now) c.args.faults.now.items
 
 pub returns-in_default-clause-file : goal.returns-in_default-clause-file
 returns-in_default-clause-file c = no_file c.args.image.now c.args.layout.now c.args.number c.args.faults.now.items c.in_default.ensures.none
 
+pub push_sharing-requires-clause-file : goal.push_sharing-requires-clause-file
+push_sharing-requires-clause-file c = c.in-Some.ensures.some.0
+
 pub returns-in-Err-clause-adds : goal.returns-in-Err-clause-adds
 returns-in-Err-clause-adds c =
-    adds_one (IsTrueOf c.args.image.now c.args.layout.now) _ _ c.chain_fault.result c.in_ok-push.ensures.items
-    (subst (IsTrueOf c.args.image.now c.args.layout.now) (sym c.chain_fault.ensures)
-    (chain_true c.args.image.now c.args.layout.now c.args.number c.in-Err.fault c.in-Some.ensures.some.0 c.in-Err.ensures.err c.in-Err.ensures.memory))
+    let I = c.args.image.now in
+    let L = c.args.layout.now in
+    let P = IsLineOf I L in
+    let mid = c.push_sharing.new.faults.items in
+    adds_more P c.args.faults.now.items mid c.push.new.self.items c.in_ok-push_sharing.ensures.adds
+    (adds_one P mid _ (Plain c.chain_fault.result) c.in_ok-push.ensures.items
+    (subst (IsTrueOf I L) (sym c.chain_fault.ensures) (chain_true I L c.args.number c.in-Err.fault c.in-Some.ensures.some.0 c.in-Err.ensures.err c.in-Err.ensures.memory)))
 
 pub returns-in-Err-clause-file : goal.returns-in-Err-clause-file
 returns-in-Err-clause-file c =
-    let told = told_one _ _ c.chain_fault.result c.in_ok-push.ensures.items in
-    bad_file c.args.image.now c.args.layout.now c.args.number c.push.new.self.items c.in-Err.fault c.in-Err.ensures.err c.in-Err.ensures.memory
-    (subst (λ (f : MountFault). Contains c.push.new.self.items f) c.chain_fault.ensures told)
+    let I = c.args.image.now in
+    let L = c.args.layout.now in
+    let P = IsLineOf I L in
+    let n = c.args.number in
+    let mid = c.push_sharing.new.faults.items in
+    let end = c.push.new.self.items in
+    let told = told_one mid end (Plain c.chain_fault.result) c.in_ok-push.ensures.items in
+    let added = adds_one P mid end (Plain c.chain_fault.result) c.in_ok-push.ensures.items
+    (subst (IsTrueOf I L) (sym c.chain_fault.ensures) (chain_true I L n c.in-Err.fault c.in-Some.ensures.some.0 c.in-Err.ensures.err c.in-Err.ensures.memory)) in
+    bad_file I L n end (λ s. told_still P mid end (Plain (BadChain n)) added (c.in_ok-push_sharing.ensures.shares s)) c.in-Err.fault c.in-Err.ensures.err c.in-Err.ensures.memory
+    (subst (λ (f : MountFault). Tells end f) c.chain_fault.ensures told)
 
 pub push_whole-requires-clause-whole : goal.push_whole-requires-clause-whole
 push_whole-requires-clause-whole c = subst (HasBlocks c.args.image.now c.args.layout.now c.args.number) (sym c.deref.ensures.value) c.in-Ok.ensures.ok
+
+pub returns-in_ok-push_whole-in-Ok-clause-adds : goal.returns-in_ok-push_whole-in-Ok-clause-adds
+returns-in_ok-push_whole-in-Ok-clause-adds c =
+    adds_more (IsLineOf c.args.image.now c.args.layout.now) c.args.faults.now.items c.push_sharing.new.faults.items c.push_whole.new.faults.items c.in_ok-push_sharing.ensures.adds c.in_ok-push_whole-in-Ok.ensures.adds
+
+pub returns-in_ok-push_whole-in-Ok-clause-file : goal.returns-in_ok-push_whole-in-Ok-clause-file
+returns-in_ok-push_whole-in-Ok-clause-file c =
+    let I = c.args.image.now in
+    let L = c.args.layout.now in
+    let n = c.args.number in
+    let mid = c.push_sharing.new.faults.items in
+    let end = c.push_whole.new.faults.items in
+    whole_file I L n end (λ s. told_still (IsLineOf I L) mid end (Plain (BadChain n)) c.in_ok-push_whole-in-Ok.ensures.adds (c.in_ok-push_sharing.ensures.shares s)) c.in-Ok.blocks.items c.in-Ok.ensures.ok c.in_ok-push_whole-in-Ok.ensures.file

@@ -2,14 +2,14 @@ use Rattle.std.proofs.Common.{◌≡◌, ap, subst, arith, inl, inr}
 use Rattle.std.proofs.lemmas.Bool.{cases_lt}
 use Rattle.ods_mount.proofs.Holders.{file_small}
 use Rattle.ods_check.specs.Faults.{TellsFile}
-use Rattle.ods_mount.specs.Faults.{IsTrueOf}
+use Rattle.ods_check.specs.Lines.{IsLineOf}
 use Rattle.ods_check.proofs.Adding.{adds_none, adds_more}
 use Rattle.ods_check.proofs.FileFaults.{told_file_still, no_file}
 use Rattle.ods_check.proofs.chains.push_files.Goals as goal
 
 pub loop-number-init : goal.loop-number-init
 loop-number-init c = record {
-  adds = adds_none (IsTrueOf c.args.image.now c.args.layout.now) c.args.faults.now.items;
+  adds = adds_none (IsLineOf c.args.image.now c.args.layout.now) c.args.faults.now.items;
   files = λ n low. absurd (omega arith);
 }
 
@@ -21,9 +21,9 @@ loop-number-preserved c =
     let new = c.push_file.new.faults.items in
     let added = c.in_ok-push_file.ensures.adds in
     record {
-      adds = adds_more (IsTrueOf I L) c.args.faults.now.items old new c.loop-number.invariant.adds added;
+      adds = adds_more (IsLineOf I L) c.args.faults.now.items old new c.loop-number.invariant.adds added;
       files = λ n low. elim (cases_lt n c.loop-number.number) [
-        | inl less ↦ told_file_still I L n (IsTrueOf I L) old new added (c.loop-number.invariant.files n less)
+        | inl less ↦ told_file_still I L n (IsLineOf I L) old new added (c.loop-number.invariant.files n less)
         | inr more ↦
             let e : c.loop-number.number ≡ n = omega arith in
             subst (TellsFile I L new) e c.in_ok-push_file.ensures.file

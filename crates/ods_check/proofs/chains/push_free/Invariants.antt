@@ -4,11 +4,12 @@ use Rattle.ods_space.specs.Free.{is_free_block}
 use Rattle.ods_mount.specs.declared.fault.MountFault.TheVariants.{MarkedFree}
 use Rattle.ods_mount.proofs.Each.{EachBefore}
 use Rattle.ods_check.specs.Lists.{Adds}
-use Rattle.ods_mount.specs.Faults.{IsTrueOf}
+use Rattle.ods_check.specs.declared.fault_line.FaultLine.TheVariants.{Plain}
+use Rattle.ods_check.specs.Lines.{IsLineOf}
 use Rattle.ods_check.proofs.chains.push_free.Given as goal
 
 abbrev pub invariant-loop-i : goal.invariant-loop-i
 invariant-loop-i l = record {
-  adds : Adds (IsTrueOf l.image l.layout) l.initial.faults.items l.faults.items;
-  told : EachBefore (λ j b. IsTrue (is_free_block l.image l.layout b) → Contains l.faults.items (MarkedFree l.number b)) l.lbns l.i;
+  adds : Adds (IsLineOf l.image l.layout) l.initial.faults.items l.faults.items;
+  told : EachBefore (λ j b. IsTrue (is_free_block l.image l.layout b) → Contains l.faults.items (Plain (MarkedFree l.number b))) l.lbns l.i;
 }

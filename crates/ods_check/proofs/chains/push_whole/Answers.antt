@@ -1,15 +1,28 @@
+use Rattle.ods_check.specs.declared.fault_line.FaultLine.TheVariants.{Plain, Index}
+use Rattle.ods_check.specs.declared.fault_line.IndexFault.TheVariants.{HeldPlace}
 use Rattle.ods_mount.specs.declared.fault.MountFault.TheVariants.{MarkedFree}
-use Rattle.ods_mount.specs.Faults.{IsTrueOf}
+use Rattle.ods_check.specs.Lines.{IsLineOf}
 use Rattle.ods_check.proofs.Adding.{adds_more, told_still}
-use Rattle.ods_check.proofs.FileFaults.{whole_file}
 use Rattle.ods_check.proofs.chains.push_whole.Goals as goal
 
 pub returns-clause-adds : goal.returns-clause-adds
 returns-clause-adds c =
-    adds_more (IsTrueOf c.args.image.now c.args.layout.now) c.args.faults.now.items c.push_free.new.faults.items c.push_names.new.faults.items c.in_ok-push_free.ensures.adds c.in_ok-push_names.ensures.adds
+    let P = IsLineOf c.args.image.now c.args.layout.now in
+    adds_more P c.args.faults.now.items c.push_places.new.faults.items c.push_names.new.faults.items
+    (adds_more P c.args.faults.now.items c.push_free.new.faults.items c.push_places.new.faults.items c.in_ok-push_free.ensures.adds c.in_ok-push_places.ensures.adds)
+    c.in_ok-push_names.ensures.adds
 
 pub returns-clause-file : goal.returns-clause-file
 returns-clause-file c =
-    whole_file c.args.image.now c.args.layout.now c.args.number c.push_names.new.faults.items c.args.lbns.now c.requires.whole
-    (λ b t. told_still (IsTrueOf c.args.image.now c.args.layout.now) c.push_free.new.faults.items c.push_names.new.faults.items (MarkedFree c.args.number b) c.in_ok-push_names.ensures.adds (c.in_ok-push_free.ensures.free b t))
-    c.in_ok-push_names.ensures.names
+    let P = IsLineOf c.args.image.now c.args.layout.now in
+    let n = c.args.number in
+    let free = c.push_free.new.faults.items in
+    let places = c.push_places.new.faults.items in
+    let end = c.push_names.new.faults.items in
+    let last = c.in_ok-push_names.ensures.adds in
+    let later = adds_more P free places end c.in_ok-push_places.ensures.adds last in
+    record {
+      free = λ b t. told_still P free end (Plain (MarkedFree n b)) later (c.in_ok-push_free.ensures.free b t);
+      places = λ k t. told_still P places end (Index (HeldPlace k n)) last (c.in_ok-push_places.ensures.places k t);
+      names = c.in_ok-push_names.ensures.names;
+    }

@@ -11,3 +11,6 @@ returns-in-Ok-clause-layout c = (c.in-Ok.ensures.ok.layout, none_to_tell c.args.
 
 pub all_faults-requires : goal.all_faults-requires
 all_faults-requires c = c.in-Err.ensures.err c.if-is_memory.ensures
+
+pub returns-in-Ok-clause-answer : goal.returns-in-Ok-clause-answer
+returns-in-Ok-clause-answer c = (tt, IsSound-by c.args.image.now c.in-Ok.layout (sound_by c.args.image.now c.in-Ok.layout c.in-Ok.ensures.ok))

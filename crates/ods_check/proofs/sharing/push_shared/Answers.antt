@@ -1,5 +1,5 @@
-use Rattle.std.proofs.Common.{ℕ, ◌*◌, ◌<◌, ◌≤◌, length, sym, ap, subst, arith}
-use Rattle.ods_mount.specs.Faults.{IsTrueOf}
+use Rattle.std.proofs.Common.{ℕ, ◌*◌, ◌≤◌, length, sym, ap, subst, arith}
+use Rattle.ods_check.specs.Lines.{IsLineOf}
 use Rattle.ods_mount.proofs.Holders.{file_small}
 use Rattle.ods_check.specs.Faults.{TellsPair}
 use Rattle.ods_check.specs.Findings.{HasBlock}
@@ -15,7 +15,7 @@ loop-number-init c =
     let room = c.in_ok-held.ensures.room in
     let size = c.len.ensures.value in
     record {
-      told = sweeps_none (IsTrueOf I L) (λ n found. (m : ℕ) → m < n → TellsPair I L found m n) c.args.faults.now.items;
+      told = sweeps_none (IsLineOf I L) (λ n found. (m : ℕ) → m ≤ n → TellsPair I L found m n) c.args.faults.now.items;
       files = files_none (HasBlock I L) c.in_ok-held.held c.in_ok-held.ensures.empty;
       room = omega arith;
     }
@@ -29,15 +29,15 @@ loop-number-preserved c =
     let e = c.in_ok-push_shared_of.ensures in
     let P : ℕ → Type 0 = λ l. length I ≤ 64 * l in
     record {
-      told = sweeps_more (IsTrueOf I L) (λ n found. (m : ℕ) → m < n → TellsPair I L found m n) c.args.faults.now.items mid new c.loop-number.number
-          (λ n t m low. told_pair_still I L (IsTrueOf I L) mid new e.adds m n (t m low)) c.loop-number.invariant.told e.adds e.told;
+      told = sweeps_more (IsLineOf I L) (λ n found. (m : ℕ) → m ≤ n → TellsPair I L found m n) c.args.faults.now.items mid new c.loop-number.number
+          (λ n t m low. told_pair_still I L (IsLineOf I L) mid new e.adds m n (t m low)) c.loop-number.invariant.told e.adds e.told;
       files = e.held;
       room = subst P (sym e.room) c.loop-number.invariant.room;
     }
 
 pub returns-clause-all : goal.returns-clause-all
-returns-clause-all c m n low b h k =
+returns-clause-all c m n low b share =
     let end = c.loop-number-test.false in
     let last = ap (λ x. x.max_files) c.home.ensures in
-    let small = file_small c.args.image.now c.args.layout.now n k.1.file.file in
-    c.loop-number.invariant.told.told n (omega arith) m low b h k
+    let small = file_small c.args.image.now c.args.layout.now n share.3.file.file in
+    c.loop-number.invariant.told.told n (omega arith) m low b share

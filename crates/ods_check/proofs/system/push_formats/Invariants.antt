@@ -2,11 +2,13 @@ use Rattle.std.proofs.Common.{ℕ, ◌≤◌}
 use Rattle.std.specs.List.{Contains}
 use Rattle.ods_mount.specs.declared.fault.MountFault.TheVariants.{UnsupportedMap}
 use Rattle.ods_mount.specs.Faults.{IsTrueOf}
+use Rattle.ods_check.specs.declared.fault_line.FaultLine.TheVariants.{Plain}
+use Rattle.ods_check.specs.Lines.{IsLineOf}
 use Rattle.ods_check.specs.Lists.{Adds}
 use Rattle.ods_check.proofs.system.push_formats.Given as goal
 
 abbrev pub invariant-loop-k : goal.invariant-loop-k
 invariant-loop-k l = record {
-  adds : Adds (IsTrueOf l.image l.layout) l.initial.faults.items l.faults.items;
-  all : (n : ℕ) → n ≤ l.k → IsTrueOf l.image l.layout (UnsupportedMap n) → Contains l.faults.items (UnsupportedMap n);
+  adds : Adds (IsLineOf l.image l.layout) l.initial.faults.items l.faults.items;
+  all : (n : ℕ) → n ≤ l.k → IsTrueOf l.image l.layout (UnsupportedMap n) → Contains l.faults.items (Plain (UnsupportedMap n));
 }

@@ -1,0 +1,14 @@
+use Rattle.std.specs.List.{Contains}
+use Rattle.ods_mount.proofs.Each.{EachBefore}
+use Rattle.ods_check.specs.declared.fault_line.FaultLine.TheVariants.{Index}
+use Rattle.ods_check.specs.declared.fault_line.IndexFault.TheVariants.{HeldPlace}
+use Rattle.ods_check.specs.Lists.{Adds}
+use Rattle.ods_check.specs.Lines.{IsLineOf}
+use Rattle.ods_check.proofs.HeldPlaces.{IsLoose}
+use Rattle.ods_check.proofs.chains.push_places.Given as goal
+
+abbrev pub invariant-loop-i : goal.invariant-loop-i
+invariant-loop-i l = record {
+  adds : Adds (IsLineOf l.image l.layout) l.initial.faults.items l.faults.items;
+  told : EachBefore (λ j b. IsLoose l.home_lbn l.number j b → Contains l.faults.items (Index (HeldPlace b l.number))) l.lbns l.i;
+}

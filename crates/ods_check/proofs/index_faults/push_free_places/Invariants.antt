@@ -1,0 +1,12 @@
+use Rattle.std.specs.List.{Contains}
+use Rattle.std.specs.Prelude.{IsTrue}
+use Rattle.ods_header.specs.Home.{IsHomePlace}
+use Rattle.ods_space.specs.Free.{is_free_block}
+use Rattle.ods_check.specs.declared.fault_line.FaultLine.TheVariants.{Index}
+use Rattle.ods_check.specs.declared.fault_line.IndexFault.TheVariants.{FreePlace}
+use Rattle.ods_check.specs.Lines.{IsLineOf}
+use Rattle.ods_check.proofs.Sweeping.{Sweeps}
+use Rattle.ods_check.proofs.index_faults.push_free_places.Given as goal
+
+abbrev pub invariant-loop-lbn : goal.invariant-loop-lbn
+invariant-loop-lbn l = Sweeps (IsLineOf l.image l.layout) (λ k found. (IsHomePlace k × IsTrue (is_free_block l.image l.layout k)) → Contains found (Index (FreePlace k))) l.initial.faults.items l.faults.items l.lbn

@@ -1,0 +1,14 @@
+use Rattle.std.proofs.Common.{◌*◌, ◌≤◌, length}
+use Rattle.ods_check.specs.Sets.{IsSetOf}
+use Rattle.ods_check.specs.Findings.{HasAsHeader}
+use Rattle.ods_check.specs.Marks.{IsOfTwo}
+use Rattle.ods_check.proofs.Noting.{IsOfFiles}
+use Rattle.ods_check.proofs.shared_headers.shared_headers.Given as goal
+
+abbrev pub invariant-loop-number : goal.invariant-loop-number
+invariant-loop-number l = record {
+  files : IsOfFiles (HasAsHeader l.image l.layout) l.number l.once;
+  two : IsSetOf (IsOfTwo l.image l.layout l.number) l.twice;
+  room : 65536 ≤ 64 * length l.once;
+  same : 65536 ≤ 64 * length l.twice;
+}

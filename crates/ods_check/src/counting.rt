@@ -1,0 +1,45 @@
+//! How many numbers of a list are in a set, each counted once.
+ghost use Rattle.std.specs.Prelude.{◌≡◌, ◌^◌, ◌<◌, ◌≤◌, ◌⊎◌, ℕ, List, length, slice_index, IfOk};
+ghost use Rattle.std.specs.List.{All};
+ghost use Rattle.ods_check.specs.Marks.{AreBoth, IsCounted};
+
+use ods_mount::NumberSet;
+use std::alloc::{AllocError, Global};
+
+/// A zero for each block of an image that has `len`.
+pub(crate) fn new_counted(alloc: Global, len: u32) -> Result<Vec<u32>, AllocError>
+    ensures size { IfOk result (λ counted. length counted.items ≡ len) }
+    ensures zeros { IfOk result (λ counted. (i : ℕ) → slice_index counted.items i ≡ 0) }
+{
+    let counted = vec![in alloc; 0; len as usize]?;
+    Ok(counted)
+}
+
+/// How many of these numbers are in the set, each counted once. At the place of each that is counted `counted` gets `stamp`, which
+/// it has nowhere before.
+pub(crate) fn count_of(numbers: &[u32], set: &NumberSet, counted: &mut [u32], stamp: u32) -> u32
+    requires few { length numbers.now < 2 ^ 32 }
+    requires inside { All (λ b. b < length counted.old) numbers.now }
+    requires counted { (i : ℕ) → slice_index counted.old i < stamp }
+    ensures count { (ys : List ℕ) × (result ≡ length ys) × AreBoth numbers.now set.now ys }
+    ensures size { length counted.new ≡ length counted.old }
+    ensures counted { (i : ℕ) → slice_index counted.new i ≤ stamp }
+{
+    let mut count = 0;
+    for i in 0..numbers.len() {
+        count += count_one(numbers[i], set, counted, stamp);
+    }
+    count
+}
+
+/// One, where the number is in the set and not counted yet, else none.
+fn count_one(number: u32, set: &NumberSet, counted: &mut [u32], stamp: u32) -> u32
+    requires { number < length counted.old }
+    ensures { IsCounted set.now number stamp counted.old result counted.new }
+{
+    if !set.contains(number) || counted[number as usize] == stamp {
+        return 0;
+    }
+    counted[number as usize] = stamp;
+    1
+}
