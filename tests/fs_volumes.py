@@ -1,5 +1,5 @@
 """The volumes that tests/fs runs the program on, and what is spoiled in some of them."""
-from fs_image import BLOCK, ZEROS, Volume, attributes, changed, sequenced, variable
+from fs_image import BLOCK, INDEX_BLOCKS, ZEROS, Volume, attributes, changed, sequenced, variable
 
 TASK = bytes(i % 251 for i in range(700))
 SPOILT = variable(b"good") + b"\x32\x00short"
@@ -68,6 +68,19 @@ def images():
     }
 
 
+def shut_volume():
+    """A volume with a directory that the world may not read, and one below that which it may."""
+    it, shut = Volume(), {"owner": 0o200 << 8 | 0o40, "rights": 0xFE80}
+    it.directory(4, "000000.DIR;1", ("OPEN.DIR;1", 6, 1), ("SHUT.DIR;1", 7, 1))
+    it.directory(6, "OPEN.DIR;1", ("A.TXT;1", 9, 1))
+    it.directory(7, "SHUT.DIR;1", ("B.TXT;1", 10, 1), ("BELOW.DIR;1", 8, 1), **shut)
+    it.directory(8, "BELOW.DIR;1", ("C.TXT;1", 11, 1))
+    it.file(9, "A.TXT;1", variable(b"a"))
+    it.file(10, "B.TXT;1", variable(b"b"))
+    it.file(11, "C.TXT;1", variable(b"c"))
+    return it
+
+
 def names_volume():
     """A volume whose names stand in another order than they are listed, in two blocks."""
     it = Volume()
@@ -83,6 +96,52 @@ def ring_volume():
     it.directory(7, "B.DIR;1", ("A.DIR;1", 6, 1), ("Y.TXT;1", 9, 1))
     it.file(9, "X.TXT;1", variable(b"x"))
     return it
+
+
+def index_volume(places, free=(), blocks=80):
+    """A volume with these blocks of INDEXF.SYS; `free` are those that are not its own any more."""
+    it = Volume(blocks)
+    it.directory(4, "000000.DIR;1", ("000000.DIR;1", 4, 4), ("NOTES.TXT;1", 9, 1))
+    it.file(9, "NOTES.TXT;1", variable(b"first"), control=2, size=5)
+    it.file(1, "INDEXF.SYS;1", places=places, kind=1, data=None)
+    for lbn in free:
+        it.is_held[lbn] = False
+    return it
+
+
+def late_volume():
+    """The same with its home block in block 256, and zeros in block 1, the place below it."""
+    it = index_volume([0, 256, *range(2, INDEX_BLOCKS)], [1], 300)
+    it.put(256, it.image[BLOCK : 2 * BLOCK])
+    it.put(1, bytes(BLOCK))
+    return it
+
+
+def spoiled_images():
+    """Images whose files share blocks and headers, and whose index is bad."""
+    pairs, twice, shared, answer, held = plain_volume(), plain_volume(), plain_volume(), plain_volume(), late_volume()
+    pairs.file(13, "COPY.TSK;1", TASK, kind=1, size=512, places=[50, 49])  # the blocks of TASK.TSK, file 12, turned round
+    twice.file(12, "TASK.TSK;3", TASK, kind=1, size=512, places=[49, 49])
+    twice.is_held[50] = False
+    shared.file(27, "NOTES.TXT;1")
+    shared = changed(shared.bytes(), 2 + 27, 92, b"\1")
+    for number in (9, 10):  # header 27 is the second of both
+        shared = changed(shared, 2 + number, 94, b"\x1b\0\1\0")
+    answer.file(10, "OTHER.TXT;1", variable(b"other"), places=[47])
+    answer.is_held[48] = False
+    held.file(9, "NOTES.TXT;1", variable(b"first"), control=2, size=5, places=[1])
+    held.is_held[46] = False
+    # VBN 3 is the index bitmap, block 2, and header n has VBN n + 3 and block n + 2.
+    rest = {
+        "misplaced": index_volume([0, 1, 2, 3, 60, *range(5, INDEX_BLOCKS)], [4]),
+        "otherhome": index_volume([0, 60, *range(2, INDEX_BLOCKS), 1]),
+        "short": index_volume(range(18), range(18, INDEX_BLOCKS)),
+        "lowfree": late_volume(),
+        "lowheld": held,
+        "pairs": pairs,
+        "twice_held": twice,
+    }
+    return {**{it: volume.bytes() for it, volume in rest.items()}, "shared": shared, "answer": answer.bytes(free=[50])}
 
 
 def more_images():
@@ -109,4 +168,4 @@ def more_images():
     long = changed(changed(long.bytes(), 2 + 9, 94, b"\x1b\0\1\0"), 2 + 27, 92, b"\1")
     bits = [changed(plain, 2, 0, bytes([plain[2 * BLOCK] & ~(1 << bit)]), has_sum=False) for bit in (0, 1, 3)]
     rest = {"noindex": bits[0], "nomap": bits[1], "nomaster": bits[2], "badentry": changed(plain, 46, 14, b"\0", has_sum=False), "outside": changed(plain, 2 + 9, 104, b"\xc8\0")}
-    return {**rest, "later": changed(later.bytes(), 2 + 26, 92, b"\1"), "doubly": doubly.bytes(), "long": long, "ring": ring_volume().bytes(), "names": names_volume().bytes(), "few": few.bytes(), "stale": stale, "twonames": same.bytes(), "broken": changed(plain, 2 + 9, 94, b"\x1e\0\1\0")}
+    return {**rest, "later": changed(later.bytes(), 2 + 26, 92, b"\1"), "doubly": doubly.bytes(), "long": long, "ring": ring_volume().bytes(), "shut": shut_volume().bytes(), "names": names_volume().bytes(), "few": few.bytes(), "stale": stale, "twonames": same.bytes(), "broken": changed(plain, 2 + 9, 94, b"\x1e\0\1\0")}

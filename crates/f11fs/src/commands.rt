@@ -2,6 +2,7 @@
 use crate::checking::check;
 use crate::comparing::compare_all;
 use crate::getting::get;
+use crate::progress::Progress;
 use crate::rescuing::rescue;
 use crate::volume::{VolumeFault, open_volume};
 use crate::words::{Action, Words};
@@ -10,14 +11,40 @@ use ods_mount::Mounted;
 use ods_paths::{Folder, Path, Place, Versions, parse_path};
 use ods_request::{Right, permits};
 use ods_shell::{
-    Columns, Facts, Finding, FormFault, PathFault, Status, Target, Wanted, find_files, find_lines,
-    largest_lines, lost_lines, ls_lines, ls_objects, open_contents, space_lines, space_object,
-    space_of, stat_lines, stat_object, targets, unreached_lines, usage_lines,
+    Columns, Directory, Facts, Finding, FormFault, Kind, PathFault, Status, Target, Wanted,
+    facts_of, find_lines, find_open, largest_lines, lost_lines, ls_lines, ls_objects,
+    open_contents, open_targets, push_directory, space_lines, space_object, space_of, stat_lines,
+    stat_object, unreached_lines, usage_lines,
 };
-use ods_space::chain;
+use ods_space::{chain, last_number};
 use std::alloc::AllocError;
 use std::io;
 use std::rt::Files;
+use std::time::Clock;
+
+/// Who reads, and whether remarks that are no faults are left out.
+#[derive(Clone, Copy)]
+pub struct Reader {
+    pub user: Option<Uic>,
+    pub quiet: bool,
+}
+
+impl Reader {
+    /// The one that the words say.
+    pub fn of(words: &Words<'_>) -> Reader {
+        Reader {
+            user: words.user,
+            quiet: words.quiet,
+        }
+    }
+}
+
+/// Which streams are terminals, where people see what is written.
+#[derive(Clone, Copy)]
+pub struct Seen {
+    pub errors: bool,
+    pub output: bool,
+}
 
 /// Why a command does not go on: the word that it is about, and the fault. Its line is still to be written.
 #[derive(Clone, Copy)]
@@ -42,25 +69,39 @@ impl<'a> From<AllocError> for Stop<'a> {
 }
 
 /// Does what the words ask for.
-pub fn run_command<R: Files + AllocGlobal + Print + Eprint>(rt: &R, words: &Words<'_>) -> Status {
+pub fn run_command<R: Files + Clock + AllocGlobal + Print + Eprint>(
+    rt: &R,
+    words: &Words<'_>,
+    seen: Seen,
+) -> Status {
+    let mut progress = Progress::begin(rt, shows_progress(words, seen));
     let done = match words.action {
         Action::Check { all } => check(rt, words.image, all, words.json),
-        Action::Rescue { text } => rescue(rt, words.image, &words.paths, text),
-        _ => on_volume(rt, words),
+        Action::Rescue { text } => rescue(rt, words, text, &mut progress),
+        _ => on_volume(rt, words, &mut progress),
     };
+    progress.end(rt);
     match done {
         Ok(status) => status,
         Err(stop) => stopped(rt, stop),
     }
 }
 
+/// Whether progress is shown: people see standard error, and the words do not ask for quiet. The names that a rescue prints are its
+/// progress where people see these.
+fn shows_progress(words: &Words<'_>, seen: Seen) -> bool {
+    let prints = matches!(words.action, Action::Rescue { .. });
+    seen.errors && !words.quiet && !(prints && seen.output)
+}
+
 /// Does what the words ask for on a sound volume.
-fn on_volume<'a, R: Files + AllocGlobal + Print + Eprint>(
+fn on_volume<'a, R: Files + Clock + AllocGlobal + Print + Eprint>(
     rt: &R,
     words: &Words<'a>,
+    progress: &mut Progress,
 ) -> Result<Status, Stop<'a>> {
     let volume = volume_at(rt, words.image)?;
-    obey(rt, &volume, words)
+    obey(rt, &volume, words, progress)
 }
 
 /// The volume of the image at this path; that an image is refused is said.
@@ -101,17 +142,18 @@ fn stopped<R: Eprint>(rt: &R, stop: Stop<'_>) -> Status {
 }
 
 /// Does what a command asks for on a volume.
-fn obey<'a, R: Files + AllocGlobal + Print + Eprint>(
+fn obey<'a, R: Files + Clock + AllocGlobal + Print + Eprint>(
     rt: &R,
     volume: &Mounted,
     words: &Words<'a>,
+    progress: &mut Progress,
 ) -> Result<Status, Stop<'a>> {
     match words.action {
         Action::Ls { columns, below } => ls(rt, volume, words, columns, below),
         Action::Find { lost } => find(rt, volume, words, lost),
         Action::Stat => stat(rt, volume, words),
-        Action::Cat(wanted) => cat(rt, volume, &words.paths, wanted, words.user),
-        Action::Get { wanted, target } => { get(rt, volume, words, target, wanted) }
+        Action::Cat(wanted) => cat(rt, volume, words, wanted),
+        Action::Get { wanted, target } => get(rt, volume, words, target, wanted, progress),
         Action::Df => {
             let space = space_of(volume);
             let text = if words.json {
@@ -122,7 +164,7 @@ fn obey<'a, R: Files + AllocGlobal + Print + Eprint>(
             send(rt, text.as_str())
         }
         Action::Du { top } => du(rt, volume, top, words.json),
-        Action::Cmp { all } => compare_all(rt, volume, words, all),
+        Action::Cmp { all } => compare_all(rt, volume, words, all, progress),
         Action::Check { .. } | Action::Rescue { .. } => Ok(Status::Done),
     }
 }
@@ -136,7 +178,7 @@ pub fn send<'a, R: Print>(rt: &R, text: &str) -> Result<Status, Stop<'a>> {
 }
 
 /// `ls`.
-fn ls<'a, R: AllocGlobal + Print>(
+fn ls<'a, R: AllocGlobal + Print + Eprint>(
     rt: &R,
     volume: &Mounted,
     words: &Words<'a>,
@@ -144,68 +186,171 @@ fn ls<'a, R: AllocGlobal + Print>(
     below: bool,
 ) -> Result<Status, Stop<'a>> {
     if words.paths.is_empty() {
-        return ls_path(rt, volume, "/", columns, below, words.json);
+        return ls_path(rt, volume, "/", columns, below, words);
     }
     for path in &words.paths {
-        ls_path(rt, volume, *path, columns, below, words.json)?;
+        ls_path(rt, volume, *path, columns, below, words)?;
     }
     Ok(Status::Done)
 }
 
 /// `ls` of one path.
-fn ls_path<'a, R: AllocGlobal + Print>(
+fn ls_path<'a, R: AllocGlobal + Print + Eprint>(
     rt: &R,
     volume: &Mounted,
     path: &'a str,
     columns: Columns,
     below: bool,
-    json: bool,
+    words: &Words<'_>,
 ) -> Result<Status, Stop<'a>> {
     match parse_path(path.as_bytes()) {
         Ok(Path::Within(folder, files)) => {
             let mut folder = folder;
             folder.below = folder.below || below;
-            let found = find_files(rt.alloc(), volume, &folder, &files, Versions::Every)?;
-            if found.directories.is_empty() || files.is_some() && found.lines.is_empty() {
+            let closed = closed_to(rt, volume, words.user)?;
+            let found = find_open(
+                rt.alloc(),
+                volume,
+                &folder,
+                &files,
+                Versions::Every,
+                &closed,
+            )?;
+            if is_nothing(&found, files.is_some()) {
                 return Err(Stop::Path(path, PathFault::Nothing));
             }
             let mut columns = columns;
             columns.headings = columns.headings || found.directories.len() > 1;
             columns.empty = files.is_none();
-            let text = if json {
+            let text = if words.json {
                 ls_objects(rt.alloc(), volume, &found)?
             } else {
                 ls_lines(rt.alloc(), volume, &found, columns)?
             };
-            send(rt, text.as_str())
+            if !found.directories.is_empty() {
+                send(rt, text.as_str())?;
+            }
+            stop_at_closed(rt, &found.closed, words.user)
         }
         Ok(Path::File(_)) => Err(Stop::Path(path, PathFault::IsId)),
         Err(bad) => Err(Stop::Path(path, PathFault::Bad(bad))),
     }
 }
 
+/// Whether a path finds nothing: no directory, or none of the files that are said; where a directory is closed something is there.
+fn is_nothing(found: &Finding, says_files: bool) -> bool {
+    found.closed.is_empty()
+        && (found.directories.is_empty() || says_files && found.lines.is_empty())
+}
+
+/// The directories whose names this user may not read; none where no user is said.
+pub fn closed_to<'a, R: AllocGlobal>(
+    rt: &R,
+    volume: &Mounted,
+    user: Option<Uic>,
+) -> Result<Vec<u16>, Stop<'a>> {
+    let mut closed = Vec::new(rt.alloc());
+    let Some(user) = user else {
+        return Ok(closed);
+    };
+    for number in 1..=last_number(volume.layout()) {
+        if is_closed(volume, number, user) && closed.push(number).is_err() {
+            return Err(Stop::NoMemory);
+        }
+    }
+    Ok(closed)
+}
+
+/// Whether the number is that of a directory that this user may not read.
+fn is_closed(volume: &Mounted, number: u16, user: Uic) -> bool {
+    match facts_of(volume, number) {
+        Some(facts) => {
+            facts.kind == Kind::Directory
+                && !permits(&user, &facts.owner, facts.protection, Right::Read)
+        }
+        None => false,
+    }
+}
+
+/// A line for each closed directory.
+pub fn say_closed<'a, R: AllocGlobal + Eprint>(
+    rt: &R,
+    closed: &[Directory],
+    user: Option<Uic>,
+) -> Result<Status, Stop<'a>> {
+    let Some(user) = user else {
+        return Ok(Status::Done);
+    };
+    for directory in closed {
+        let mut name = String::new(rt.alloc());
+        push_directory(&mut name, &directory.names)?;
+        let name = name.as_str();
+        let _ = eprintln!(rt;
+            "f11fs: {name}: denied to [{:o},{:o}]",
+            user.group, user.member
+        );
+    }
+    Ok(if closed.is_empty() {
+        Status::Done
+    } else {
+        Status::Refused
+    })
+}
+
+/// Ends a command that met a closed directory.
+pub fn stop_at_closed<'a, R: AllocGlobal + Eprint>(
+    rt: &R,
+    closed: &[Directory],
+    user: Option<Uic>,
+) -> Result<Status, Stop<'a>> {
+    match say_closed(rt, closed, user)? {
+        Status::Done => Ok(Status::Done),
+        status => Err(Stop::Said(status)),
+    }
+}
+
 /// `find`.
-fn find<'a, R: AllocGlobal + Print>(
+fn find<'a, R: AllocGlobal + Print + Eprint>(
     rt: &R,
     volume: &Mounted,
     words: &Words<'a>,
     lost: bool,
 ) -> Result<Status, Stop<'a>> {
+    let closed = closed_to(rt, volume, words.user)?;
     if lost {
+        stop_at_numbers(rt, &closed, words.user)?;
         let text = lost_lines(rt.alloc(), volume, words.json)?;
         return send(rt, text.as_str());
     }
     if words.paths.is_empty() {
-        let all = find_all(rt, volume)?;
+        let all = find_all(rt, volume, &closed)?;
         send_found(rt, volume, &all, words.json)?;
+        stop_at_closed(rt, &all.closed, words.user)?;
         let text = unreached_lines(rt.alloc(), volume, &all, words.json)?;
         return send(rt, text.as_str());
     }
     for path in &words.paths {
-        let found = found_by(rt, volume, *path)?;
+        let found = found_by(rt, volume, *path, &closed)?;
         send_found(rt, volume, &found, words.json)?;
+        stop_at_closed(rt, &found.closed, words.user)?;
     }
     Ok(Status::Done)
+}
+
+/// Ends a command that needs the names of all directories, where one is closed.
+fn stop_at_numbers<'a, R: Eprint>(
+    rt: &R,
+    closed: &[u16],
+    user: Option<Uic>,
+) -> Result<Status, Stop<'a>> {
+    let (Some(number), Some(user)) = (closed.first(), user) else {
+        return Ok(Status::Done);
+    };
+    let _ = eprintln!(rt;
+        "f11fs: directory {number}: denied to [{:o},{:o}]",
+        user.group, user.member
+    );
+    Err(Stop::Said(Status::Refused))
 }
 
 /// Writes what was found: a line, or an object, for each path.
@@ -223,13 +368,24 @@ fn send_found<'a, R: AllocGlobal + Print>(
     send(rt, text.as_str())
 }
 
-/// All that a walk from the master directory reaches.
-pub fn find_all<'a, R: AllocGlobal>(rt: &R, volume: &Mounted) -> Result<Finding, Stop<'a>> {
+/// All that a walk from the master directory reaches, but for what stands in these directories.
+pub fn find_all<'a, R: AllocGlobal>(
+    rt: &R,
+    volume: &Mounted,
+    closed: &[u16],
+) -> Result<Finding, Stop<'a>> {
     let everywhere = Folder {
         place: Place::Master,
         below: true,
     };
-    Ok(find_files(rt.alloc(), volume, &everywhere, &None, Versions::Every)?)
+    Ok(find_open(
+        rt.alloc(),
+        volume,
+        &everywhere,
+        &None,
+        Versions::Every,
+        closed,
+    )?)
 }
 
 /// What a path finds, with all versions where it says none; a name or a pattern alone is looked for in all directories.
@@ -237,13 +393,14 @@ fn found_by<'a, R: AllocGlobal>(
     rt: &R,
     volume: &Mounted,
     path: &'a str,
+    closed: &[u16],
 ) -> Result<Finding, Stop<'a>> {
     match parse_path(path.as_bytes()) {
         Ok(Path::Within(folder, files)) => {
             let mut folder = folder;
             folder.below = folder.below || names_no_directory(path);
-            let found = find_files(rt.alloc(), volume, &folder, &files, Versions::Every)?;
-            if found.directories.is_empty() || files.is_some() && found.lines.is_empty() {
+            let found = find_open(rt.alloc(), volume, &folder, &files, Versions::Every, closed)?;
+            if is_nothing(&found, files.is_some()) {
                 return Err(Stop::Path(path, PathFault::Nothing));
             }
             Ok(found)
@@ -268,7 +425,7 @@ fn du<'a, R: AllocGlobal + Print>(
     top: Option<u32>,
     json: bool,
 ) -> Result<Status, Stop<'a>> {
-    let all = find_all(rt, volume)?;
+    let all = find_all(rt, volume, &[])?;
     let text = match top {
         Some(most) => largest_lines(rt.alloc(), volume, &all, most as usize, json)?,
         None => usage_lines(rt.alloc(), volume, &all, json)?,
@@ -276,14 +433,15 @@ fn du<'a, R: AllocGlobal + Print>(
     send(rt, text.as_str())
 }
 
-/// The files that a path names.
+/// The files that a path names, and the closed directories on the way.
 pub fn named<'a, R: AllocGlobal>(
     rt: &R,
     volume: &Mounted,
     path: &'a str,
-) -> Result<Vec<Target>, Stop<'a>> {
-    match targets(rt.alloc(), volume, path) {
-        Ok(targets) => Ok(targets),
+    closed: &[u16],
+) -> Result<(Vec<Target>, Vec<Directory>), Stop<'a>> {
+    match open_targets(rt.alloc(), volume, path, closed) {
+        Ok(found) => Ok(found),
         Err(PathFault::NoMemory) => Err(Stop::NoMemory),
         Err(fault) => Err(Stop::Path(path, fault)),
     }
@@ -295,10 +453,13 @@ fn stat<'a, R: AllocGlobal + Print + Eprint>(
     volume: &Mounted,
     words: &Words<'a>,
 ) -> Result<Status, Stop<'a>> {
+    let closed = closed_to(rt, volume, words.user)?;
     for path in &words.paths {
-        for target in &named(rt, volume, *path)? {
+        let (targets, met) = named(rt, volume, *path, &closed)?;
+        for target in &targets {
             stat_file(rt, volume, target, words.json)?;
         }
+        stop_at_closed(rt, &met, words.user)?;
     }
     Ok(Status::Done)
 }
@@ -335,36 +496,38 @@ fn stat_file<'a, R: AllocGlobal + Print + Eprint>(
 fn cat<'a, R: AllocGlobal + Print + Eprint>(
     rt: &R,
     volume: &Mounted,
-    paths: &[&'a str],
+    words: &Words<'a>,
     wanted: Wanted,
-    user: Option<Uic>,
 ) -> Result<Status, Stop<'a>> {
+    let closed = closed_to(rt, volume, words.user)?;
     let mut status = Status::Done;
-    for path in paths {
+    for path in &words.paths {
         let mut targets = Vec::new(rt.alloc());
-        status = status.or(add_named(rt, volume, *path, &mut targets)?);
+        status = status.or(add_named(rt, volume, *path, &closed, words.user, &mut targets)?);
         for target in &targets {
-            status = status.or(cat_file(rt, volume, target, wanted, user)?);
+            status = status.or(cat_file(rt, volume, target, wanted, Reader::of(words))?);
         }
     }
     Ok(status)
 }
 
-/// Adds the files that a path names; a path that names none is said, and no fault of the command.
+/// Adds the files that a path names; a path that names none and a closed directory are said, and no fault of the command.
 pub fn add_named<'a, R: AllocGlobal + Eprint>(
     rt: &R,
     volume: &Mounted,
     path: &str,
+    closed: &[u16],
+    user: Option<Uic>,
     all: &mut Vec<Target>,
 ) -> Result<Status, Stop<'a>> {
-    match targets(rt.alloc(), volume, path) {
-        Ok(found) => {
+    match open_targets(rt.alloc(), volume, path, closed) {
+        Ok((found, met)) => {
             for target in found {
                 if all.push(target).is_err() {
                     return Err(Stop::NoMemory);
                 }
             }
-            Ok(Status::Done)
+            say_closed(rt, &met, user)
         }
         Err(PathFault::NoMemory) => Err(Stop::NoMemory),
         Err(fault) => {
@@ -380,10 +543,10 @@ pub fn cat_file<'a, R: AllocGlobal + Print + Eprint>(
     volume: &Mounted,
     target: &Target,
     wanted: Wanted,
-    user: Option<Uic>,
+    reader: Reader,
 ) -> Result<Status, Stop<'a>> {
     let path = target.path.as_str();
-    let Some(facts) = readable(rt, target, user) else {
+    let Some(facts) = readable(rt, target, reader) else {
         return Ok(Status::Refused);
     };
     match open_contents(rt.alloc(), volume, facts.file.number, wanted) {
@@ -395,26 +558,34 @@ pub fn cat_file<'a, R: AllocGlobal + Print + Eprint>(
     }
 }
 
-/// What is known of a file that this user may read. That it is no file, may not be read, or does not say where it ends, is said.
-pub fn readable<'a, R: Eprint>(rt: &R, target: &'a Target, user: Option<Uic>) -> Option<&'a Facts> {
+/// What is known of a file that may be read. That it is no file, may not be read, or does not say where it ends, is said.
+pub fn readable<'a, R: Eprint>(rt: &R, target: &'a Target, reader: Reader) -> Option<&'a Facts> {
     let path = target.path.as_str();
     let Some(facts) = &target.facts else {
         let _ = eprintln!(rt; "f11fs: {path}: no such file");
         return None;
     };
-    if let Some(user) = user {
+    if !may_read(rt, path, facts, reader) {
+        return None;
+    }
+    if facts.has_no_attributes() && !reader.quiet {
+        let _ = eprintln!(rt; "f11fs: {path}: nothing says where it ends, so all blocks are got");
+    }
+    Some(facts)
+}
+
+/// Whether a file may be read. That it may not is said.
+pub fn may_read<R: Eprint>(rt: &R, path: &str, facts: &Facts, reader: Reader) -> bool {
+    if let Some(user) = reader.user {
         if !permits(&user, &facts.owner, facts.protection, Right::Read) {
             let _ = eprintln!(rt;
                 "f11fs: {path}: denied to [{:o},{:o}]",
                 user.group, user.member
             );
-            return None;
+            return false;
         }
     }
-    if facts.has_no_attributes() {
-        let _ = eprintln!(rt; "f11fs: {path}: nothing says where it ends, so all blocks are got");
-    }
-    Some(facts)
+    true
 }
 
 /// A file of which nothing is got out: its line, and how the command goes on.

@@ -1,5 +1,8 @@
 //! `cmp`: which files of two images differ.
-use crate::commands::{Stop, find_all, send, volume_at};
+use crate::commands::{
+    Reader, Stop, closed_to, find_all, may_read, send, stop_at_closed, volume_at,
+};
+use crate::progress::Progress;
 use crate::words::Words;
 use ods_base::FileId;
 use ods_mount::Mounted;
@@ -9,6 +12,7 @@ use ods_shell::{
 use std::alloc::{AllocError, Global};
 use std::cmp::Ordering;
 use std::rt::Files;
+use std::time::Clock;
 
 /// A path of a volume, and the ID of its file.
 #[derive(Drop)]
@@ -18,24 +22,26 @@ struct Known {
 }
 
 /// `cmp` with the image at the first path.
-pub fn compare_all<'a, R: Files + AllocGlobal + Print + Eprint>(
+pub fn compare_all<'a, R: Files + Clock + AllocGlobal + Print + Eprint>(
     rt: &R,
     volume: &Mounted,
     words: &Words<'a>,
     all: bool,
+    progress: &mut Progress,
 ) -> Result<Status, Stop<'a>> {
     let Some(path) = words.paths.first() else {
         return Ok(Status::Words);
     };
     let other = volume_at(rt, *path)?;
-    let ours = all_known(rt, volume)?;
-    let theirs = all_known(rt, &other)?;
+    let ours = all_known(rt, volume, words)?;
+    let theirs = all_known(rt, &other, words)?;
     let mut text = String::new(rt.alloc());
-    for one in &ours {
+    for (done, one) in ours.iter().enumerate() {
+        progress.show(rt, done as u64, ours.len() as u64);
         match place_of(&theirs, one.path.as_str()) {
             Some(place) => {
                 if let Some(found) = theirs.get(place) {
-                    push_difference(rt, volume, one, &other, found.file, all, &mut text)?;
+                    push_difference(rt, volume, one, &other, found.file, words, all, &mut text)?;
                 }
             }
             None => writeln!(text, "{}: only in the first image", one.path.as_str())?,
@@ -68,8 +74,14 @@ fn objects(alloc: Global, text: &str) -> Result<String, AllocError> {
 }
 
 /// All paths of a volume, in the order of their bytes.
-fn all_known<'a, R: AllocGlobal>(rt: &R, volume: &Mounted) -> Result<Vec<Known>, Stop<'a>> {
-    let found = find_all(rt, volume)?;
+fn all_known<'a, R: AllocGlobal + Eprint>(
+    rt: &R,
+    volume: &Mounted,
+    words: &Words<'_>,
+) -> Result<Vec<Known>, Stop<'a>> {
+    let closed = closed_to(rt, volume, words.user)?;
+    let found = find_all(rt, volume, &closed)?;
+    stop_at_closed(rt, &found.closed, words.user)?;
     let mut all = Vec::new(rt.alloc());
     for line in &found.lines {
         let mut path = String::new(rt.alloc());
@@ -99,12 +111,13 @@ fn place_of(all: &[Known], path: &str) -> Option<usize> {
 }
 
 /// Appends a line where two files differ. Directories differ by their names alone, and files 1 and 2 are not looked at.
-fn push_difference<'a, R: AllocGlobal>(
+fn push_difference<'a, R: AllocGlobal + Eprint>(
     rt: &R,
     volume: &Mounted,
     one: &Known,
     other: &Mounted,
     file: FileId,
+    words: &Words<'_>,
     all: bool,
     text: &mut String,
 ) -> Result<(), Stop<'a>> {
@@ -114,7 +127,13 @@ fn push_difference<'a, R: AllocGlobal>(
     }
     let word = match (facts_by_id(volume, one.file), facts_by_id(other, file)) {
         (None, None) => None,
-        (Some(facts), Some(others)) => difference(rt, volume, &facts, other, &others)?,
+        (Some(facts), Some(others)) => {
+            let reader = Reader::of(words);
+            if !may_read(rt, path, &facts, reader) || !may_read(rt, path, &others, reader) {
+                return Err(Stop::Said(Status::Refused));
+            }
+            difference(rt, volume, &facts, other, &others)?
+        }
         _ => Some("only one names a file"),
     };
     if let Some(word) = word {

@@ -1,7 +1,7 @@
 //! `get`: files of a volume, written to files of the host.
-use crate::commands::{Stop, add_named, cat_file, readable, refused};
+use crate::commands::{Reader, Stop, add_named, cat_file, closed_to, readable, refused};
+use crate::progress::Progress;
 use crate::words::Words;
-use ods_base::Uic;
 use ods_mount::Mounted;
 use ods_shell::{Contents, Status, Target, Versioned, Wanted, open_contents};
 use std::alloc::AllocError;
@@ -10,6 +10,7 @@ use std::fs::OpenOptions;
 use std::io::ErrorKind;
 use std::os::unix::fs::MetadataExt;
 use std::rt::Files;
+use std::time::Clock;
 
 /// Where files are written to.
 #[derive(Clone, Copy, PartialEq, Eq)]
@@ -30,16 +31,17 @@ struct How<'a> {
     wanted: Wanted,
     with_versions: bool,
     force: bool,
-    user: Option<Uic>,
+    reader: Reader,
 }
 
 /// `get`: the files that the paths name, to a target; where none is said the last word is it, of two or more.
-pub fn get<'a, R: Files + AllocGlobal + Print + Eprint>(
+pub fn get<'a, R: Files + Clock + AllocGlobal + Print + Eprint>(
     rt: &R,
     volume: &Mounted,
     words: &Words<'a>,
     target: Option<&'a str>,
     wanted: Wanted,
+    progress: &mut Progress,
 ) -> Result<Status, Stop<'a>> {
     let (paths, target) = match target {
         Some(target) => (words.paths.as_slice(), Some(target)),
@@ -57,21 +59,22 @@ pub fn get<'a, R: Files + AllocGlobal + Print + Eprint>(
             Place::File(target)
         }
     };
+    let closed = closed_to(rt, volume, words.user)?;
     let mut status = Status::Done;
     let mut all = Vec::new(rt.alloc());
     let mut with_versions = false;
     for path in paths {
         with_versions = with_versions || path.ends_with(";*") || path.ends_with(":*");
-        status = status.or(add_named(rt, volume, *path, &mut all)?);
+        status = status.or(add_named(rt, volume, *path, &closed, words.user, &mut all)?);
     }
     let how = How {
         image: words.image,
         wanted,
         with_versions,
         force: words.force,
-        user: words.user,
+        reader: Reader::of(words),
     };
-    Ok(status.or(get_all(rt, volume, &all, place, how)?))
+    Ok(status.or(get_all(rt, volume, &all, place, how, progress)?))
 }
 
 /// The words but for the last one, which is the target, where there are two or more.
@@ -91,12 +94,13 @@ fn is_folder<R: Files>(rt: &R, path: &str) -> bool {
 }
 
 /// Gets these files.
-fn get_all<'a, R: Files + AllocGlobal + Print + Eprint>(
+fn get_all<'a, R: Files + Clock + AllocGlobal + Print + Eprint>(
     rt: &R,
     volume: &Mounted,
     targets: &[Target],
     place: Place<'_>,
     how: How<'_>,
+    progress: &mut Progress,
 ) -> Result<Status, Stop<'a>> {
     if let Place::File(path) = place {
         if targets.len() > 1 {
@@ -107,9 +111,9 @@ fn get_all<'a, R: Files + AllocGlobal + Print + Eprint>(
     let versions = Versioned::of(rt.alloc(), targets)?;
     let mut written = Vec::new(rt.alloc());
     let mut status = Status::Done;
-    for target in targets {
+    for (before, target) in targets.iter().enumerate() {
         let done = match place {
-            Place::Output => cat_file(rt, volume, target, how.wanted, how.user)?,
+            Place::Output => cat_file(rt, volume, target, how.wanted, how.reader)?,
             Place::File(path) => get_file(rt, volume, target, path, how)?,
             Place::Folder(folder) => {
                 let with_version = how.with_versions || versions.has_other(target);
@@ -118,6 +122,9 @@ fn get_all<'a, R: Files + AllocGlobal + Print + Eprint>(
             }
         };
         status = status.or(done);
+        if place != Place::Output {
+            progress.show(rt, before as u64, targets.len() as u64);
+        }
     }
     Ok(status)
 }
@@ -160,19 +167,25 @@ fn get_file<'a, R: Files + AllocGlobal + Eprint>(
     how: How<'_>,
 ) -> Result<Status, Stop<'a>> {
     let path = target.path.as_str();
-    let Some(facts) = readable(rt, target, how.user) else {
+    let Some(facts) = readable(rt, target, how.reader) else {
         return Ok(Status::Refused);
     };
     match open_contents(rt.alloc(), volume, facts.file.number, how.wanted) {
         Ok(contents) => {
-            if is_same_file(rt, host, how.image) {
-                let _ = eprintln!(rt; "f11fs: {path}: {host} is the image");
-                return Ok(Status::Host);
+            // Without --force nothing that is there is written onto.
+            if how.force && is_same_file(rt, host, how.image) {
+                return Ok(is_image(rt, path, host));
             }
-            Ok(write_host(rt, path, &contents, host, how.force))
+            Ok(write_host(rt, path, &contents, host, how))
         }
         Err(fault) => refused(rt, path, fault),
     }
+}
+
+/// The line where a file would be written onto the image.
+fn is_image<R: Eprint>(rt: &R, path: &str, host: &str) -> Status {
+    let _ = eprintln!(rt; "f11fs: {path}: {host} is the image");
+    Status::Host
 }
 
 /// Whether both paths lead to one file of the host.
@@ -189,11 +202,11 @@ fn write_host<R: Files + Eprint>(
     path: &str,
     contents: &Contents<'_>,
     host: &str,
-    force: bool,
+    how: How<'_>,
 ) -> Status {
     let mut options = OpenOptions::new();
     options.write(true);
-    if force {
+    if how.force {
         options.create(true).truncate(true);
     } else {
         options.create_new(true);
@@ -201,6 +214,9 @@ fn write_host<R: Files + Eprint>(
     let mut file = match options.open(rt, host) {
         Ok(file) => file,
         Err(error) if error.kind() == ErrorKind::AlreadyExists => {
+            if is_same_file(rt, host, how.image) {
+                return is_image(rt, path, host);
+            }
             let _ = eprintln!(rt; "f11fs: {path}: {host} is there; --force replaces it");
             return Status::Host;
         }

@@ -6,23 +6,33 @@ mod checking;
 mod commands;
 mod comparing;
 mod getting;
+mod progress;
 mod rescuing;
 mod volume;
 mod words;
 
-use commands::run_command;
+use commands::{Seen, run_command};
 use ods_shell::Status;
+use std::io::IsTerminal;
 use std::process::ExitCode;
 use std::rt::{Env, Files};
+use std::time::Clock;
 use std::{env, io};
 use words::{WordsFault, parse_words};
 
 fn main(rt: HostRuntime) -> ExitCode {
-    ExitCode::from(run(&rt).code())
+    ExitCode::from(run(
+        &rt,
+        Seen {
+            errors: rt.stderr().is_terminal(),
+            output: rt.stdout().is_terminal(),
+        },
+    )
+    .code())
 }
 
 /// Does what the words of the command line ask for.
-fn run<R: Env + Files + AllocGlobal + Print + Eprint>(rt: &R) -> Status {
+fn run<R: Env + Files + Clock + AllocGlobal + Print + Eprint>(rt: &R, seen: Seen) -> Status {
     let args = match env::args(rt) {
         Ok(args) => args,
         Err(error) if error.kind() == io::ErrorKind::InvalidData => {
@@ -34,7 +44,7 @@ fn run<R: Env + Files + AllocGlobal + Print + Eprint>(rt: &R) -> Status {
         return no_memory(rt);
     };
     match parse_words(rt.alloc(), words.as_slice()) {
-        Ok(found) => run_command(rt, &found),
+        Ok(found) => run_command(rt, &found, seen),
         Err(WordsFault::Help(text)) => match print!(rt; "{text}") {
             Ok(()) => Status::Done,
             Err(_) => Status::Host,

@@ -2,7 +2,9 @@
 ghost use Rattle.ods_space.specs.Files.{IsLayoutOf};
 
 use crate::commands::Stop;
+use crate::progress::Progress;
 use crate::volume::VolumeFault;
+use crate::words::Words;
 use ods_base::{FileId, Image, ImageError};
 use ods_check::{Finding, check_all, findings};
 use ods_shell::{Contents, Rescued, Status, open_rescued};
@@ -11,6 +13,7 @@ use std::fs;
 use std::fs::OpenOptions;
 use std::io::ErrorKind;
 use std::rt::Files;
+use std::time::Clock;
 
 /// The number from which on files are no reserved ones.
 const FIRST: u16 = 6;
@@ -19,13 +22,14 @@ const FIRST: u16 = 6;
 const BLOCK: usize = 512;
 
 /// `rescue` into the folder of the first word.
-pub fn rescue<'a, R: Files + AllocGlobal + Print + Eprint>(
+pub fn rescue<'a, R: Files + Clock + AllocGlobal + Print + Eprint>(
     rt: &R,
-    path: &'a str,
-    words: &[&'a str],
+    words: &Words<'a>,
     text: bool,
+    progress: &mut Progress,
 ) -> Result<Status, Stop<'a>> {
-    let Some(folder) = words.first() else {
+    let path = words.image;
+    let Some(folder) = words.paths.first() else {
         return Ok(Status::Words);
     };
     let (image, rest) = whole_blocks(rt, path)?;
@@ -40,7 +44,7 @@ pub fn rescue<'a, R: Files + AllocGlobal + Print + Eprint>(
         status = Status::Found;
     }
     let checked = check_all(rt.alloc(), &image)?;
-    if let Some(fault) = checked.faults.first() {
+    if let Some(fault) = &checked.answer {
         say(rt, format!(in rt.alloc(); "{path}: {fault}")?.as_str())?;
     }
     let Some(layout) = &checked.layout else {
@@ -49,6 +53,7 @@ pub fn rescue<'a, R: Files + AllocGlobal + Print + Eprint>(
     make_folder(rt, *folder)?;
     for number in FIRST..=last_number(layout) {
         status = status.or(rescue_file(rt, &image, layout, number, *folder, text)?);
+        progress.show(rt, u64::from(number), u64::from(last_number(layout)));
     }
     for finding in &findings(rt.alloc(), &image, layout)? {
         if let Finding::BadHeader(_, _) = finding {

@@ -18,6 +18,8 @@ pub struct Words<'a> {
     pub force: bool,
     /// What is printed is JSON, an object a line.
     pub json: bool,
+    /// Neither progress is shown nor remarks that are no faults.
+    pub quiet: bool,
     /// Who reads: with none every file is read, as the keeper of the image may.
     pub user: Option<Uic>,
 }
@@ -112,6 +114,7 @@ fn found_words<'a>(alloc: Global, matches: &ArgMatches<'a>) -> Result<Words<'a>,
         paths: texts(alloc, own, "path")?,
         force: own.get_flag("force"),
         json: own.get_flag("json"),
+        quiet: own.get_flag("quiet"),
     })
 }
 
@@ -226,9 +229,13 @@ fn matches<'a, S: AsStr>(alloc: Global, words: &'a [S]) -> Result<ArgMatches<'a>
                 .global(true),
         )?
         .arg(
-            flag(alloc, "quiet", "Show no progress")
-                .short('q')
-                .global(true),
+            flag(
+                alloc,
+                "quiet",
+                "Show no progress, and no remarks that are no faults",
+            )
+            .short('q')
+            .global(true),
         )?
         .subcommand(ls(alloc)?)?
         .subcommand(find(alloc)?)?

@@ -1,1 +1,5 @@
+mod Bodies
+mod FoundMore
 mod Got
+mod OneName
+mod Runs

@@ -1,8 +1,8 @@
 //! Which lines of a listing a path chooses.
-ghost use Rattle.std.specs.Prelude.{◌<◌, IfOk, OnOk, MatchBool, length};
-ghost use Rattle.std.specs.List.{All, Contains};
-ghost use Rattle.ods_paths.specs.Views.{files as said};
-ghost use Rattle.ods_shell.specs.Choosing.{IsMatched};
+ghost use Rattle.std.specs.Prelude.{◌≡◌, ◌+◌, ◌<◌, List, IfOk, OnOk, MatchBool, IsSortedByKey, Some, length, slice_get, take, unwrap_or};
+ghost use Rattle.ods_paths.specs.{Order.listing_cmp, Views.files as said};
+ghost use Rattle.ods_walk.specs.Listing.{shown};
+ghost use Rattle.ods_shell.specs.Choosing.{AreThose, IsChosen, IsMatched, IsOneName, IsPicked};
 
 use ods_base::{Listed, Name, print_title, print_type};
 use ods_paths::{Files, Versions, matches};
@@ -16,12 +16,12 @@ pub(crate) fn chosen(
     files: &Files<'_>,
     unsaid: Versions,
 ) -> Result<Vec<Listed>, AllocError>
-    ensures { IfOk result (λ found. All (λ e. Contains lines.now e × IsMatched (said files.now) e.name) found.items) }
+    requires { IsSortedByKey shown listing_cmp lines.now }
+    ensures { IfOk result (λ found. AreThose (IsChosen (said files.now) unsaid lines.now) lines.now found.items) }
 {
-    let versions = files.versions.unwrap_or(unsaid);
     let mut found = Vec::new(alloc);
     for place in 0..lines.len() {
-        add_chosen(lines, place, files, versions, &mut found)?;
+        add_chosen(lines, place, files, unsaid, &mut found)?;
     }
     Ok(found)
 }
@@ -31,18 +31,34 @@ fn add_chosen(
     lines: &[Listed],
     place: usize,
     files: &Files<'_>,
-    versions: Versions,
+    unsaid: Versions,
     found: &mut Vec<Listed>,
 ) -> Result<(), AllocError>
-    requires { place < length lines.now }
-    ensures { OnOk result (All (λ e. Contains lines.now e × IsMatched (said files.now) e.name) found.old.items
-        → All (λ e. Contains lines.now e × IsMatched (said files.now) e.name) found.new.items) }
+    requires sorted { IsSortedByKey shown listing_cmp lines.now }
+    requires inside { place < length lines.now }
+    ensures { OnOk result (AreThose (IsChosen (said files.now) unsaid lines.now) (take place lines.now) found.old.items
+        → AreThose (IsChosen (said files.now) unsaid lines.now) (take (place + 1) lines.now) found.new.items) }
 {
     let line = lines[place];
-    if is_matched(&line.name, files) && is_picked(lines, place, versions) {
+    if is_chosen(lines, place, &line, files, unsaid) {
         found.push(line)?;
     }
     Ok(())
+}
+
+/// Whether this line, which stands at this place, is chosen.
+fn is_chosen(
+    lines: &[Listed],
+    place: usize,
+    line: &Listed,
+    files: &Files<'_>,
+    unsaid: Versions,
+) -> bool
+    requires sorted { IsSortedByKey shown listing_cmp lines.now }
+    requires there { slice_get lines.now place ≡ Some line.now }
+    ensures { MatchBool result (IsChosen (said files.now) unsaid lines.now line.now) (¬ IsChosen (said files.now) unsaid lines.now line.now) }
+{
+    is_matched(&line.name, files) && is_picked(lines, place, line, files.versions.unwrap_or(unsaid))
 }
 
 /// Whether the patterns match the name.
@@ -53,15 +69,65 @@ pub(crate) fn is_matched(name: &Name, files: &Files<'_>) -> bool
         && matches(files.kind, print_type(name).as_bytes())
 }
 
-/// Whether the version of a line is picked. Lines of one name follow one another, the highest version first.
-fn is_picked(lines: &[Listed], place: usize, versions: Versions) -> bool
-    requires { place < length lines.now }
+/// Whether the version of this line, which stands at this place, is picked.
+fn is_picked(lines: &[Listed], place: usize, line: &Listed, versions: Versions) -> bool
+    requires sorted { IsSortedByKey shown listing_cmp lines.now }
+    requires there { slice_get lines.now place ≡ Some line.now }
+    ensures { MatchBool result (IsPicked versions lines.now line.now) (¬ IsPicked versions lines.now line.now) }
 {
-    let line = &lines[place];
     match versions {
         Versions::Every => true,
         Versions::Exact(version) => line.version == version,
-        Versions::Highest => place == 0 || lines[place - 1].name != line.name,
-        Versions::Lowest => place + 1 == lines.len() || lines[place + 1].name != line.name,
+        Versions::Highest => is_highest(lines, place, line),
+        Versions::Lowest => is_lowest(lines, place, line),
     }
+}
+
+/// Whether no line of the name has a higher version than this one, which stands at this place. Lines of one name follow one another, and
+/// their versions fall.
+fn is_highest(lines: &[Listed], place: usize, line: &Listed) -> bool
+    requires sorted { IsSortedByKey shown listing_cmp lines.now }
+    requires there { slice_get lines.now place ≡ Some line.now }
+    ensures { MatchBool result (IsPicked Versions.Highest lines.now line.now) (¬ IsPicked Versions.Highest lines.now line.now) }
+{
+    let mut at = place;
+    'places: while at > 0 {
+        at -= 1;
+        let other = lines[at];
+        if !is_one_name(&other, line) {
+            return true;
+        }
+        if line.version < other.version {
+            return false;
+        }
+    }
+    true
+}
+
+/// Whether no line of the name has a lower version than this one, which stands at this place.
+fn is_lowest(lines: &[Listed], place: usize, line: &Listed) -> bool
+    requires sorted { IsSortedByKey shown listing_cmp lines.now }
+    requires there { slice_get lines.now place ≡ Some line.now }
+    ensures { MatchBool result (IsPicked Versions.Lowest lines.now line.now) (¬ IsPicked Versions.Lowest lines.now line.now) }
+{
+    let mut at = place + 1;
+    'places: while at < lines.len() {
+        let other = lines[at];
+        if !is_one_name(&other, line) {
+            return true;
+        }
+        if other.version < line.version {
+            return false;
+        }
+        at += 1;
+    }
+    true
+}
+
+/// Whether two lines show one name.
+fn is_one_name(one: &Listed, other: &Listed) -> bool
+    ensures { MatchBool result (IsOneName one.now other.now) (¬ IsOneName one.now other.now) }
+{
+    print_title(&one.name).as_bytes() == print_title(&other.name).as_bytes()
+        && print_type(&one.name).as_bytes() == print_type(&other.name).as_bytes()
 }

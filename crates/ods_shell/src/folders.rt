@@ -1,7 +1,8 @@
 //! The directories that a path finds.
-ghost use Rattle.std.specs.Prelude.{◌≡◌, [], IfOk, MatchBool, MatchOption};
+ghost use Rattle.std.specs.Prelude.{◌≡◌, [], IfOk, MatchBool, MatchOption, IsSortedByKey};
+ghost use Rattle.ods_paths.specs.Order.{listing_cmp};
 ghost use Rattle.ods_mount.specs.{Faults.IsDirectoryFile};
-ghost use Rattle.ods_walk.specs.{Listing.IsListing, Walk.NamesDirectory};
+ghost use Rattle.ods_walk.specs.{Listing.IsListing, Listing.shown, Walk.NamesDirectory};
 
 use crate::choosing::is_matched;
 use ods_base::{Listed, Name, print_title};
@@ -9,7 +10,7 @@ use ods_header::is_directory;
 use ods_mount::Mounted;
 use ods_paths::{Files, Folder, Place, Steps, Versions, numbered_name};
 use ods_space::first_header;
-use ods_walk::{Walk, listing, names_directory, walk_from};
+use ods_walk::{Walk, listing, names_directory, walk_past};
 use std::alloc::{AllocError, Global};
 
 /// The number of the master directory.
@@ -22,6 +23,34 @@ pub struct Directory {
     pub names: Vec<Name>,
 }
 
+/// Directories of which no names are read, and those of them that were met.
+#[derive(Drop)]
+pub(crate) struct Closed<'a> {
+    pub numbers: &'a [u16],
+    pub met: Vec<Directory>,
+}
+
+impl Closed<'_> {
+    /// Whether the directory with this number is closed, which is noted then.
+    pub fn stops(
+        &mut self,
+        alloc: Global,
+        number: u16,
+        names: &[Name],
+    ) -> Result<bool, AllocError> {
+        if !self.numbers.contains(&number) {
+            return Ok(false);
+        }
+        let mut path = Vec::new(alloc);
+        path.extend_from_slice(names)?;
+        self.met.push(Directory {
+            number,
+            names: path,
+        })?;
+        Ok(true)
+    }
+}
+
 /// The lines of a directory, in the order of a listing; none where the number is that of no directory.
 pub(crate) fn lines_of(
     alloc: Global,
@@ -30,6 +59,7 @@ pub(crate) fn lines_of(
 ) -> Result<Vec<Listed>, AllocError>
     ensures there { IfOk result (λ lines. IsDirectoryFile volume.now.image volume.now.layout number → IsListing volume.now.image volume.now.layout number lines.items) }
     ensures none { IfOk result (λ lines. ¬ IsDirectoryFile volume.now.image volume.now.layout number → lines.items ≡ []) }
+    ensures sorted { IfOk result (λ lines. IsSortedByKey shown listing_cmp lines.items) }
 {
     let image = volume.image();
     let layout = volume.layout();
@@ -61,11 +91,12 @@ pub(crate) fn directory_of(volume: &Mounted, entry: &Listed) -> Option<u16>
     }
 }
 
-/// The directories that a path finds, in the order of a walk.
+/// The directories that a path finds, in the order of a walk. Nothing is found by the names of a closed one.
 pub(crate) fn directories(
     alloc: Global,
     volume: &Mounted,
     folder: &Folder<'_>,
+    closed: &mut Closed<'_>,
 ) -> Result<Vec<Directory>, AllocError> {
     let found = match folder.place {
         Place::Master => {
@@ -73,11 +104,11 @@ pub(crate) fn directories(
             found.push(master(alloc))?;
             found
         }
-        Place::Numbered { group, member } => numbered(alloc, volume, group, member)?,
-        Place::Named(steps) => named(alloc, volume, &steps)?,
+        Place::Numbered { group, member } => numbered(alloc, volume, group, member, closed)?,
+        Place::Named(steps) => named(alloc, volume, &steps, closed)?,
     };
     if folder.below {
-        return with_all_below(alloc, volume, &found);
+        return with_all_below(alloc, volume, &found, closed);
     }
     Ok(found)
 }
@@ -96,8 +127,12 @@ fn numbered(
     volume: &Mounted,
     group: Option<u8>,
     member: Option<u8>,
+    closed: &mut Closed<'_>,
 ) -> Result<Vec<Directory>, AllocError> {
     let mut found = Vec::new(alloc);
+    if closed.stops(alloc, MASTER, &[])? {
+        return Ok(found);
+    }
     let lines = lines_of(alloc, volume, MASTER)?;
     for line in &lines {
         let title = print_title(&line.name);
@@ -120,7 +155,12 @@ fn is_meant(meant: Option<u8>, found: u8) -> bool {
 }
 
 /// The directories of names, or of patterns for them, each within the one before.
-fn named(alloc: Global, volume: &Mounted, steps: &Steps<'_>) -> Result<Vec<Directory>, AllocError> {
+fn named(
+    alloc: Global,
+    volume: &Mounted,
+    steps: &Steps<'_>,
+    closed: &mut Closed<'_>,
+) -> Result<Vec<Directory>, AllocError> {
     let mut found = Vec::new(alloc);
     found.push(master(alloc))?;
     for step in steps.text.split(|c| *c == steps.separator) {
@@ -131,7 +171,9 @@ fn named(alloc: Global, volume: &Mounted, steps: &Steps<'_>) -> Result<Vec<Direc
         };
         let mut next = Vec::new(alloc);
         for from in &found {
-            add_matched(alloc, volume, from, &step_files, &mut next)?;
+            if !closed.stops(alloc, from.number, &from.names)? {
+                add_matched(alloc, volume, from, &step_files, &mut next)?;
+            }
         }
         found = next;
     }
@@ -199,11 +241,14 @@ fn with_all_below(
     alloc: Global,
     volume: &Mounted,
     starts: &[Directory],
+    closed: &mut Closed<'_>,
 ) -> Result<Vec<Directory>, AllocError> {
     let mut is_added = vec![in alloc; false; 65_536]?;
     let mut found = Vec::new(alloc);
     for start in starts {
-        add_walked(alloc, volume, start, &mut is_added, &mut found)?;
+        if !closed.stops(alloc, start.number, &start.names)? {
+            add_walked(alloc, volume, start, &mut is_added, &mut found, closed)?;
+        }
     }
     Ok(found)
 }
@@ -215,11 +260,18 @@ fn add_walked(
     start: &Directory,
     is_added: &mut [bool],
     found: &mut Vec<Directory>,
+    closed: &mut Closed<'_>,
 ) -> Result<(), AllocError> {
     if !is_directory_file(volume, start.number) {
         return Ok(());
     }
-    let walk = walk_from(alloc, volume.image(), volume.layout(), start.number)?;
+    let walk = walk_past(
+        alloc,
+        volume.image(),
+        volume.layout(),
+        start.number,
+        closed.numbers,
+    )?;
     for place in 0..65_536 {
         let Some(entered) = walk.directory(place) else {
             break;
@@ -233,6 +285,26 @@ fn add_walked(
         }
         let names = names_in(alloc, &start.names, &walk, place)?;
         found.push(Directory { number, names })?;
+    }
+    note_closed(alloc, volume, start, &walk, closed)
+}
+
+/// Notes each closed directory that a line of a walk names.
+fn note_closed(
+    alloc: Global,
+    volume: &Mounted,
+    start: &Directory,
+    walk: &Walk,
+    closed: &mut Closed<'_>,
+) -> Result<(), AllocError> {
+    if closed.numbers.is_empty() {
+        return Ok(());
+    }
+    for line in walk.lines() {
+        if let Some(number) = directory_of(volume, &line.entry) {
+            let names = names_in(alloc, &start.names, walk, line.directory)?;
+            closed.stops(alloc, number, &longer(alloc, &names, &line.entry.name)?)?;
+        }
     }
     Ok(())
 }

@@ -2,7 +2,9 @@
 ghost use Rattle.std.specs.Prelude.{◌≡◌, ℕ, List, IfOk, IfErr, OnOk};
 ghost use Rattle.std.specs.Io.KnownBytes.{Appends};
 ghost use Rattle.ods_base.specs.Image.{TookBytes};
-ghost use Rattle.ods_shell.specs.{Contents.IsGot, Contents.IsGotBy, Contents.AreLines, Contents.kind_got as kind_wanted, Contents.form_got as form_wanted, Shown.ContentsAre};
+ghost use Rattle.ods_shell.specs.declared.form.FormFault.TheVariants as faults;
+ghost use Rattle.ods_shell.specs.{Contents.IsGot, Contents.IsGotBy, Contents.IsNotGot, Contents.IsNotGotBy, Contents.HasNoLines, Contents.AreLines, Contents.kind_got as kind_wanted, Contents.form_got as form_wanted, Shown.ContentsAre, Compared.HasNone};
+ghost use Rattle.ods_files.specs.Body.{HasBody};
 
 use ods_base::{WriteFault, write_bytes};
 use ods_files::{CopyFault, FileBody, FileFault, Form};
@@ -37,6 +39,8 @@ pub enum FormFault {
 }
 
 impl From<AllocError> for FormFault {
+    ghost from_gives = { λ _ e. e ≡ faults.NoMemory };
+
     fn from(_error: AllocError) -> FormFault {
         FormFault::NoMemory
     }
@@ -51,19 +55,39 @@ pub enum Contents<'a> {
     Body(FileBody<'a>, Form),
 }
 
-/// What is got out of the file with this number in the form that is asked for.
+/// What is got out of the file with this number in the form that is asked for. `NoSuchFile` where it is no file; `EndPastBlocks` where its
+/// end lies past its blocks, and not all of these are asked for; `Records` with the first fault of its records where lines are got.
 pub fn open_contents<'a>(
     alloc: Global,
     volume: &'a Mounted,
     number: u16,
     wanted: Wanted,
 ) -> Result<Contents<'a>, FormFault>
-    ensures { IfOk result (λ c. (bytes : List ℕ) × ContentsAre c bytes × IsGot volume.now.image volume.now.layout number wanted bytes) }
+    ensures ok { IfOk result (λ c. (bytes : List ℕ) × ContentsAre c bytes × IsGot volume.now.image volume.now.layout number wanted bytes) }
+    ensures err { IfErr result (IsNotGot volume.now.image volume.now.layout number wanted) }
+{
+    match body_of(alloc, volume, number) {
+        Ok(body) => contents_of(alloc, body, wanted),
+        Err(FormFault::NoSuchFile) => Err(FormFault::NoSuchFile),
+        Err(_) => Err(FormFault::NoMemory),
+    }
+}
+
+/// The body of the file with this number.
+pub(crate) fn body_of<'a>(
+    alloc: Global,
+    volume: &'a Mounted,
+    number: u16,
+) -> Result<FileBody<'a>, FormFault>
+    ensures ok { IfOk result (HasBody volume.now.image volume.now.layout number) }
+    ensures err { IfErr result (HasNone volume.now.image volume.now.layout number) }
 {
     match FileBody::open(alloc, volume.image(), volume.layout(), number) {
-        Ok(body) => contents_of(alloc, body, wanted),
+        Ok(body) => Ok(body),
+        Err(FileFault::NoSuchFile) => Err(FormFault::NoSuchFile),
         Err(FileFault::Chain(ChainFault::NoMemory)) => Err(FormFault::NoMemory),
-        Err(_) => Err(FormFault::NoSuchFile),
+        Err(FileFault::Chain(ChainFault::BadChain)) => unreachable!(),
+        Err(FileFault::Chain(ChainFault::OutsideVolume(_))) => unreachable!(),
     }
 }
 
@@ -73,7 +97,8 @@ fn contents_of<'a>(
     body: FileBody<'a>,
     wanted: Wanted,
 ) -> Result<Contents<'a>, FormFault>
-    ensures { IfOk result (λ c. (bytes : List ℕ) × ContentsAre c bytes × IsGotBy (kind_wanted wanted body.entry.attributes) wanted body.entry bytes) }
+    ensures ok { IfOk result (λ c. (bytes : List ℕ) × ContentsAre c bytes × IsGotBy (kind_wanted wanted body.entry.attributes) wanted body.entry bytes) }
+    ensures err { IfErr result (IsNotGotBy (kind_wanted wanted body.entry.attributes) wanted body.entry) }
 {
     match kind_got(wanted, &body.attributes()) {
         Some(kind) => match lines(alloc, &body, kind) {
@@ -112,7 +137,8 @@ fn form_got(wanted: Wanted) -> Form
 
 /// The lines of a file of records.
 fn lines<'a>(alloc: Global, body: &FileBody<'a>, kind: RecordKind) -> Result<Vec<u8>, FormFault>
-    ensures { IfOk result (λ text. AreLines kind body.now text.items) }
+    ensures ok { IfOk result (λ text. AreLines kind body.now text.items) }
+    ensures err { IfErr result (HasNoLines kind body.now) }
 {
     let Some(bytes) = body.read(alloc, Form::Binary)? else {
         return Err(FormFault::EndPastBlocks);

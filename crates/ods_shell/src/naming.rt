@@ -1,6 +1,7 @@
 //! The files that the words of a command name, one by one.
 use crate::facts::{Facts, facts_of};
-use crate::finding::{Finding, find_files};
+use crate::finding::{Finding, find_open};
+use crate::folders::Directory;
 use crate::ls::found_facts;
 use crate::status::Status;
 use crate::texts::push_path;
@@ -69,15 +70,29 @@ impl PathFault {
 
 /// The files that a path names, in the order of a listing; without a version the highest of each name.
 pub fn targets(alloc: Global, volume: &Mounted, path: &str) -> Result<Vec<Target>, PathFault> {
+    match open_targets(alloc, volume, path, &[]) {
+        Ok((targets, _)) => Ok(targets),
+        Err(fault) => Err(fault),
+    }
+}
+
+/// The files that a path names where of these closed directories no names are read; and those of them that are on the way.
+pub fn open_targets(
+    alloc: Global,
+    volume: &Mounted,
+    path: &str,
+    closed: &[u16],
+) -> Result<(Vec<Target>, Vec<Directory>), PathFault> {
     match parse_path(path.as_bytes()) {
-        Ok(Path::File(file)) => by_id(alloc, volume, file),
+        Ok(Path::File(file)) => Ok((by_id(alloc, volume, file)?, Vec::new(alloc))),
         Ok(Path::Within(_, None)) => Err(PathFault::NoName),
         Ok(Path::Within(folder, files)) => {
-            let found = find_files(alloc, volume, &folder, &files, Versions::Highest)?;
-            if found.lines.is_empty() {
+            let found = find_open(alloc, volume, &folder, &files, Versions::Highest, closed)?;
+            if found.lines.is_empty() && found.closed.is_empty() {
                 return Err(PathFault::Nothing);
             }
-            by_name(alloc, volume, &found)
+            let targets = by_name(alloc, volume, &found)?;
+            Ok((targets, found.closed))
         }
         Err(bad) => Err(PathFault::Bad(bad)),
     }

@@ -1,4 +1,9 @@
 //! The lines of `df`: how much of a volume is used.
+ghost use Rattle.std.specs.Prelude.{◌≡◌, ◌↔◌, ℕ, ◌+◌, ◌<◌, ◌≤◌, length, max, if◌then◌else◌};
+ghost use Rattle.std.specs.List.{filter, range_with_len};
+ghost use Rattle.ods_space.specs.Layout.{is_in_use};
+ghost use Rattle.ods_shell.specs.Space.{EndsRun, HasFreeRun, IsSpaceOf};
+
 use ods_alloc::{free_count, number_count};
 use ods_base::Image;
 use ods_mount::Mounted;
@@ -23,7 +28,9 @@ pub struct Space {
 }
 
 /// How much of the volume is used.
-pub fn space_of(volume: &Mounted) -> Space {
+pub fn space_of(volume: &Mounted) -> Space
+    ensures { IsSpaceOf volume.now.image volume.now.layout result }
+{
     let image = volume.image();
     let layout = volume.layout();
     Space {
@@ -37,29 +44,55 @@ pub fn space_of(volume: &Mounted) -> Space {
 }
 
 /// The most free blocks that follow one another.
-fn longest_free(image: &Image, layout: &Layout) -> u32 {
+fn longest_free(image: &Image, layout: &Layout) -> u32
+    ensures { (n : ℕ) → (n ≤ result) ↔ HasFreeRun image.now layout.now n }
+{
     let mut longest: u32 = 0;
     let mut run: u32 = 0;
     for lbn in 0..image.len() {
-        run = if is_free(image, layout, lbn) {
-            run.saturating_add(1)
-        } else {
-            0
-        };
-        longest = longest.max(run);
+        run = run_to(image, layout, lbn, run);
+        longest = larger(longest, run);
     }
     longest
 }
 
+fn larger(a: u32, b: u32) -> u32
+    ensures { result ≡ max a b }
+{
+    if a < b { b } else { a }
+}
+
+/// How many free blocks follow one another up to this LBN, of which so many stand before it.
+fn run_to(image: &Image, layout: &Layout, lbn: u32, before: u32) -> u32
+    requires few { before ≤ lbn }
+    requires inside { lbn < length image.now }
+    ensures { EndsRun image.now layout.now lbn before → EndsRun image.now layout.now (lbn + 1) result }
+{
+    let _ = image.len();
+    if is_free(image, layout, lbn) {
+        before + 1
+    } else {
+        0
+    }
+}
+
 /// How many file numbers have their index bit set.
-fn numbers_in_use(image: &Image, layout: &Layout) -> u32 {
+fn numbers_in_use(image: &Image, layout: &Layout) -> u32
+    ensures { result ≡ length (filter (is_in_use image.now layout.now.home) (range_with_len 1 layout.now.home.max_files)) }
+{
     let mut count: u32 = 0;
-    for number in 1..=layout.home().max_files {
-        if in_use(image, layout, number) {
-            count = count.saturating_add(1);
-        }
+    for before in 0..layout.home().max_files {
+        count += one_if(in_use(image, layout, before + 1));
     }
     count
+}
+
+/// 1 where it holds, and else 0.
+fn one_if(holds: bool) -> u32
+    ensures value { result ≡ (if holds then 1 else 0) }
+    ensures small { result ≤ 1 }
+{
+    if holds { 1 } else { 0 }
 }
 
 /// The lines of `df`.

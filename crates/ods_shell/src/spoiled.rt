@@ -1,6 +1,7 @@
 //! Files whose records are not whole, on an image that may be refused.
-ghost use Rattle.std.specs.Prelude.{IfOk, IfSome};
+ghost use Rattle.std.specs.Prelude.{◌≡◌, ◌≢◌, None, IfOk, IfSome, IfNone};
 ghost use Rattle.ods_space.specs.Files.{IsLayoutOf};
+ghost use Rattle.ods_records.specs.declared.faults.RecordFault.{RecordFault as Fault};
 ghost use Rattle.ods_shell.specs.Spoiled.{HasSpoiledRecords, IsSpoiled};
 
 use ods_base::Image;
@@ -18,18 +19,29 @@ pub fn spoiled_records(
     number: u16,
 ) -> Result<Option<RecordFault>, AllocError>
     requires { IsLayoutOf image.now layout.now }
-    ensures { IfOk result (λ found. IfSome found (HasSpoiledRecords image.now layout.now number)) }
+    ensures some { IfOk result (λ found. IfSome found (HasSpoiledRecords image.now layout.now number)) }
+    ensures none { IfOk result (λ found. IfNone found ((fault : Fault) → ¬ HasSpoiledRecords image.now layout.now number fault)) }
 {
     match FileBody::open(alloc, image, layout, number) {
         Ok(body) => fault_in(alloc, &body),
-        Err(FileFault::Chain(ChainFault::NoMemory)) => Err(AllocError),
-        Err(_) => Ok(None),
+        Err(fault) => none_of(fault),
     }
+}
+
+/// What is told of records where there is no body: none, unless memory ran out.
+fn none_of(fault: FileFault) -> Result<Option<RecordFault>, AllocError>
+    ensures { IfOk result (λ found. (found ≡ None) × (fault ≢ FileFault.Chain ChainFault.NoMemory)) }
+{
+    if fault == FileFault::Chain(ChainFault::NoMemory) {
+        return Err(AllocError);
+    }
+    Ok(None)
 }
 
 /// What is wrong with the records of a file with this body.
 fn fault_in(alloc: Global, body: &FileBody<'_>) -> Result<Option<RecordFault>, AllocError>
-    ensures { IfOk result (λ found. IfSome found (IsSpoiled body.now)) }
+    ensures some { IfOk result (λ found. IfSome found (IsSpoiled body.now)) }
+    ensures none { IfOk result (λ found. IfNone found ((fault : Fault) → ¬ IsSpoiled body.now fault)) }
 {
     let Some(kind) = kind_of(&body.attributes()) else {
         return Ok(None);

@@ -18,7 +18,7 @@ use Rattle.ods_walk.specs.Walk.{Line, Walks, NamesDirectory, below, IsWalkBelow}
 
 -- ---- elements of lists
 
-at_head : {X : Type 0} (x : X) (xs : List X) → Contains (x ∷ xs) x
+pub at_head : {X : Type 0} (x : X) (xs : List X) → Contains (x ∷ xs) x
 at_head x xs = Contains-append_left (x ∷ []) xs x (Contains-push [] x)
 
 -- an element is the first or among the others
@@ -59,7 +59,7 @@ module _ (I : List (List ℕ)) (L : VolumeLayout) where
       Contains-permutation g.entries ys e g.all (subst (λ l. Contains l e) same (Contains-permutation xs f.entries e (IsPermutation-sym f.entries xs f.all) has))
 
   -- one more name leads on
-  leads_on : (n : ℕ) (names : List RadName) (m : ℕ) (e : Listed) → LeadsTo I L n names m → HasEntry I L m e → NamesDirectory I L e → LeadsTo I L n (names ++ e.name ∷ []) e.file.number
+  pub leads_on : (n : ℕ) (names : List RadName) (m : ℕ) (e : Listed) → LeadsTo I L n names m → HasEntry I L m e → NamesDirectory I L e → LeadsTo I L n (names ++ e.name ∷ []) e.file.number
   leads_on n [] m e same has names_it = (e, subst (λ k. HasEntry I L k e) (sym same) has, refl, names_it, refl)
   leads_on n (name ∷ names) m e way has names_it = (way.0, way.1, way.2, way.3, leads_on way.0.file.number names m e way.4 has names_it)
 

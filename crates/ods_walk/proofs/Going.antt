@@ -6,30 +6,38 @@ use Rattle.std.specs.Option.{option_map_or}
 use Rattle.std.proofs.lemmas.Bool.{cases_eq}
 use Rattle.std.proofs.lemmas.List.{append-nil, map-append, length-set, get_or-set_same, get_or-set_other, length-replicate, get_or-replicate, take_at, drop_at, length_push}
 use Rattle.std.proofs.lemmas.List.Sums.{sum_by-set}
-use Rattle.std.proofs.lemmas.List.Elements.{All-nil, All-head, All-tail, All-push, All-append, All-same, All-take, All-drop, All-weaker, All-map, Contains-append_left, Contains-append_right, Contains-append_cases, Contains-push, Contains-push_cases}
+use Rattle.std.proofs.lemmas.List.Elements.{All-nil, All-cons, All-contains_itself, All-head, All-tail, All-push, All-append, All-same, All-take, All-drop, All-weaker, All-map, Contains-append_left, Contains-append_right, Contains-append_cases, Contains-push, Contains-push_cases}
 use Rattle.ods_base.specs.declared.listed.Listed.{Listed}
 use Rattle.ods_space.specs.Layout.{VolumeLayout}
 use Rattle.ods_walk.specs.declared.tables.Entered.{Entered}
 use Rattle.ods_walk.specs.declared.tables.Line.{Line as Placed}
 use Rattle.ods_walk.specs.Listing.{IsListing}
-use Rattle.ods_walk.specs.Paths.{path_to, line_in, led_by, IsWalk}
+use Rattle.ods_walk.specs.Complete.{HasEntry, LeadsTo, AreLed}
+use Rattle.ods_walk.specs.Paths.{path_to, number_at, line_in, led_by, IsWalkButFor}
 use Rattle.ods_walk.specs.Steps.{AreEntered, IsPast, IsStop, from_top, placed}
 use Rattle.ods_walk.specs.Walk.{Line, Walks, IsWalkedInto, below}
+use Rattle.ods_walk.proofs.Completeness.{leads_on}
 use Rattle.ods_walk.proofs.Ways.{way_stays, way_of_new}
 
 -- the place of each of these lines is one of the table
 abbrev pub ArePlaced : List Entered → List Placed → Type 0
 ArePlaced table lines = All (λ l. l.directory < length table) lines
 
+-- each of these lines is an entry of its directory
+abbrev pub AreRight : List (List ℕ) → VolumeLayout → List Entered → List Placed → Type 0
+AreRight I L table lines = All (λ l. HasEntry I L (number_at table l.directory) l.entry) lines
+
 -- So a walk stands, with this table, these lines passed, these flags and this pile: whatever goes on from here goes on from the start.
-pub record IsUnderWay (I : List (List ℕ)) (L : VolumeLayout) (start : ℕ) (table : List Entered) (lines : List Placed) (flags : List Bool) (pile : List Placed) : Type 0 where
+pub record IsUnderWay (I : List (List ℕ)) (L : VolumeLayout) (start : ℕ) (closed : List ℕ) (table : List Entered) (lines : List Placed) (flags : List Bool) (pile : List Placed) : Type 0 where
   pub entered : List ℕ
   pub are : AreEntered flags entered
   pub first : List Listed
   pub listing : IsListing I L start first
-  pub leads : (rest : List Line) → Walks I L entered (map (line_in table) (from_top pile)) rest → Walks I L (start ∷ 4 ∷ []) (below [] start first) (map (line_in table) lines ++ rest)
+  pub leads : (rest : List Line) → Walks I L entered (map (line_in table) (from_top pile)) rest → Walks I L (start ∷ 4 ∷ closed) (below [] start first) (map (line_in table) lines ++ rest)
   pub lines_placed : ArePlaced table lines
   pub pile_placed : ArePlaced table (from_top pile)
+  pub led : AreLed I L start table
+  pub right : AreRight I L table (from_top pile)
 
 -- what a flag says of one thing it says of another that holds just where that does
 carried : (b : Bool) (P Q : Type 0) → MatchBool b P (¬ P) → (P → Q) → (Q → P) → MatchBool b Q (¬ Q)
@@ -87,6 +95,12 @@ get_new : (table : List Entered) (e : Entered) → slice_get (table ++ e ∷ [])
 get_new [] e = refl
 get_new (x ∷ table) e = get_new table e
 
+pub number_stays : (table : List Entered) (e : Entered) (place : ℕ) → place < length table → number_at (table ++ e ∷ []) place ≡ number_at table place
+number_stays table e place within = ap (λ o. option_map_or (λ (x : Entered). x.number) o 0) (get_stays table e place within)
+
+pub number_of_new : (table : List Entered) (e : Entered) → number_at (table ++ e ∷ []) (length table) ≡ e.number
+number_of_new table e = ap (λ o. option_map_or (λ (x : Entered). x.number) o 0) (get_new table e)
+
 -- a directory that is entered changes no line
 pub lines_stay : (table : List Entered) (e : Entered) (lines : List Placed) → ArePlaced table lines → map (line_in (table ++ e ∷ [])) lines ≡ map (line_in table) lines
 lines_stay table e [] are = refl
@@ -123,6 +137,26 @@ new_placed table e entries =
     All-map (λ (x : Placed). x.directory < length (table ++ e ∷ [])) (placed (length table)) entries (λ k d small. within)
 
 module _ {I : List (List ℕ)} {L : VolumeLayout} where
+  -- lines stay entries of their directories
+  more_right : (table : List Entered) (e : Entered) (lines : List Placed) → ArePlaced table lines → AreRight I L table lines → AreRight I L (table ++ e ∷ []) lines
+  more_right table e [] placed right = All-nil (λ (x : Placed). HasEntry I L (number_at (table ++ e ∷ []) x.directory) x.entry)
+  more_right table e (l ∷ lines) placed right =
+      let within : l.directory < length table = All-head (λ (x : Placed). x.directory < length table) l lines placed in
+      let one : HasEntry I L (number_at table l.directory) l.entry = All-head (λ (x : Placed). HasEntry I L (number_at table x.directory) x.entry) l lines right in
+      All-cons (λ (x : Placed). HasEntry I L (number_at (table ++ e ∷ []) x.directory) x.entry) l lines (subst (λ k. HasEntry I L k l.entry) (sym (number_stays table e l.directory within)) one)
+      (more_right table e lines (All-tail (λ (x : Placed). x.directory < length table) l lines placed) (All-tail (λ (x : Placed). HasEntry I L (number_at table x.directory) x.entry) l lines right))
+
+  -- the lines of a directory that is entered are its entries
+  new_right : (table : List Entered) (e : Entered) (entries : List Listed) → IsListing I L e.number entries → AreRight I L (table ++ e ∷ []) (map (placed (length table)) entries)
+  new_right table e entries listing =
+      All-map (λ (x : Placed). HasEntry I L (number_at (table ++ e ∷ []) x.directory) x.entry) (placed (length table)) entries
+      (All-weaker (Contains entries) (λ x. HasEntry I L (number_at (table ++ e ∷ []) (length table)) x)
+      (λ x among. subst (λ k. HasEntry I L k x) (sym (number_of_new table e)) (record { lines = entries; listing = listing; among = among })) entries (All-contains_itself entries))
+
+  right_behind : (table : List Entered) (front rest : List Placed) → AreRight I L table (front ++ rest) → AreRight I L table rest
+  right_behind table front rest are =
+      subst (AreRight I L table) (drop_at front rest (length front) refl) (All-drop (λ (x : Placed). HasEntry I L (number_at table x.directory) x.entry) (length front) (front ++ rest) are)
+
   -- lines that are not walked into are passed one after another
   pub passing : (table : List Entered) (entered : List ℕ) (passed : List Placed) (pending rest : List Line) → All (λ l. ¬ IsWalkedInto I L entered l.entry) passed → Walks I L entered pending rest
       → Walks I L entered (map (line_in table) passed ++ pending) (map (line_in table) passed ++ rest)
@@ -132,18 +166,18 @@ module _ {I : List (List ℕ)} {L : VolumeLayout} where
     inr (All-head (λ (l : Placed). ¬ IsWalkedInto I L entered l.entry) p ps none, passing table entered ps pending rest (All-tail (λ (l : Placed). ¬ IsWalkedInto I L entered l.entry) p ps none) walks),
   )
 
-  module _ {start : ℕ} {table : List Entered} {lines : List Placed} {flags : List Bool} {pile : List Placed} (u : IsUnderWay I L start table lines flags pile) where
+  module _ {start : ℕ} {closed : List ℕ} {table : List Entered} {lines : List Placed} {flags : List Bool} {pile : List Placed} (u : IsUnderWay I L start closed table lines flags pile) where
     abbrev pub shown : List Placed → List Line
     shown ls = map (line_in table) ls
 
     -- nothing is left
-    pub arrived : (after : List Placed) → IsPast I L flags pile lines after → IsWalk I L start (record { directories = table; lines = after })
+    pub arrived : (after : List Placed) → IsPast I L flags pile lines after → IsWalkButFor I L start closed (record { directories = table; lines = after })
     arrived after past =
         let all = shown (from_top pile) in
         let goes : Walks I L u.entered (all ++ []) (all ++ []) = passing table u.entered (from_top pile) [] [] (past.are u.entered u.are) tt in
         let whole = u.leads all (subst (λ l. Walks I L u.entered l l) (append-nil all) goes) in
         let same : shown lines ++ all ≡ shown after = sym (map-append (line_in table) lines (from_top pile)) ∙ ap shown (sym past.lines) in
-        (u.first, u.listing, subst (Walks I L (start ∷ 4 ∷ []) (below [] start u.first)) same whole)
+        (u.first, u.listing, subst (Walks I L (start ∷ 4 ∷ closed) (below [] start u.first)) same whole)
 
     -- a directory is walked into
     module _ {rest after : List Placed} {line : Placed} (stop : IsStop I L flags pile lines rest after line) where
@@ -169,7 +203,7 @@ module _ {I : List (List ℕ)} {L : VolumeLayout} where
 
       -- what goes on behind the lines that are passed goes on from the start
       goes_on : (entries : List Listed) → IsListing I L n entries → (more : List Line) → Walks I L (n ∷ u.entered) (below (path_to table line.directory ++ line.entry.name ∷ []) n entries ++ shown (from_top rest)) more
-          → Walks I L (start ∷ 4 ∷ []) (below [] start u.first) (shown after ++ more)
+          → Walks I L (start ∷ 4 ∷ closed) (below [] start u.first) (shown after ++ more)
       goes_on entries listing more walks =
           let one : Walks I L u.entered (line_in table line ∷ shown (from_top rest)) (line_in table line ∷ more) = (refl, inl (stop.into u.entered u.are, entries, listing, walks)) in
           let goes = passing table u.entered stop.passed (line_in table line ∷ shown (from_top rest)) (line_in table line ∷ more) (stop.are u.entered u.are) one in
@@ -179,10 +213,30 @@ module _ {I : List (List ℕ)} {L : VolumeLayout} where
           ap shown stop.lines ∙ map-append (line_in table) lines (stop.passed ++ line ∷ []) ∙ ap (λ l. shown lines ++ l) (map-append (line_in table) stop.passed (line ∷ [])) in
           let same : shown lines ++ (shown stop.passed ++ line_in table line ∷ more) ≡ shown after ++ more =
           ap (λ l. shown lines ++ l) (sym (append_assoc (shown stop.passed) (line_in table line ∷ []) more)) ∙ sym (append_assoc (shown lines) (shown stop.passed ++ line_in table line ∷ []) more) ∙ ap (λ l. l ++ more) (sym seen) in
-          subst (Walks I L (start ∷ 4 ∷ []) (below [] start u.first)) same whole
+          subst (Walks I L (start ∷ 4 ∷ closed) (below [] start u.first)) same whole
+
+      rest_right : AreRight I L table (line ∷ from_top rest)
+      rest_right = right_behind table stop.passed (line ∷ from_top rest) (subst (AreRight I L table) stop.order u.right)
+
+      -- the directory that is entered is the one to which its path leads
+      new_led : AreLed I L start (table ++ new ∷ [])
+      new_led place within = elim (cases_eq place (length table)) [
+        | inl same ↦ (
+            let from = All-head (λ (x : Placed). x.directory < length table) line (from_top rest) ahead in
+            let has = All-head (λ (x : Placed). HasEntry I L (number_at table x.directory) x.entry) line (from_top rest) rest_right in
+            let way : LeadsTo I L start (path_to table line.directory ++ line.entry.name ∷ []) n =
+            leads_on I L start (path_to table line.directory) (number_at table line.directory) line.entry (u.led line.directory from) has (stop.into u.entered u.are).0 in
+            subst (λ k. LeadsTo I L start (path_to (table ++ new ∷ []) k) (number_at (table ++ new ∷ []) k)) (sym same)
+            (subst (λ p. LeadsTo I L start p (number_at (table ++ new ∷ []) (length table))) (sym (way_of_new table new)) (subst (λ m. LeadsTo I L start (path_to table line.directory ++ line.entry.name ∷ []) m) (sym (number_of_new table new)) way)))
+        | inr other ↦ (
+            let size = length_push table new in
+            let before : place < length table = omega arith in
+            subst (λ p. LeadsTo I L start p (number_at (table ++ new ∷ []) place)) (sym (way_stays table new place before))
+            (subst (λ m. LeadsTo I L start (path_to table place) m) (sym (number_stays table new place before)) (u.led place before)))
+      ]
 
       pub entering : (next : List Placed) (entries : List Listed) → n < 65536 → IsListing I L n entries → from_top next ≡ map (placed (length table)) entries ++ from_top rest
-          → IsUnderWay I L start (table ++ new ∷ []) after (set flags n true) next
+          → IsUnderWay I L start closed (table ++ new ∷ []) after (set flags n true) next
       entering next entries small listing order =
           let path = path_to table line.directory ++ line.entry.name ∷ [] in
           let pile_is : map (line_in (table ++ new ∷ [])) (from_top next) ≡ below path n entries ++ shown (from_top rest) =
@@ -193,25 +247,31 @@ module _ {I : List (List ℕ)} {L : VolumeLayout} where
             are = entered_more flags u.entered n small u.are;
             first = u.first;
             listing = u.listing;
-            leads = λ more walks. subst (λ l. Walks I L (start ∷ 4 ∷ []) (below [] start u.first) (l ++ more)) (sym (lines_stay table new after after_placed))
+            leads = λ more walks. subst (λ l. Walks I L (start ∷ 4 ∷ closed) (below [] start u.first) (l ++ more)) (sym (lines_stay table new after after_placed))
                 (goes_on entries listing more (subst (λ p. Walks I L (n ∷ u.entered) p more) pile_is walks));
             lines_placed = more_placed table new after after_placed;
             pile_placed = All-same (λ (x : Placed). x.directory < length (table ++ new ∷ [])) (from_top next) (map (placed (length table)) entries ++ from_top rest) order
                 (All-append (λ (x : Placed). x.directory < length (table ++ new ∷ [])) (map (placed (length table)) entries) (from_top rest) (new_placed table new entries) (more_placed table new (from_top rest) rest_is_placed));
+            led = new_led;
+            right = All-same (λ (x : Placed). HasEntry I L (number_at (table ++ new ∷ []) x.directory) x.entry) (from_top next) (map (placed (length table)) entries ++ from_top rest) order
+                (All-append (λ (x : Placed). HasEntry I L (number_at (table ++ new ∷ []) x.directory) x.entry) (map (placed (length table)) entries) (from_top rest) (new_right table new entries listing)
+                (more_right table new (from_top rest) rest_is_placed (All-tail (λ (x : Placed). HasEntry I L (number_at table x.directory) x.entry) line (from_top rest) rest_right)));
           }
 
 -- so it begins
-pub begins : (I : List (List ℕ)) (L : VolumeLayout) (start : ℕ) (flags : List Bool) (pile : List Placed) (entries : List Listed) → AreEntered flags (start ∷ 4 ∷ []) → IsListing I L start entries
-    → from_top pile ≡ map (placed 0) entries → IsUnderWay I L start (record { number = start; from = None } ∷ []) [] flags pile
-begins I L start flags pile entries are listing order =
+pub begins : (I : List (List ℕ)) (L : VolumeLayout) (start : ℕ) (closed : List ℕ) (flags : List Bool) (pile : List Placed) (entries : List Listed) → AreEntered flags (start ∷ 4 ∷ closed) → IsListing I L start entries
+    → from_top pile ≡ map (placed 0) entries → IsUnderWay I L start closed (record { number = start; from = None } ∷ []) [] flags pile
+begins I L start closed flags pile entries are listing order =
     let e : Entered = record { number = start; from = None } in
     let pile_is : map (line_in (e ∷ [])) (from_top pile) ≡ below [] start entries = ap (map (line_in (e ∷ []))) order ∙ lines_below [] e entries in
     record {
-      entered = start ∷ 4 ∷ [];
+      entered = start ∷ 4 ∷ closed;
       are = are;
       first = entries;
       listing = listing;
-      leads = λ more walks. subst (λ p. Walks I L (start ∷ 4 ∷ []) p more) pile_is walks;
+      leads = λ more walks. subst (λ p. Walks I L (start ∷ 4 ∷ closed) p more) pile_is walks;
       lines_placed = All-nil (λ (x : Placed). x.directory < 1);
       pile_placed = All-same (λ (x : Placed). x.directory < 1) (from_top pile) (map (placed 0) entries) order (new_placed [] e entries);
+      led = λ place within. (let first : place ≡ 0 = omega arith in subst (λ k. LeadsTo I L start (path_to (e ∷ []) k) (number_at (e ∷ []) k)) (sym first) refl);
+      right = All-same (λ (x : Placed). HasEntry I L (number_at (e ∷ []) x.directory) x.entry) (from_top pile) (map (placed 0) entries) order (new_right [] e entries listing);
     }

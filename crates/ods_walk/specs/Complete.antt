@@ -1,10 +1,12 @@
 -- What a walk from the master directory leaves out: nothing to which names lead.
-use Rattle.std.specs.Prelude.{◌≡◌, ℕ, List, [], ◌∷◌}
+use Rattle.std.specs.Prelude.{◌≡◌, ℕ, ◌<◌, List, [], ◌∷◌, length}
 use Rattle.std.specs.List.{Contains}
 use Rattle.ods_base.specs.Name.{RadName}
 use Rattle.ods_base.specs.declared.listed.Listed.{Listed}
 use Rattle.ods_space.specs.Layout.{VolumeLayout}
+use Rattle.ods_walk.specs.declared.tables.Entered.{Entered}
 use Rattle.ods_walk.specs.Listing.{IsListing}
+use Rattle.ods_walk.specs.Paths.{path_to, number_at}
 use Rattle.ods_walk.specs.Walk.{Line, NamesDirectory, IsWalkBelow}
 
 -- directory n has this entry
@@ -17,6 +19,10 @@ pub record HasEntry (I : List (List ℕ)) (L : VolumeLayout) (n : ℕ) (e : List
 abbrev pub LeadsTo : List (List ℕ) → VolumeLayout → ℕ → List RadName → ℕ → Type 0
 LeadsTo I L n [] m = n ≡ m
 LeadsTo I L n (name ∷ names) m = (e : Listed) × HasEntry I L n e × (e.name ≡ name) × NamesDirectory I L e × LeadsTo I L e.file.number names m
+
+-- each of these directories, which were entered from directory n on, is the one to which its path leads from there
+abbrev pub AreLed : List (List ℕ) → VolumeLayout → ℕ → List Entered → Type 0
+AreLed I L n directories = (place : ℕ) → place < length directories → LeadsTo I L n (path_to directories place) (number_at directories place)
 
 -- Each line is an entry of a directory to which its path leads from the master directory, and each entry of a directory to which names lead from there is on some line of that directory.
 pub record IsComplete (I : List (List ℕ)) (L : VolumeLayout) (lines : List Line) : Type 0 where

@@ -5,7 +5,7 @@ use Rattle.ods_base.specs.Name.{RadName}
 use Rattle.ods_space.specs.Layout.{VolumeLayout}
 use Rattle.ods_walk.specs.declared.tables.Entered.{Entered}
 use Rattle.ods_walk.specs.declared.tables.Line.{Line as Placed}
-use Rattle.ods_walk.specs.Walk.{Line, IsWalkBelow}
+use Rattle.ods_walk.specs.Walk.{Line, IsWalkBelow, IsWalkPast}
 
 -- what a walk found, as contracts see it: the directories in the order in which they were entered, and the lines, each with the place of its directory among them
 pub record Tables : Type 0 where
@@ -33,6 +33,10 @@ number_at directories place = option_map_or (λ e. e.number) (slice_get director
 -- a line with the path to its directory
 abbrev pub line_in : List Entered → Placed → Line
 line_in directories l = record { path = path_to directories l.directory; directory = number_at directories l.directory; entry = l.entry }
+
+-- what a walk found is the walk below directory n that enters none of the closed ones
+abbrev pub IsWalkButFor : List (List ℕ) → VolumeLayout → ℕ → List ℕ → Tables → Type 0
+IsWalkButFor I L n closed w = IsWalkPast I L n closed (map (line_in w.directories) w.lines)
 
 -- what a walk found is the walk below directory n
 abbrev pub IsWalk : List (List ℕ) → VolumeLayout → ℕ → Tables → Type 0

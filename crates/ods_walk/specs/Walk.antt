@@ -39,6 +39,10 @@ Walks I L entered (p ∷ ps) (l ∷ ls) =
     × Walks I L (p.entry.file.number ∷ entered) (below (p.path ++ p.entry.name ∷ []) p.entry.file.number entries ++ ps) ls)
     ⊎ ((¬ IsWalkedInto I L entered p.entry) × Walks I L entered ps ls))
 
--- these are the lines of the walk below directory n, which counts as entered, as the master directory does
+-- These are the lines of the walk below directory n that enters none of the closed directories: they count as entered, and so do directory n and the master directory.
+abbrev pub IsWalkPast : List (List ℕ) → VolumeLayout → ℕ → List ℕ → List Line → Type 0
+IsWalkPast I L n closed lines = (entries : List Listed) × IsListing I L n entries × Walks I L (n ∷ 4 ∷ closed) (below [] n entries) lines
+
+-- these are the lines of the walk below directory n, where none is closed
 abbrev pub IsWalkBelow : List (List ℕ) → VolumeLayout → ℕ → List Line → Type 0
-IsWalkBelow I L n lines = (entries : List Listed) × IsListing I L n entries × Walks I L (n ∷ 4 ∷ []) (below [] n entries) lines
+IsWalkBelow I L n lines = IsWalkPast I L n [] lines

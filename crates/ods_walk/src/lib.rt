@@ -1,7 +1,6 @@
 //! The directories of a sound volume as people are shown them: the lines of one in the order of a listing, and the walk over all below one.
 #![tactic(auto)]
 
-mod blocks;
 mod laws;
 mod ordering;
 mod tables;
@@ -10,4 +9,4 @@ mod walking;
 pub use laws::walks_are_complete;
 pub use ordering::listing;
 pub use tables::{Entered, Line, Walk};
-pub use walking::{names_directory, walk_from};
+pub use walking::{names_directory, walk_from, walk_past};

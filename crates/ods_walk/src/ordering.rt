@@ -5,11 +5,11 @@ ghost use Rattle.ods_base.specs.Name.{title as title_of, type_text};
 ghost use Rattle.ods_paths.specs.{Order.listing_cmp, Lines.line};
 ghost use Rattle.ods_walk.specs.Listing.{IsListing, AreEntries, shown};
 
-use crate::blocks::FileBlocks;
 use arrayvec::ArrayString;
 use ods_base::{Image, Listed, print_title, print_type};
 use ods_directory::{DirBlocks, entries, mark_of};
 use ods_header::attributes;
+use ods_mount::FileBlocks;
 use ods_paths::{Shown, compare};
 use ods_space::{ChainFault, Layout, chain, first_header};
 use std::alloc::{AllocError, Global};

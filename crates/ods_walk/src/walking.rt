@@ -1,8 +1,8 @@
 //! The walk over the directories below one: depth first, in the order of listing, each directory entered once.
-ghost use Rattle.std.specs.Prelude.{◌≡◌, ◌++◌, ℕ, List, length, map, IfOk, IfSome, IfNone, OnOk, MatchBool};
+ghost use Rattle.std.specs.Prelude.{◌≡◌, ◌++◌, ℕ, List, [], length, map, IfOk, IfSome, IfNone, OnOk, MatchBool};
 ghost use Rattle.ods_base.specs.declared.listed.Listed.{Listed as Entry};
 ghost use Rattle.ods_mount.specs.{Faults.IsDirectoryFile, Sound.IsSoundBy};
-ghost use Rattle.ods_walk.specs.{Listing.IsListing, Paths.IsWalk, Steps.AreEntered, Steps.IsPast, Steps.IsStop, Steps.from_top, Steps.placed, Walk.NamesDirectory, Walk.IsWalkedInto};
+ghost use Rattle.ods_walk.specs.{Complete.AreLed, Listing.IsListing, Paths.IsWalk, Paths.IsWalkButFor, Steps.AreEntered, Steps.IsPast, Steps.IsStop, Steps.from_top, Steps.placed, Walk.NamesDirectory, Walk.IsWalkedInto};
 
 use crate::ordering::listing;
 use crate::tables::{Entered, Line, Walk};
@@ -23,11 +23,29 @@ pub fn walk_from(
 ) -> Result<Walk, AllocError>
     requires sound { IsSoundBy image.now layout.now }
     requires directory { IsDirectoryFile image.now layout.now start }
-    ensures { IfOk result (λ walk. IsWalk image.now layout.now start walk) }
+    ensures walk { IfOk result (λ walk. IsWalk image.now layout.now start walk) }
+    ensures led { IfOk result (λ walk. AreLed image.now layout.now start walk.directories) }
+{
+    walk_past(alloc, image, layout, start, &[])
+}
+
+/// Goes through all lines below directory `start`, and enters none of the closed directories. That one and the master directory count as
+/// entered.
+pub fn walk_past(
+    alloc: Global,
+    image: &Image,
+    layout: &Layout,
+    start: u16,
+    closed: &[u16],
+) -> Result<Walk, AllocError>
+    requires sound { IsSoundBy image.now layout.now }
+    requires directory { IsDirectoryFile image.now layout.now start }
+    ensures walk { IfOk result (λ walk. IsWalkButFor image.now layout.now start closed.now walk) }
+    ensures led { IfOk result (λ walk. AreLed image.now layout.now start walk.directories) }
 {
     let mut directories = Vec::new(alloc);
     let mut lines = Vec::new(alloc);
-    let mut is_entered = vec![in alloc; false; 65_536]?;
+    let mut is_entered = flags_of(alloc, closed)?;
     let mut pile = Vec::new(alloc);
     is_entered[4] = true;
     is_entered[start as usize] = true;
@@ -52,6 +70,19 @@ pub fn walk_from(
         })?;
     }
     Ok(Walk { directories, lines })
+}
+
+/// The flags of all numbers, of which these are set.
+fn flags_of(alloc: Global, numbers: &[u16]) -> Result<Vec<bool>, AllocError>
+    ensures { IfOk result (λ flags. AreEntered flags.items numbers.now) }
+{
+    let mut flags = vec![in alloc; false; 65_536]?;
+    let mut left = numbers;
+    'numbers: while let Some((last, before)) = left.split_last() {
+        flags[*last as usize] = true;
+        left = before;
+    }
+    Ok(flags)
 }
 
 /// Passes the lines on top of the pile, up to one that is walked into, which is passed too and given.

@@ -1,15 +1,28 @@
-use Rattle.std.proofs.Common.{rules, ◌∷◌, [], List, MatchBool, subst}
-use Rattle.std.specs.List.{All, Contains}
-use Rattle.std.proofs.lemmas.List.Elements.{All-append, All-cons, All-nil}
+use Rattle.std.proofs.Common.{rules, ◌≡◌, ◌+◌, ◌++◌, [], ◌∷◌, refl, sym, ap, ◌∙◌, subst, take, length, Some}
+use Rattle.std.specs.Prelude.{slice_get}
+use Rattle.std.proofs.lemmas.List.{take_more}
+use Rattle.std.proofs.lemmas.Option.{get_or_from_slice_get, slice_get_read}
 use Rattle.ods_base.specs.declared.listed.Listed.{Listed}
 use Rattle.ods_paths.specs.Views.{files}
-use Rattle.ods_shell.specs.Choosing.{IsMatched}
+use Rattle.ods_shell.specs.Choosing.{AreThose, IsChosen}
+use Rattle.ods_shell.proofs.OneName.{those_more, those_as_before}
 use Rattle.ods_shell.proofs.choosing.add_chosen.Goals as goal
 
 pub returns-in_ok-push : goal.returns-in_ok-push
-returns-in_ok-push c = λ before.
-    let line : Listed = c.index-lines-place.result in
-    let there : Contains c.args.lines.now line = search rules in
-    let matched : IsMatched (files c.args.files.now) line.name = subst (λ b. MatchBool b (IsMatched (files c.args.files.now) line.name) (¬ IsMatched (files c.args.files.now) line.name)) c.if-is_matched.true c.is_matched.ensures in
-    rw c.in_ok-push.ensures.items (All-append (λ e. Contains c.args.lines.now e × IsMatched (files c.args.files.now) e.name) c.args.found.now.items (line ∷ []) before
-    (All-cons (λ e. Contains c.args.lines.now e × IsMatched (files c.args.files.now) e.name) line [] (there, matched) (All-nil (λ e. Contains c.args.lines.now e × IsMatched (files c.args.files.now) e.name))))
+returns-in_ok-push c = λ are.
+    let P = IsChosen (files c.args.files.now) c.args.unsaid c.args.lines.now in
+    let x : Listed = c.index-lines-place.result in
+    let here : slice_get c.args.lines.now c.args.place ≡ Some x = slice_get_read c.args.lines.now (length c.args.lines.now) c.args.place x refl c.requires.inside c.index-lines-place.is in
+    let took : take (c.args.place + 1) c.args.lines.now ≡ take c.args.place c.args.lines.now ++ x ∷ [] =
+    take_more c.args.lines.now c.args.place x c.requires.inside ∙ ap (λ y. take c.args.place c.args.lines.now ++ y ∷ []) (get_or_from_slice_get c.args.lines.now c.args.place x x here) in
+    subst (λ t. AreThose P t c.push.new.self.items) (sym took)
+    (subst (λ f. AreThose P (take c.args.place c.args.lines.now ++ x ∷ []) f) (sym c.in_ok-push.ensures.items) (those_more P (take c.args.place c.args.lines.now) c.args.found.now.items x c.if-is_chosen.ensures are))
+
+pub returns-else-is_chosen : goal.returns-else-is_chosen
+returns-else-is_chosen c = λ are.
+    let P = IsChosen (files c.args.files.now) c.args.unsaid c.args.lines.now in
+    let x : Listed = c.index-lines-place.result in
+    let here : slice_get c.args.lines.now c.args.place ≡ Some x = slice_get_read c.args.lines.now (length c.args.lines.now) c.args.place x refl c.requires.inside c.index-lines-place.is in
+    let took : take (c.args.place + 1) c.args.lines.now ≡ take c.args.place c.args.lines.now ++ x ∷ [] =
+    take_more c.args.lines.now c.args.place x c.requires.inside ∙ ap (λ y. take c.args.place c.args.lines.now ++ y ∷ []) (get_or_from_slice_get c.args.lines.now c.args.place x x here) in
+    subst (λ t. AreThose P t c.args.found.now.items) (sym took) (those_as_before P (take c.args.place c.args.lines.now) c.args.found.now.items x c.if-is_chosen.ensures are)

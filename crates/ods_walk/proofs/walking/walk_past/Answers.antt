@@ -1,25 +1,25 @@
 use Rattle.std.proofs.Common.{rules, ◌≡◌, ◌<◌, refl, sym, ap, ◌∙◌, subst, [], ◌∷◌, ◌++◌, set, map, length, true, false, arith}
 use Rattle.std.specs.Prelude.{IfSome, IfNone, None, replicate}
 use Rattle.std.proofs.lemmas.List.{append-nil}
-use Rattle.ods_walk.specs.Steps.{IsPast, IsStop, from_top, placed}
+use Rattle.ods_walk.specs.Steps.{AreEntered, IsPast, IsStop, from_top, placed}
 use Rattle.ods_walk.proofs.Going.{IsUnderWay, entered_more, entered_none, fewer_left, arrived, entering, begins}
-use Rattle.ods_walk.proofs.walking.walk_from.Goals as goal
-use Rattle.ods_walk.proofs.walking.walk_from.Goals.{In-Some}
+use Rattle.ods_walk.proofs.walking.walk_past.Goals as goal
+use Rattle.ods_walk.proofs.walking.walk_past.Goals.{In-Some}
 
 pub directories-init : goal.directories-init
 directories-init c =
     let start = c.args.start in
-    let clear : c.in_ok-is_entered.is_entered.items ≡ replicate 65536 false = c.in_ok-is_entered.ensures.items_if_clones_equal (λ y same. same) in
     let small : start < 65536 = c.ranges.start.fits in
-    let none = entered_none c.in_ok-is_entered.is_entered.items 65536 clear refl in
-    let two = entered_more (set c.in_ok-is_entered.is_entered.items 4 true) (4 ∷ []) start small (entered_more c.in_ok-is_entered.is_entered.items [] 4 (omega arith) none) in
+    let shut = c.in_ok-is_entered.is_entered.items in
+    let entered : AreEntered shut c.args.closed.now = c.in_ok-is_entered.ensures in
+    let two = entered_more (set shut 4 true) (4 ∷ c.args.closed.now) start small (entered_more shut c.args.closed.now 4 (omega arith) entered) in
     let put = c.in_ok-put_lines.ensures in
     let order : from_top c.put_lines.new.pile.items ≡ map (placed 0) put.0 = put.2 ∙ ap (λ p. map (placed 0) put.0 ++ from_top p) c.new-pile.ensures.items ∙ append-nil (map (placed 0) put.0) in
     let table : c.push.new.self.items ≡ record { number = start; from = None } ∷ [] = c.in_ok-push.ensures.items ∙ ap (λ l. l ++ record { number = start; from = None } ∷ []) c.new-directories.ensures.items in
-    let flags = set (set c.in_ok-is_entered.is_entered.items 4 true) start true in
-    let begun = begins c.args.image.now c.args.layout.now start flags c.put_lines.new.pile.items put.0 two put.1 order in
-    subst (λ t. IsUnderWay c.args.image.now c.args.layout.now start t c.new-lines.result.items flags c.put_lines.new.pile.items) (sym table)
-    (subst (λ l. IsUnderWay c.args.image.now c.args.layout.now start (record { number = start; from = None } ∷ []) l flags c.put_lines.new.pile.items) (sym c.new-lines.ensures.items) begun)
+    let flags = set (set shut 4 true) start true in
+    let begun = begins c.args.image.now c.args.layout.now start c.args.closed.now flags c.put_lines.new.pile.items put.0 two put.1 order in
+    subst (λ t. IsUnderWay c.args.image.now c.args.layout.now start c.args.closed.now t c.new-lines.result.items flags c.put_lines.new.pile.items) (sym table)
+    (subst (λ l. IsUnderWay c.args.image.now c.args.layout.now start c.args.closed.now (record { number = start; from = None } ∷ []) l flags c.put_lines.new.pile.items) (sym c.new-lines.ensures.items) begun)
 
 -- where the walk stops at a directory
 stopped : (c : In-Some) → IsStop c.args.image.now c.args.layout.now c.directories.is_entered.items c.directories.pile.items c.directories.lines.items c.next_directory.new.pile.items c.next_directory.new.lines.items c.in-Some.line
@@ -47,11 +47,14 @@ directories-preserved c =
     let put = c.in_ok-put_lines-2.ensures in
     let order : from_top c.put_lines-in-Some.new.pile.items ≡ map (placed (length c.directories.directories.items)) put.0 ++ from_top c.next_directory.new.pile.items =
     put.2 ∙ ap (λ k. map (placed k) put.0 ++ from_top c.next_directory.new.pile.items) size in
-    subst (λ t. IsUnderWay c.args.image.now c.args.layout.now c.args.start t c.next_directory.new.lines.items (set c.directories.is_entered.items n true) c.put_lines-in-Some.new.pile.items) (sym c.in_ok-push-2.ensures.items)
+    subst (λ t. IsUnderWay c.args.image.now c.args.layout.now c.args.start c.args.closed.now t c.next_directory.new.lines.items (set c.directories.is_entered.items n true) c.put_lines-in-Some.new.pile.items) (sym c.in_ok-push-2.ensures.items)
     (entering u (stopped (goal.at.directories-preserved c).In-Some) c.put_lines-in-Some.new.pile.items put.0 small put.1 order)
 
-pub returns : goal.returns
-returns c =
+pub returns-clause-walk : goal.returns-clause-walk
+returns-clause-walk c =
     arrived c.directories.invariant c.next_directory.new.lines.items
     (subst (λ f. IsPast c.args.image.now c.args.layout.now f c.directories.pile.items c.directories.lines.items c.next_directory.new.lines.items) c.deref.ensures.value
     (subst (λ r. IfNone r (IsPast c.args.image.now c.args.layout.now c.deref.result.now c.directories.pile.items c.directories.lines.items c.next_directory.new.lines.items)) c.in_default.is c.in_ok-line.ensures.none))
+
+pub returns-clause-led : goal.returns-clause-led
+returns-clause-led c = c.directories.invariant.led

@@ -1,10 +1,10 @@
 use Rattle.std.specs.List.{count_by}
 use Rattle.std.specs.Prelude.{not}
 use Rattle.ods_walk.proofs.Going.{IsUnderWay}
-use Rattle.ods_walk.proofs.walking.walk_from.Given as goal
+use Rattle.ods_walk.proofs.walking.walk_past.Given as goal
 
 abbrev pub invariant-directories : goal.invariant-directories
-invariant-directories l = IsUnderWay l.image l.layout l.start l.directories.items l.lines.items l.is_entered.items l.pile.items
+invariant-directories l = IsUnderWay l.image l.layout l.start l.closed l.directories.items l.lines.items l.is_entered.items l.pile.items
 
 abbrev pub decreases-directories : goal.decreases-directories
 decreases-directories l = count_by not l.is_entered.items

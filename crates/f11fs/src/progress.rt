@@ -1,0 +1,54 @@
+//! Progress of a command on standard error: how much of it is done, in a line that the next one is written over.
+use std::time::{Clock, Instant};
+
+/// How many milliseconds of a command show nothing.
+const FIRST: u128 = 1_000;
+
+/// How many milliseconds lie between two lines.
+const BETWEEN: u128 = 200;
+
+/// The progress of a command. Its line is shorter than any line of a fault, and the cursor stands at its start, so that a fault is
+/// written over it.
+#[derive(Drop)]
+pub struct Progress {
+    /// When the command began; `None` where no progress is shown.
+    start: Option<Instant>,
+    /// How many milliseconds after that the next line is shown.
+    next: u128,
+}
+
+impl Progress {
+    /// That of a command that begins; nothing is ever shown where none is wanted.
+    pub fn begin(clock: &impl Clock, is_wanted: bool) -> Progress {
+        let start = if is_wanted {
+            Instant::now(clock).ok()
+        } else {
+            None
+        };
+        Progress { start, next: FIRST }
+    }
+
+    /// So many parts of all are done.
+    pub fn show<R: Clock + Eprint>(&mut self, rt: &R, done: u64, all: u64) {
+        let Some(start) = &self.start else {
+            return;
+        };
+        let Ok(elapsed) = start.elapsed(rt) else {
+            return;
+        };
+        let now = elapsed.as_millis();
+        if now < self.next {
+            return;
+        }
+        self.next = now.saturating_add(BETWEEN);
+        let percent = done.saturating_mul(100) / all.max(1);
+        let _ = eprint!(rt; "f11fs: {percent}%\r");
+    }
+
+    /// The command is done: a line that is shown is taken away.
+    pub fn end<R: Eprint>(&self, rt: &R) {
+        if self.next != FIRST {
+            let _ = eprint!(rt; "           \r");
+        }
+    }
+}

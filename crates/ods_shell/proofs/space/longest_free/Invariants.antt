@@ -1,0 +1,7 @@
+use Rattle.std.proofs.Common.{◌≤◌}
+use Rattle.ods_shell.specs.Space.{EndsRun}
+use Rattle.ods_shell.proofs.Runs.{IsLongestTo}
+use Rattle.ods_shell.proofs.space.longest_free.Given as goal
+
+abbrev pub invariant-loop-lbn : goal.invariant-loop-lbn
+invariant-loop-lbn l = EndsRun l.image l.layout l.lbn l.run × IsLongestTo l.image l.layout l.lbn l.longest

@@ -1,0 +1,10 @@
+use Rattle.std.proofs.Common.{rules, ◌≡◌, true, false, subst}
+use Rattle.ods_space.specs.Free.{is_free_block}
+use Rattle.ods_shell.proofs.Runs.{run_more, run_none}
+use Rattle.ods_shell.proofs.space.run_to.Goals as goal
+
+pub returns-then-is_free : goal.returns-then-is_free
+returns-then-is_free c = λ run. run_more c.args.image.now c.args.layout.now c.args.lbn c.args.before (search rules) run
+
+pub returns-else-is_free : goal.returns-else-is_free
+returns-else-is_free c = λ run. run_none c.args.image.now c.args.layout.now c.args.lbn (search rules)

@@ -1,0 +1,23 @@
+-- Which bytes of a file are compared with those of another.
+use Rattle.std.specs.Prelude.{◌≡◌, ℕ, ◌⊎◌, List, Some, None}
+use Rattle.ods_space.specs.Layout.{VolumeLayout}
+use Rattle.ods_space.specs.Files.{IsFile}
+use Rattle.ods_files.specs.Body.{Body, HasBody, bytes_in}
+use Rattle.ods_files.specs.declared.form.Form.TheVariants.{Binary, Raw}
+use Rattle.ods_shell.specs.declared.form.FormFault.{FormFault}
+use Rattle.ods_shell.specs.declared.form.FormFault.TheVariants.{NoSuchFile, EndPastBlocks, Records, NoMemory}
+
+-- the bytes up to the end of file, or of all blocks where that lies past them
+abbrev pub AreCompared : Body → List ℕ → Type 0
+AreCompared body bytes = (bytes_in Binary body ≡ Some bytes) ⊎ ((bytes_in Binary body ≡ None) × (bytes_in Raw body ≡ Some bytes))
+
+-- these bytes of file n are compared
+abbrev pub HasCompared : List (List ℕ) → VolumeLayout → ℕ → List ℕ → Type 0
+HasCompared I L n bytes = (body : Body) × HasBody I L n body × AreCompared body bytes
+
+-- why file n has no such bytes: it is no file; memory may run out at any moment
+abbrev pub HasNone : List (List ℕ) → VolumeLayout → ℕ → FormFault → Type 0
+HasNone I L n NoSuchFile = ¬ IsFile I L n
+HasNone I L n EndPastBlocks = ⊥
+HasNone I L n (Records f) = ⊥
+HasNone I L n NoMemory = Unit {0}

@@ -1,0 +1,30 @@
+-- The lines that a path finds in directories.
+use Rattle.std.specs.Prelude.{◌≡◌, ℕ, ◌+◌, List, [], ◌∷◌, ◌++◌, map, Option, Some, None}
+use Rattle.ods_base.specs.declared.listed.Listed.{Listed}
+use Rattle.ods_space.specs.Layout.{VolumeLayout}
+use Rattle.ods_mount.specs.Faults.{IsDirectoryFile}
+use Rattle.ods_paths.specs.declared.versions.Versions.{Versions}
+use Rattle.ods_paths.specs.Paths.{Files}
+use Rattle.ods_walk.specs.Listing.{IsListing}
+use Rattle.ods_shell.specs.Choosing.{AreThose, IsChosen}
+use Rattle.ods_shell.specs.declared.folders.Directory.{Directory}
+use Rattle.ods_shell.specs.declared.finding.Line.{Line}
+
+-- the lines of directory n, in the order of a listing; none where n is no directory
+abbrev pub AreLinesOf : List (List ℕ) → VolumeLayout → ℕ → List Listed → Type 0
+AreLinesOf I L n lines = (IsDirectoryFile I L n → IsListing I L n lines) × (¬ IsDirectoryFile I L n → lines ≡ [])
+
+-- of the lines of directory n just those that these files choose, in their order; all where no files are said
+abbrev pub AreFoundIn : List (List ℕ) → VolumeLayout → Option Files → Versions → ℕ → List Listed → Type 0
+AreFoundIn I L None unsaid n found = AreLinesOf I L n found
+AreFoundIn I L (Some files) unsaid n found = (lines : List Listed) × AreLinesOf I L n lines × AreThose (IsChosen files unsaid lines) lines found
+
+-- the line with this entry in the directory at this place
+abbrev pub placed : ℕ → Listed → Line
+placed place e = record { directory = place; entry = e }
+
+-- These lines are found in these directories, the first of which stands at this place: those of one directory after those of another.
+abbrev pub AreFound : List (List ℕ) → VolumeLayout → Option Files → Versions → ℕ → List Directory → List Line → Type 0
+AreFound I L files unsaid place [] lines = lines ≡ []
+AreFound I L files unsaid place (d ∷ directories) lines =
+    (entries : List Listed) × (rest : List Line) × (lines ≡ map (placed place) entries ++ rest) × AreFoundIn I L files unsaid d.number entries × AreFound I L files unsaid (place + 1) directories rest
