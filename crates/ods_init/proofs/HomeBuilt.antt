@@ -1,0 +1,152 @@
+-- The home block, by the steps that make it.
+use Rattle.std.proofs.Common.{◌≡◌, ℕ, suc, zero, ◌+◌, ◌*◌, ◌/◌, ◌%◌, ◌<◌, ◌≤◌, List, length, refl, sym, ap, ◌∙◌, arith}
+use Rattle.std.specs.Prelude.{codes}
+use Rattle.ods_base.specs.declared.file_id.Uic.{Uic}
+use Rattle.ods_base.specs.Block.{IsBlock, byte, word, sum_of, with_bytes, with_word, zeros}
+use Rattle.ods_base.proofs.Blocks.{byte-with_bytes, byte-with_bytes_before, byte-with_word_before, word-with_word, sum_of_same}
+use Rattle.ods_header.proofs.Ranges.{range_is}
+use Rattle.ods_init.specs.declared.places.Places.{Places}
+use Rattle.ods_init.specs.declared.volume.NewVolume.{NewVolume}
+use Rattle.ods_init.specs.HomeBytes.{front_bytes, middle_bytes, end_bytes}
+use Rattle.ods_init.specs.Blocks.{IsNewHome, protection}
+
+-- the steps: each block from the one before it
+pub record AreHomeSteps (label stamp : List ℕ) (owner : Uic) (size files : ℕ) (b0 b1 b2 b3 b4 b5 b6 b7 : List ℕ) (first second : ℕ) : Type 0 where
+  pub s0 : b0 ≡ with_bytes zeros 0 (front_bytes size files)
+  pub s1 : b1 ≡ with_bytes b0 14 label
+  pub s2 : b2 ≡ with_bytes b1 30 (middle_bytes owner)
+  pub one : first ≡ sum_of b2 29
+  pub s3 : b3 ≡ with_word b2 29 first
+  pub s4 : b4 ≡ with_bytes b3 60 stamp
+  pub s5 : b5 ≡ with_bytes b4 472 label
+  pub s6 : b6 ≡ with_bytes b5 484 end_bytes
+  pub two : second ≡ sum_of b6 255
+  pub s7 : b7 ≡ with_word b6 255 second
+  pub k0 : IsBlock b0
+  pub k1 : IsBlock b1
+  pub k2 : IsBlock b2
+  pub k3 : IsBlock b3
+  pub k4 : IsBlock b4
+  pub k5 : IsBlock b5
+  pub k6 : IsBlock b6
+  pub k7 : IsBlock b7
+  pub label_size : length label ≡ 12
+  pub stamp_size : length stamp ≡ 13
+
+at : (b c : List ℕ) (i : ℕ) → c ≡ b → byte c i ≡ byte b i
+at b c i e = ap (λ (x : List ℕ). byte x i) e
+
+module _ {label stamp : List ℕ} {owner : Uic} {size files : ℕ} {b0 b1 b2 b3 b4 b5 b6 b7 : List ℕ} {first second : ℕ} (s : AreHomeSteps label stamp owner size files b0 b1 b2 b3 b4 b5 b6 b7 first second) where
+  last : (i : ℕ) → i < 510 → byte b7 i ≡ byte b6 i
+  last i low = at _ b7 i s.s7 ∙ byte-with_word_before b6 255 second i (omega arith)
+
+  before_end : (i : ℕ) → i < 484 → byte b7 i ≡ byte b5 i
+  before_end i low = last i (omega arith) ∙ at _ b6 i s.s6 ∙ byte-with_bytes_before b5 end_bytes 484 i (omega (arith, s.k5.size)) low
+
+  before_label : (i : ℕ) → i < 472 → byte b7 i ≡ byte b4 i
+  before_label i low = before_end i (omega arith) ∙ at _ b5 i s.s5 ∙ byte-with_bytes_before b4 label 472 i (omega (arith, s.k4.size)) low
+
+  before_stamp : (i : ℕ) → i < 60 → byte b7 i ≡ byte b3 i
+  before_stamp i low = before_label i (omega arith) ∙ at _ b4 i s.s4 ∙ byte-with_bytes_before b3 stamp 60 i (omega (arith, s.k3.size)) low
+
+  before_sum : (i : ℕ) → i < 58 → byte b7 i ≡ byte b2 i
+  before_sum i low = before_stamp i (omega arith) ∙ at _ b3 i s.s3 ∙ byte-with_word_before b2 29 first i (omega arith)
+
+  in_middle : (i j : ℕ) → i ≡ 30 + j → j < 28 → byte b7 i ≡ byte (middle_bytes owner) j
+  in_middle i j e low = before_sum i (omega arith) ∙ at _ b2 i s.s2 ∙ byte-with_bytes b1 (middle_bytes owner) 30 i j (omega (arith, s.k1.size)) e low
+
+  in_front : (i : ℕ) → i < 14 → byte b7 i ≡ byte (front_bytes size files) i
+  in_front i low =
+      before_sum i (omega arith)
+      ∙ at _ b2 i s.s2 ∙ byte-with_bytes_before b1 (middle_bytes owner) 30 i (omega (arith, s.k1.size)) (omega arith)
+      ∙ at _ b1 i s.s1 ∙ byte-with_bytes_before b0 label 14 i (omega (arith, s.k0.size)) low
+      ∙ at _ b0 i s.s0 ∙ byte-with_bytes zeros (front_bytes size files) 0 i i (omega arith) (omega arith) low
+
+  in_label : (j : ℕ) → j < length label → byte b7 (14 + j) ≡ byte label j
+  in_label j low =
+      let few : j < 12 = omega (arith, s.label_size) in
+      before_sum (14 + j) (omega arith)
+      ∙ at _ b2 (14 + j) s.s2 ∙ byte-with_bytes_before b1 (middle_bytes owner) 30 (14 + j) (omega (arith, s.k1.size)) (omega arith)
+      ∙ at _ b1 (14 + j) s.s1 ∙ byte-with_bytes b0 label 14 (14 + j) j (omega (arith, s.k0.size)) (omega arith) low
+
+  in_label_again : (j : ℕ) → j < length label → byte b7 (472 + j) ≡ byte label j
+  in_label_again j low =
+      let few : j < 12 = omega (arith, s.label_size) in
+      before_end (472 + j) (omega arith) ∙ at _ b5 (472 + j) s.s5 ∙ byte-with_bytes b4 label 472 (472 + j) j (omega (arith, s.k4.size)) (omega arith) low
+
+  in_stamp : (j : ℕ) → j < length stamp → byte b7 (60 + j) ≡ byte stamp j
+  in_stamp j low =
+      let few : j < 13 = omega (arith, s.stamp_size) in
+      before_label (60 + j) (omega arith) ∙ at _ b4 (60 + j) s.s4 ∙ byte-with_bytes b3 stamp 60 (60 + j) j (omega (arith, s.k3.size)) (omega arith) low
+
+  in_format : (j : ℕ) → j < 12 → byte b7 (496 + j) ≡ byte end_bytes (12 + j)
+  in_format j low = last (496 + j) (omega arith) ∙ at _ b6 (496 + j) s.s6 ∙ byte-with_bytes b5 end_bytes 484 (496 + j) (12 + j) (omega (arith, s.k5.size)) (omega arith) (omega arith)
+
+  format_at : (j : ℕ) → j < 12 → byte end_bytes (12 + j) ≡ byte (codes "DECFILE11A  ") j
+  format_at zero low = refl
+  format_at (suc zero) low = refl
+  format_at (suc (suc zero)) low = refl
+  format_at (suc (suc (suc zero))) low = refl
+  format_at (suc (suc (suc (suc zero)))) low = refl
+  format_at (suc (suc (suc (suc (suc zero))))) low = refl
+  format_at (suc (suc (suc (suc (suc (suc zero)))))) low = refl
+  format_at (suc (suc (suc (suc (suc (suc (suc zero))))))) low = refl
+  format_at (suc (suc (suc (suc (suc (suc (suc (suc zero)))))))) low = refl
+  format_at (suc (suc (suc (suc (suc (suc (suc (suc (suc zero))))))))) low = refl
+  format_at (suc (suc (suc (suc (suc (suc (suc (suc (suc (suc zero)))))))))) low = refl
+  format_at (suc (suc (suc (suc (suc (suc (suc (suc (suc (suc (suc zero))))))))))) low = refl
+  format_at (suc (suc (suc (suc (suc (suc (suc (suc (suc (suc (suc (suc j)))))))))))) low = absurd (omega arith)
+
+  word_in : (k x y : ℕ) → byte b7 (2 * k) ≡ x → byte b7 (2 * k + 1) ≡ y → word b7 k ≡ x + 256 * y
+  word_in k x y low high = rw (low, high) refl
+
+  ibsz : word b7 0 ≡ size
+  ibsz = word_in 0 (size % 256) (size / 256) (in_front 0 (omega arith)) (in_front 1 (omega arith)) ∙ omega arith
+
+  fmax : word b7 3 ≡ files
+  fmax = word_in 3 (files % 256) (files / 256) (in_front 6 (omega arith)) (in_front 7 (omega arith)) ∙ omega arith
+
+  high_lbn : word b7 1 ≡ 0
+  high_lbn = word_in 1 0 0 (in_front 2 (omega arith)) (in_front 3 (omega arith))
+
+  low_lbn : word b7 2 ≡ 2
+  low_lbn = word_in 2 2 0 (in_front 4 (omega arith)) (in_front 5 (omega arith))
+
+  dfpr : word b7 18 ≡ protection
+  dfpr = word_in 18 0 224 (in_middle 36 6 (omega arith) (omega arith)) (in_middle 37 7 (omega arith) (omega arith))
+
+  first_sum : word b7 29 ≡ sum_of b7 29
+  first_sum =
+      let low = before_stamp 58 (omega arith) in
+      let high = before_stamp 59 (omega arith) in
+      word_in 29 _ _ low high ∙ ap (λ (x : List ℕ). word x 29) s.s3 ∙ word-with_word b2 29 first (omega (arith, s.k2.size))
+      ∙ s.one ∙ sum_of_same b2 b7 29 (λ i low. sym (before_sum i (omega arith)))
+
+  second_sum : word b7 255 ≡ sum_of b7 255
+  second_sum =
+      ap (λ (x : List ℕ). word x 255) s.s7 ∙ word-with_word b6 255 second (omega (arith, s.k6.size))
+      ∙ s.two ∙ sum_of_same b6 b7 255 (λ i low. sym (last i (omega arith)))
+
+  -- it is the home block of the volume
+  pub home_is : (V : NewVolume) (P : Places) → 1 ≤ size → 1 ≤ files → size ≡ P.index_bitmap_size → files ≡ P.most_files → V.label ≡ label → V.stamp ≡ stamp → V.owner ≡ owner → IsNewHome V P b7
+  home_is V P some many es ef el et eo = record {
+    home = record {
+      index_bitmap_size = omega (arith, ibsz, some);
+      max_files = omega (arith, fmax, many);
+      cluster = word_in 4 1 0 (in_front 8 (omega arith)) (in_front 9 (omega arith));
+      level = in_front 13 (omega arith);
+      first_sum = first_sum;
+      format = range_is b7 (codes "DECFILE11A  ") 496 508 refl (omega (arith, s.k7.size)) (λ j low. in_format j low ∙ format_at j low);
+      second_sum = second_sum;
+    };
+    fields = λ i. record {
+      index_bitmap_size = (ibsz ∙ es) i;
+      index_bitmap_lbn = 65536 * high_lbn i + low_lbn i;
+      max_files = (fmax ∙ ef) i;
+      protection = dfpr i;
+    };
+    label = range_is b7 label 14 26 (omega (arith, s.label_size)) (omega (arith, s.k7.size)) in_label ∙ sym el;
+    label_again = range_is b7 label 472 484 (omega (arith, s.label_size)) (omega (arith, s.k7.size)) in_label_again ∙ sym el;
+    owner = word_in 15 owner.member owner.group (in_middle 30 0 (omega arith) (omega arith)) (in_middle 31 1 (omega arith) (omega arith)) ∙ ap (λ (x : Uic). x.member + 256 * x.group) (sym eo);
+    stamp = range_is b7 stamp 60 73 (omega (arith, s.stamp_size)) (omega (arith, s.k7.size)) in_stamp ∙ sym et;
+  }

@@ -1,0 +1,110 @@
+-- What stands in the blocks of a new volume.
+use Rattle.std.specs.Prelude.{◌≡◌, ℕ, ◌+◌, ◌-◌, ◌*◌, ◌%◌, ◌<◌, ◌≤◌, ◌⊎◌, ◌&&◌, ◌==◌, nat_le, nat_lt, min, if◌then◌else◌, List, [], ◌∷◌, ◌++◌, length, replicate, slice_range}
+use Rattle.std.specs.List.{flat_map, range_with_len}
+use Rattle.ods_base.specs.Name.{RadName}
+use Rattle.ods_base.specs.Block.{byte, word, has_bit, with_bytes, zeros}
+use Rattle.ods_header.specs.declared.header.Header.{Header}
+use Rattle.ods_header.specs.Header.{IsValidHeader, header_of, runs_of, blocks_of}
+use Rattle.ods_header.specs.Home.{IsHome, home_of}
+use Rattle.ods_header.specs.First.{first_header}
+use Rattle.ods_header.specs.Writing.{AreZeros}
+use Rattle.ods_request.specs.Steps.{word_bytes, new_ident}
+use Rattle.ods_init.specs.declared.places.Places.{Places}
+use Rattle.ods_init.specs.declared.volume.NewVolume.{NewVolume}
+use Rattle.ods_init.specs.Places.{first_of, count_of}
+
+-- what new files and the reserved ones deny: the world may only read
+abbrev pub protection : ℕ
+protection = 57344
+
+-- the names of the reserved files: INDEXF.SYS, BITMAP.SYS, BADBLK.SYS, 000000.DIR, CORIMG.SYS
+abbrev pub reserved_name : ℕ → RadName
+reserved_name n =
+    if n == 1 then record { words = 14964 ∷ 8966 ∷ 0 ∷ []; ext = 31419 }
+    else if n == 2 then record { words = 3580 ∷ 20856 ∷ 0 ∷ []; ext = 31419 }
+    else if n == 3 then record { words = 3244 ∷ 3691 ∷ 0 ∷ []; ext = 31419 }
+    else if n == 4 then record { words = 49230 ∷ 49230 ∷ 0 ∷ []; ext = 6778 }
+    else record { words = 5418 ∷ 14927 ∷ 0 ∷ []; ext = 31419 }
+
+-- the attributes of the master directory: records of 16 bytes, one block, of which 80 bytes are five names
+abbrev pub master_attributes : List ℕ
+master_attributes = flat_map word_bytes (1 ∷ 16 ∷ 0 ∷ 1 ∷ 0 ∷ 1 ∷ 80 ∷ []) ++ replicate 18 0
+
+-- the attributes of the reserved file of this number
+abbrev pub reserved_attributes : ℕ → List ℕ
+reserved_attributes n = if n == 4 then master_attributes else replicate 32 0
+
+-- the fields of its header, its pointers aside: sequence number n, version 1, the volume's owner and stamp, no next header
+abbrev pub reserved_header : NewVolume → ℕ → Header
+reserved_header V n = first_header (record { number = n; sequence = n }) V.owner protection (reserved_attributes n) (new_ident (reserved_name n) 1 V.stamp)
+
+-- b is that header: valid, with these fields, and its pointers name the blocks of the file
+pub record IsReservedHeader (V : NewVolume) (P : Places) (n : ℕ) (b : List ℕ) : Type 0 where
+  pub valid : IsValidHeader b n
+  pub fields : header_of b ≡ record (reserved_header V n) { pointers = record { items = runs_of b } }
+  pub blocks : blocks_of b ≡ range_with_len (first_of P n) (count_of P n)
+  pub rest : AreZeros b (102 + 4 * length (runs_of b)) 510
+
+-- b is the home block: the fields that the volume is read by, and those that its people see
+pub record IsNewHome (V : NewVolume) (P : Places) (b : List ℕ) : Type 0 where
+  pub home : IsHome b
+  pub fields : home_of b ≡ record { index_bitmap_size = P.index_bitmap_size; index_bitmap_lbn = 2; max_files = P.most_files; protection = protection }
+  -- H.VNAM and H.INDN: the label
+  pub label : slice_range b 14 26 ≡ V.label
+  pub label_again : slice_range b 472 484 ≡ V.label
+  -- H.VOWN: the owner
+  pub owner : word b 15 ≡ V.owner.member + 256 * V.owner.group
+  -- H.VDAT: when it was made
+  pub stamp : slice_range b 60 73 ≡ V.stamp
+
+-- of the 4,096 bits of b, those from one on and before the other are set
+abbrev pub HasBits : List ℕ → ℕ → ℕ → Type 0
+HasBits b from end = (i : ℕ) → i < 4096 → has_bit b i ≡ (nat_le from i && nat_lt i end)
+
+-- of the 4,096 blocks from this one on so many are free
+abbrev pub free_in : NewVolume → Places → ℕ → ℕ
+free_in V P from = min (V.blocks - from) 4096 - min (P.master + 1 - from) 4096
+
+-- the first of them, where there is one, counted from this one
+abbrev pub first_in : Places → ℕ → ℕ
+first_in P from = min (P.master + 1 - from) 4096 % 4096
+
+-- for so many blocks of the bitmap the storage control block has counts: for all up to 126, else for none
+abbrev pub counted : ℕ → ℕ
+counted map_blocks = if nat_le map_blocks 126 then map_blocks else 0
+
+-- b is the storage control block: how many blocks the bitmap has (at most what a byte says); by each that is counted, how many blocks are free and the first of them; the size of the volume
+pub record IsControlBlock (V : NewVolume) (P : Places) (b : List ℕ) : Type 0 where
+  pub count : byte b 3 ≡ min P.map_blocks 255
+  pub free : (k : ℕ) → k < counted P.map_blocks → word b (2 + 2 * k) ≡ free_in V P (4096 * k)
+  pub first : (k : ℕ) → k < counted P.map_blocks → word b (3 + 2 * k) ≡ first_in P (4096 * k)
+  pub size : 65536 * word b (2 + 2 * counted P.map_blocks) + word b (3 + 2 * counted P.map_blocks) ≡ V.blocks
+
+-- the bytes of a block that begins with these, and has zeros behind them
+abbrev pub starting : List ℕ → List ℕ
+starting bytes = with_bytes zeros 0 bytes
+
+-- the entry of the reserved file of this number, its sequence number too, on this volume
+abbrev pub reserved_entry : ℕ → List ℕ
+reserved_entry n = flat_map word_bytes (n ∷ n ∷ 0 ∷ (reserved_name n).words ++ (reserved_name n).ext ∷ 1 ∷ [])
+
+-- the master directory: the five reserved files, in the order of their numbers
+abbrev pub master_block : List ℕ
+master_block = starting (flat_map reserved_entry (range_with_len 1 5))
+
+-- What stands at an LBN of a new volume.
+pub record IsNewBlock (V : NewVolume) (P : Places) (lbn : ℕ) (b : List ℕ) : Type 0 where
+  -- the home block
+  pub home : lbn ≡ 1 → IsNewHome V P b
+  -- the index bitmap: numbers 1 to 5 are in use
+  pub index_bitmap : 2 ≤ lbn → lbn < 2 + P.index_bitmap_size → HasBits b 0 (5 - 4096 * (lbn - 2))
+  -- headers 1 to 5
+  pub header : 2 + P.index_bitmap_size ≤ lbn → lbn < 7 + P.index_bitmap_size → IsReservedHeader V P (lbn - (1 + P.index_bitmap_size)) b
+  -- the storage control block
+  pub control : lbn ≡ P.control → IsControlBlock V P b
+  -- the storage bitmap: the blocks behind the master directory are free
+  pub storage_bitmap : P.control < lbn → lbn < P.master → HasBits b (P.master + 1 - 4096 * (lbn - (P.control + 1))) (V.blocks - 4096 * (lbn - (P.control + 1)))
+  -- the master directory
+  pub master : lbn ≡ P.master → b ≡ master_block
+  -- the boot block, the other headers, and the free blocks: zeros
+  pub empty : (lbn ≡ 0) ⊎ ((7 + P.index_bitmap_size ≤ lbn) × (lbn < P.control)) ⊎ (P.master < lbn) → b ≡ zeros

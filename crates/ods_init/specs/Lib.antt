@@ -1,0 +1,5 @@
+pub mod Label
+pub mod Places
+pub mod HomeBytes
+pub mod Blocks
+pub mod New

@@ -1,0 +1,32 @@
+-- What a new volume is.
+use Rattle.std.specs.Prelude.{◌≡◌, ℕ, ◌<◌, ◌≤◌, ◌^◌, List, length}
+use Rattle.ods_base.specs.Image.{IsImage, block_at}
+use Rattle.ods_init.specs.declared.volume.NewVolume.{NewVolume}
+use Rattle.ods_init.specs.declared.volume.InitFault.{InitFault}
+use Rattle.ods_init.specs.declared.volume.InitFault.TheVariants.{TooSmall, TooLarge, TooManyFiles, NoMemory}
+use Rattle.ods_mount.specs.Faults.{IsSound}
+use Rattle.ods_init.specs.Places.{places, HasRoom}
+use Rattle.ods_init.specs.Blocks.{IsNewBlock}
+
+-- the image is that of the new volume: so many blocks, and at each LBN what is to stand there
+pub record IsNewVolume (V : NewVolume) (I : List (List ℕ)) : Type 0 where
+  pub image : IsImage I
+  pub size : length I ≡ V.blocks
+  pub each : (lbn : ℕ) → lbn < V.blocks → IsNewBlock V (places V.blocks V.files) lbn (block_at I lbn)
+
+-- there is a new volume of this kind: its blocks are as many as a volume may have, and the structures fit
+pub record IsPossible (V : NewVolume) : Type 0 where
+  pub least : 40 ≤ V.blocks
+  pub most : V.blocks ≤ 2 ^ 20
+  pub room : HasRoom V.blocks V.files
+
+-- no fault is true of a new volume
+abbrev pub NewIsSound : Type 0
+NewIsSound = (V : NewVolume) (I : List (List ℕ)) → IsPossible V → IsNewVolume V I → IsSound I
+
+-- Why there is no new volume: each fault where it is true, and want of memory alone where there could be one.
+abbrev pub IsInitFault : NewVolume → InitFault → Type 0
+IsInitFault V TooSmall = V.blocks < 40
+IsInitFault V TooLarge = 2 ^ 20 < V.blocks
+IsInitFault V TooManyFiles = (40 ≤ V.blocks) × (V.blocks ≤ 2 ^ 20) × ¬ HasRoom V.blocks V.files
+IsInitFault V NoMemory = IsPossible V

@@ -1,0 +1,7 @@
+//! That a new volume is sound: a law over the definitions alone.
+ghost use Rattle.ods_init.specs.New.{NewIsSound};
+
+/// A new volume is sound.
+pub fn new_volume_is_sound()
+    ensures { NewIsSound }
+{}

@@ -1,0 +1,18 @@
+//! New volumes: the image of a sound one with five reserved files, a master directory that names them, and the rest free.
+#![tactic(auto)]
+
+mod bits;
+mod control;
+mod home;
+mod image;
+mod label;
+mod laws;
+mod master;
+mod places;
+mod reserved;
+mod volume;
+
+pub use image::init;
+pub use label::Label;
+pub use laws::new_volume_is_sound;
+pub use volume::{InitFault, NewVolume, default_files};

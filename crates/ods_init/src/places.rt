@@ -1,0 +1,49 @@
+//! Where the structures of a new volume lie.
+ghost use Rattle.std.specs.Prelude.{◌≡◌, ◌≤◌, ◌^◌, MatchOption};
+ghost use Rattle.ods_init.specs.Places.{HasRoom, places};
+
+use crate::NewVolume;
+
+/// The blocks that the one header of INDEXF.SYS can map: 102 pointers, of 256 blocks each.
+const MOST_INDEX_BLOCKS: u32 = 26_112;
+
+/// Where the structures of a new volume lie. INDEXF.SYS has the blocks from LBN 0 on, the index bitmap from LBN 2 on.
+#[derive(Clone, Copy)]
+pub struct Places {
+    /// The greatest file number, H.FMAX.
+    pub most_files: u32,
+    /// The blocks of the index bitmap, H.IBSZ.
+    pub index_bitmap_size: u32,
+    /// The LBN of the storage control block, which is the first behind INDEXF.SYS.
+    pub control: u32,
+    /// The blocks of the storage bitmap, behind it.
+    pub map_blocks: u32,
+    /// The LBN of the master directory, behind the bitmap. What follows is free.
+    pub master: u32,
+}
+
+/// The structures of a volume, where they fit into it, and the blocks of INDEXF.SYS into one header.
+pub fn places_of(volume: &NewVolume) -> Option<Places>
+    requires { volume.now.blocks ≤ 2 ^ 20 }
+    ensures { MatchOption result (¬ HasRoom volume.now.blocks volume.now.files)
+        (λ found. HasRoom volume.now.blocks volume.now.files × (found ≡ places volume.now.blocks volume.now.files)) }
+{
+    let most_files = volume.blocks.min(65_535);
+    let index_bitmap_size = (most_files + 4_095) / 4_096;
+    let map_blocks = (volume.blocks + 4_095) / 4_096;
+    if volume.files > MOST_INDEX_BLOCKS {
+        return None;
+    }
+    let control = 2 + index_bitmap_size + (volume.files + 5).max(16);
+    let master = control + 1 + map_blocks;
+    if control > MOST_INDEX_BLOCKS || master >= volume.blocks {
+        return None;
+    }
+    Some(Places {
+        most_files,
+        index_bitmap_size,
+        control,
+        map_blocks,
+        master,
+    })
+}

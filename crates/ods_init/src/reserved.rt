@@ -1,0 +1,110 @@
+//! The five reserved files: their names and their headers.
+ghost use Rattle.std.specs.Prelude.{◌≡◌, ◌+◌, ◌*◌, ◌^◌, ◌≤◌};
+ghost use Rattle.std.specs.List.{All, flat_map, range_with_len};
+ghost use Rattle.ods_header.specs.Header.{IsRun, run_blocks};
+ghost use Rattle.ods_init.specs.Places.{first_of, count_of};
+ghost use Rattle.ods_init.specs.Blocks.{reserved_name, reserved_attributes, IsReservedHeader};
+
+use crate::NewVolume;
+use crate::places::Places;
+use arrayvec::ArrayVec;
+use ods_base::{Block, FileId, Name};
+use ods_header::{Header, Run, write_header};
+use ods_request::new_ident;
+
+/// The protection of new files and of the reserved ones: the world may only read.
+pub const PROTECTION: u16 = 0o160000;
+
+/// The type words of `SYS` and `DIR`.
+const SYS: u16 = 31419;
+
+const DIR: u16 = 6778;
+
+/// The name of the reserved file of a number.
+pub fn reserved_name(number: u16) -> Name
+    ensures { result ≡ reserved_name number }
+{
+    match number {
+        1 => Name::new([14964, 8966, 0], SYS),
+        2 => Name::new([3580, 20856, 0], SYS),
+        3 => Name::new([3244, 3691, 0], SYS),
+        4 => Name::new([49230, 49230, 0], DIR),
+        _ => Name::new([5418, 14927, 0], SYS),
+    }
+}
+
+/// The first block of the reserved file of a number, and how many it has.
+fn blocks_of(places: Places, number: u16) -> (u32, u32)
+    requires { places.map_blocks ≤ 256 }
+    ensures first { result.0 ≡ first_of places number }
+    ensures count { result.1 ≡ count_of places number }
+{
+    match number {
+        1 => (0, places.control),
+        2 => (places.control, 1 + places.map_blocks),
+        4 => (places.master, 1),
+        _ => (places.master, 0),
+    }
+}
+
+/// The pointers of a file whose blocks follow one another: each of 256 blocks, but the last.
+fn pointers_to(first: u32, count: u32) -> ArrayVec<Run, 102>
+    requires few { count ≤ 26112 }
+    requires inside { first + count ≤ 2 ^ 20 }
+    ensures runs { All IsRun result.items }
+    ensures blocks { flat_map run_blocks result.items ≡ range_with_len first count }
+{
+    let mut pointers = ArrayVec::new();
+    for k in 0..(count + 255) / 256 {
+        pointers.push(Run {
+            lbn: first + 256 * k,
+            count: (count - 256 * k).min(256) as u16,
+        });
+    }
+    pointers
+}
+
+/// The attributes of a reserved file. The master directory has records of 16 bytes, one block, and five names.
+fn attributes_of(number: u16) -> [u8; 32]
+    ensures { result ≡ reserved_attributes number }
+{
+    if number != 4 {
+        return [0; 32];
+    }
+    [
+        1, 0, 16, 0, 0, 0, 1, 0, 0, 0, 1, 0, 80, 0, 0, 0, 0, 0, 0, 0, 0, 0, 0, 0, 0, 0, 0, 0, 0, 0,
+        0, 0,
+    ]
+}
+
+/// The header of a reserved file.
+pub fn header_block(volume: &NewVolume, places: Places, number: u16) -> Block
+    requires map { places.map_blocks ≤ 256 }
+    requires index { places.control ≤ 26112 }
+    requires master { places.master ≡ places.control + 1 + places.map_blocks }
+    ensures { IsReservedHeader volume.now places number result }
+{
+    let (first, count) = blocks_of(places, number);
+    write_header(&Header {
+        file: FileId {
+            number,
+            sequence: number,
+        },
+        owner: volume.owner,
+        protection: PROTECTION,
+        user_char: 0,
+        system_char: 0,
+        attributes: attributes_of(number),
+        ident: new_ident(&reserved_name(number), 1, &volume.stamp),
+        segment: 0,
+        next: FileId {
+            number: 0,
+            sequence: 0,
+        },
+        next_volume: 0,
+        ident_offset: 23,
+        map_offset: 46,
+        most_words: 204,
+        pointers: pointers_to(first, count),
+    })
+}
