@@ -8,7 +8,7 @@ ghost use Rattle.ods_alloc.specs.{Ends.IsHeaderAt, Extend.IsWellPlaced, Extend.c
 
 use crate::bitmap::mark_blocks;
 use crate::runs::runs_of_blocks;
-use crate::zero::zero_blocks;
+use crate::zero::zero_runs;
 use ods_base::{Block, Image};
 use ods_header::append_runs;
 use ods_space::{Draft, Layout};
@@ -38,9 +38,10 @@ pub fn grow_index(
     let _ = image.len();
     let runs = runs_of_blocks(alloc, blocks)?;
     let mut draft = Draft::new(alloc);
-    zero_blocks(alloc, blocks, &mut draft)?;
+    let all = runs.as_slice();
+    zero_runs(all, &mut draft)?;
     let place = layout.place(end).unwrap();
-    draft.set(place, append_runs(last, &runs))?;
+    draft.set(place, append_runs(last, all))?;
     mark_blocks(image, layout, blocks, false, &mut draft)?;
     draft.makes_image(image);
     Ok(draft)

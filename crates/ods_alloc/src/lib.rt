@@ -30,4 +30,4 @@ pub use last::last_header;
 pub use laws::chain_grows;
 pub use numbers::{is_number_free, number_count, pick_numbers, pick_open_numbers};
 pub use runs::runs_of_blocks;
-pub use zero::zero_blocks;
+pub use zero::zero_runs;

@@ -70,7 +70,7 @@ module _ (I Z K : List (List ℕ)) (L : VolumeLayout) (S : IsSoundBy I L) (n x :
   abbrev numbers : List ℕ
   numbers = t.numbers.items
 
-  -- What extend_chain asks, where the file is said by its headers behind the first and by its blocks in other words.
+  -- What extend_from asks, where the file is said by its headers behind the first and by its blocks in other words.
   pub layout_asked : IsLayoutOf K L
   layout_asked = ready_layout I K L S n headers old count numbers taking is_ready
 

@@ -10,6 +10,7 @@ use Rattle.ods_request.specs.declared.requests.Request.TheVariants.{Extend}
 use Rattle.ods_request.specs.Catalogue.{Catalogue}
 use Rattle.ods_request.specs.Faults.{fault_of}
 use Rattle.ods_request.specs.Steps.{not_contiguous}
+use Rattle.ods_alloc.specs.Extend.{cut}
 use Rattle.ods_state.specs.Change.{disk}
 use Rattle.ods_state.specs.Contents.{ShowsBy}
 use Rattle.ods_state.specs.Made.{AreMade, AreZeroed}
@@ -49,6 +50,7 @@ pub record IsWanted (I : List (List ℕ)) (L : VolumeLayout) (n : ℕ) (headers 
   pub file : IsFile I L n
   pub has : HasHeaders I L n headers old
   pub blocks : t.blocks.items ≡ taken_blocks I L count
+  pub runs : t.runs.items ≡ cut t.blocks.items
   pub numbers : t.numbers.items ≡ taken_numbers I L headers count
   pub enough : lack_of I L headers count ≡ None
   pub no_growth : index_growth L (taken_numbers I L headers count) ≡ 0

@@ -1,5 +1,5 @@
 -- Taking: where the chain of a file ends, and why a volume has too little.
-use Rattle.std.specs.Prelude.{◌≡◌, ◌⊎◌, ℕ, ◌+◌, ◌/◌, ◌<◌, ◌≤◌, List, drop, length, take}
+use Rattle.std.specs.Prelude.{◌≡◌, ◌⊎◌, ℕ, ◌+◌, ◌/◌, ◌<◌, ◌≤◌, List, None, Some, drop, length, take}
 use Rattle.std.specs.List.{Contains}
 use Rattle.ods_base.specs.Block.{zeros}
 use Rattle.ods_base.specs.Image.{block_at}
@@ -9,9 +9,10 @@ use Rattle.ods_alloc.specs.declared.fault.SpaceFault.{SpaceFault}
 use Rattle.ods_alloc.specs.declared.fault.SpaceFault.TheVariants as fault
 use Rattle.ods_header.specs.Header.{room_of}
 use Rattle.ods_space.specs.Free.{free_blocks}
-use Rattle.ods_state.specs.Wants.{index_end, index_growth}
+use Rattle.ods_state.specs.Wants.{HasHeaders, index_blocks, index_end, index_growth, lack_of, room_in, taken_blocks, taken_numbers}
 use Rattle.ods_alloc.specs.Extend.{cut, last_of}
 use Rattle.ods_change.specs.declared.taking.ChainEnd.{ChainEnd}
+use Rattle.ods_change.specs.declared.taking.Taken.{Taken}
 use Rattle.ods_request.specs.declared.refusals.Refusal.{Refusal}
 use Rattle.ods_request.specs.declared.refusals.Refusal.TheVariants as refusal
 
@@ -38,3 +39,28 @@ LacksPlaces I L count numbers =
 pub record IsEndOf (I : List (List ℕ)) (L : VolumeLayout) (n : ℕ) (end : ChainEnd) : Type 0 where
   pub number : (others blocks : List ℕ) → IsChain I L n others blocks → end.number ≡ last_of n others
   pub last : end.last.now ≡ header_at I L end.number
+
+-- the chain of file n has so many headers, maps so many blocks, and has this room in words behind the pointers of its last header
+abbrev pub IsMeasured : List (List ℕ) → VolumeLayout → ℕ → ChainEnd → Type 0
+IsMeasured I L n end = (hs blocks : List ℕ) → HasHeaders I L n hs blocks
+    → (end.headers ≡ length hs) × (end.blocks ≡ length blocks) × (end.room ≡ room_in I L hs)
+
+-- a file with headers hs takes this to get so many blocks, and the volume lacks nothing of it
+abbrev pub Takes : List (List ℕ) → VolumeLayout → List ℕ → ℕ → Taken → Type 0
+Takes I L hs count t =
+    (t.blocks.items ≡ taken_blocks I L count)
+    × (t.numbers.items ≡ taken_numbers I L hs count)
+    × (t.places.items ≡ index_blocks I L hs count)
+    × (lack_of I L hs count ≡ None)
+
+-- P holds of the headers of whatever file has so many, and this room in words behind the pointers of the last
+abbrev pub ForFilesWith : List (List ℕ) → VolumeLayout → ℕ → ℕ → (List ℕ → Type 0) → Type 0
+ForFilesWith I L headers room P = (hs : List ℕ) → length hs ≡ headers → room_in I L hs ≡ room → P hs
+
+-- such a file takes this to get so many blocks
+abbrev pub IsTakenBy : List (List ℕ) → VolumeLayout → ℕ → ℕ → ℕ → Taken → Type 0
+IsTakenBy I L headers room count t = ForFilesWith I L headers room (λ hs. Takes I L hs count t)
+
+-- such a file cannot get them: there is no memory, or the volume lacks what the refusal says
+abbrev pub IsWhyNotTaken : List (List ℕ) → VolumeLayout → ℕ → ℕ → ℕ → Refusal → Type 0
+IsWhyNotTaken I L headers room count f = (f ≡ refusal.NoMemory) ⊎ ForFilesWith I L headers room (λ hs. lack_of I L hs count ≡ Some f)

@@ -1,6 +1,6 @@
 //! A Create: its check, the first header of the new file, and the draft that makes it.
 ghost use Rattle.std.specs.Prelude.{◌≡◌, ◌+◌, ◌<◌, [], IfOk, MatchResult, length};
-ghost use Rattle.ods_alloc.specs.Counts.{counts_of};
+ghost use Rattle.ods_alloc.specs.{Counts.counts_of, Extend.cut};
 ghost use Rattle.ods_base.specs.Image.{IsImage};
 ghost use Rattle.ods_header.specs.Header.{sequence_of};
 ghost use Rattle.ods_mount.specs.Sound.{IsSoundBy};
@@ -11,10 +11,10 @@ ghost use Rattle.ods_change.specs.Creating.{IsMadeFile, IsNewHeaderFor, new_id};
 
 use crate::beginning::{Begun, Drafted, begin, layout_then};
 use crate::taking::take;
-use ods_alloc::{ChainEnds, FreeCounts, extend_from, zero_blocks};
+use ods_alloc::{ChainEnds, FreeCounts, extend_from, zero_runs};
 use ods_base::{Block, FileId, Image, Name, Uic};
 use ods_directory::with_mark;
-use ods_header::first_block;
+use ods_header::{Run, first_block};
 use ods_request::{Refusal, Stamp, new_ident};
 use ods_space::{Draft, Layout, sequence};
 use std::alloc::{AllocError, Global};
@@ -58,6 +58,7 @@ pub fn create(
     let protection = layout.home().protection;
     let header = new_header(file, who, protection, &name, version, count, &stamp);
     let blocks = taken.blocks.as_slice();
+    let runs = taken.runs.as_slice();
     let others = &numbers[1..];
     let begun = match begin(alloc, image, layout, &taken.places) {
         Ok(begun) => begun,
@@ -69,13 +70,13 @@ pub fn create(
     } = begun;
     let then = layout_then(&grown, layout);
     match new_file(
-        alloc,
         image,
         then,
         draft,
         file.number,
         header,
         blocks,
+        runs,
         others,
     ) {
         Ok(draft) => Ok((
@@ -103,23 +104,24 @@ fn new_id(image: &Image, layout: &Layout, number: u16) -> FileId
 /// This draft with a file made, with this first header: the blocks that it takes become zeros, and its chain grows by
 /// them, with these headers behind the first.
 fn new_file(
-    alloc: Global,
     image: &Image,
     layout: &Layout,
     mut draft: Draft,
     number: u16,
     header: Block,
     blocks: &[u32],
+    runs: &[Run],
     others: &[u16],
 ) -> Result<Draft, AllocError>
     requires sound { IsSoundBy (applied image.now draft) layout.now }
     requires image { IsImage (applied image.now draft) }
     requires taking { IsTaking (applied image.now draft) layout.now number [] [] (length blocks.now) others.now }
     requires lowest { blocks.now ≡ taken_blocks (applied image.now draft) layout.now (length blocks.now) }
+    requires runs { runs.now ≡ cut blocks.now }
     requires header { IsNewFirst (header_at (applied image.now draft) layout.now number) header number }
     ensures { IfOk result (λ made. IsMadeFile (applied image.now draft) layout.now number header (length blocks.now) others.now (applied image.now made)) }
 {
-    zero_blocks(alloc, blocks, &mut draft)?;
+    zero_runs(runs, &mut draft)?;
     let first = layout.place(number).unwrap();
     draft.set(first, header)?;
     // The first header is the last that the chain has.
@@ -128,7 +130,7 @@ fn new_file(
         number,
         last: &header,
     };
-    let grown = extend_from(alloc, image, layout, number, &ends, blocks, others, draft)?;
+    let grown = extend_from(image, layout, number, &ends, blocks, others, runs, draft)?;
     Ok(grown)
 }
 

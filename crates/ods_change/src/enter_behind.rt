@@ -1,6 +1,6 @@
 //! An Enter whose entry stands in a new block, behind those that the directory has.
 ghost use Rattle.std.specs.Prelude.{◌≡◌, true, IfOk};
-ghost use Rattle.ods_alloc.specs.Counts.{counts_of};
+ghost use Rattle.ods_alloc.specs.{Counts.counts_of, Extend.cut};
 ghost use Rattle.ods_base.specs.Image.{IsImage};
 ghost use Rattle.ods_mount.specs.Sound.{IsSoundBy};
 ghost use Rattle.ods_space.specs.Draft.{applied};
@@ -13,6 +13,7 @@ use crate::taking::{ChainEnd, ends_with, take};
 use ods_alloc::{FreeCounts, extend_from};
 use ods_base::{Block, FileId, Image};
 use ods_directory::DirBlocks;
+use ods_header::Run;
 use ods_request::Refusal;
 use ods_space::{Draft, Layout};
 use std::alloc::{AllocError, Global};
@@ -49,7 +50,6 @@ pub(crate) fn enter_behind(
     } = begun;
     let then = layout_then(&index, layout);
     match with_block(
-        alloc,
         image,
         then,
         draft,
@@ -58,6 +58,7 @@ pub(crate) fn enter_behind(
         &end,
         &taken.blocks,
         &taken.numbers,
+        &taken.runs,
     ) {
         Ok(draft) => Ok(Drafted {
             draft,
@@ -69,7 +70,6 @@ pub(crate) fn enter_behind(
 
 /// This draft with more changes, by which an entry stands in the block that a directory whose chain ends so takes, and this block behind its own.
 fn with_block(
-    alloc: Global,
     image: &Image,
     layout: &Layout,
     mut draft: Draft,
@@ -78,6 +78,7 @@ fn with_block(
     end: &ChainEnd<'_>,
     blocks: &[u32],
     numbers: &[u16],
+    runs: &[Run],
 ) -> Result<Draft, AllocError>
     requires sound { IsSoundBy (applied image.now draft) layout.now }
     requires image { IsImage (applied image.now draft) }
@@ -85,6 +86,7 @@ fn with_block(
     requires grows { entry.now.slot.grows ≡ true }
     requires end { IsEndOf (applied image.now draft) layout.now dir.number end.now }
     requires taken { IsTakenFor (applied image.now draft) layout.now dir.number blocks.now numbers.now }
+    requires runs { runs.now ≡ cut blocks.now }
     ensures { IfOk result (λ made. IsEntering (applied image.now draft) layout.now dir entry.now (applied image.now made) layout.now) }
 {
     let mut block = Block::zeros();
@@ -98,13 +100,13 @@ fn with_block(
     // The blocks of what the image becomes have bytes, so its chains have at most 256 headers.
     draft.makes_image(image);
     let grown = extend_from(
-        alloc,
         image,
         layout,
         dir.number,
         &ends_with(dir.number, &header, end.number, end.last),
         blocks,
         numbers,
+        runs,
         draft,
     )?;
     Ok(grown)

@@ -11,7 +11,7 @@ ghost use Rattle.ods_change.specs.{Extending.IsExtensible, Extending.IsGrownBy, 
 
 use crate::beginning::{Begun, Drafted, begin, layout_then};
 use crate::taking::{ChainEnd, Taken, ends_with, take};
-use ods_alloc::{FreeCounts, extend_from, zero_blocks};
+use ods_alloc::{FreeCounts, extend_from, zero_runs};
 use ods_base::{Block, FileId, Image, Uic};
 use ods_header::{is_directory, owner, protection, without_contiguous};
 use ods_look::opening::named_header;
@@ -66,7 +66,6 @@ pub(crate) fn may_extend(header: &Block, who: Uic) -> bool
 /// This draft with more changes, by which a file whose chain ends so takes these blocks and numbers. The blocks become zeros, and the
 /// first header says no more that the file's blocks are contiguous.
 fn grown(
-    alloc: Global,
     image: &Image,
     layout: &Layout,
     mut draft: Draft,
@@ -84,20 +83,20 @@ fn grown(
     ensures { IfOk result (λ made. (headers old : List ℕ) (count : ℕ) → IsWanted (applied image.now draft) layout.now number headers old count taken.now
         → IsGrownBy (applied image.now draft) layout.now number headers old count taken.now.numbers.items (applied image.now made)) }
 {
-    zero_blocks(alloc, &taken.blocks, &mut draft)?;
+    zero_runs(&taken.runs, &mut draft)?;
     let lbn = layout.place(number).unwrap();
     let header = without_contiguous(first);
     draft.set(lbn, header)?;
     // The blocks of what the image becomes have bytes, so its chains have at most 256 headers.
     draft.makes_image(image);
     let grown = extend_from(
-        alloc,
         image,
         layout,
         number,
         &ends_with(number, &header, end.number, end.last),
         &taken.blocks,
         &taken.numbers,
+        &taken.runs,
         draft,
     )?;
     Ok(grown)
@@ -140,7 +139,7 @@ pub fn extend(
         draft,
     } = begun;
     let then = layout_then(&index, layout);
-    match grown(alloc, image, then, draft, file.number, first, &end, &taken) {
+    match grown(image, then, draft, file.number, first, &end, &taken) {
         Ok(draft) => Ok((
             Drafted {
                 draft,

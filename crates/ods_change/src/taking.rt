@@ -1,16 +1,17 @@
 //! What a file takes to grow: the lowest free blocks, and the lowest free numbers for the headers that their pointers need.
 ghost use Rattle.std.specs.Prelude.{◌≡◌, ◌≢◌, ◌+◌, ◌⊎◌, ◌<◌, ◌≤◌, ◌^◌, ℕ, List, None, Some, length, IfOk, IfErr, OnOk};
 ghost use Rattle.ods_alloc.specs.Counts.{counts_of};
-ghost use Rattle.ods_header.specs.Header.{IsLaidOut, blocks_of, room_of};
-ghost use Rattle.ods_space.specs.{Chain.chain_blocks, Chain.header_blocks, Files.IsLayoutOf, Free.free_blocks, Layout.header_at};
-ghost use Rattle.ods_state.specs.Wants.{HasHeaders, index_blocks, index_end, index_growth, lack_of, new_headers, room_in, taken_blocks, taken_numbers};
-ghost use Rattle.ods_change.specs.Taking.{HasPlacesFor, IsEndOf, LacksPlaces, refusal_for};
+ghost use Rattle.ods_header.specs.Header.{room_of};
+ghost use Rattle.ods_space.specs.{Chain.chain_blocks, Files.IsLayoutOf, Free.free_blocks, Layout.header_at};
+ghost use Rattle.ods_alloc.specs.Extend.{cut};
+ghost use Rattle.ods_state.specs.Wants.{HasHeaders, index_end, index_growth, new_headers};
+ghost use Rattle.ods_change.specs.Taking.{HasPlacesFor, IsEndOf, IsMeasured, IsTakenBy, IsWhyNotTaken, LacksPlaces, refusal_for};
 
 use ods_alloc::{
     ChainEnds, FreeCounts, SpaceFault, pick_blocks, pick_open_numbers, runs_of_blocks,
 };
 use ods_base::{Block, Image};
-use ods_header::{pointer_at, pointer_count, room_words};
+use ods_header::{Run, pointer_sum, room_words};
 use ods_request::Refusal;
 use ods_space::{ChainHeaders, Layout, header_block, last_number};
 use std::alloc::{AllocError, Global};
@@ -32,7 +33,7 @@ impl<'a> ChainEnd<'a> {
         requires layout { IsLayoutOf image.now layout.now }
         requires whole { (hs : List ℕ) × (blocks : List ℕ) × HasHeaders image.now layout.now number hs blocks }
         requires first { first.now ≡ header_at image.now layout.now number }
-        ensures end { (hs blocks : List ℕ) → HasHeaders image.now layout.now number hs blocks → (result.headers ≡ length hs) × (result.blocks ≡ length blocks) × (result.room ≡ room_in image.now layout.now hs) }
+        ensures end { IsMeasured image.now layout.now number result }
         ensures last { IsEndOf image.now layout.now number result }
         ensures few { result.headers ≤ 256 }
         ensures small { result.blocks ≤ chain_blocks }
@@ -46,7 +47,7 @@ impl<'a> ChainEnd<'a> {
         let mut headers = ChainHeaders::from(image, layout, number, first);
         while let Some((at, header)) = headers.next() {
             count += 1;
-            blocks += mapped(header);
+            blocks += pointer_sum(header);
             end = at;
             last = header;
         }
@@ -80,23 +81,12 @@ pub(crate) fn ends_with<'a>(
     }
 }
 
-/// How many blocks the pointers of a header map.
-pub(crate) fn mapped(header: &Block) -> u32
-    requires { IsLaidOut header.now }
-    ensures count { result ≡ length (blocks_of header.now) }
-    ensures few { result ≤ header_blocks }
-{
-    let mut count = 0;
-    for k in 0..pointer_count(header) {
-        count += pointer_at(header, k).count as u32;
-    }
-    count
-}
-
 /// What a file takes: blocks, and numbers for the headers that their pointers need; and what INDEXF.SYS gets for these. All ascend.
 #[derive(Drop)]
 pub(crate) struct Taken {
     pub blocks: Vec<u32>,
+    /// The blocks once more, as the runs that pointers say.
+    pub runs: Vec<Run>,
     pub numbers: Vec<u16>,
     /// The blocks that INDEXF.SYS gets behind its own, so that it has one for each of the numbers.
     pub places: Vec<u32>,
@@ -117,9 +107,9 @@ pub(crate) fn take(
     requires counts { counts.now ≡ counts_of image.now layout.now }
     requires few { headers ≤ 256 }
     requires small { count ≤ 65535 }
-    ensures ok { IfOk result (λ t. (hs : List ℕ) → length hs ≡ headers → room_in image.now layout.now hs ≡ room
-        → (t.blocks.items ≡ taken_blocks image.now layout.now count) × (t.numbers.items ≡ taken_numbers image.now layout.now hs count) × (t.places.items ≡ index_blocks image.now layout.now hs count) × (lack_of image.now layout.now hs count ≡ None)) }
-    ensures err { IfErr result (λ f. (f ≡ Refusal.NoMemory) ⊎ ((hs : List ℕ) → length hs ≡ headers → room_in image.now layout.now hs ≡ room → lack_of image.now layout.now hs count ≡ Some f)) }
+    ensures ok { IfOk result (IsTakenBy image.now layout.now headers room count) }
+    ensures runs { IfOk result (λ t. t.runs.items ≡ cut t.blocks.items) }
+    ensures err { IfErr result (IsWhyNotTaken image.now layout.now headers room count) }
 {
     let blocks = match pick_blocks(alloc, image, layout, counts, count) {
         Ok(blocks) => blocks,
@@ -144,6 +134,7 @@ pub(crate) fn take(
     }
     Ok(Taken {
         blocks,
+        runs,
         numbers,
         places,
     })

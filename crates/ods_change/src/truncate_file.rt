@@ -9,10 +9,9 @@ ghost use Rattle.ods_change.specs.Truncating.{IsCutPlace, IsCuttable};
 
 use crate::delete_file::delete_headers;
 use crate::extend_file::may_extend;
-use crate::taking::mapped;
 use ods_alloc::mark_free;
 use ods_base::{Block, FileId, Image, Uic};
-use ods_header::{cut_header, is_directory};
+use ods_header::{cut_header, is_directory, pointer_sum};
 use ods_look::opening::named_header;
 use ods_request::Refusal;
 use ods_space::{ChainHeaders, Draft, Layout, count_whole, push_header};
@@ -155,7 +154,7 @@ fn cut_place<'a>(
     let mut left = count;
     let mut headers = ChainHeaders::from(image, layout, number, first);
     while let Some((at, header)) = headers.next() {
-        let has = mapped(header);
+        let has = pointer_sum(header);
         if left <= has {
             return CutPlace {
                 number: at,

@@ -15,3 +15,4 @@ pub mod AllButOne
 pub mod OtherFront
 pub mod DirectoryHeaders
 pub mod Cutting
+pub mod Chunked

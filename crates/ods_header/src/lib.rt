@@ -14,6 +14,7 @@ mod header;
 mod home;
 mod line;
 mod map_area;
+mod pointer_sums;
 mod pointers;
 mod read;
 mod set_attributes;
@@ -39,6 +40,7 @@ pub use map_area::{
     is_valid_header, next_number, next_sequence, next_volume, pointer_at, pointer_count, room,
     room_words, segment,
 };
+pub use pointer_sums::pointer_sum;
 pub use read::read_header;
 pub use set_attributes::with_attributes;
 pub use write::write_header;

@@ -4,9 +4,9 @@ ghost use Rattle.ods_space.specs.{Layout.header_at, Chain.IsChain, Files.HasBloc
 
 use crate::Layout;
 use crate::headers::header_block;
-use crate::mapped::{mapped_block, mapped_count};
+use crate::mapped::mapped_block;
 use ods_base::{Block, Image};
-use ods_header::next_number;
+use ods_header::{next_number, pointer_sum};
 use std::marker::Model;
 
 /// The headers of a chain, one after another. A contract sees those that are still to come, each with its number.
@@ -111,7 +111,7 @@ pub fn locate_whole(
     let mut index = vbn - 1;
     let mut headers = ChainHeaders::from(image, layout, number, first);
     while let Some((_, header)) = headers.next() {
-        let count = mapped_count(header);
+        let count = pointer_sum(header);
         if index < count {
             return mapped_block(header, index);
         }
@@ -133,7 +133,7 @@ pub fn count_whole(image: &Image, layout: &Layout, number: u16, first: &Block) -
     let mut count = 0;
     let mut headers = ChainHeaders::from(image, layout, number, first);
     while let Some((_, header)) = headers.next() {
-        count += mapped_count(header);
+        count += pointer_sum(header);
     }
     count
 }

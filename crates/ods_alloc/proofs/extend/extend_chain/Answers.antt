@@ -1,4 +1,4 @@
-use Rattle.std.proofs.Common.{◌≡◌, sym, subst}
+use Rattle.std.proofs.Common.{◌≡◌, ◌∙◌, sym, subst}
 use Rattle.ods_space.specs.Draft.{Changes, applied}
 use Rattle.ods_space.specs.Chain.{IsChain}
 use Rattle.ods_space.specs.Files.{IsLayoutOf}
@@ -45,13 +45,16 @@ extend_from-requires g c =
           subst Chained same c.requires.1.1.0,
           (
             subst Grows same c.requires.1.1.1,
-            record {
-              first = subst First same c.header_block-first.ensures.value;
-              number =
-                  last_walked (applied I c.args.draft.now) L n g.chain.0 g.chain.1 c.args.blocks.now c.args.numbers.now c.last_header-end.result
-                  c.requires.1.0 c.requires.1.1.0 c.requires.1.1.1 c.last_header-end.ensures;
-              last = subst Last same c.header_block-last.ensures.value;
-            },
+            (
+              record {
+                first = subst First same c.header_block-first.ensures.value;
+                number =
+                    last_walked (applied I c.args.draft.now) L n g.chain.0 g.chain.1 c.args.blocks.now c.args.numbers.now c.last_header-end.result
+                    c.requires.1.0 c.requires.1.1.0 c.requires.1.1.1 c.last_header-end.ensures;
+                last = subst Last same c.header_block-last.ensures.value;
+              },
+              c.deref.ensures.value ∙ c.in_ok-runs.ensures.cut,
+            ),
           ),
         ),
       ),

@@ -1,5 +1,7 @@
 use Rattle.std.proofs.Common.{◌≡◌, ◌≢◌, ℕ, ◌<◌, ap, sym, ◌∙◌, subst, List, length}
+use Rattle.std.specs.List.{flat_map}
 use Rattle.ods_base.specs.Image.{block_at}
+use Rattle.ods_header.specs.Header.{run_blocks}
 use Rattle.ods_header.specs.Pointing.{IsWithRuns}
 use Rattle.ods_space.specs.Draft.{applied}
 use Rattle.ods_space.specs.Layout.{VolumeLayout, header_at}
@@ -15,19 +17,20 @@ pub returns-clause-appends : goal.returns-clause-appends
 returns-clause-appends c =
     let I : List (List ℕ) = c.args.image.now in
     let L : VolumeLayout = c.args.layout.now in
-    let d = c.zero_blocks.new.draft in
+    let d = c.zero_runs.new.draft in
     let Z : List (List ℕ) = applied I d in
     let H : List (List ℕ) = applied I c.set.new.self in
     let p : ℕ = c.unwrap-place.result in
     let b : List ℕ = c.append_runs.result in
     let set = c.in_ok-set.ensures.ok in
     let at = sym c.place.ensures ∙ c.unwrap-place.ensures in
-    let zeroed : IsZeroed I c.args.blocks.now Z = subst (λ J. IsZeroed J c.args.blocks.now Z) (ap (applied I) c.new-draft.ensures ∙ sym (applied_none I)) (c.in_ok-zero_blocks.ensures I) in
+    let zeroed : IsZeroed I c.args.blocks.now Z = subst (λ J. IsZeroed J c.args.blocks.now Z) (ap (applied I) c.new-draft.ensures ∙ sym (applied_none I)) (subst (λ bs. IsZeroed (applied I c.new-draft.result) bs Z)
+    (ap (flat_map run_blocks) c.as_slice-all.ensures.value ∙ c.in_ok-runs.ensures.blocks) (c.in_ok-zero_runs.ensures I)) in
     let within : p < length I = place_inside (length I) L c.args.end p (record { index = c.requires.layout.index.whole.inside; bitmap = c.requires.layout.bitmap.whole.inside; places = c.requires.places }) at in
     let here : block_at H p ≡ b = ap (λ e. block_at (applied I e) p) set ∙ put_same I d p b within in
     let elsewhere : (x : ℕ) → x ≢ p → block_at H x ≡ block_at Z x = λ x other. ap (λ e. block_at (applied I e) x) set ∙ put_other I d p b x other in
     let long : length H ≡ length Z = ap (λ e. length (applied I e)) set ∙ size_put I d p b in
     let grown : IsWithRuns (header_at I L c.args.end) (cut c.args.blocks.now) b =
     subst (λ h. IsWithRuns h (cut c.args.blocks.now) b) c.requires.last.is
-    (subst (λ rs. IsWithRuns c.args.last.now rs b) (c.deref.ensures.value ∙ c.in_ok-runs.ensures.cut) c.append_runs.ensures.changed) in
+    (subst (λ rs. IsWithRuns c.args.last.now rs b) (c.as_slice-all.ensures.value ∙ c.in_ok-runs.ensures.cut) c.append_runs.ensures.changed) in
     appends I Z H (applied I c.mark_blocks.new.draft) L c.args.end p b c.args.blocks.now c.requires.places at zeroed here elsewhere long c.in_ok-mark_blocks.ensures grown c.requires.inside c.requires.apart

@@ -6,6 +6,7 @@ use Rattle.ods_base.specs.declared.file_id.FileId.{FileId}
 use Rattle.ods_header.specs.declared.home.Home.{Home}
 use Rattle.ods_space.specs.Draft.{applied}
 use Rattle.ods_space.specs.Layout.{VolumeLayout, greatest_number, header_at, with_places}
+use Rattle.ods_alloc.specs.Extend.{cut}
 use Rattle.ods_alloc.proofs.FreeTests.{IsOpenNumber}
 use Rattle.ods_mount.specs.Sound.{IsSoundBy}
 use Rattle.ods_request.specs.declared.answers.Answer.TheVariants.{Created}
@@ -196,6 +197,9 @@ pub new_file-requires-clause-lowest : goal.new_file-requires-clause-lowest
 new_file-requires-clause-lowest c =
     let at = (goal.at.new_file-requires-clause-lowest c).After-layout_then-then in
     blocks_are at ∙ ap (taken_blocks (K at) (M at)) (sym (many at))
+
+pub new_file-requires-clause-runs : goal.new_file-requires-clause-runs
+new_file-requires-clause-runs c = c.as_slice-runs.ensures.value ∙ c.in-Ok.ensures.runs ∙ ap cut (sym c.as_slice-blocks.ensures.value)
 
 pub new_file-requires-clause-header : goal.new_file-requires-clause-header
 new_file-requires-clause-header c =

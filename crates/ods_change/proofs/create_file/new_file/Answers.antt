@@ -11,7 +11,10 @@ use Rattle.ods_state.proofs.GrowthChain.{ready_chain}
 use Rattle.ods_state.proofs.GrowthTakes.{can_extend}
 use Rattle.ods_state.specs.Growth.{IsReady}
 use Rattle.ods_state.specs.Wants.{taken_blocks}
+use Rattle.std.specs.List.{flat_map}
+use Rattle.ods_header.specs.Header.{run_blocks}
 use Rattle.ods_alloc.specs.Zeroed.{IsZeroed}
+use Rattle.ods_alloc.proofs.Cuts.{cut_blocks}
 use Rattle.ods_change.proofs.FirstWritten.{IsWritten, first_place, header_written, is_ready, taken_inside, taken_written}
 use Rattle.ods_change.proofs.create_file.new_file.Goals as goal
 use Rattle.ods_change.proofs.create_file.new_file.Goals.{In_ok-set}
@@ -33,10 +36,10 @@ module _ (c : In_ok-set) where
   K = applied c.args.image.now c.set.new.self
 
   abbrev Z : List (List ℕ)
-  Z = applied c.args.image.now c.zero_blocks.new.draft
+  Z = applied c.args.image.now c.zero_runs.new.draft
 
   zeroed : IsZeroed I (taken_blocks I L count) Z
-  zeroed = subst (λ bs. IsZeroed I bs Z) c.requires.lowest (c.in_ok-zero_blocks.ensures c.args.image.now)
+  zeroed = subst (λ bs. IsZeroed I bs Z) (ap (flat_map run_blocks) c.requires.runs ∙ cut_blocks c.args.blocks.now ∙ c.requires.lowest) (c.in_ok-zero_runs.ensures c.args.image.now)
 
   written : IsWritten I Z K L c.args.number c.unwrap-first.result count c.args.header
   written = record {
@@ -44,7 +47,7 @@ module _ (c : In_ok-set) where
     place = sym c.place.ensures ∙ c.unwrap-first.ensures;
     long = zeroed.long;
     elsewhere = zeroed.elsewhere;
-    is = ap (applied c.args.image.now) c.in_ok-set.ensures.ok ∙ applied_over c.args.image.now c.zero_blocks.new.draft c.unwrap-first.result c.args.header;
+    is = ap (applied c.args.image.now) c.in_ok-set.ensures.ok ∙ applied_over c.args.image.now c.zero_runs.new.draft c.unwrap-first.result c.args.header;
   }
 
   ready : IsReady I K L c.args.number [] count
@@ -65,7 +68,7 @@ extend_from-requires c =
         well_placed I L c.requires.sound,
         (
           ready_chain I K L c.requires.sound n [] [] count c.args.others.now c.requires.taking at c.requires.image,
-          (subst (λ bs. CanExtend K L n [] bs c.args.others.now) (sym c.requires.lowest) (can_extend I K L c.requires.sound n [] [] count c.args.others.now c.requires.taking at), ends),
+          (subst (λ bs. CanExtend K L n [] bs c.args.others.now) (sym c.requires.lowest) (can_extend I K L c.requires.sound n [] [] count c.args.others.now c.requires.taking at), (ends, c.requires.runs)),
         ),
       ),
     )

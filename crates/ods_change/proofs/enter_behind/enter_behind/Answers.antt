@@ -1,4 +1,4 @@
-use Rattle.std.proofs.Common.{◌≡◌, ℕ, List, refl, sym, ◌∙◌, ◌∷◌, None, Option, subst}
+use Rattle.std.proofs.Common.{◌≡◌, ℕ, List, refl, ap, sym, ◌∙◌, ◌∷◌, None, Option, subst}
 use Rattle.std.specs.Prelude.{unwrap_or}
 use Rattle.ods_base.specs.Name.{RadName}
 use Rattle.ods_base.specs.declared.file_id.FileId.{FileId}
@@ -7,6 +7,7 @@ use Rattle.ods_request.specs.declared.requests.Request.TheVariants.{Enter}
 use Rattle.ods_request.specs.declared.answers.Answer.TheVariants.{Entered}
 use Rattle.ods_space.specs.Draft.{applied}
 use Rattle.ods_space.specs.Layout.{VolumeLayout, with_places}
+use Rattle.ods_alloc.specs.Extend.{cut}
 use Rattle.ods_state.specs.Served.{IsStepOf}
 use Rattle.ods_state.specs.Wants.{index_blocks, lack_of, taken_blocks, taken_numbers}
 use Rattle.ods_state.proofs.Served.{refused_for_memory}
@@ -111,6 +112,9 @@ with_block-requires-clause-taken c =
     let at = (goal.at.with_block-requires-clause-taken c).After-layout_then-then in
     subst (λ ns. IsTakenFor (K at) (M at) (dir at).number c.deref-2.result.now ns) (sym c.deref-3.ensures.value)
     (subst (λ bs. IsTakenFor (K at) (M at) (dir at).number bs c.in-Ok.taken.numbers.items) (sym c.deref-2.ensures.value) (taken at))
+
+pub with_block-requires-clause-runs : goal.with_block-requires-clause-runs
+with_block-requires-clause-runs c = c.deref-4.ensures.value ∙ c.in-Ok.ensures.runs ∙ ap cut (sym c.deref-2.ensures.value)
 
 pub returns-in-Ok-with_block : goal.returns-in-Ok-with_block
 returns-in-Ok-with_block c = λ who name given file e.

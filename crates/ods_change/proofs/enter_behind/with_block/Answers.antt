@@ -63,7 +63,7 @@ extend_from-requires c =
           ready.2,
           (
             ready.3,
-            ends_asked (I s) (applied c.args.image.now c.set-2.new.self) (L s) c.args.dir.number headers e.own.is.lbns c.marked_header-header.result c.args.end.now c.ends_with.result has c.requires.end before.0 there ends.first ends.number ends.one ends.other,
+            (ends_asked (I s) (applied c.args.image.now c.set-2.new.self) (L s) c.args.dir.number headers e.own.is.lbns c.marked_header-header.result c.args.end.now c.ends_with.result has c.requires.end before.0 there ends.first ends.number ends.one ends.other, c.requires.runs),
           ),
         ),
       ),

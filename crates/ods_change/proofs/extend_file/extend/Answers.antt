@@ -10,7 +10,7 @@ use Rattle.ods_state.proofs.Chains.{first_in}
 use Rattle.ods_state.proofs.Served.{refused_by_fault, refused_for_memory}
 use Rattle.ods_change.specs.Beginning.{IsBegun}
 use Rattle.ods_change.specs.Extending.{IsExtensible, IsGrownBy, IsWanted}
-use Rattle.ods_change.specs.Taking.{IsEndOf}
+use Rattle.ods_change.specs.Taking.{IsEndOf, Takes}
 use Rattle.ods_change.proofs.Begun.{IsAsked, IsKept, can_begin, kept, step_of}
 use Rattle.ods_change.proofs.BegunFiles.{above_reserved, asked_of_extend, end_kept, extensible_then}
 use Rattle.ods_change.proofs.ExtendingFile.{extend_is_step, has, refused_for_lack}
@@ -79,13 +79,10 @@ module _ (c : After-layout_then-then) where
   abbrev places : List ℕ
   places = c.in-Ok-take.taken.places.items
 
-  abbrev Got : Type 0
-  Got = (c.in-Ok-take.taken.blocks.items ≡ taken_blocks I L count) × (c.in-Ok-take.taken.numbers.items ≡ taken_numbers I L headers count) × (places ≡ index_blocks I L headers count) × (lack_of I L headers count ≡ None)
-
   end : (c.of-end.result.headers ≡ length headers) × (c.of-end.result.blocks ≡ length o.lbns) × (c.of-end.result.room ≡ room_in I L headers)
   end = c.of-end.ensures.end headers o.lbns (has c.requires.sound o)
 
-  got : Got
+  got : Takes I L headers count c.in-Ok-take.taken
   got = c.in-Ok-take.ensures.ok headers (sym end.0) (sym end.2)
 
   asked : IsAsked I L (Extend c.args.file count) headers o.lbns count places
@@ -104,6 +101,7 @@ module _ (c : After-layout_then-then) where
     file = k.file n o.file.0;
     has = k.has n (above_reserved o) (has c.requires.sound o);
     blocks = got.0 ∙ sym k.wants.blocks;
+    runs = c.in-Ok-take.ensures.runs;
     numbers = got.1 ∙ sym k.wants.numbers;
     enough = k.wants.enough;
     no_growth = k.wants.no_growth;

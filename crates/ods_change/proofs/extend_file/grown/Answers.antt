@@ -4,7 +4,11 @@ use Rattle.ods_header.specs.Contiguous.{IsWithoutContiguous, KeepsAllButContiguo
 use Rattle.ods_space.specs.Chain.{headers_of, named_by, numbers_of}
 use Rattle.ods_space.specs.Draft.{applied}
 use Rattle.ods_space.specs.Layout.{header_at, place_of}
+use Rattle.std.specs.List.{flat_map}
+use Rattle.ods_header.specs.Header.{run_blocks}
+use Rattle.ods_alloc.specs.Extend.{cut}
 use Rattle.ods_alloc.specs.Zeroed.{IsZeroed}
+use Rattle.ods_alloc.proofs.Cuts.{cut_blocks}
 use Rattle.ods_change.proofs.AttributesReplaced.{has_place}
 use Rattle.ods_change.proofs.ReadyToGrow.{chain_asked, growth_asked, has_grown, headers_asked, layout_asked, set_is, walked_now}
 use Rattle.ods_state.proofs.Bookkeeping.{well_placed}
@@ -26,12 +30,14 @@ changed c = subst (λ b. IsWithoutContiguous b c.without_contiguous-header.resul
 fields : (c : In_ok-set) → KeepsAllButContiguous (header_at (applied c.args.image.now c.args.draft) c.args.layout.now c.args.number) c.without_contiguous-header.result
 fields c = subst (λ b. KeepsAllButContiguous b c.without_contiguous-header.result) c.requires.first c.without_contiguous-header.ensures.fields
 
-zeroed : (c : In_ok-set) → IsZeroed (applied c.args.image.now c.args.draft) c.args.taken.now.blocks.items (applied c.args.image.now c.zero_blocks.new.draft)
+zeroed : (c : In_ok-set) → IsZeroed (applied c.args.image.now c.args.draft) c.args.taken.now.blocks.items (applied c.args.image.now c.zero_runs.new.draft)
 zeroed c =
-    subst (λ l. IsZeroed (applied c.args.image.now c.args.draft) l (applied c.args.image.now c.zero_blocks.new.draft)) c.deref.ensures.value (c.in_ok-zero_blocks.ensures c.args.image.now)
+    let w = c.requires.wanted.3 in
+    subst (λ l. IsZeroed (applied c.args.image.now c.args.draft) l (applied c.args.image.now c.zero_runs.new.draft))
+    (ap (flat_map run_blocks) (c.deref.ensures.value ∙ w.runs) ∙ cut_blocks c.args.taken.now.blocks.items) (c.in_ok-zero_runs.ensures c.args.image.now)
 
-set : (c : In_ok-set) → applied c.args.image.now c.set.new.self ≡ slice_set (applied c.args.image.now c.zero_blocks.new.draft) c.unwrap-lbn.result c.without_contiguous-header.result
-set c = set_is c.args.image.now c.zero_blocks.new.draft c.set.new.self c.unwrap-lbn.result c.without_contiguous-header.result c.in_ok-set.ensures.ok
+set : (c : In_ok-set) → applied c.args.image.now c.set.new.self ≡ slice_set (applied c.args.image.now c.zero_runs.new.draft) c.unwrap-lbn.result c.without_contiguous-header.result
+set c = set_is c.args.image.now c.zero_runs.new.draft c.set.new.self c.unwrap-lbn.result c.without_contiguous-header.result c.in_ok-set.ensures.ok
 
 pub extend_from-requires : goal.extend_from-requires
 extend_from-requires c =
@@ -43,7 +49,7 @@ extend_from-requires c =
     let old = c.requires.wanted.1 in
     let count = c.requires.wanted.2 in
     let w = c.requires.wanted.3 in
-    let Z = applied c.args.image.now c.zero_blocks.new.draft in
+    let Z = applied c.args.image.now c.zero_runs.new.draft in
     let K = applied c.args.image.now c.set.new.self in
     let walk = walked_now I Z K L c.requires.sound n c.unwrap-lbn.result c.without_contiguous-header.result (place_is s) (changed s) (fields s) headers old count c.args.taken.now c.requires.above w (zeroed s) (set s)
     c.requires.image c.makes_image.ensures in (
@@ -56,9 +62,12 @@ extend_from-requires c =
           (
             growth_asked I Z K L c.requires.sound n c.unwrap-lbn.result c.without_contiguous-header.result (place_is s) (changed s) (fields s) headers old count c.args.taken.now c.requires.above w (zeroed s) (set s)
                 (drop 1 (numbers_of (headers_of K L n))) c.deref-2.result.now c.deref-3.result.now walk.0 c.deref-2.ensures.value c.deref-3.ensures.value,
-            ends_asked I K L n headers old c.without_contiguous-header.result c.args.end.now c.ends_with.result w.has c.requires.end walk.0
-                (headers_asked I Z K L c.requires.sound n c.unwrap-lbn.result c.without_contiguous-header.result (place_is s) (changed s) (fields s) headers old count c.args.taken.now c.requires.above w (zeroed s) (set s))
-                c.ends_with.ensures.first c.ends_with.ensures.number c.ends_with.ensures.one c.ends_with.ensures.other,
+            (
+              ends_asked I K L n headers old c.without_contiguous-header.result c.args.end.now c.ends_with.result w.has c.requires.end walk.0
+                  (headers_asked I Z K L c.requires.sound n c.unwrap-lbn.result c.without_contiguous-header.result (place_is s) (changed s) (fields s) headers old count c.args.taken.now c.requires.above w (zeroed s) (set s))
+                  c.ends_with.ensures.first c.ends_with.ensures.number c.ends_with.ensures.one c.ends_with.ensures.other,
+              c.deref-4.ensures.value ∙ w.runs ∙ ap cut (sym c.deref-2.ensures.value),
+            ),
           ),
         ),
       ),
@@ -70,7 +79,7 @@ returns c = λ headers old count w.
     let L = c.args.layout.now in
     let n = c.args.number in
     let s = (goal.at.returns c).In_ok-set in
-    let Z = applied c.args.image.now c.zero_blocks.new.draft in
+    let Z = applied c.args.image.now c.zero_runs.new.draft in
     let K = applied c.args.image.now c.set.new.self in
     let walk = walked_now I Z K L c.requires.sound n c.unwrap-lbn.result c.without_contiguous-header.result (place_is s) (changed s) (fields s) headers old count c.args.taken.now c.requires.above w (zeroed s) (set s)
     c.requires.image c.makes_image.ensures in

@@ -1,6 +1,7 @@
 use Rattle.std.proofs.Common.{◌≡◌, ◌<◌, ◌≤◌, ℕ, List, Some, length, take, sym, ap, ◌∙◌, inl, inr, subst, arith}
 use Rattle.std.proofs.lemmas.List.{length-take-le}
 use Rattle.ods_space.specs.Free.{free_blocks, open_numbers}
+use Rattle.ods_alloc.specs.Extend.{cut}
 use Rattle.ods_state.specs.Wants.{room_in, taken_count, taken_numbers}
 use Rattle.ods_change.specs.Taking.{HasPlacesFor, LacksPlaces}
 use Rattle.ods_change.proofs.TakingBlocks.{cut_few, lacks_blocks, lacks_none, lacks_numbers, lacks_places, lacks_segments, new_room, short_blocks, short_numbers, wanted_is}
@@ -88,3 +89,6 @@ returns-clause-ok c = λ hs count room.
       places.are,
       lacks_none I L hs c.args.count c.in-Ok.ensures.ok.1 (subst (λ n. n ≤ length (open_numbers I L)) needed c.in-Ok-pick_open_numbers.ensures.ok.1) c.in-Ok-places_for.places.items places (omega (arith, few, count, needed)),
     )
+
+pub returns-clause-runs : goal.returns-clause-runs
+returns-clause-runs c = c.in-Ok-runs_of_blocks.ensures.cut ∙ ap cut c.deref.ensures.value

@@ -9,12 +9,12 @@ loop-at-init c = none_passed (headers_of c.args.image.now c.args.layout.now c.ar
 pub loop-at-preserved : goal.loop-at-preserved
 loop-at-preserved c =
     one_passed (headers_of c.args.image.now c.args.layout.now c.args.number) c.loop-at.headers c.args.count c.loop-at.left c.loop-at.invariant
-    (c.in-Some.at, c.in-Some.header.now) c.next.new.self c.mapped-has.result c.in-Some.ensures.some.0 c.mapped-has.ensures.count c.if-left-has.false
+    (c.in-Some.at, c.in-Some.header.now) c.next.new.self c.pointer_sum-has.result c.in-Some.ensures.some.0 c.pointer_sum-has.ensures.count c.if-left-has.false
 
 pub returns-then-left-has : goal.returns-then-left-has
 returns-then-left-has c =
     ends_here (headers_of c.args.image.now c.args.layout.now c.args.number) c.loop-at.headers c.args.count c.loop-at.left c.loop-at.invariant
-    c.args.image.now c.args.layout.now c.args.number (record { number = c.in-Some.at; header = c.in-Some.header; left = c.loop-at.left; behind = c.next.new.self }) c.mapped-has.result refl c.in-Some.ensures.some.0 refl c.mapped-has.ensures.count c.if-left-has.true c.in-Some.ensures.some.1
+    c.args.image.now c.args.layout.now c.args.number (record { number = c.in-Some.at; header = c.in-Some.header; left = c.loop-at.left; behind = c.next.new.self }) c.pointer_sum-has.result refl c.in-Some.ensures.some.0 refl c.pointer_sum-has.ensures.count c.if-left-has.true c.in-Some.ensures.some.1
 
 pub unreachable-requires : goal.unreachable-requires
 unreachable-requires c =

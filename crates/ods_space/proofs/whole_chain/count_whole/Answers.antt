@@ -8,13 +8,13 @@ pub overflow_add-count : goal.overflow_add-count
 overflow_add-count c =
     let whole = c.requires.whole in
     let few = named_few c.args.image.now c.args.layout.now c.args.number whole.0 c.len.ensures.image c.requires.layout whole.1 in
-    let more = named_next c.loop-header.headers c.next.new.self (c.in-Some.field-0-0, c.in-Some.header.now) c.in-Some.ensures.some.0 c.mapped_count-count.result c.mapped_count-count.ensures.count in
+    let more = named_next c.loop-header.headers c.next.new.self (c.in-Some.field-0-0, c.in-Some.header.now) c.in-Some.ensures.some.0 c.pointer_sum-count.result c.pointer_sum-count.ensures.count in
     let before = c.loop-header.invariant in
     omega (arith, few, before, more)
 
 pub loop-header-preserved : goal.loop-header-preserved
 loop-header-preserved c =
-    let more = named_next c.loop-header.headers c.next.new.self (c.in-Some.field-0-0, c.in-Some.header.now) c.in-Some.ensures.some.0 c.mapped_count-count.result c.mapped_count-count.ensures.count in
+    let more = named_next c.loop-header.headers c.next.new.self (c.in-Some.field-0-0, c.in-Some.header.now) c.in-Some.ensures.some.0 c.pointer_sum-count.result c.pointer_sum-count.ensures.count in
     let before = c.loop-header.invariant in
     omega (arith, before, more)
 

@@ -32,14 +32,14 @@ overflow_add-blocks c =
     let w = c.loop-at in
     let met = (passed_few (c.args.number, c.args.first.now) (headers_of c.args.image.now c.args.layout.now c.args.number) w.headers w.count w.blocks (w.end, w.last.now) w.invariant).1 in
     let most = (few (goal.at.overflow_add-blocks c).After-from-headers).1 in
-    let more = c.mapped-blocks.ensures.few in
+    let more = c.pointer_sum-blocks.ensures.few in
     omega (arith, met, most, more)
 
 pub loop-at-preserved : goal.loop-at-preserved
 loop-at-preserved c =
     let w = c.loop-at in
     passed_next (c.args.number, c.args.first.now) (headers_of c.args.image.now c.args.layout.now c.args.number) w.headers w.count w.blocks (w.end, w.last.now) w.invariant
-    (c.in-Some.at, c.in-Some.header.now) c.next.new.self c.mapped-blocks.result c.in-Some.ensures.some.0 c.mapped-blocks.ensures.count c.in-Some.ensures.some.1.header.layout
+    (c.in-Some.at, c.in-Some.header.now) c.next.new.self c.pointer_sum-blocks.result c.in-Some.ensures.some.0 c.pointer_sum-blocks.ensures.count c.in-Some.ensures.some.1.header.layout
 
 all : (c : In_default) → (c.loop-at.count ≡ length (headers_of c.args.image.now c.args.layout.now c.args.number)) × (c.loop-at.blocks ≡ length (named_by (headers_of c.args.image.now c.args.layout.now c.args.number)))
     × ((others blocks : List ℕ) → IsChain c.args.image.now c.args.layout.now c.args.number others blocks → ◌≡◌ {A = ℕ × List ℕ} (c.loop-at.end, c.loop-at.last.now) (last_of c.args.number others, header_at c.args.image.now c.args.layout.now (last_of c.args.number others)))
