@@ -4,6 +4,7 @@ ghost use Rattle.ods_mount.specs.Sound.{IsSoundBy};
 
 use ods_base::{FixedImage, Image};
 use ods_space::Layout;
+use std::alloc::AllocError;
 use std::marker::Model;
 
 /// A sound image with its layout.
@@ -33,6 +34,23 @@ impl Mounted {
         ensures { (result.image ≡ image) × (result.layout ≡ layout) }
     {
         Mounted { image, layout }
+    }
+
+    /// A sound image with its layout.
+    pub fn of(image: Image, layout: Layout) -> Mounted
+        requires { IsSoundBy image layout }
+        ensures { (result.image ≡ image) × (result.layout ≡ layout) }
+    {
+        Mounted { image, layout }
+    }
+
+    /// An equal volume, to be changed by itself. An image over shared blocks shares them; one that is alone with its blocks copies them.
+    pub fn copy(&self) -> Result<Mounted, AllocError>
+        ensures { IfOk result (λ copy. copy ≡ self.now) }
+    {
+        let image = self.image.copy()?;
+        let layout = self.layout.copy()?;
+        Ok(Mounted { image, layout })
     }
 
     /// The image. No fault is true of it.

@@ -69,6 +69,13 @@ impl Volume {
         }
     }
 
+    /// The volume as it is now; its list is let go. It takes no memory.
+    pub fn into_mounted(self) -> Mounted
+        ensures { (result.image ≡ self.image) × (result.layout ≡ self.layout) }
+    {
+        Mounted::of(self.image, self.layout)
+    }
+
     /// Each volume has a catalogue now.
     pub fn present(&self)
         ensures { (C : Catalogue) × IsPresent self.now C }

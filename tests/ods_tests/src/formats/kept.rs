@@ -15,7 +15,14 @@ pub struct Kept {
 }
 
 impl DirBlocks for Kept {
+    ghost use Rattle.std.specs.Prelude.{◌≡◌, drop};
+
     ghost blocks = { λ k. k.blocks.items };
+
+    /// The number of the next block.
+    type Cursor = u32;
+
+    ghost leads = { λ k i rest. rest ≡ drop i k.blocks.items };
 
     fn count(&self) -> u32 {
         self.blocks.len() as u32
@@ -25,6 +32,16 @@ impl DirBlocks for Kept {
         let block = &self.blocks[i as usize];
         let _ = block.bytes();
         block
+    }
+
+    fn cursor(&self) -> u32 {
+        0
+    }
+
+    fn next(&self, cursor: &mut u32) -> &Block {
+        let i = *cursor;
+        *cursor += 1;
+        &self.blocks[i as usize]
     }
 }
 

@@ -1,0 +1,65 @@
+-- A mounted volume that requests change one after another, and what one of them does to it.
+use Rattle.std.specs.Prelude.{◌≡◌, ◌⊎◌, ℕ, true, false, List, Some}
+use Rattle.std.specs.FinSet as set
+use Rattle.ods_base.specs.declared.file_id.FileId.{FileId}
+use Rattle.ods_base.specs.declared.file_id.Uic.{Uic}
+use Rattle.ods_space.specs.Layout.{Disk, VolumeLayout}
+use Rattle.ods_request.specs.declared.requests.Request.{Request}
+use Rattle.ods_request.specs.declared.answers.Answer.{Answer}
+use Rattle.ods_request.specs.declared.refusals.Refusal.{Refusal}
+use Rattle.ods_request.specs.declared.refusals.Refusal.TheVariants as refusal
+use Rattle.ods_request.specs.Catalogue.{Catalogue}
+use Rattle.ods_request.specs.Steps.{step, created_id}
+use Rattle.ods_request.specs.Table.{creates}
+use Rattle.ods_state.specs.Contents.{ShowsBy, IsCatalogueOf}
+use Rattle.ods_state.specs.Moves.{Moves, ChangesOnlyTouched}
+use Rattle.ods_state.specs.Outcome.{disk_of}
+use Rattle.ods_state.specs.Served.{IsRefusalOf}
+use Rattle.ods_state.specs.Version.{State}
+use Rattle.ods_filing.specs.declared.seat.Seat.{Seat}
+use Rattle.ods_filing.specs.declared.seat.Seat.TheVariants.{Listed, Unlisted}
+
+-- what contracts see of it: the image now with its layout, and the user that asks; the list is not seen
+pub record Filed : Type 0 where
+  pub image : List (List ℕ)
+  pub layout : VolumeLayout
+  pub user : Uic
+
+-- the blocks with their layout
+abbrev pub disk_in : Seat → Disk
+disk_in (Listed volume) = disk_of volume
+disk_in (Unlisted mounted) = mounted
+
+abbrev pub filed_in : Seat → Uic → Filed
+filed_in seat user = record { image = (disk_in seat).image; layout = (disk_in seat).layout; user = user }
+
+-- a volume, for a user
+abbrev pub filed_by : State → Uic → Filed
+filed_by v user = record { image = v.image; layout = v.layout; user = user }
+
+-- the blocks with their layout
+abbrev pub disk_at : Filed → Disk
+disk_at f = record { image = f.image; layout = f.layout }
+
+-- where the request makes a file, its ID is none of the past
+abbrev pub IsOpenFor : Catalogue → Request → Answer → Type 0
+IsOpenFor C r a = (id : FileId) → creates r ≡ true → created_id a ≡ Some id → set.contains C.past id ≡ false
+
+-- The request is accepted with this answer.
+pub record IsDone (old : Filed) (r : Request) (a : Answer) (new : Filed) : Type 0 where
+  -- It is a step of each catalogue that the blocks show, whatever its past, which blocks do not show, if only the ID of a new file is not in it; and the blocks show what the step leaves.
+  pub steps : (C : Catalogue) → ShowsBy old.image old.layout C → IsOpenFor C r a → (D : Catalogue) × (step C old.user r a ≡ Some D) × ShowsBy new.image new.layout D
+  -- so it is a step of the catalogue of the image, whose past are the files that are there
+  pub fresh : (C : Catalogue) → IsCatalogueOf old.image C → IsOpenFor C r a
+  -- blocks and numbers move as the request says, and no other block changes
+  pub moves : Moves (disk_at old) r a (disk_at new)
+  pub elsewhere : ChangesOnlyTouched (disk_at old) r (disk_at new)
+  pub user : new.user ≡ old.user
+
+-- why a request is refused: want of memory, perhaps for a new list; or its first fault, or what the volume lacks
+abbrev pub IsRefusedFor : Filed → Request → Refusal → Type 0
+IsRefusedFor f r reason = (reason ≡ refusal.NoMemory) ⊎ IsRefusalOf f.image f.layout f.user r reason
+
+-- it is the refusal of a request on the volume as it is
+abbrev pub IsRefusedNow : Filed → Refusal → Type 0
+IsRefusedNow f reason = (r : Request) × IsRefusedFor f r reason

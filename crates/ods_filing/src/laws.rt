@@ -1,0 +1,12 @@
+//! Laws of files that were put, over the definitions alone: each is the contract of a function with no body.
+ghost use Rattle.ods_filing.specs.Laws.{BytesComeBack, TextComesBack};
+
+/// A file that was put as bytes gives these bytes back: those of its blocks up to the end of file that its attributes say.
+pub fn bytes_come_back()
+    ensures { BytesComeBack }
+{}
+
+/// A file that was put as the records of a plain text gives the text back.
+pub fn text_comes_back()
+    ensures { TextComesBack }
+{}

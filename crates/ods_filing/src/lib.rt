@@ -1,0 +1,12 @@
+//! Requests made one after another on a mounted volume, and files put into it.
+#![tactic(auto)]
+
+mod filing;
+mod laws;
+mod put;
+mod seat;
+mod slices;
+
+pub use filing::Filing;
+pub use laws::{bytes_come_back, text_comes_back};
+pub use put::{NewFile, put_file};
