@@ -36,7 +36,7 @@ pub fn check<'a, R: Files + AllocGlobal + Print>(
 }
 
 /// `check` of an image.
-fn check_image<'a, R: AllocGlobal + Print>(
+pub fn check_image<'a, R: AllocGlobal + Print>(
     rt: &R,
     image: &Image,
     all: bool,

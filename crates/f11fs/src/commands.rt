@@ -1,12 +1,15 @@
 //! The commands, over the host's files and streams.
+use crate::changing::{Host, change_image};
 use crate::checking::check;
+use crate::command_files::obey_file;
 use crate::comparing::compare_all;
 use crate::getting::get;
+use crate::making::init_image;
 use crate::progress::Progress;
 use crate::rescuing::rescue;
-use crate::volume::{VolumeFault, open_volume};
-use crate::words::{Action, Words};
-use ods_base::{Uic, write_bytes};
+use crate::volume::{VolumeFault, mounted, open_volume};
+use fs_words::{Action, Words};
+use ods_base::{Image, ImageError, Uic, write_bytes};
 use ods_mount::Mounted;
 use ods_paths::{Folder, Path, Place, Versions, parse_path};
 use ods_request::{Right, permits};
@@ -69,18 +72,26 @@ impl<'a> From<AllocError> for Stop<'a> {
 }
 
 /// Does what the words ask for.
-pub fn run_command<R: Files + Clock + AllocGlobal + Print + Eprint>(
-    rt: &R,
-    words: &Words<'_>,
-    seen: Seen,
-) -> Status {
+pub fn run_command<R: Host>(rt: &R, words: &Words<'_>, seen: Seen) -> Status {
     let mut progress = Progress::begin(rt, shows_progress(words, seen));
     let done = match words.action {
         Action::Check { all } => check(rt, words.image, all, words.json),
         Action::Rescue { text } => rescue(rt, words, text, &mut progress),
+        Action::Change(change) => change_image(rt, words, change),
+        Action::Init {
+            blocks,
+            files,
+            label,
+        } => init_image(rt, words, blocks, files, label),
+        Action::Commands { file, keep_going } => obey_file(rt, words, file, keep_going),
         _ => on_volume(rt, words, &mut progress),
     };
     progress.end(rt);
+    ended(rt, done)
+}
+
+/// How a command ended; the line of one that does not go on is written.
+pub fn ended<R: Eprint>(rt: &R, done: Result<Status, Stop<'_>>) -> Status {
     match done {
         Ok(status) => status,
         Err(stop) => stopped(rt, stop),
@@ -108,9 +119,28 @@ fn on_volume<'a, R: Files + Clock + AllocGlobal + Print + Eprint>(
 pub fn volume_at<'a, R: Files + AllocGlobal>(rt: &R, path: &'a str) -> Result<Mounted, Stop<'a>> {
     match open_volume(rt, path) {
         Ok(volume) => Ok(volume),
-        Err(VolumeFault::Read) => Err(Stop::Read(path)),
-        Err(VolumeFault::NoMemory) => Err(Stop::NoMemory),
-        Err(fault) => Err(Stop::Image(path, fault)),
+        Err(fault) => Err(no_volume(path, fault)),
+    }
+}
+
+/// The volume of an image that was read from this path; that it is refused is said.
+pub fn volume_of<'a, R: AllocGlobal>(
+    rt: &R,
+    path: &'a str,
+    image: Result<Image, ImageError>,
+) -> Result<Mounted, Stop<'a>> {
+    match mounted(rt, image) {
+        Ok(volume) => Ok(volume),
+        Err(fault) => Err(no_volume(path, fault)),
+    }
+}
+
+/// Why there is no volume at this path.
+fn no_volume<'a>(path: &'a str, fault: VolumeFault) -> Stop<'a> {
+    match fault {
+        VolumeFault::Read => Stop::Read(path),
+        VolumeFault::NoMemory => Stop::NoMemory,
+        fault => Stop::Image(path, fault),
     }
 }
 
@@ -142,7 +172,7 @@ fn stopped<R: Eprint>(rt: &R, stop: Stop<'_>) -> Status {
 }
 
 /// Does what a command asks for on a volume.
-fn obey<'a, R: Files + Clock + AllocGlobal + Print + Eprint>(
+pub fn obey<'a, R: Files + Clock + AllocGlobal + Print + Eprint>(
     rt: &R,
     volume: &Mounted,
     words: &Words<'a>,
@@ -165,7 +195,12 @@ fn obey<'a, R: Files + Clock + AllocGlobal + Print + Eprint>(
         }
         Action::Du { top } => du(rt, volume, top, words.json),
         Action::Cmp { all } => compare_all(rt, volume, words, all, progress),
-        Action::Check { .. } | Action::Rescue { .. } => Ok(Status::Done),
+        // These have no volume that is there and stays.
+        Action::Check { .. }
+        | Action::Rescue { .. }
+        | Action::Change(_)
+        | Action::Init { .. }
+        | Action::Commands { .. } => Ok(Status::Done),
     }
 }
 

@@ -3,8 +3,8 @@ use crate::commands::{
     Reader, Stop, closed_to, find_all, may_read, send, stop_at_closed, volume_at,
 };
 use crate::progress::Progress;
-use crate::words::Words;
-use ods_base::FileId;
+use fs_words::Words;
+use ods_base::{FileId, Uic};
 use ods_mount::Mounted;
 use ods_shell::{
     Facts, FormFault, Kind, Status, facts_of, have_same_bytes, pair_object, push_path,
@@ -16,9 +16,9 @@ use std::time::Clock;
 
 /// A path of a volume, and the ID of its file.
 #[derive(Drop)]
-struct Known {
-    path: String,
-    file: FileId,
+pub struct Known {
+    pub path: String,
+    pub file: FileId,
 }
 
 /// `cmp` with the image at the first path.
@@ -33,8 +33,8 @@ pub fn compare_all<'a, R: Files + Clock + AllocGlobal + Print + Eprint>(
         return Ok(Status::Words);
     };
     let other = volume_at(rt, *path)?;
-    let ours = all_known(rt, volume, words)?;
-    let theirs = all_known(rt, &other, words)?;
+    let ours = all_known(rt, volume, words.user)?;
+    let theirs = all_known(rt, &other, words.user)?;
     let mut text = String::new(rt.alloc());
     for (done, one) in ours.iter().enumerate() {
         progress.show(rt, done as u64, ours.len() as u64);
@@ -74,14 +74,14 @@ fn objects(alloc: Global, text: &str) -> Result<String, AllocError> {
 }
 
 /// All paths of a volume, in the order of their bytes.
-fn all_known<'a, R: AllocGlobal + Eprint>(
+pub fn all_known<'a, R: AllocGlobal + Eprint>(
     rt: &R,
     volume: &Mounted,
-    words: &Words<'_>,
+    user: Option<Uic>,
 ) -> Result<Vec<Known>, Stop<'a>> {
-    let closed = closed_to(rt, volume, words.user)?;
+    let closed = closed_to(rt, volume, user)?;
     let found = find_all(rt, volume, &closed)?;
-    stop_at_closed(rt, &found.closed, words.user)?;
+    stop_at_closed(rt, &found.closed, user)?;
     let mut all = Vec::new(rt.alloc());
     for line in &found.lines {
         let mut path = String::new(rt.alloc());
@@ -103,7 +103,7 @@ fn compare_paths(one: &Known, other: &Known) -> Ordering {
 }
 
 /// The place of a path.
-fn place_of(all: &[Known], path: &str) -> Option<usize> {
+pub fn place_of(all: &[Known], path: &str) -> Option<usize> {
     match all.binary_search_by(|known| known.path.as_str().cmp(path)) {
         Ok(place) => Some(place),
         Err(_) => None,
@@ -125,18 +125,13 @@ fn push_difference<'a, R: AllocGlobal + Eprint>(
     if one.file.number <= 2 && file.number <= 2 {
         return Ok(());
     }
-    let word = match (facts_by_id(volume, one.file), facts_by_id(other, file)) {
-        (None, None) => None,
-        (Some(facts), Some(others)) => {
-            let reader = Reader::of(words);
-            if !may_read(rt, path, &facts, reader) || !may_read(rt, path, &others, reader) {
-                return Err(Stop::Said(Status::Refused));
-            }
-            difference(rt, volume, &facts, other, &others)?
+    if let (Some(facts), Some(others)) = (facts_by_id(volume, one.file), facts_by_id(other, file)) {
+        let reader = Reader::of(words);
+        if !may_read(rt, path, &facts, reader) || !may_read(rt, path, &others, reader) {
+            return Err(Stop::Said(Status::Refused));
         }
-        _ => Some("only one names a file"),
-    };
-    if let Some(word) = word {
+    }
+    if let Some(word) = difference_by_id(rt, volume, one.file, other, file)? {
         writeln!(text, "{path}: {word}")?;
     }
     if all {
@@ -177,6 +172,21 @@ fn facts_by_id(volume: &Mounted, file: FileId) -> Option<Facts> {
     match facts_of(volume, file.number) {
         Some(facts) if facts.file == file => Some(facts),
         _ => None,
+    }
+}
+
+/// What differs between the files with these IDs.
+pub fn difference_by_id<'a, R: AllocGlobal>(
+    rt: &R,
+    volume: &Mounted,
+    one: FileId,
+    other: &Mounted,
+    file: FileId,
+) -> Result<Option<&'static str>, Stop<'a>> {
+    match (facts_by_id(volume, one), facts_by_id(other, file)) {
+        (None, None) => Ok(None),
+        (Some(facts), Some(others)) => difference(rt, volume, &facts, other, &others),
+        _ => Ok(Some("only one names a file")),
     }
 }
 

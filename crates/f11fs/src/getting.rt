@@ -1,7 +1,7 @@
 //! `get`: files of a volume, written to files of the host.
 use crate::commands::{Reader, Stop, add_named, cat_file, closed_to, readable, refused};
 use crate::progress::Progress;
-use crate::words::Words;
+use fs_words::Words;
 use ods_mount::Mounted;
 use ods_shell::{Contents, Status, Target, Versioned, Wanted, open_contents};
 use std::alloc::AllocError;

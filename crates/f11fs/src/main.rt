@@ -1,24 +1,27 @@
-//! `f11fs`: looks at RSX-11 volumes, structure level 1, and gets files out of them. What a path finds and what is printed is settled by
-//! `ods_shell`; here are the words, the files, the streams and the exit status.
+//! `f11fs`: looks at RSX-11 volumes, structure level 1, gets files out of them and changes them. What a path finds and what is printed is settled by
+//! `ods_shell`, what a change does by `ods_upkeep`; here are the files of the host, the streams and the exit status.
 #![tactic(auto)]
 
+mod changing;
 mod checking;
+mod command_files;
 mod commands;
 mod comparing;
 mod getting;
+mod making;
 mod progress;
+mod putting;
 mod rescuing;
+mod telling;
 mod volume;
-mod words;
 
+use changing::Host;
 use commands::{Seen, run_command};
+use fs_words::{WordsFault, parse_words};
 use ods_shell::Status;
 use std::io::IsTerminal;
 use std::process::ExitCode;
-use std::rt::{Env, Files};
-use std::time::Clock;
 use std::{env, io};
-use words::{WordsFault, parse_words};
 
 fn main(rt: HostRuntime) -> ExitCode {
     ExitCode::from(run(
@@ -32,7 +35,7 @@ fn main(rt: HostRuntime) -> ExitCode {
 }
 
 /// Does what the words of the command line ask for.
-fn run<R: Env + Files + Clock + AllocGlobal + Print + Eprint>(rt: &R, seen: Seen) -> Status {
+fn run<R: Host>(rt: &R, seen: Seen) -> Status {
     let args = match env::args(rt) {
         Ok(args) => args,
         Err(error) if error.kind() == io::ErrorKind::InvalidData => {

@@ -28,6 +28,14 @@ impl Progress {
         Progress { start, next: FIRST }
     }
 
+    /// That of a command whose progress nobody sees.
+    pub fn none() -> Progress {
+        Progress {
+            start: None,
+            next: FIRST,
+        }
+    }
+
     /// So many parts of all are done.
     pub fn show<R: Clock + Eprint>(&mut self, rt: &R, done: u64, all: u64) {
         let Some(start) = &self.start else {

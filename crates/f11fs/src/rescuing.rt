@@ -4,7 +4,7 @@ ghost use Rattle.ods_space.specs.Files.{IsLayoutOf};
 use crate::commands::Stop;
 use crate::progress::Progress;
 use crate::volume::VolumeFault;
-use crate::words::Words;
+use fs_words::Words;
 use ods_base::{FileId, Image, ImageError};
 use ods_check::{Finding, check_all, findings};
 use ods_shell::{Contents, Rescued, Status, open_rescued};

@@ -26,7 +26,12 @@ pub fn open_image<R: Files + AllocGlobal>(rt: &R, path: &str) -> Result<Image, V
     let Ok(mut file) = fs::open(rt, path) else {
         return Err(VolumeFault::Read);
     };
-    match Image::read_from(rt.alloc(), &mut file) {
+    read(Image::read_from(rt.alloc(), &mut file))
+}
+
+/// The image that was read, or why there is none.
+fn read(image: Result<Image, ImageError>) -> Result<Image, VolumeFault> {
+    match image {
         Ok(image) => Ok(image),
         Err(ImageError::ReadFailed) => Err(VolumeFault::Read),
         Err(ImageError::NoMemory) => Err(VolumeFault::NoMemory),
@@ -36,10 +41,25 @@ pub fn open_image<R: Files + AllocGlobal>(rt: &R, path: &str) -> Result<Image, V
 
 /// The volume of the image at this path.
 pub fn open_volume<R: Files + AllocGlobal>(rt: &R, path: &str) -> Result<Mounted, VolumeFault> {
-    let image = match open_image(rt, path) {
-        Ok(image) => image,
-        Err(fault) => return Err(fault),
-    };
+    match open_image(rt, path) {
+        Ok(image) => mount_image(rt, image),
+        Err(fault) => Err(fault),
+    }
+}
+
+/// The volume of an image that was read.
+pub fn mounted<R: AllocGlobal>(
+    rt: &R,
+    image: Result<Image, ImageError>,
+) -> Result<Mounted, VolumeFault> {
+    match read(image) {
+        Ok(image) => mount_image(rt, image),
+        Err(fault) => Err(fault),
+    }
+}
+
+/// The volume of an image.
+fn mount_image<R: AllocGlobal>(rt: &R, image: Image) -> Result<Mounted, VolumeFault> {
     match mount(rt.alloc(), image) {
         Ok(volume) => Ok(volume),
         Err((_, MountFault::NoMemory)) => Err(VolumeFault::NoMemory),

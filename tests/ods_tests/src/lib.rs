@@ -21,4 +21,6 @@ pub mod same;
 #[cfg(test)]
 mod sessions;
 pub mod settings;
+#[cfg(test)]
+mod upkeep;
 pub mod volumes;

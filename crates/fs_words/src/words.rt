@@ -1,7 +1,9 @@
 //! The words of the command line: `f11fs [OPTIONS] IMAGE COMMAND [WORD..]`.
+use crate::change_words::{Change, Saving, change_of, how_saved, with_changes};
 use clap::error::ErrorKind;
 use clap::{Arg, ArgAction, ArgMatches, Command, Error, value_parser};
 use ods_base::Uic;
+use ods_request::Stamp;
 use ods_shell::{Columns, Wanted};
 use std::alloc::{AllocError, Global};
 use std::convert::AsStr;
@@ -20,8 +22,12 @@ pub struct Words<'a> {
     pub json: bool,
     /// Neither progress is shown nor remarks that are no faults.
     pub quiet: bool,
-    /// Who reads: with none every file is read, as the keeper of the image may.
+    /// Who reads: with none every file is read, as the keeper of the image may. Who changes: with none [1,1].
     pub user: Option<Uic>,
+    /// The time that new files get; with none that of the host.
+    pub stamp: Option<Stamp>,
+    /// How a changed image is saved.
+    pub saving: Saving<'a>,
 }
 
 /// A command.
@@ -61,6 +67,19 @@ pub enum Action<'a> {
     Cmp {
         all: bool,
     },
+    /// Changes the volume.
+    Change(Change<'a>),
+    /// Makes an image of this many blocks, with room for this many files beside the five reserved ones, where a number is said.
+    Init {
+        blocks: u32,
+        files: Option<u32>,
+        label: Option<&'a str>,
+    },
+    /// Obeys the commands in this file of the host, or in standard input where it is `-`; past those that are refused where `keep_going`.
+    Commands {
+        file: &'a str,
+        keep_going: bool,
+    },
 }
 
 /// Why the words ask for nothing.
@@ -89,14 +108,23 @@ pub fn parse_words<'a, S: AsStr>(alloc: Global, words: &'a [S]) -> Result<Words<
 
 /// What the words ask for, by what clap found in them.
 fn found_words<'a>(alloc: Global, matches: &ArgMatches<'a>) -> Result<Words<'a>, WordsFault> {
-    let Some((name, own)) = matches.subcommand() else {
-        return Err(missing(alloc)?);
-    };
     let Some(image) = matches.get_str("image") else {
         return Err(missing(alloc)?);
     };
-    let Some(action) = action_of(name, own) else {
-        return Err(missing(alloc)?);
+    let (action, own) = match (matches.subcommand(), matches.get_str("commands")) {
+        (Some((name, own)), None) => match action_of(name, own, matches.get_str("out")) {
+            Some(action) => (action, own),
+            None => return Err(missing(alloc)?),
+        },
+        (None, Some(file)) => {
+            let keep_going = matches.get_flag("keep_going");
+            (Action::Commands { file, keep_going }, matches)
+        }
+        (None, None) => return Err(missing(alloc)?),
+        (Some(_), Some(_)) => {
+            let text = "error: commands stand in FILE or behind IMAGE, not in both";
+            return Err(WordsFault::Wrong(String::from_str(alloc, text)?));
+        }
     };
     let user = match own.get_str("user") {
         Some(text) => match user_of(text) {
@@ -107,8 +135,19 @@ fn found_words<'a>(alloc: Global, matches: &ArgMatches<'a>) -> Result<Words<'a>,
         },
         None => None,
     };
+    let stamp = match own.get_str("stamp") {
+        Some(text) => match Stamp::parse(text.as_bytes()) {
+            Some(stamp) => Some(stamp),
+            None => return Err(WordsFault::Wrong(format!(in alloc;
+                "error: '{text}' is no stamp, as 24NOV85093000"
+            )?)),
+        },
+        None => None,
+    };
     Ok(Words {
         user,
+        stamp,
+        saving: how_saved(matches, own),
         image,
         action,
         paths: texts(alloc, own, "path")?,
@@ -147,8 +186,8 @@ fn missing(alloc: Global) -> Result<WordsFault, AllocError> {
     Ok(WordsFault::Wrong(String::from_str(alloc, "error: a command is wanting")?))
 }
 
-/// The command of this name.
-fn action_of<'a>(name: &str, own: &ArgMatches<'a>) -> Option<Action<'a>> {
+/// The command of this name; `out` was said before it.
+fn action_of<'a>(name: &str, own: &ArgMatches<'a>, out: Option<&'a str>) -> Option<Action<'a>> {
     match name {
         "ls" => Some(Action::Ls {
             columns: Columns {
@@ -166,7 +205,10 @@ fn action_of<'a>(name: &str, own: &ArgMatches<'a>) -> Option<Action<'a>> {
         "cat" => Some(Action::Cat(wanted(own))),
         "get" => Some(Action::Get {
             wanted: wanted(own),
-            target: own.get_str("target"),
+            target: match own.get_str("target") {
+                Some(target) => Some(target),
+                None => out,
+            },
         }),
         "df" => Some(Action::Df),
         "du" => Some(Action::Du {
@@ -181,7 +223,15 @@ fn action_of<'a>(name: &str, own: &ArgMatches<'a>) -> Option<Action<'a>> {
         "cmp" => Some(Action::Cmp {
             all: own.get_flag("all"),
         }),
-        _ => None,
+        "init" => Some(Action::Init {
+            blocks: own.get_one::<u32>("blocks")?,
+            files: own.get_one::<u32>("files"),
+            label: own.get_str("label"),
+        }),
+        _ => match change_of(name, own) {
+            Some(change) => Some(Action::Change(change)),
+            None => None,
+        },
     }
 }
 
@@ -209,12 +259,13 @@ fn texts<'a>(alloc: Global, own: &ArgMatches<'a>, id: &str) -> Result<Vec<&'a st
 
 /// What clap finds in the words.
 fn matches<'a, S: AsStr>(alloc: Global, words: &'a [S]) -> Result<ArgMatches<'a>, Error> {
-    Command::new(alloc, "f11fs")
-        .about("Looks at volumes of RSX-11, Files-11 structure level 1, and gets files out of them")
+    let command = Command::new(alloc, "f11fs")
+        .about(
+            "Looks at volumes of RSX-11, Files-11 structure level 1, gets files out of them, and changes them",
+        )
         .after_help(AFTER_HELP)
         .version(VERSION)
         .no_binary_name(true)
-        .subcommand_required(true)
         .disable_help_subcommand(true)
         .arg(image(alloc))?
         .arg(user(alloc).global(true))?
@@ -250,8 +301,8 @@ fn matches<'a, S: AsStr>(alloc: Global, words: &'a [S]) -> Result<ArgMatches<'a>
         .subcommand(du(alloc)?)?
         .subcommand(check(alloc)?)?
         .subcommand(rescue(alloc)?)?
-        .subcommand(cmp(alloc)?)?
-        .try_get_matches_from(words)
+        .subcommand(cmp(alloc)?)?;
+    with_changes(alloc, command)?.try_get_matches_from(words)
 }
 
 fn image<'a>(alloc: Global) -> Arg<'a> {
@@ -262,17 +313,16 @@ fn image<'a>(alloc: Global) -> Arg<'a> {
 }
 
 fn user<'a>(alloc: Global) -> Arg<'a> {
-    Arg::new(alloc, "user")
-        .short('u')
-        .value_name("USER")
-        .help("Read what this user may, as [1,2]; with none, everything")
+    Arg::new(alloc, "user").short('u').value_name("USER").help(
+        "Ask rights of this user, as [1,2]; with none, reads ask none and changes those of [1,1]",
+    )
 }
 
-fn flag<'a>(alloc: Global, id: &'a str, help: &'a str) -> Arg<'a> {
+pub fn flag<'a>(alloc: Global, id: &'a str, help: &'a str) -> Arg<'a> {
     Arg::new(alloc, id).action(ArgAction::SetTrue).help(help)
 }
 
-fn paths<'a>(alloc: Global, required: bool) -> Arg<'a> {
+pub fn paths<'a>(alloc: Global, required: bool) -> Arg<'a> {
     Arg::new(alloc, "path")
         .value_name("PATH")
         .num_args(0..)
@@ -418,8 +468,14 @@ const AFTER_HELP: &str =
 of the master directory, [A.B] one in another, [0,0] or nothing the master directory, [...] all. No version is the
 highest, ;-1 the lowest, ;* all. * stands for any characters, ? for one. #6,1 is a file by its ID.
 
-The status is 0; 1 where the image is refused; 2 for wrong words or a path that is none; 3 where reading, writing or
-memory failed; 5 where a file is refused; 6 where nothing is there; 7 where check, rescue or cmp found something.";
+A change is made whole or not at all. The image is locked, a new one is written beside it, read back, and takes its
+name; a link is followed. New files have the host's local time (TZ, else UTC), the year by its last two digits. In a FILE of
+commands there is one a line, of words as a shell has them: spaces part them, '..' and \"..\" hold together, and # behind
+a space begins a remark; the image is saved once, behind the last, and what is printed comes then.
+
+The status is 0; 1 where the image is refused; 2 for wrong words or a path that is none; 3 where reading, writing, locking or
+memory failed, or a file is there that must not be; 5 where a file or a change is refused; 6 where nothing is there;
+7 where check, rescue or cmp found something.";
 
 /// What is to be said where clap found no words of the program's.
 fn told(alloc: Global, error: &Error) -> Result<WordsFault, AllocError> {

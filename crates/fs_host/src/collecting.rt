@@ -1,0 +1,134 @@
+//! A runtime for a command among others: what it prints is kept until the run's end, and its faults say the line where it stands.
+use std::alloc::Allocator;
+use std::cell::RefCell;
+use std::fmt::Display;
+use std::fs::{Metadata, OpenOptions};
+use std::io;
+use std::io::Input;
+use std::rt::{Clock, Files};
+use std::time::Duration;
+
+/// A runtime for the command in this line of a file.
+#[derive(Clone, Copy)]
+pub struct Collecting<'a, R> {
+    pub rt: &'a R,
+    /// What was printed.
+    pub printed: &'a RefCell<Vec<u8>>,
+    pub file: &'a str,
+    pub line: usize,
+}
+
+impl<R: AllocGlobal> Print for Collecting<'_, R> {
+    fn print<D: Display + Drop>(&self, value: D) -> io::Result<()> {
+        let text = format!(in self.rt.alloc(); "{value}")?;
+        self.write_all(text.as_bytes())
+    }
+
+    fn println<D: Display + Drop>(&self, value: D) -> io::Result<()> {
+        let text = format!(in self.rt.alloc(); "{value}\n")?;
+        self.write_all(text.as_bytes())
+    }
+
+    fn write_all(&self, bytes: &[u8]) -> io::Result<()> {
+        match self.printed.try_borrow_mut() {
+            Ok(mut printed) => Ok(printed.extend_from_slice(bytes)?),
+            Err(_) => Err(io::Error::from(io::ErrorKind::Other)),
+        }
+    }
+}
+
+impl<R: Eprint> Eprint for Collecting<'_, R> {
+    fn eprint<D: Display + Drop>(&self, value: D) -> io::Result<()> {
+        let (file, line) = (self.file, self.line);
+        self.rt.eprint(format_args!("{file}:{line}: {value}"))
+    }
+
+    fn eprintln<D: Display + Drop>(&self, value: D) -> io::Result<()> {
+        let (file, line) = (self.file, self.line);
+        self.rt.eprintln(format_args!("{file}:{line}: {value}"))
+    }
+}
+
+impl<R: Clock> Clock for Collecting<'_, R> {
+    fn monotonic(&self) -> io::Result<Duration> {
+        self.rt.monotonic()
+    }
+
+    fn since_1970(&self) -> io::Result<Duration> {
+        self.rt.since_1970()
+    }
+
+    fn sleep(&self, duration: Duration) {
+        self.rt.sleep(duration)
+    }
+}
+
+impl<R: Alloc> Alloc for Collecting<'_, R> {
+    type A = R::A;
+
+    fn alloc(&self) -> R::A {
+        self.rt.alloc()
+    }
+}
+
+impl<R: Input> Input for Collecting<'_, R> {
+    type Reader = R::Reader;
+
+    fn read_line<A: Allocator + Clone>(&self, buf: &mut String<A>) -> io::Result<usize> {
+        self.rt.read_line(buf)
+    }
+
+    fn lines<A: Allocator>(&self, alloc: A) -> io::Lines<R::Reader, A> {
+        self.rt.lines(alloc)
+    }
+
+    fn reader(&self) -> R::Reader {
+        self.rt.reader()
+    }
+}
+
+impl<R: Files> Files for Collecting<'_, R> {
+    type File = R::File;
+
+    type Dir = R::Dir;
+
+    fn open_file(&self, how: &OpenOptions, path: &str) -> io::Result<R::File> {
+        self.rt.open_file(how, path)
+    }
+
+    fn open_dir(&self, path: &str) -> io::Result<R::Dir> {
+        self.rt.open_dir(path)
+    }
+
+    fn metadata(&self, path: &str) -> io::Result<Metadata> {
+        self.rt.metadata(path)
+    }
+
+    fn symlink_metadata(&self, path: &str) -> io::Result<Metadata> {
+        self.rt.symlink_metadata(path)
+    }
+
+    fn copy(&self, from: &str, to: &str) -> io::Result<u64> {
+        self.rt.copy(from, to)
+    }
+
+    fn rename(&self, from: &str, to: &str) -> io::Result<()> {
+        self.rt.rename(from, to)
+    }
+
+    fn remove_file(&self, path: &str) -> io::Result<()> {
+        self.rt.remove_file(path)
+    }
+
+    fn create_dir(&self, path: &str) -> io::Result<()> {
+        self.rt.create_dir(path)
+    }
+
+    fn remove_dir(&self, path: &str) -> io::Result<()> {
+        self.rt.remove_dir(path)
+    }
+
+    fn remove_dir_all<B: Allocator>(&self, alloc: B, path: &str) -> io::Result<()> {
+        self.rt.remove_dir_all(alloc, path)
+    }
+}

@@ -1,0 +1,37 @@
+//! What a command is asked to do, and for whom.
+use ods_base::Uic;
+use ods_request::Stamp;
+
+/// Who asks, and the time that new files get.
+#[derive(Clone, Copy)]
+pub struct Asked {
+    pub user: Uic,
+    pub stamp: Stamp,
+}
+
+/// In which form the bytes of a host file are put.
+#[derive(Clone, Copy, Debug, PartialEq, Eq)]
+pub enum PutForm {
+    /// As records where the same bytes come back, else as they are.
+    ByContents,
+    /// As records of variable length, each a line.
+    Text,
+    /// As they are, in records of 512 bytes.
+    Binary,
+}
+
+/// What is put: the last part of a host file's name, or `-`, and its bytes.
+#[derive(Clone, Copy)]
+pub struct HostFile<'a> {
+    pub name: &'a str,
+    pub bytes: &'a [u8],
+}
+
+/// How names are removed.
+#[derive(Clone, Copy, Debug, PartialEq, Eq)]
+pub struct Removal {
+    /// The entry goes, and its file stays.
+    pub entry_alone: bool,
+    /// Where no version is said, the highest is meant; else that is refused.
+    pub newest: bool,
+}

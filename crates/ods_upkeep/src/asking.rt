@@ -1,0 +1,127 @@
+//! Requests of a command: the first one that is refused ends it.
+ghost use Rattle.ods_state.specs.Outcome.{CanBeAsked};
+
+use crate::failure::Why;
+use crate::target::DIRECTORY;
+use ods_base::{FileId, Name, Pick};
+use ods_filing::{Filing, NewFile, put_file};
+use ods_request::{Answer, Refusal, Request};
+
+/// Makes a request. Where it is refused, the volume is let go.
+pub(crate) fn make(filing: Filing, request: Request) -> Result<(Filing, Answer), Why>
+    requires { CanBeAsked request }
+{
+    let (filing, answer) = filing.request(request);
+    match answer {
+        Ok(answer) => Ok((filing, answer)),
+        Err(refusal) => Err(Why::Request(refusal)),
+    }
+}
+
+/// Enters a file in a directory. A version that is given is 1 to 32,767, or the request is refused.
+pub(crate) fn enter(
+    filing: Filing,
+    dir: FileId,
+    name: Name,
+    version: Option<u16>,
+    file: FileId,
+) -> Result<Filing, Why> {
+    if let Some(version) = version {
+        if version == 0 || version > 32_767 {
+            return Err(Why::Request(Refusal::VersionsFull));
+        }
+        let (filing, _) = make(
+            filing,
+            Request::Enter {
+                dir,
+                name,
+                version: Some(version),
+                file,
+            },
+        )?;
+        return Ok(filing);
+    }
+    let (filing, _) = make(
+        filing,
+        Request::Enter {
+            dir,
+            name,
+            version: None,
+            file,
+        },
+    )?;
+    Ok(filing)
+}
+
+/// Removes this very entry.
+pub(crate) fn remove(filing: Filing, dir: FileId, name: Name, version: u16) -> Result<Filing, Why> {
+    let (filing, _) = make(
+        filing,
+        Request::Remove {
+            dir,
+            name,
+            pick: Pick::Exact(version),
+        },
+    )?;
+    Ok(filing)
+}
+
+/// Deletes a file.
+pub(crate) fn delete(filing: Filing, file: FileId) -> Result<Filing, Why> {
+    let (filing, _) = make(filing, Request::Delete { file })?;
+    Ok(filing)
+}
+
+/// The file and the version that stand under a name, where the user may see it.
+pub(crate) fn look_up(
+    filing: Filing,
+    dir: FileId,
+    name: Name,
+    pick: Pick,
+) -> (Filing, Option<(FileId, u16)>) {
+    let (filing, answer) = filing.request(Request::LookUp { dir, name, pick });
+    match answer {
+        Ok(Answer::Found(file, version)) => (filing, Some((file, version))),
+        _ => (filing, None),
+    }
+}
+
+/// Puts a new file, and enters it: under this version, or the next one. Its ident has the version too.
+pub(crate) fn put_new(
+    filing: Filing,
+    dir: FileId,
+    version: Option<u16>,
+    file: &NewFile<'_>,
+) -> Result<(Filing, FileId), Why> {
+    if file.name.ext() == DIRECTORY {
+        return Err(Why::DirectoryType);
+    }
+    if file.version == 0 || file.version > 32_767 {
+        return Err(Why::Request(Refusal::VersionsFull));
+    }
+    let (filing, made) = put_file(filing, file);
+    match made {
+        Ok(id) => {
+            let filing = enter(filing, dir, file.name, version, id)?;
+            Ok((filing, id))
+        }
+        Err(refusal) => Err(Why::Request(refusal)),
+    }
+}
+
+/// The version under which a name is entered next, where the user may see the directory; else 1.
+pub(crate) fn next_version(
+    filing: Filing,
+    dir: FileId,
+    name: Name,
+    version: Option<u16>,
+) -> (Filing, u16) {
+    if let Some(version) = version {
+        return (filing, version);
+    }
+    let (filing, found) = look_up(filing, dir, name, Pick::Highest);
+    match found {
+        Some((_, highest)) => (filing, highest.saturating_add(1)),
+        None => (filing, 1),
+    }
+}

@@ -1,0 +1,41 @@
+//! The attributes of files that are made or cut.
+use crate::failure::Why;
+use ods_records::{binary_attributes, end_of_file};
+use ods_request::Refusal;
+
+/// As many bytes as the blocks of an image have, and one more.
+const TOO_MANY: u64 = 536_870_912;
+
+/// These attributes with the end of file behind so many bytes: F.HIBK, F.EFBK and F.FFBY are set.
+pub(crate) fn ending_at(attributes: [u8; 32], bytes: u64) -> Result<[u8; 32], Why> {
+    if bytes >= TOO_MANY {
+        return Err(Why::Request(Refusal::VolumeFull));
+    }
+    let made = binary_attributes(bytes);
+    let mut new = attributes;
+    new[4..14].copy_from_slice(&made[4..14]);
+    Ok(new)
+}
+
+/// These attributes for a file of so many blocks: F.HIBK is their count, and an end of file behind them is theirs. Attributes of zeros, by which all
+/// blocks count, stay.
+pub(crate) fn true_for(attributes: [u8; 32], blocks: u32) -> Result<[u8; 32], Why> {
+    let bytes = 512 * u64::from(blocks);
+    if attributes.iter().all(|byte| *byte == 0) {
+        return Ok(attributes);
+    }
+    let all = ending_at(attributes, bytes)?;
+    if end_of_file(&attributes) > bytes {
+        return Ok(all);
+    }
+    let mut new = attributes;
+    new[4..8].copy_from_slice(&all[4..8]);
+    Ok(new)
+}
+
+/// These attributes with the record type, the record attributes and the record size of others.
+pub(crate) fn like(attributes: [u8; 32], other: &[u8; 32]) -> [u8; 32] {
+    let mut new = attributes;
+    new[..4].copy_from_slice(&other[..4]);
+    new
+}

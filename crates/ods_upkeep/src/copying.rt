@@ -1,0 +1,154 @@
+//! `cp`: files are made that have the blocks and the attributes of others.
+use crate::Asked;
+use crate::asking::{next_version, put_new};
+use crate::attributes::true_for;
+use crate::failure::{Failure, Why, of_path};
+use crate::found::Found;
+use crate::sources::sources;
+use crate::target::{DIRECTORY, Target, read_target};
+use ods_base::{FileId, Name, Uic, parse_name};
+use ods_files::{FileBody, FileFault, Form};
+use ods_filing::{Filing, NewFile};
+use ods_header::print_ident;
+use ods_mount::Mounted;
+use ods_paths::Versions;
+use ods_request::{Refusal, Right, Stamp, permits};
+use ods_shell::{Facts, Kind, PathFault};
+use ods_space::ChainFault;
+use std::alloc::Global;
+
+/// Copies files to a directory that is there, where they keep their names, or one to a name: all their blocks, and their attributes. A name gets its
+/// next version where none is said.
+pub fn copy_files(
+    alloc: Global,
+    volume: Mounted,
+    asked: &Asked,
+    paths: &[&str],
+    to: &str,
+) -> Result<Mounted, Failure> {
+    let all = sources(alloc, &volume, paths, Some(Versions::Highest))?;
+    let target = target_of(alloc, &volume, all.len(), to)?;
+    for found in &all {
+        if let Err(why) = check(found, &target, asked.user) {
+            return Err(of_path(alloc, &found.path, why));
+        }
+    }
+    let mut filing = begin(alloc, volume, asked.user)?;
+    for found in &all {
+        filing = match copy(alloc, filing, found, &target, asked.stamp) {
+            Ok(filing) => filing,
+            Err(why) => return Err(of_path(alloc, &found.path, why)),
+        };
+    }
+    Ok(filing.into_mounted())
+}
+
+/// The target of so many files: a name is that of one.
+pub(crate) fn target_of(
+    alloc: Global,
+    volume: &Mounted,
+    count: usize,
+    to: &str,
+) -> Result<Target, Failure> {
+    match read_target(alloc, volume, to) {
+        Ok(target) => {
+            if count > 1 && target.name.is_some() {
+                return Err(of_path(alloc, to, Why::Several));
+            }
+            Ok(target)
+        }
+        Err(why) => Err(of_path(alloc, to, why)),
+    }
+}
+
+/// The volume, for requests of this user.
+pub(crate) fn begin(alloc: Global, volume: Mounted, user: Uic) -> Result<Filing, Failure> {
+    match Filing::new(alloc, volume, user) {
+        Ok(filing) => Ok(filing),
+        Err(error) => Err(of_path(alloc, "", error.into())),
+    }
+}
+
+/// What is known of the file, where this user may copy it to this target.
+fn check(found: &Found, target: &Target, user: Uic) -> Result<Facts, Why> {
+    let Some(facts) = found.facts() else {
+        return Err(Why::Path(PathFault::NoSuchFile));
+    };
+    if facts.file.number <= 2 {
+        return Err(Why::Request(Refusal::Reserved));
+    }
+    if facts.kind == Kind::Directory {
+        return Err(Why::IsDirectory);
+    }
+    if !permits(&user, &facts.owner, facts.protection, Right::Read) {
+        return Err(Why::Request(Refusal::Denied));
+    }
+    if new_name(found, target, &facts)?.ext() == DIRECTORY {
+        return Err(Why::DirectoryType);
+    }
+    Ok(facts)
+}
+
+/// The name of the copy: the one that is said, that of the entry, or that of the header.
+fn new_name(found: &Found, target: &Target, facts: &Facts) -> Result<Name, Why> {
+    if let Some(name) = target.name {
+        return Ok(name);
+    }
+    if let Some(place) = found.place() {
+        return Ok(place.entry.name);
+    }
+    let text = print_ident(&facts.ident);
+    match parse_name(without_version(text.as_str()).as_bytes()) {
+        Ok((name, _)) => Ok(name),
+        Err(_) => Err(Why::BadName),
+    }
+}
+
+/// What stands before the `;` of a name.
+fn without_version(text: &str) -> &str {
+    match text.split_once(';') {
+        Some((full, _)) => full,
+        None => text,
+    }
+}
+
+/// Copies a file.
+fn copy(
+    alloc: Global,
+    filing: Filing,
+    found: &Found,
+    target: &Target,
+    stamp: Stamp,
+) -> Result<Filing, Why> {
+    let facts = check(found, target, filing.user())?;
+    let name = new_name(found, target, &facts)?;
+    let bytes = all_bytes(alloc, &filing, facts.file)?;
+    let attributes = true_for(facts.attributes, facts.blocks)?;
+    let (filing, version) = next_version(filing, target.directory, name, target.version);
+    let file = NewFile {
+        name,
+        version,
+        stamp,
+        attributes,
+        bytes: &bytes,
+    };
+    let (filing, _) = put_new(filing, target.directory, target.version, &file)?;
+    Ok(filing)
+}
+
+/// The bytes of all blocks of a file.
+fn all_bytes(alloc: Global, filing: &Filing, file: FileId) -> Result<Vec<u8>, Why> {
+    let image = filing.image();
+    let layout = filing.layout();
+    let body = match FileBody::open(alloc, image, layout, file.number) {
+        Ok(body) => body,
+        Err(FileFault::Chain(ChainFault::NoMemory)) => {
+            return Err(Why::Request(Refusal::NoMemory));
+        }
+        Err(_) => return Err(Why::Path(PathFault::NoSuchFile)),
+    };
+    match body.read(alloc, Form::Raw)? {
+        Some(bytes) => Ok(bytes),
+        None => Err(Why::Path(PathFault::NoSuchFile)),
+    }
+}

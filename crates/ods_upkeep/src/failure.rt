@@ -1,0 +1,129 @@
+//! Why a command is refused, and the path or the file of which.
+use ods_base::NameFault;
+use ods_paths::BadPath;
+use ods_records::TextFault;
+use ods_request::Refusal;
+use ods_shell::{PathFault, Status};
+use std::alloc::{AllocError, AllocFailed, Global};
+use thiserror::Error;
+
+/// Why a command is refused.
+#[derive(Clone, Copy, Debug, PartialEq, Eq, Error)]
+pub enum Why {
+    #[error("{0}")]
+    Path(PathFault),
+    #[error("{0}")]
+    Request(Refusal),
+    #[error("{0}")]
+    Text(TextFault),
+    /// A text, or what a header says, is no name of a file.
+    #[error("no name of a file")]
+    BadName,
+    /// A directory, where a file is wanted.
+    #[error("a directory")]
+    IsDirectory,
+    /// A file of the type DIR would be one, or an entry of that type would name no directory.
+    #[error("the type DIR is that of directories")]
+    DirectoryType,
+    /// A directory would be entered in itself, or below.
+    #[error("a directory does not go into itself")]
+    IntoItself,
+    /// An ID, where a name is wanted.
+    #[error("a name is wanted, and no ID")]
+    IsId,
+    /// Names would be removed of which no version is said.
+    #[error("no version is said; ;* is all")]
+    NoVersion,
+    /// Patterns, several files or directories, or several versions, where one is wanted.
+    #[error("more than one is meant")]
+    Several,
+    /// A file that would be deleted has a name.
+    #[error("a name stands for it")]
+    IsNamed,
+    /// A file would be cut behind its end.
+    #[error("past the end of the file")]
+    PastEnd,
+}
+
+impl From<AllocError> for Why {
+    fn from(_error: AllocError) -> Why {
+        Why::Request(Refusal::NoMemory)
+    }
+}
+
+impl<T: Drop> From<AllocFailed<T>> for Why {
+    fn from(_error: AllocFailed<T>) -> Why {
+        Why::Request(Refusal::NoMemory)
+    }
+}
+
+impl From<Refusal> for Why {
+    fn from(refusal: Refusal) -> Why {
+        Why::Request(refusal)
+    }
+}
+
+impl From<PathFault> for Why {
+    fn from(fault: PathFault) -> Why {
+        Why::Path(fault)
+    }
+}
+
+impl From<BadPath> for Why {
+    fn from(bad: BadPath) -> Why {
+        Why::Path(PathFault::Bad(bad))
+    }
+}
+
+impl From<NameFault> for Why {
+    fn from(_fault: NameFault) -> Why {
+        Why::BadName
+    }
+}
+
+impl From<TextFault> for Why {
+    fn from(fault: TextFault) -> Why {
+        Why::Text(fault)
+    }
+}
+
+impl Why {
+    /// The exit status of a command that is refused so.
+    pub fn status(&self) -> Status {
+        match self {
+            Why::Path(fault) => fault.status(),
+            Why::Request(Refusal::NoMemory) | Why::Text(TextFault::NoMemory) => Status::Host,
+            Why::BadName | Why::IsId | Why::NoVersion | Why::Several => Status::Words,
+            Why::Request(_)
+            | Why::Text(_)
+            | Why::IsDirectory
+            | Why::DirectoryType
+            | Why::IntoItself
+            | Why::IsNamed
+            | Why::PastEnd => Status::Refused,
+        }
+    }
+}
+
+/// Why a command is refused, and the path or the file of which.
+#[derive(Drop, Debug)]
+pub struct Failure {
+    pub path: String,
+    pub why: Why,
+}
+
+impl Failure {
+    /// The exit status of the command.
+    pub fn status(&self) -> Status {
+        self.why.status()
+    }
+}
+
+/// The failure of this path. Where there is no memory for it, it is not said.
+pub(crate) fn of_path(alloc: Global, path: &str, why: Why) -> Failure {
+    let path = match String::from_str(alloc, path) {
+        Ok(path) => path,
+        Err(_) => String::new(alloc),
+    };
+    Failure { path, why }
+}

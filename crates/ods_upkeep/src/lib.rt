@@ -1,0 +1,28 @@
+//! What the changing commands of `f11fs` do on a volume: which files their paths mean, and which requests they make.
+#![tactic(auto)]
+
+mod asked;
+mod asking;
+mod attributes;
+mod copying;
+mod directories;
+mod failure;
+mod found;
+mod meant;
+mod moving;
+mod names;
+mod putting;
+mod removing;
+mod sources;
+mod target;
+mod truncating;
+mod written;
+
+pub use asked::{Asked, HostFile, PutForm, Removal};
+pub use copying::copy_files;
+pub use directories::{make_directories, remove_directories};
+pub use failure::{Failure, Why};
+pub use moving::move_names;
+pub use putting::Putting;
+pub use removing::remove_files;
+pub use truncating::truncate_file;

@@ -1,0 +1,140 @@
+//! `mv`: names go to other directories, or become others.
+use crate::Asked;
+use crate::asking::{enter, look_up, remove};
+use crate::copying::{begin, target_of};
+use crate::failure::{Failure, Why, of_path};
+use crate::found::Found;
+use crate::names::is_directory_file;
+use crate::sources::sources;
+use crate::target::{DIRECTORY, Target};
+use ods_base::{Listed, Pick};
+use ods_filing::Filing;
+use ods_mount::Mounted;
+use ods_paths::Versions;
+use ods_request::Refusal;
+use ods_shell::Kind;
+use ods_walk::walk_from;
+use std::alloc::Global;
+
+/// Moves names to a directory that is there, or gives one another name. The file is entered under the next version where none is said; then the very
+/// entry that was found goes.
+pub fn move_names(
+    alloc: Global,
+    volume: Mounted,
+    asked: &Asked,
+    paths: &[&str],
+    to: &str,
+) -> Result<Mounted, Failure> {
+    let all = sources(alloc, &volume, paths, Some(Versions::Highest))?;
+    let target = target_of(alloc, &volume, all.len(), to)?;
+    for found in &all {
+        if let Err(why) = check(alloc, &volume, found, &target) {
+            return Err(of_path(alloc, &found.path, why));
+        }
+    }
+    let mut filing = begin(alloc, volume, asked.user)?;
+    for found in &all {
+        filing = match rename(filing, found, &target) {
+            Ok(filing) => filing,
+            Err(why) => return Err(of_path(alloc, &found.path, why)),
+        };
+    }
+    Ok(filing.into_mounted())
+}
+
+/// Why a name does not go to this target: its type would become DIR, or DIR would become another, or a directory would go into itself or below.
+fn check(alloc: Global, volume: &Mounted, found: &Found, target: &Target) -> Result<(), Why> {
+    let Some(place) = found.place() else {
+        return Err(Why::IsId);
+    };
+    if changes_type(&place.entry, target) {
+        return Err(Why::DirectoryType);
+    }
+    if is_into_itself(alloc, volume, found, target)? {
+        return Err(Why::IntoItself);
+    }
+    Ok(())
+}
+
+/// Whether one of the types, that of the entry and the new one, is DIR.
+fn changes_type(entry: &Listed, target: &Target) -> bool {
+    let was = entry.name.ext() == DIRECTORY;
+    let is = match &target.name {
+        Some(name) => name.ext() == DIRECTORY,
+        None => was,
+    };
+    is != was
+}
+
+/// Whether a directory would go into itself or below.
+fn is_into_itself(
+    alloc: Global,
+    volume: &Mounted,
+    found: &Found,
+    target: &Target,
+) -> Result<bool, Why> {
+    let Some(facts) = found.facts() else {
+        return Ok(false);
+    };
+    if facts.kind != Kind::Directory {
+        return Ok(false);
+    }
+    leads_to(alloc, volume, facts.file.number, target.directory.number)
+}
+
+/// Whether a directory is this one, or lies below it.
+fn leads_to(alloc: Global, volume: &Mounted, from: u16, to: u16) -> Result<bool, Why> {
+    if from == to {
+        return Ok(true);
+    }
+    if !is_directory_file(volume, from) {
+        return Ok(false);
+    }
+    let image = volume.image();
+    let layout = volume.layout();
+    let walk = walk_from(alloc, image, layout, from)?;
+    for place in 0..65_536 {
+        match walk.directory(place) {
+            Some(entered) => {
+                if entered.number == to {
+                    return Ok(true);
+                }
+            }
+            None => return Ok(false),
+        }
+    }
+    Ok(false)
+}
+
+/// Moves one name.
+fn rename(filing: Filing, found: &Found, target: &Target) -> Result<Filing, Why> {
+    let Some(place) = found.place() else {
+        return Err(Why::IsId);
+    };
+    let entry = place.entry;
+    let name = target.name.unwrap_or(entry.name);
+    let (filing, version) = version_for(filing, target, name.ext() == DIRECTORY, found)?;
+    let filing = enter(filing, target.directory, name, version, entry.file)?;
+    remove(filing, place.directory, entry.name, entry.version)
+}
+
+/// The version under which a name is entered: the one that is said; of a directory 1, where no version is there.
+fn version_for(
+    filing: Filing,
+    target: &Target,
+    is_directory: bool,
+    found: &Found,
+) -> Result<(Filing, Option<u16>), Why> {
+    let Some(place) = found.place() else {
+        return Err(Why::IsId);
+    };
+    if target.version.is_some() || !is_directory {
+        return Ok((filing, target.version));
+    }
+    let name = target.name.unwrap_or(place.entry.name);
+    let (filing, there) = look_up(filing, target.directory, name, Pick::Highest);
+    match there {
+        Some(_) => Err(Why::Request(Refusal::NameTaken)),
+        None => Ok((filing, Some(1))),
+    }
+}

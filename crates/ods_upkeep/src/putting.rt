@@ -1,0 +1,227 @@
+//! `put`: files of the host are put one by one.
+use crate::asking::{delete, look_up, next_version, put_new, remove};
+use crate::attributes::like as like_of;
+use crate::copying::{begin, target_of};
+use crate::failure::{Failure, Why, of_path};
+use crate::found::find;
+use crate::names::Names;
+use crate::target::{DIRECTORY, Target, name_of};
+use crate::written::{Written, write_host};
+use crate::{Asked, HostFile, PutForm};
+use ods_base::{FileId, Name, Pick};
+use ods_filing::{Filing, NewFile};
+use ods_mount::Mounted;
+use ods_paths::Versions;
+use ods_request::{Answer, Kind as Shown, Refusal, Request, Stamp};
+use ods_shell::{Kind, PathFault};
+use std::alloc::Global;
+
+/// Files are put one by one; the target and the file like which they are made were looked up before the first.
+#[derive(Drop)]
+pub struct Putting {
+    alloc: Global,
+    filing: Filing,
+    target: Target,
+    stamp: Stamp,
+    form: PutForm,
+    like: Option<[u8; 32]>,
+    /// How many entries name each file, where files are replaced.
+    names: Option<Names>,
+}
+
+impl Putting {
+    /// Looks up where files go: a directory that is there, or a name; with no target the master directory. With `like` their records are written as those of
+    /// that file. With `replace` a file that has the name, and the version that is said, or the highest, makes room for the new one.
+    pub fn begin(
+        alloc: Global,
+        volume: Mounted,
+        asked: &Asked,
+        to: Option<&str>,
+        several: bool,
+        form: PutForm,
+        like: Option<&str>,
+        replace: bool,
+    ) -> Result<Putting, Failure> {
+        let count = if several { 2 } else { 1 };
+        let target = target_of(alloc, &volume, count, to.unwrap_or("[0,0]"))?;
+        let like = like_attributes(alloc, &volume, like)?;
+        let names = counted(alloc, &volume, replace)?;
+        let filing = begin(alloc, volume, asked.user)?;
+        Ok(Putting {
+            alloc,
+            filing,
+            target,
+            stamp: asked.stamp,
+            form,
+            like,
+            names,
+        })
+    }
+
+    /// Puts one; gives what is to be remarked, if anything.
+    pub fn put(self, host: &HostFile<'_>) -> Result<(Putting, Option<String>), Failure> {
+        let alloc = self.alloc;
+        match self.put_one(host) {
+            Ok(done) => Ok(done),
+            Err(why) => Err(of_path(alloc, host.name, why)),
+        }
+    }
+
+    /// Puts one.
+    fn put_one(self, host: &HostFile<'_>) -> Result<(Putting, Option<String>), Why> {
+        let alloc = self.alloc;
+        let name = match self.target.name {
+            Some(name) => name,
+            None => host_name(alloc, host.name)?,
+        };
+        if name.ext() == DIRECTORY {
+            return Err(Why::DirectoryType);
+        }
+        let written = write_host(alloc, self.form, &self.like, host.bytes)?;
+        let remark = remark(alloc, &written)?;
+        let putting = self.put_written(name, &written)?;
+        Ok((putting, remark))
+    }
+
+    /// Puts what was written under this name.
+    fn put_written(self, name: Name, written: &Written<'_>) -> Result<Putting, Why> {
+        let mut putting = self;
+        let dir = putting.target.directory;
+        let said = putting.target.version;
+        let (filing, freed) = make_room(putting.filing, dir, name, said, &mut putting.names)?;
+        let said = match freed {
+            Some(version) => Some(version),
+            None => said,
+        };
+        let (filing, version) = next_version(filing, dir, name, said);
+        let attributes = match &putting.like {
+            Some(like) => like_of(written.attributes, like),
+            None => written.attributes,
+        };
+        let file = NewFile {
+            name,
+            version,
+            stamp: putting.stamp,
+            attributes,
+            bytes: written.bytes(),
+        };
+        let (filing, id) = put_new(filing, dir, said, &file)?;
+        if let Some(names) = &mut putting.names {
+            names.add(id);
+        }
+        putting.filing = filing;
+        Ok(putting)
+    }
+
+    /// The volume with all that was put.
+    pub fn end(self) -> Mounted {
+        self.filing.into_mounted()
+    }
+}
+
+/// The attributes of the file like which others are made.
+fn like_attributes(
+    alloc: Global,
+    volume: &Mounted,
+    like: Option<&str>,
+) -> Result<Option<[u8; 32]>, Failure> {
+    let Some(path) = like else {
+        return Ok(None);
+    };
+    match attributes_of(alloc, volume, path) {
+        Ok(attributes) => Ok(Some(attributes)),
+        Err(why) => Err(of_path(alloc, path, why)),
+    }
+}
+
+/// The attributes of the one file that a path names.
+fn attributes_of(alloc: Global, volume: &Mounted, path: &str) -> Result<[u8; 32], Why> {
+    let found = find(alloc, volume, path, Some(Versions::Highest))?;
+    let [one] = found.as_slice() else {
+        return Err(Why::Several);
+    };
+    match one.facts {
+        Some(facts) if facts.kind == Kind::Directory => Err(Why::IsDirectory),
+        Some(facts) => Ok(facts.attributes),
+        None => Err(Why::Path(PathFault::NoSuchFile)),
+    }
+}
+
+/// How many entries name each file, where that is asked for.
+fn counted(alloc: Global, volume: &Mounted, replace: bool) -> Result<Option<Names>, Failure> {
+    if !replace {
+        return Ok(None);
+    }
+    match Names::of(alloc, volume) {
+        Ok(names) => Ok(Some(names)),
+        Err(error) => Err(of_path(alloc, "", error.into())),
+    }
+}
+
+/// The name of a host file as a name of the volume.
+fn host_name(alloc: Global, name: &str) -> Result<Name, Why> {
+    let bytes = name.as_bytes();
+    if bytes.is_empty() || bytes.iter().any(|c| *c == b';') {
+        return Err(Why::BadName);
+    }
+    match name.split_once('.') {
+        Some((title, kind)) => name_of(alloc, title.as_bytes(), kind.as_bytes()),
+        None => name_of(alloc, bytes, b""),
+    }
+}
+
+/// What is to be remarked of a file that was put.
+fn remark(alloc: Global, written: &Written<'_>) -> Result<Option<String>, Why> {
+    if !written.is_completed {
+        return Ok(None);
+    }
+    let text = String::from_str(alloc, "the last line has no LF, and became a record")?;
+    Ok(Some(text))
+}
+
+/// Where files are replaced and one has the name: its entry goes, and the file where no other entry names it. Gives the version that is free then.
+fn make_room(
+    filing: Filing,
+    dir: FileId,
+    name: Name,
+    version: Option<u16>,
+    names: &mut Option<Names>,
+) -> Result<(Filing, Option<u16>), Why> {
+    let Some(names) = names else {
+        return Ok((filing, None));
+    };
+    let pick = match version {
+        Some(version) => Pick::Exact(version),
+        None => Pick::Highest,
+    };
+    let (filing, found) = look_up(filing, dir, name, pick);
+    let Some((file, version)) = found else {
+        return Ok((filing, None));
+    };
+    let (filing, is_there) = is_plain(filing, file)?;
+    let filing = remove(filing, dir, name, version)?;
+    if !is_there {
+        return Ok((filing, Some(version)));
+    }
+    names.take(file);
+    if names.count(file) > 0 {
+        return Ok((filing, Some(version)));
+    }
+    let filing = delete(filing, file)?;
+    Ok((filing, Some(version)))
+}
+
+/// Whether there is a file with this ID. A directory is not replaced, nor is a file of the system.
+fn is_plain(filing: Filing, file: FileId) -> Result<(Filing, bool), Why> {
+    let (filing, answer) = filing.request(Request::Stat { file });
+    match answer {
+        Ok(Answer::Info(stat)) => match stat.kind {
+            Shown::Plain { .. } => Ok((filing, true)),
+            Shown::Directory { .. } => Err(Why::IsDirectory),
+            Shown::System => Err(Why::Request(Refusal::Reserved)),
+        },
+        Ok(_) => Ok((filing, false)),
+        Err(Refusal::NoSuchFile) => Ok((filing, false)),
+        Err(refusal) => Err(Why::Request(refusal)),
+    }
+}

@@ -1,0 +1,101 @@
+//! `rm`: names go, and the files for which no name is left.
+use crate::asking::{delete, remove};
+use crate::copying::begin;
+use crate::failure::{Failure, Why, of_path};
+use crate::found::{Found, Place};
+use crate::names::Names;
+use crate::sources::sources;
+use crate::{Asked, Removal};
+use ods_filing::Filing;
+use ods_mount::Mounted;
+use ods_paths::Versions;
+use ods_shell::Kind;
+use std::alloc::Global;
+
+/// Removes entries, and deletes each file that no entry of any directory names any more. A path has to say its versions, or `newest` is asked for. A
+/// file by its ID is deleted where no entry names it. Directories stay.
+pub fn remove_files(
+    alloc: Global,
+    volume: Mounted,
+    asked: &Asked,
+    paths: &[&str],
+    removal: Removal,
+) -> Result<Mounted, Failure> {
+    let unsaid = if removal.newest {
+        Some(Versions::Highest)
+    } else {
+        None
+    };
+    let all = sources(alloc, &volume, paths, unsaid)?;
+    let mut names = match Names::of(alloc, &volume) {
+        Ok(names) => names,
+        Err(error) => return Err(of_path(alloc, "", error.into())),
+    };
+    for found in &all {
+        if let Err(why) = check(found, &names, removal) {
+            return Err(of_path(alloc, &found.path, why));
+        }
+    }
+    let mut filing = begin(alloc, volume, asked.user)?;
+    for found in &all {
+        filing = match remove_one(filing, found, &mut names, removal) {
+            Ok(filing) => filing,
+            Err(why) => return Err(of_path(alloc, &found.path, why)),
+        };
+    }
+    Ok(filing.into_mounted())
+}
+
+/// Why this is not removed, as far as it can be seen before.
+fn check(found: &Found, names: &Names, removal: Removal) -> Result<(), Why> {
+    if removal.entry_alone {
+        return match found.place() {
+            Some(_) => Ok(()),
+            None => Err(Why::IsId),
+        };
+    }
+    let Some(facts) = found.facts() else {
+        return Ok(());
+    };
+    if facts.kind == Kind::Directory {
+        return Err(Why::IsDirectory);
+    }
+    if found.place().is_none() && names.count(facts.file) > 0 {
+        return Err(Why::IsNamed);
+    }
+    Ok(())
+}
+
+/// Removes an entry, and deletes its file where none is left; or a file by its ID.
+pub(crate) fn remove_one(
+    filing: Filing,
+    found: &Found,
+    names: &mut Names,
+    removal: Removal,
+) -> Result<Filing, Why> {
+    let filing = remove_place(filing, found.place())?;
+    let Some(facts) = found.facts() else {
+        return Ok(filing);
+    };
+    if found.place().is_some() {
+        names.take(facts.file);
+    }
+    if removal.entry_alone || names.count(facts.file) > 0 {
+        return Ok(filing);
+    }
+    delete(filing, facts.file)
+}
+
+/// Removes an entry, where there is one.
+fn remove_place(filing: Filing, place: Option<Place>) -> Result<Filing, Why> {
+    match place {
+        Some(place) => remove_at(filing, &place),
+        None => Ok(filing),
+    }
+}
+
+/// Removes the entry at this place.
+pub(crate) fn remove_at(filing: Filing, place: &Place) -> Result<Filing, Why> {
+    let entry = place.entry;
+    remove(filing, place.directory, entry.name, entry.version)
+}

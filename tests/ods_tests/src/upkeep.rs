@@ -1,0 +1,113 @@
+//! What put, cp, mv, rm, mkdir, rmdir and truncate do on a sample volume: what is shown of it then, that it is sound, and each refusal.
+mod copies;
+mod directories;
+mod ends;
+mod moves;
+mod puts;
+mod removals;
+
+use crate::persons::USER;
+use ods_base::{Image, Uic};
+use ods_cli::sample;
+use ods_mount::{Mounted, check_image, mount};
+use ods_request::Stamp;
+use ods_shell::{Target, Wanted, open_contents, targets};
+use ods_upkeep::{Asked, Failure, HostFile, PutForm, Putting, Why};
+use std::alloc::Global;
+use std::process::Abort;
+use std::test::Fail;
+
+/// Who asks, and when.
+fn asked_by(user: Uic) -> Result<Asked, Fail> {
+    let stamp = Stamp::parse(b"01JAN80103000").ok_or("a stamp")?;
+    Ok(Asked { user, stamp })
+}
+
+/// As the owner of the sample's files.
+fn asked() -> Result<Asked, Fail> {
+    asked_by(USER)
+}
+
+/// The sample volume of so many blocks.
+fn volume_of(alloc: Global, blocks: u32) -> Result<Mounted, Fail> {
+    let bytes = sample(alloc, blocks)?;
+    let image = Image::from_bytes(alloc, &bytes).ok().ok_or("an image")?;
+    mount(alloc, image).ok().ok_or("sound").map_err(Fail::from)
+}
+
+/// The volume, where the command was done, and its image is sound.
+fn done(alloc: Global, outcome: Result<Mounted, Failure>) -> Result<Mounted, Fail> {
+    let volume = match outcome {
+        Ok(volume) => volume,
+        Err(_) => return Err(Fail::from("refused")),
+    };
+    check_image(alloc, volume.image()).ok().ok_or("unsound")?;
+    Ok(volume)
+}
+
+/// Whether the command was refused so, for this path.
+fn is_refused(outcome: Result<Mounted, Failure>, path: &str, why: Why) -> bool {
+    match outcome {
+        Ok(_) => false,
+        Err(failure) => failure.path.as_str() == path && failure.why == why,
+    }
+}
+
+/// Puts one file, and remarks nothing.
+fn put(alloc: Global, volume: Mounted, to: &str, name: &str, bytes: &[u8]) -> Result<Mounted, Fail> {
+    done(alloc, try_put(alloc, volume, Some(to), name, bytes, PutForm::ByContents, None, false))
+}
+
+/// Puts one file.
+fn try_put(
+    alloc: Global,
+    volume: Mounted,
+    to: Option<&str>,
+    name: &str,
+    bytes: &[u8],
+    form: PutForm,
+    like: Option<&str>,
+    replace: bool,
+) -> Result<Mounted, Failure> {
+    let asked = match asked() {
+        Ok(asked) => asked,
+        Err(_) => unreachable!(),
+    };
+    let putting = Putting::begin(alloc, volume, &asked, to, false, form, like, replace)?;
+    let (putting, _) = putting.put(&HostFile { name, bytes })?;
+    Ok(putting.end())
+}
+
+/// The paths that a path finds, with a space behind each; nothing where it finds none.
+fn paths(alloc: Global, volume: &Mounted, path: &str) -> Result<String, Fail> {
+    let mut text = String::new(alloc);
+    if let Ok(found) = targets(alloc, volume, path) {
+        for target in &found {
+            text.push_str(target.path.as_str())?;
+            text.push(' ')?;
+        }
+    }
+    Ok(text)
+}
+
+/// The one file of a path.
+fn the(alloc: Global, volume: &Mounted, path: &str) -> Result<Target, Fail> {
+    let mut found = targets(alloc, volume, path).ok().ok_or("nothing there")?;
+    found.pop().ok_or("none").map_err(Fail::from)
+}
+
+/// The bytes that are got out of a file.
+fn bytes_of(alloc: Global, volume: &Mounted, path: &str, wanted: Wanted) -> Result<Vec<u8>, Fail> {
+    let target = the(alloc, volume, path)?;
+    let facts = target.facts.ok_or("no file")?;
+    let contents = open_contents(alloc, volume, facts.file.number, wanted).ok().ok_or("contents")?;
+    let mut bytes = Vec::new(alloc);
+    contents.write_to(&mut bytes).ok().ok_or("written")?;
+    Ok(bytes)
+}
+
+/// Whether these bytes are got out of a file.
+fn has(alloc: Global, volume: &Mounted, path: &str, bytes: &[u8]) -> Result<bool, Fail> {
+    let got = bytes_of(alloc, volume, path, Wanted::ByKind)?;
+    Ok(got.as_slice() == bytes)
+}
