@@ -1,8 +1,8 @@
 //! The commands that change a volume: put, cp, mv, rm, mkdir, rmdir and truncate.
-use crate::commands::{Stop, send, volume_of};
 use crate::putting::put;
 use crate::telling::told;
 use fs_host::{Locked, SaveFault, stamp_of_now, write_new};
+use fs_reads::{Stop, send, volume_of};
 use fs_words::{Change, Words};
 use ods_base::Uic;
 use ods_mount::Mounted;

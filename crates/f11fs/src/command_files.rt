@@ -1,10 +1,8 @@
 //! Commands in a file of the host, one a line: obeyed one after another on the volume in memory; then the image is saved, once.
 use crate::changing::{Host, asked, changed, finish, locked_volume};
-use crate::checking::check_image;
-use crate::commands::{Stop, ended, obey};
-use crate::progress::Progress;
 use crate::putting::host_bytes;
 use fs_host::Collecting;
+use fs_reads::{Progress, Stop, check_image, ended, obey};
 use fs_words::{Action, Change, LineFault, Words, WordsFault, line_words, parse_words};
 use ods_base::write_bytes;
 use ods_mount::Mounted;

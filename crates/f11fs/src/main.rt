@@ -3,17 +3,11 @@
 #![tactic(auto)]
 
 mod changing;
-mod checking;
 mod command_files;
 mod commands;
-mod comparing;
-mod getting;
 mod making;
-mod progress;
 mod putting;
-mod rescuing;
 mod telling;
-mod volume;
 
 use changing::Host;
 use commands::{Seen, run_command};

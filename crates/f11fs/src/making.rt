@@ -1,7 +1,7 @@
 //! `init`: the image of a new volume.
 use crate::changing::{Host, asked, not_saved};
-use crate::commands::{Stop, send};
 use fs_host::{SaveFault, write_new};
+use fs_reads::{Stop, send};
 use fs_words::Words;
 use ods_base::Image;
 use ods_init::{InitFault, Label, NewVolume, default_files, init};

@@ -1,6 +1,6 @@
 //! `put`: files of the host, put into a volume.
 use crate::changing::failed;
-use crate::commands::Stop;
+use fs_reads::Stop;
 use fs_words::PutWords;
 use ods_mount::Mounted;
 use ods_shell::Status;

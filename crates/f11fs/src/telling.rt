@@ -1,6 +1,5 @@
 //! What a change makes of a volume: a line for each path that comes, goes or changes.
-use crate::commands::Stop;
-use crate::comparing::{Known, all_known, difference_by_id, place_of};
+use fs_reads::{Known, Stop, all_known, difference_by_id, place_of};
 use ods_mount::Mounted;
 
 /// A line for each path of the volumes that is in one alone, or whose file differs.

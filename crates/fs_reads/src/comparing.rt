@@ -1,8 +1,10 @@
 //! `cmp`: which files of two images differ.
-use crate::commands::{
-    Reader, Stop, closed_to, find_all, may_read, send, stop_at_closed, volume_at,
-};
+use crate::closed::{closed_to, stop_at_closed};
+use crate::finding::find_all;
+use crate::printing::{Reader, may_read};
 use crate::progress::Progress;
+use crate::stop::{Stop, send};
+use crate::volume::volume_at;
 use fs_words::Words;
 use ods_base::{FileId, Uic};
 use ods_mount::Mounted;
@@ -22,7 +24,7 @@ pub struct Known {
 }
 
 /// `cmp` with the image at the first path.
-pub fn compare_all<'a, R: Files + Clock + AllocGlobal + Print + Eprint>(
+pub(crate) fn compare_all<'a, R: Files + Clock + AllocGlobal + Print + Eprint>(
     rt: &R,
     volume: &Mounted,
     words: &Words<'a>,

@@ -1,4 +1,5 @@
 //! The volume of an image in a file.
+use crate::stop::Stop;
 use ods_base::{Image, ImageError};
 use ods_mount::{MountFault, Mounted, mount};
 use std::fs;
@@ -22,7 +23,7 @@ pub enum VolumeFault {
 }
 
 /// The image at this path.
-pub fn open_image<R: Files + AllocGlobal>(rt: &R, path: &str) -> Result<Image, VolumeFault> {
+pub(crate) fn open_image<R: Files + AllocGlobal>(rt: &R, path: &str) -> Result<Image, VolumeFault> {
     let Ok(mut file) = fs::open(rt, path) else {
         return Err(VolumeFault::Read);
     };
@@ -40,7 +41,7 @@ fn read(image: Result<Image, ImageError>) -> Result<Image, VolumeFault> {
 }
 
 /// The volume of the image at this path.
-pub fn open_volume<R: Files + AllocGlobal>(rt: &R, path: &str) -> Result<Mounted, VolumeFault> {
+fn open_volume<R: Files + AllocGlobal>(rt: &R, path: &str) -> Result<Mounted, VolumeFault> {
     match open_image(rt, path) {
         Ok(image) => mount_image(rt, image),
         Err(fault) => Err(fault),
@@ -48,7 +49,7 @@ pub fn open_volume<R: Files + AllocGlobal>(rt: &R, path: &str) -> Result<Mounted
 }
 
 /// The volume of an image that was read.
-pub fn mounted<R: AllocGlobal>(
+fn mounted<R: AllocGlobal>(
     rt: &R,
     image: Result<Image, ImageError>,
 ) -> Result<Mounted, VolumeFault> {
@@ -64,5 +65,34 @@ fn mount_image<R: AllocGlobal>(rt: &R, image: Image) -> Result<Mounted, VolumeFa
         Ok(volume) => Ok(volume),
         Err((_, MountFault::NoMemory)) => Err(VolumeFault::NoMemory),
         Err((_, fault)) => Err(VolumeFault::Volume(fault)),
+    }
+}
+
+/// The volume of the image at this path; that an image is refused is said.
+pub fn volume_at<'a, R: Files + AllocGlobal>(rt: &R, path: &'a str) -> Result<Mounted, Stop<'a>> {
+    match open_volume(rt, path) {
+        Ok(volume) => Ok(volume),
+        Err(fault) => Err(no_volume(path, fault)),
+    }
+}
+
+/// The volume of an image that was read from this path; that it is refused is said.
+pub fn volume_of<'a, R: AllocGlobal>(
+    rt: &R,
+    path: &'a str,
+    image: Result<Image, ImageError>,
+) -> Result<Mounted, Stop<'a>> {
+    match mounted(rt, image) {
+        Ok(volume) => Ok(volume),
+        Err(fault) => Err(no_volume(path, fault)),
+    }
+}
+
+/// Why there is no volume at this path.
+fn no_volume<'a>(path: &'a str, fault: VolumeFault) -> Stop<'a> {
+    match fault {
+        VolumeFault::Read => Stop::Read(path),
+        VolumeFault::NoMemory => Stop::NoMemory,
+        fault => Stop::Image(path, fault),
     }
 }

@@ -1,6 +1,8 @@
 //! `get`: files of a volume, written to files of the host.
-use crate::commands::{Reader, Stop, add_named, cat_file, closed_to, readable, refused};
+use crate::closed::closed_to;
+use crate::printing::{Reader, add_named, cat_file, readable, refused};
 use crate::progress::Progress;
+use crate::stop::Stop;
 use fs_words::Words;
 use ods_mount::Mounted;
 use ods_shell::{Contents, Status, Target, Versioned, Wanted, open_contents};
@@ -35,7 +37,7 @@ struct How<'a> {
 }
 
 /// `get`: the files that the paths name, to a target; where none is said the last word is it, of two or more.
-pub fn get<'a, R: Files + Clock + AllocGlobal + Print + Eprint>(
+pub(crate) fn get<'a, R: Files + Clock + AllocGlobal + Print + Eprint>(
     rt: &R,
     volume: &Mounted,
     words: &Words<'a>,
@@ -228,6 +230,10 @@ fn write_host<R: Files + Eprint>(
     match contents.write_to(&mut file) {
         Ok(()) => Status::Done,
         Err(_) => {
+            // A part of a file is not to be taken for the whole; where it was asked for by force it may be no file that can go.
+            if !how.force {
+                let _ = fs::remove_file(rt, host);
+            }
             let _ = eprintln!(rt; "f11fs: {path}: writing {host} failed");
             Status::Host
         }

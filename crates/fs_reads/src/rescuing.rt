@@ -1,8 +1,8 @@
 //! `rescue`: each file whose own chain is whole, copied out of an image that may be refused.
 ghost use Rattle.ods_space.specs.Files.{IsLayoutOf};
 
-use crate::commands::Stop;
 use crate::progress::Progress;
+use crate::stop::Stop;
 use crate::volume::VolumeFault;
 use fs_words::Words;
 use ods_base::{FileId, Image, ImageError};
@@ -147,27 +147,42 @@ fn keep<'a, R: Files + AllocGlobal + Print + Eprint>(
     name: &str,
     contents: &Contents<'_>,
 ) -> Result<Status, Stop<'a>> {
-    let path = format!(in rt.alloc(); "{folder}/{name}")?;
-    if write_new(rt, path.as_str(), contents) {
-        say(rt, name)?;
+    if keep_as(rt, folder, name, contents)? {
         return Ok(Status::Done);
     }
     let other = format!(in rt.alloc(); "{name} #{},{}", file.number, file.sequence)?;
-    let path = format!(in rt.alloc(); "{folder}/{}", other.as_str())?;
-    if write_new(rt, path.as_str(), contents) {
-        say(rt, other.as_str())?;
+    if keep_as(rt, folder, other.as_str(), contents)? {
         return Ok(Status::Done);
     }
-    let _ = eprintln!(rt; "f11fs: {}: writing failed", path.as_str());
-    Err(Stop::Said(Status::Host))
+    Err(not_written(rt, folder, other.as_str()))
 }
 
-/// Whether a new file was made at this path, and all was written into it.
-fn write_new<R: Files>(rt: &R, path: &str, contents: &Contents<'_>) -> bool {
+/// Whether the file was written under this name, and said; not, where the name is taken.
+fn keep_as<'a, R: Files + AllocGlobal + Print + Eprint>(
+    rt: &R,
+    folder: &str,
+    name: &str,
+    contents: &Contents<'_>,
+) -> Result<bool, Stop<'a>> {
+    let path = format!(in rt.alloc(); "{folder}/{name}")?;
     let mut options = OpenOptions::new();
     options.write(true).create_new(true);
-    match options.open(rt, path) {
-        Ok(mut file) => contents.write_to(&mut file).is_ok(),
-        Err(_) => false,
+    let mut file = match options.open(rt, path.as_str()) {
+        Ok(file) => file,
+        Err(error) if error.kind() == ErrorKind::AlreadyExists => return Ok(false),
+        Err(_) => return Err(not_written(rt, folder, name)),
+    };
+    if contents.write_to(&mut file).is_err() {
+        // A part of a file is not to be taken for the whole.
+        let _ = fs::remove_file(rt, path.as_str());
+        return Err(not_written(rt, folder, name));
     }
+    say(rt, name)?;
+    Ok(true)
+}
+
+/// The line of a file that is not written.
+fn not_written<'a, R: Eprint>(rt: &R, folder: &str, name: &str) -> Stop<'a> {
+    let _ = eprintln!(rt; "f11fs: {folder}/{name}: writing failed");
+    Stop::Said(Status::Host)
 }

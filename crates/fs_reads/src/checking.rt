@@ -1,7 +1,7 @@
 //! `check`: what is wrong with an image, sound or not.
 ghost use Rattle.ods_space.specs.Files.{IsLayoutOf};
 
-use crate::commands::{Stop, send};
+use crate::stop::{Stop, send};
 use crate::volume::{VolumeFault, open_image};
 use ods_base::Image;
 use ods_check::{Checked, FaultLine, Finding, check_all, findings};

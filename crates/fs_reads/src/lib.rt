@@ -1,0 +1,25 @@
+//! The commands of `f11fs` that only read: what a path finds and what is printed is settled by `ods_shell`; here are the files of the host, the
+//! streams and the statuses.
+#![tactic(auto)]
+
+mod checking;
+mod closed;
+mod comparing;
+mod finding;
+mod getting;
+mod listing;
+mod obeying;
+mod printing;
+mod progress;
+mod rescuing;
+mod showing;
+mod stop;
+mod volume;
+
+pub use checking::{check, check_image};
+pub use comparing::{Known, all_known, difference_by_id, place_of};
+pub use obeying::obey;
+pub use progress::Progress;
+pub use rescuing::rescue;
+pub use stop::{Stop, ended, send};
+pub use volume::{VolumeFault, volume_at, volume_of};

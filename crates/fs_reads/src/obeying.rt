@@ -1,0 +1,47 @@
+//! What the words ask for on a sound volume that stays as it is.
+use crate::comparing::compare_all;
+use crate::finding::{du, find};
+use crate::getting::get;
+use crate::listing::ls;
+use crate::printing::cat;
+use crate::progress::Progress;
+use crate::showing::stat;
+use crate::stop::{Stop, send};
+use fs_words::{Action, Words};
+use ods_mount::Mounted;
+use ods_shell::{Status, space_lines, space_object, space_of};
+use std::rt::Files;
+use std::time::Clock;
+
+/// Does what a command asks for on a volume.
+pub fn obey<'a, R: Files + Clock + AllocGlobal + Print + Eprint>(
+    rt: &R,
+    volume: &Mounted,
+    words: &Words<'a>,
+    progress: &mut Progress,
+) -> Result<Status, Stop<'a>> {
+    match words.action {
+        Action::Ls { columns, below } => ls(rt, volume, words, columns, below),
+        Action::Find { lost } => find(rt, volume, words, lost),
+        Action::Stat => stat(rt, volume, words),
+        Action::Cat(wanted) => cat(rt, volume, words, wanted),
+        Action::Get { wanted, target } => get(rt, volume, words, target, wanted, progress),
+        Action::Df => {
+            let space = space_of(volume);
+            let text = if words.json {
+                space_object(rt.alloc(), &space)?
+            } else {
+                space_lines(rt.alloc(), &space)?
+            };
+            send(rt, text.as_str())
+        }
+        Action::Du { top } => du(rt, volume, top, words.json),
+        Action::Cmp { all } => compare_all(rt, volume, words, all, progress),
+        // These have no volume that is there and stays.
+        Action::Check { .. }
+        | Action::Rescue { .. }
+        | Action::Change(_)
+        | Action::Init { .. }
+        | Action::Commands { .. } => Ok(Status::Done),
+    }
+}
