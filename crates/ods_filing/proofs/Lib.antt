@@ -4,3 +4,4 @@ pub mod Done
 pub mod NotListed
 pub mod Added
 pub mod ComeBack
+pub mod Led

@@ -5,6 +5,7 @@ ghost use Rattle.ods_request.specs.{declared.refusals.Refusal.Refusal, Catalogue
 ghost use Rattle.ods_request.specs.declared.answers.Answer.{Answer};
 ghost use Rattle.ods_state.specs.Outcome.{IsVersionNumber, CanBeAsked};
 ghost use Rattle.ods_filing.specs.Filed.{Filed, IsDone, IsRefusedNow};
+ghost use Rattle.ods_filing.specs.Led.{Fills, IsLed};
 ghost use Rattle.ods_filing.specs.Put.{Heading, IsAdded, block_count, blocks_with, heading_of};
 
 use crate::Filing;
@@ -35,6 +36,7 @@ fn make(filing: Filing, file: &NewFile<'_>, blocks: usize) -> (Filing, Result<Fi
     requires plain { file.now.name.ext ≢ directory_type }
     requires few { blocks ≤ MOST }
     ensures ok { IfOk result.1 (λ id. IsAdded filing (heading_of file.now) id (Plain (replicate 32 0) (zero_blocks blocks)) result.0) }
+    ensures led { OnOk result.1 (IsLed Fills filing result.0) }
     ensures err { IfErr result.1 (IsRefusedNow result.0) }
     ensures listed { result.1 ≢ Err Refusal.ListFull }
 {
@@ -81,6 +83,7 @@ fn extend_to(
     requires { first ≤ count }
     ensures ok { OnOk result.1 ((old : Filed) (heading : Heading) → IsAdded old heading id (Plain (replicate 32 0) (zero_blocks first)) filing
         → IsAdded old heading id (Plain (replicate 32 0) (zero_blocks count)) result.0) }
+    ensures led { OnOk result.1 (IsLed Fills filing result.0) }
     ensures err { IfErr result.1 (IsRefusedNow result.0) }
     ensures listed { result.1 ≢ Err Refusal.ListFull }
 {
@@ -107,6 +110,7 @@ fn fill(filing: Filing, id: FileId, bytes: &[u8]) -> (Filing, Result<(), Refusal
     requires { block_count bytes.now ≤ MOST_BLOCKS }
     ensures ok { OnOk result.1 ((old : Filed) (heading : Heading) → IsAdded old heading id (Plain (replicate 32 0) (zero_blocks (block_count bytes.now))) filing
         → IsAdded old heading id (Plain (replicate 32 0) (blocks_with bytes.now)) result.0) }
+    ensures led { OnOk result.1 (IsLed Fills filing result.0) }
     ensures err { IfErr result.1 (IsRefusedNow result.0) }
     ensures listed { result.1 ≢ Err Refusal.ListFull }
 {
@@ -133,6 +137,8 @@ pub fn put_file(filing: Filing, file: &NewFile<'_>) -> (Filing, Result<FileId, R
     requires version { IsVersionNumber file.now.version }
     requires plain { file.now.name.ext ≢ directory_type }
     ensures ok { IfOk result.1 (λ id. IsAdded filing (heading_of file.now) id (Plain file.now.attributes (blocks_with file.now.bytes.now)) result.0) }
+    // The volume is what Create, Extend, Write and SetUser leave, and nothing else is asked for.
+    ensures led { OnOk result.1 (IsLed Fills filing result.0) }
     // It is the refusal of a request on the volume as it is then; or no volume has as many blocks as the bytes take.
     ensures err { IfErr result.1 (λ f. IsRefusedNow result.0 f ⊎ ((f ≡ Refusal.VolumeFull) × (2 ^ 20 < block_count file.now.bytes.now))) }
     ensures listed { result.1 ≢ Err Refusal.ListFull }

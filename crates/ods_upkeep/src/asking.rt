@@ -1,5 +1,9 @@
 //! Requests of a command: the first one that is refused ends it.
+ghost use Rattle.std.specs.Prelude.{◌≡◌, ℕ, IfOk};
 ghost use Rattle.ods_state.specs.Outcome.{CanBeAsked};
+ghost use Rattle.ods_filing.specs.Filed.{IsDone};
+ghost use Rattle.ods_filing.specs.Led.{IsAsked, IsLed, IsObeyed};
+ghost use Rattle.ods_upkeep.specs.Kinds.{Copies};
 
 use crate::failure::Why;
 use crate::target::DIRECTORY;
@@ -10,6 +14,7 @@ use ods_request::{Answer, Refusal, Request};
 /// Makes a request. Where it is refused, the volume is let go.
 pub(crate) fn make(filing: Filing, request: Request) -> Result<(Filing, Answer), Why>
     requires { CanBeAsked request }
+    ensures { IfOk result (λ made. IsDone filing request made.1 made.0) }
 {
     let (filing, answer) = filing.request(request);
     match answer {
@@ -25,7 +30,9 @@ pub(crate) fn enter(
     name: Name,
     version: Option<u16>,
     file: FileId,
-) -> Result<Filing, Why> {
+) -> Result<Filing, Why>
+    ensures { IfOk result (λ new. IsObeyed filing (Request.Enter dir name version file) new) }
+{
     if let Some(version) = version {
         if version == 0 || version > 32_767 {
             return Err(Why::Request(Refusal::VersionsFull));
@@ -54,7 +61,9 @@ pub(crate) fn enter(
 }
 
 /// Removes this very entry.
-pub(crate) fn remove(filing: Filing, dir: FileId, name: Name, version: u16) -> Result<Filing, Why> {
+pub(crate) fn remove(filing: Filing, dir: FileId, name: Name, version: u16) -> Result<Filing, Why>
+    ensures { IfOk result (λ new. IsObeyed filing (Request.Remove dir name (Pick.Exact version)) new) }
+{
     let (filing, _) = make(
         filing,
         Request::Remove {
@@ -67,7 +76,9 @@ pub(crate) fn remove(filing: Filing, dir: FileId, name: Name, version: u16) -> R
 }
 
 /// Deletes a file.
-pub(crate) fn delete(filing: Filing, file: FileId) -> Result<Filing, Why> {
+pub(crate) fn delete(filing: Filing, file: FileId) -> Result<Filing, Why>
+    ensures { IfOk result (λ new. IsObeyed filing (Request.Delete file) new) }
+{
     let (filing, _) = make(filing, Request::Delete { file })?;
     Ok(filing)
 }
@@ -78,7 +89,9 @@ pub(crate) fn look_up(
     dir: FileId,
     name: Name,
     pick: Pick,
-) -> (Filing, Option<(FileId, u16)>) {
+) -> (Filing, Option<(FileId, u16)>)
+    ensures { IsAsked filing (Request.LookUp dir name pick) result.0 }
+{
     let (filing, answer) = filing.request(Request::LookUp { dir, name, pick });
     match answer {
         Ok(Answer::Found(file, version)) => (filing, Some((file, version))),
@@ -92,7 +105,9 @@ pub(crate) fn put_new(
     dir: FileId,
     version: Option<u16>,
     file: &NewFile<'_>,
-) -> Result<(Filing, FileId), Why> {
+) -> Result<(Filing, FileId), Why>
+    ensures { IfOk result (λ made. IsLed Copies filing made.0) }
+{
     if file.name.ext() == DIRECTORY {
         return Err(Why::DirectoryType);
     }
@@ -115,7 +130,10 @@ pub(crate) fn next_version(
     dir: FileId,
     name: Name,
     version: Option<u16>,
-) -> (Filing, u16) {
+) -> (Filing, u16)
+    ensures looked { IsAsked filing (Request.LookUp dir name Pick.Highest) result.0 }
+    ensures said { (said : ℕ) → version ≡ Some said → result.1 ≡ said }
+{
     if let Some(version) = version {
         return (filing, version);
     }

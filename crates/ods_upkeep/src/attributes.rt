@@ -1,4 +1,8 @@
 //! The attributes of files that are made or cut.
+ghost use Rattle.std.specs.Prelude.{◌≡◌, ◌≤◌, IfErr, IfOk};
+ghost use Rattle.ods_request.specs.declared.refusals.Refusal.{Refusal};
+ghost use Rattle.ods_upkeep.specs.Pieces.{like_those, with_end};
+
 use crate::failure::Why;
 use ods_records::{binary_attributes, end_of_file};
 use ods_request::Refusal;
@@ -7,7 +11,10 @@ use ods_request::Refusal;
 const TOO_MANY: u64 = 536_870_912;
 
 /// These attributes with the end of file behind so many bytes: F.HIBK, F.EFBK and F.FFBY are set.
-pub(crate) fn ending_at(attributes: [u8; 32], bytes: u64) -> Result<[u8; 32], Why> {
+pub(crate) fn ending_at(attributes: [u8; 32], bytes: u64) -> Result<[u8; 32], Why>
+    ensures ok { IfOk result (λ new. new ≡ with_end attributes bytes) }
+    ensures err { IfErr result (λ why. (why ≡ Why.Request Refusal.VolumeFull) × (TOO_MANY ≤ bytes)) }
+{
     if bytes >= TOO_MANY {
         return Err(Why::Request(Refusal::VolumeFull));
     }
@@ -34,7 +41,9 @@ pub(crate) fn true_for(attributes: [u8; 32], blocks: u32) -> Result<[u8; 32], Wh
 }
 
 /// These attributes with the record type, the record attributes and the record size of others.
-pub(crate) fn like(attributes: [u8; 32], other: &[u8; 32]) -> [u8; 32] {
+pub(crate) fn like(attributes: [u8; 32], other: &[u8; 32]) -> [u8; 32]
+    ensures { result ≡ like_those attributes other.now }
+{
     let mut new = attributes;
     new[..4].copy_from_slice(&other[..4]);
     new

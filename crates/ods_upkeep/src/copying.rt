@@ -1,4 +1,8 @@
 //! `cp`: files are made that have the blocks and the attributes of others.
+ghost use Rattle.std.specs.Prelude.{◌≡◌, IfOk};
+ghost use Rattle.ods_filing.specs.Led.{IsLed};
+ghost use Rattle.ods_upkeep.specs.{Kinds.Copies, Left.IsLeft, Left.filed_for};
+
 use crate::Asked;
 use crate::asking::{next_version, put_new};
 use crate::attributes::true_for;
@@ -25,7 +29,10 @@ pub fn copy_files(
     asked: &Asked,
     paths: &[&str],
     to: &str,
-) -> Result<Mounted, Failure> {
+) -> Result<Mounted, Failure>
+    // It is what LookUp, Create, Extend, Write, SetUser and Enter leave.
+    ensures { IfOk result (λ new. IsLeft Copies asked.now.user volume new) }
+{
     let all = sources(alloc, &volume, paths, Some(Versions::Highest))?;
     let target = target_of(alloc, &volume, all.len(), to)?;
     for found in &all {
@@ -62,7 +69,9 @@ pub(crate) fn target_of(
 }
 
 /// The volume, for requests of this user.
-pub(crate) fn begin(alloc: Global, volume: Mounted, user: Uic) -> Result<Filing, Failure> {
+pub(crate) fn begin(alloc: Global, volume: Mounted, user: Uic) -> Result<Filing, Failure>
+    ensures { IfOk result (λ filing. filing ≡ filed_for volume user) }
+{
     match Filing::new(alloc, volume, user) {
         Ok(filing) => Ok(filing),
         Err(error) => Err(of_path(alloc, "", error.into())),
@@ -119,7 +128,9 @@ fn copy(
     found: &Found,
     target: &Target,
     stamp: Stamp,
-) -> Result<Filing, Why> {
+) -> Result<Filing, Why>
+    ensures { IfOk result (λ new. IsLed Copies filing new) }
+{
     let facts = check(found, target, filing.user())?;
     let name = new_name(found, target, &facts)?;
     let bytes = all_bytes(alloc, &filing, facts.file)?;

@@ -1,4 +1,8 @@
 //! `mkdir` and `rmdir`: directories are made and removed.
+ghost use Rattle.std.specs.Prelude.{false, IfOk};
+ghost use Rattle.ods_filing.specs.Led.{IsLed};
+ghost use Rattle.ods_upkeep.specs.{Kinds.MakesDirectories, Kinds.Removes, Left.IsLeft};
+
 use crate::asking::{enter, make};
 use crate::copying::begin;
 use crate::failure::{Failure, Why, of_path};
@@ -25,7 +29,10 @@ pub fn make_directories(
     asked: &Asked,
     paths: &[&str],
     names: u32,
-) -> Result<Mounted, Failure> {
+) -> Result<Mounted, Failure>
+    // It is what Create and Enter leave.
+    ensures { IfOk result (λ new. IsLeft MakesDirectories asked.now.user volume new) }
+{
     let mut volume = volume;
     for path in paths {
         volume = match make_directory(alloc, volume, asked, path, names) {
@@ -43,7 +50,9 @@ fn make_directory(
     asked: &Asked,
     path: &str,
     names: u32,
-) -> Result<Mounted, Why> {
+) -> Result<Mounted, Why>
+    ensures { IfOk result (λ new. IsLeft MakesDirectories asked.now.user volume new) }
+{
     let (dir, name) = new_place(alloc, &volume, path)?;
     let filing = Filing::new(alloc, volume, asked.user)?;
     let filing = make_in(filing, dir, name, names, asked.stamp)?;
@@ -85,13 +94,9 @@ fn found(
 }
 
 /// Makes a directory and enters it.
-fn make_in(
-    filing: Filing,
-    dir: FileId,
-    name: Name,
-    names: u32,
-    stamp: Stamp,
-) -> Result<Filing, Why> {
+fn make_in(filing: Filing, dir: FileId, name: Name, names: u32, stamp: Stamp) -> Result<Filing, Why>
+    ensures { IfOk result (λ new. IsLed MakesDirectories filing new) }
+{
     let blocks = names.div_ceil(32).max(1);
     let (filing, answer) = make(
         filing,
@@ -115,7 +120,10 @@ pub fn remove_directories(
     volume: Mounted,
     asked: &Asked,
     paths: &[&str],
-) -> Result<Mounted, Failure> {
+) -> Result<Mounted, Failure>
+    // It is what Remove and Delete leave.
+    ensures { IfOk result (λ new. IsLeft (Removes false) asked.now.user volume new) }
+{
     let mut volume = volume;
     for path in paths {
         volume = remove_path(alloc, volume, asked, path)?;
@@ -129,7 +137,9 @@ fn remove_path(
     volume: Mounted,
     asked: &Asked,
     path: &str,
-) -> Result<Mounted, Failure> {
+) -> Result<Mounted, Failure>
+    ensures { IfOk result (λ new. IsLeft (Removes false) asked.now.user volume new) }
+{
     let all = match removed(alloc, &volume, path) {
         Ok(all) => all,
         Err(why) => return Err(of_path(alloc, path, why)),

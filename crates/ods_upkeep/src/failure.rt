@@ -1,4 +1,6 @@
 //! Why a command is refused, and the path or the file of which.
+ghost use Rattle.ods_upkeep.specs.Pieces.{HasStatus};
+
 use ods_base::NameFault;
 use ods_paths::BadPath;
 use ods_records::TextFault;
@@ -89,7 +91,9 @@ impl From<TextFault> for Why {
 
 impl Why {
     /// The exit status of a command that is refused so.
-    pub fn status(&self) -> Status {
+    pub fn status(&self) -> Status
+        ensures { HasStatus self.now result }
+    {
         match self {
             Why::Path(fault) => fault.status(),
             Why::Request(Refusal::NoMemory) | Why::Text(TextFault::NoMemory) => Status::Host,
@@ -114,7 +118,9 @@ pub struct Failure {
 
 impl Failure {
     /// The exit status of the command.
-    pub fn status(&self) -> Status {
+    pub fn status(&self) -> Status
+        ensures { HasStatus self.now.why result }
+    {
         self.why.status()
     }
 }

@@ -16,6 +16,7 @@ mod removing;
 mod sources;
 mod target;
 mod truncating;
+mod versions;
 mod written;
 
 pub use asked::{Asked, HostFile, PutForm, Removal};

@@ -1,4 +1,7 @@
 //! Which directory a path of `mkdir` or `rmdir` means: `[A]`, `[1,2]`, `A/`, `A`, `1,2`, and the same below others.
+ghost use Rattle.std.specs.Prelude.{◌≡◌, ◌++◌, OnOk};
+ghost use Rattle.ods_upkeep.specs.Pieces.{octal_digits};
+
 use crate::failure::Why;
 use crate::target::may_be_directory;
 use ods_paths::{Files, Folder, Path, Place, Steps, Versions, parse_path};
@@ -80,7 +83,9 @@ fn below(place: Place<'_>) -> Folder<'_> {
 }
 
 /// Appends three octal digits.
-fn push_octal(text: &mut Vec<u8>, number: u8) -> Result<(), AllocError> {
+fn push_octal(text: &mut Vec<u8>, number: u8) -> Result<(), AllocError>
+    ensures { OnOk result (text.new.items ≡ text.old.items ++ octal_digits number) }
+{
     text.push(b'0' + number / 64)?;
     text.push(b'0' + number / 8 % 8)?;
     text.push(b'0' + number % 8)?;

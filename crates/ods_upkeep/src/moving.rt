@@ -1,4 +1,8 @@
 //! `mv`: names go to other directories, or become others.
+ghost use Rattle.std.specs.Prelude.{IfOk};
+ghost use Rattle.ods_filing.specs.Led.{IsLed};
+ghost use Rattle.ods_upkeep.specs.{Kinds.Renames, Left.IsLeft};
+
 use crate::Asked;
 use crate::asking::{enter, look_up, remove};
 use crate::copying::{begin, target_of};
@@ -24,7 +28,10 @@ pub fn move_names(
     asked: &Asked,
     paths: &[&str],
     to: &str,
-) -> Result<Mounted, Failure> {
+) -> Result<Mounted, Failure>
+    // It is what LookUp, Enter and Remove leave.
+    ensures { IfOk result (λ new. IsLeft Renames asked.now.user volume new) }
+{
     let all = sources(alloc, &volume, paths, Some(Versions::Highest))?;
     let target = target_of(alloc, &volume, all.len(), to)?;
     for found in &all {
@@ -107,7 +114,9 @@ fn leads_to(alloc: Global, volume: &Mounted, from: u16, to: u16) -> Result<bool,
 }
 
 /// Moves one name.
-fn rename(filing: Filing, found: &Found, target: &Target) -> Result<Filing, Why> {
+fn rename(filing: Filing, found: &Found, target: &Target) -> Result<Filing, Why>
+    ensures { IfOk result (λ new. IsLed Renames filing new) }
+{
     let Some(place) = found.place() else {
         return Err(Why::IsId);
     };
@@ -124,7 +133,9 @@ fn version_for(
     target: &Target,
     is_directory: bool,
     found: &Found,
-) -> Result<(Filing, Option<u16>), Why> {
+) -> Result<(Filing, Option<u16>), Why>
+    ensures { IfOk result (λ new. IsLed Renames filing new.0) }
+{
     let Some(place) = found.place() else {
         return Err(Why::IsId);
     };

@@ -1,5 +1,5 @@
 //! How many entries of all directories name each file, also of such directories as no walk reaches.
-ghost use Rattle.std.specs.Prelude.{MatchBool};
+ghost use Rattle.std.specs.Prelude.{◌≡◌, slice_index, MatchBool};
 ghost use Rattle.ods_mount.specs.{Faults.IsDirectoryFile};
 
 use crate::found::named;
@@ -59,7 +59,9 @@ impl Names {
     }
 
     /// How many entries name this file.
-    pub fn count(&self, file: FileId) -> u32 {
+    pub fn count(&self, file: FileId) -> u32
+        ensures { result ≡ slice_index self.now.counts.items file.number }
+    {
         match self.counts.get(file.number as usize) {
             Some(count) => *count,
             None => 0,

@@ -1,4 +1,8 @@
 //! `put`: files of the host are put one by one.
+ghost use Rattle.std.specs.Prelude.{◌≡◌, is_some, IfOk};
+ghost use Rattle.ods_filing.specs.Led.{IsAsked, IsLed};
+ghost use Rattle.ods_upkeep.specs.{Kinds.Puts, Left.filed_for};
+
 use crate::asking::{delete, look_up, next_version, put_new, remove};
 use crate::attributes::like as like_of;
 use crate::copying::{begin, target_of};
@@ -6,6 +10,7 @@ use crate::failure::{Failure, Why, of_path};
 use crate::found::find;
 use crate::names::Names;
 use crate::target::{DIRECTORY, Target, name_of};
+use crate::versions::Highest;
 use crate::written::{Written, write_host};
 use crate::{Asked, HostFile, PutForm};
 use ods_base::{FileId, Name, Pick};
@@ -15,6 +20,7 @@ use ods_paths::Versions;
 use ods_request::{Answer, Kind as Shown, Refusal, Request, Stamp};
 use ods_shell::{Kind, PathFault};
 use std::alloc::Global;
+use std::marker::Model;
 
 /// Files are put one by one; the target and the file like which they are made were looked up before the first.
 #[derive(Drop)]
@@ -27,6 +33,17 @@ pub struct Putting {
     like: Option<[u8; 32]>,
     /// How many entries name each file, where files are replaced.
     names: Option<Names>,
+    /// Where several are put and none is replaced: the highest version of each name in the directory.
+    highest: Option<Highest>,
+}
+
+impl Model for Putting {
+    ghost use Rattle.std.specs.Prelude.{is_some};
+    ghost use Rattle.ods_upkeep.specs.Left.{InPut};
+
+    ghost Value = { InPut };
+
+    ghost view = { λ p. record { volume = p.filing; replaces = is_some p.names } };
 }
 
 impl Putting {
@@ -41,11 +58,15 @@ impl Putting {
         form: PutForm,
         like: Option<&str>,
         replace: bool,
-    ) -> Result<Putting, Failure> {
+    ) -> Result<Putting, Failure>
+        // No request is made yet.
+        ensures { IfOk result (λ begun. begun ≡ record { volume = filed_for volume asked.now.user; replaces = replace }) }
+    {
         let count = if several { 2 } else { 1 };
         let target = target_of(alloc, &volume, count, to.unwrap_or("[0,0]"))?;
         let like = like_attributes(alloc, &volume, like)?;
         let names = counted(alloc, &volume, replace)?;
+        let highest = known(alloc, &volume, target.directory, several && !replace)?;
         let filing = begin(alloc, volume, asked.user)?;
         Ok(Putting {
             alloc,
@@ -55,11 +76,16 @@ impl Putting {
             form,
             like,
             names,
+            highest,
         })
     }
 
     /// Puts one; gives what is to be remarked, if anything.
-    pub fn put(self, host: &HostFile<'_>) -> Result<(Putting, Option<String>), Failure> {
+    pub fn put(self, host: &HostFile<'_>) -> Result<(Putting, Option<String>), Failure>
+        // It is what LookUp, Create, Extend, Write, SetUser and Enter leave, and where files are replaced, Stat, Remove and Delete besides.
+        ensures volume { IfOk result (λ done. IsLed (Puts self.replaces) self.volume done.0.volume) }
+        ensures replaces { IfOk result (λ done. done.0.replaces ≡ self.replaces) }
+    {
         let alloc = self.alloc;
         match self.put_one(host) {
             Ok(done) => Ok(done),
@@ -68,7 +94,10 @@ impl Putting {
     }
 
     /// Puts one.
-    fn put_one(self, host: &HostFile<'_>) -> Result<(Putting, Option<String>), Why> {
+    fn put_one(self, host: &HostFile<'_>) -> Result<(Putting, Option<String>), Why>
+        ensures volume { IfOk result (λ done. IsLed (Puts self.replaces) self.volume done.0.volume) }
+        ensures replaces { IfOk result (λ done. done.0.replaces ≡ self.replaces) }
+    {
         let alloc = self.alloc;
         let name = match self.target.name {
             Some(name) => name,
@@ -84,7 +113,10 @@ impl Putting {
     }
 
     /// Puts what was written under this name.
-    fn put_written(self, name: Name, written: &Written<'_>) -> Result<Putting, Why> {
+    fn put_written(self, name: Name, written: &Written<'_>) -> Result<Putting, Why>
+        ensures volume { IfOk result (λ done. IsLed (Puts self.replaces) self.volume done.volume) }
+        ensures replaces { IfOk result (λ done. done.replaces ≡ self.replaces) }
+    {
         let mut putting = self;
         let dir = putting.target.directory;
         let said = putting.target.version;
@@ -93,7 +125,7 @@ impl Putting {
             Some(version) => Some(version),
             None => said,
         };
-        let (filing, version) = next_version(filing, dir, name, said);
+        let (filing, version) = version_of(filing, dir, name, said, &putting.highest);
         let attributes = match &putting.like {
             Some(like) => like_of(written.attributes, like),
             None => written.attributes,
@@ -109,12 +141,17 @@ impl Putting {
         if let Some(names) = &mut putting.names {
             names.add(id);
         }
+        if let Some(highest) = &mut putting.highest {
+            highest.note(&name, version)?;
+        }
         putting.filing = filing;
         Ok(putting)
     }
 
     /// The volume with all that was put.
-    pub fn end(self) -> Mounted {
+    pub fn end(self) -> Mounted
+        ensures { (result.image ≡ self.volume.image) × (result.layout ≡ self.volume.layout) }
+    {
         self.filing.into_mounted()
     }
 }
@@ -148,7 +185,9 @@ fn attributes_of(alloc: Global, volume: &Mounted, path: &str) -> Result<[u8; 32]
 }
 
 /// How many entries name each file, where that is asked for.
-fn counted(alloc: Global, volume: &Mounted, replace: bool) -> Result<Option<Names>, Failure> {
+fn counted(alloc: Global, volume: &Mounted, replace: bool) -> Result<Option<Names>, Failure>
+    ensures { IfOk result (λ names. is_some names ≡ replace) }
+{
     if !replace {
         return Ok(None);
     }
@@ -156,6 +195,42 @@ fn counted(alloc: Global, volume: &Mounted, replace: bool) -> Result<Option<Name
         Ok(names) => Ok(Some(names)),
         Err(error) => Err(of_path(alloc, "", error.into())),
     }
+}
+
+/// The highest version of each name in a directory, where that is asked for.
+fn known(
+    alloc: Global,
+    volume: &Mounted,
+    directory: FileId,
+    is_wanted: bool,
+) -> Result<Option<Highest>, Failure> {
+    if !is_wanted {
+        return Ok(None);
+    }
+    match Highest::of(alloc, volume, directory) {
+        Ok(highest) => Ok(Some(highest)),
+        Err(error) => Err(of_path(alloc, "", error.into())),
+    }
+}
+
+/// The version under which a name is entered next: the one that is said, the one behind the highest that is known, or behind the one that is
+/// looked up.
+fn version_of(
+    filing: Filing,
+    dir: FileId,
+    name: Name,
+    said: Option<u16>,
+    highest: &Option<Highest>,
+) -> (Filing, u16)
+    ensures looked { IsAsked filing (Request.LookUp dir name Pick.Highest) result.0 }
+{
+    if said.is_none() {
+        if let Some(highest) = highest {
+            let version = highest.next(&name);
+            return (filing, version);
+        }
+    }
+    next_version(filing, dir, name, said)
 }
 
 /// The name of a host file as a name of the volume.
@@ -186,7 +261,10 @@ fn make_room(
     name: Name,
     version: Option<u16>,
     names: &mut Option<Names>,
-) -> Result<(Filing, Option<u16>), Why> {
+) -> Result<(Filing, Option<u16>), Why>
+    ensures volume { IfOk result (λ made. IsLed (Puts (is_some names.old)) filing made.0) }
+    ensures replaces { is_some names.new ≡ is_some names.old }
+{
     let Some(names) = names else {
         return Ok((filing, None));
     };
@@ -212,7 +290,9 @@ fn make_room(
 }
 
 /// Whether there is a file with this ID. A directory is not replaced, nor is a file of the system.
-fn is_plain(filing: Filing, file: FileId) -> Result<(Filing, bool), Why> {
+fn is_plain(filing: Filing, file: FileId) -> Result<(Filing, bool), Why>
+    ensures { IfOk result (λ seen. IsAsked filing (Request.Stat file) seen.0) }
+{
     let (filing, answer) = filing.request(Request::Stat { file });
     match answer {
         Ok(Answer::Info(stat)) => match stat.kind {

@@ -1,4 +1,10 @@
 //! `rm`: names go, and the files for which no name is left.
+ghost use Rattle.std.specs.Prelude.{true, IfOk};
+ghost use Rattle.ods_filing.specs.Led.{IsLed, IsObeyed};
+ghost use Rattle.ods_base.specs.declared.name.Pick.{Pick};
+ghost use Rattle.ods_request.specs.declared.requests.Request.{Request};
+ghost use Rattle.ods_upkeep.specs.{Kinds.Removes, Left.IsLeft};
+
 use crate::asking::{delete, remove};
 use crate::copying::begin;
 use crate::failure::{Failure, Why, of_path};
@@ -20,7 +26,10 @@ pub fn remove_files(
     asked: &Asked,
     paths: &[&str],
     removal: Removal,
-) -> Result<Mounted, Failure> {
+) -> Result<Mounted, Failure>
+    // It is what Remove and Delete leave, and where the entries alone go, Remove.
+    ensures { IfOk result (λ new. IsLeft (Removes removal.entry_alone) asked.now.user volume new) }
+{
     let unsaid = if removal.newest {
         Some(Versions::Highest)
     } else {
@@ -72,7 +81,9 @@ pub(crate) fn remove_one(
     found: &Found,
     names: &mut Names,
     removal: Removal,
-) -> Result<Filing, Why> {
+) -> Result<Filing, Why>
+    ensures { IfOk result (λ new. IsLed (Removes removal.entry_alone) filing new) }
+{
     let filing = remove_place(filing, found.place())?;
     let Some(facts) = found.facts() else {
         return Ok(filing);
@@ -87,7 +98,9 @@ pub(crate) fn remove_one(
 }
 
 /// Removes an entry, where there is one.
-fn remove_place(filing: Filing, place: Option<Place>) -> Result<Filing, Why> {
+fn remove_place(filing: Filing, place: Option<Place>) -> Result<Filing, Why>
+    ensures { IfOk result (λ new. IsLed (Removes true) filing new) }
+{
     match place {
         Some(place) => remove_at(filing, &place),
         None => Ok(filing),
@@ -95,7 +108,9 @@ fn remove_place(filing: Filing, place: Option<Place>) -> Result<Filing, Why> {
 }
 
 /// Removes the entry at this place.
-pub(crate) fn remove_at(filing: Filing, place: &Place) -> Result<Filing, Why> {
+pub(crate) fn remove_at(filing: Filing, place: &Place) -> Result<Filing, Why>
+    ensures { IfOk result (λ new. IsObeyed filing (Request.Remove place.now.directory place.now.entry.name (Pick.Exact place.now.entry.version)) new) }
+{
     let entry = place.entry;
     remove(filing, place.directory, entry.name, entry.version)
 }

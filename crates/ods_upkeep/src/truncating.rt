@@ -1,4 +1,8 @@
 //! `truncate`: a file ends earlier.
+ghost use Rattle.std.specs.Prelude.{IfOk};
+ghost use Rattle.ods_filing.specs.Led.{IsLed, IsObeyed};
+ghost use Rattle.ods_upkeep.specs.{Kinds.Cuts, Left.IsLeft};
+
 use crate::Asked;
 use crate::asking::make;
 use crate::attributes::ending_at;
@@ -22,7 +26,10 @@ pub fn truncate_file(
     asked: &Asked,
     path: &str,
     bytes: u64,
-) -> Result<Mounted, Failure> {
+) -> Result<Mounted, Failure>
+    // It is what Truncate and SetUser leave.
+    ensures { IfOk result (λ new. IsLeft Cuts asked.now.user volume new) }
+{
     let facts = match the_file(alloc, &volume, path, bytes) {
         Ok(facts) => facts,
         Err(why) => return Err(of_path(alloc, path, why)),
@@ -56,14 +63,12 @@ fn the_file(alloc: Global, volume: &Mounted, path: &str, bytes: u64) -> Result<F
 }
 
 /// Cuts the file.
-fn cut(filing: Filing, facts: &Facts, bytes: u64) -> Result<Filing, Why> {
+fn cut(filing: Filing, facts: &Facts, bytes: u64) -> Result<Filing, Why>
+    ensures { IfOk result (λ new. IsLed Cuts filing new) }
+{
     let attributes = ending_at(facts.attributes, bytes)?;
     let blocks = bytes.div_ceil(512).min(MOST_BLOCKS) as u32;
-    let filing = if blocks < facts.blocks {
-        shorten(filing, facts, blocks)?
-    } else {
-        filing
-    };
+    let filing = at_most(filing, facts, blocks)?;
     if attributes == facts.attributes {
         return Ok(filing);
     }
@@ -77,8 +82,20 @@ fn cut(filing: Filing, facts: &Facts, bytes: u64) -> Result<Filing, Why> {
     Ok(filing)
 }
 
+/// Keeps the first blocks, where there are more.
+fn at_most(filing: Filing, facts: &Facts, blocks: u32) -> Result<Filing, Why>
+    ensures { IfOk result (λ new. IsLed Cuts filing new) }
+{
+    if blocks >= facts.blocks {
+        return Ok(filing);
+    }
+    shorten(filing, facts, blocks)
+}
+
 /// Keeps the first blocks.
-fn shorten(filing: Filing, facts: &Facts, blocks: u32) -> Result<Filing, Why> {
+fn shorten(filing: Filing, facts: &Facts, blocks: u32) -> Result<Filing, Why>
+    ensures { IfOk result (λ new. IsObeyed filing (Request.Truncate facts.now.file blocks) new) }
+{
     let (filing, _) = make(
         filing,
         Request::Truncate {

@@ -1,4 +1,7 @@
 //! The bytes of a host file as they are put.
+ghost use Rattle.std.specs.Prelude.{◌≡◌, ◌↔◌, ℕ, List, true, false, IsTrue, MatchOption};
+ghost use Rattle.ods_records.specs.{Attributes.kind_in, declared.kind.RecordKind.RecordKind};
+
 use crate::PutForm;
 use crate::failure::Why;
 use ods_records::{
@@ -24,7 +27,9 @@ pub(crate) struct Written<'a> {
 
 impl<'a> Written<'a> {
     /// The bytes.
-    pub fn bytes(&self) -> &[u8] {
+    pub fn bytes(&self) -> &[u8]
+        ensures { MatchOption self.now.records (result.now ≡ self.now.host.now) (λ records. result.now ≡ records.items) }
+    {
         match &self.records {
             Some(records) => records.as_slice(),
             None => self.host,
@@ -47,7 +52,11 @@ pub(crate) fn write_host<'a>(
 }
 
 /// Whether these bytes are put as records.
-fn is_put_as_text(form: PutForm, like: &Option<[u8; 32]>, bytes: &[u8]) -> bool {
+fn is_put_as_text(form: PutForm, like: &Option<[u8; 32]>, bytes: &[u8]) -> bool
+    ensures like { (attributes : List ℕ) → like.now ≡ Some attributes → IsTrue result ↔ (kind_in attributes ≡ Some RecordKind.Variable) }
+    ensures text { like.now ≡ None → form ≡ PutForm.Text → result ≡ true }
+    ensures binary { like.now ≡ None → form ≡ PutForm.Binary → result ≡ false }
+{
     if let Some(attributes) = like {
         return kind_of(attributes) == Some(RecordKind::Variable);
     }

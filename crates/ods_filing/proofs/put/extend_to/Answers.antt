@@ -9,6 +9,7 @@ use Rattle.ods_request.specs.Steps.{zero_blocks}
 use Rattle.ods_filing.specs.Filed.{IsDone}
 use Rattle.ods_filing.specs.Put.{IsAdded}
 use Rattle.ods_filing.proofs.Added.{extended}
+use Rattle.ods_filing.proofs.Led.{then_obeyed}
 use Rattle.ods_filing.proofs.put.extend_to.Goals as goal
 
 pub loop-have-preserved : goal.loop-have-preserved
@@ -20,9 +21,13 @@ loop-have-preserved c =
       λ old heading start.
           subst (λ bs. IsAdded old heading c.args.id (Plain (replicate 32 0) bs) next) (replicate-append-replicate c.loop-have.have more zeros)
           (extended old c.loop-have.filing next heading c.args.id done.0 more (replicate 32 0) (zero_blocks c.loop-have.have) (c.loop-have.invariant.1 old heading start) done.1),
+      then_obeyed (Extend c.args.id more) tt c.loop-have.invariant.2 done,
     )
 
 pub returns-clause-ok : goal.returns-clause-ok
 returns-clause-ok c = λ old heading start.
     let same : c.loop-have.have ≡ c.args.count = omega (arith, c.loop-have.invariant.0, c.loop-have-test.false) in
     subst (λ n. IsAdded old heading c.args.id (Plain (replicate 32 0) (zero_blocks n)) c.loop-have.filing) same (c.loop-have.invariant.1 old heading start)
+
+pub returns-clause-led : goal.returns-clause-led
+returns-clause-led c = c.loop-have.invariant.2

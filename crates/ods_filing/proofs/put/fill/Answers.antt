@@ -7,10 +7,11 @@ use Rattle.ods_filing.specs.Filed.{IsDone}
 use Rattle.ods_filing.specs.Put.{IsAdded, block_count}
 use Rattle.ods_filing.proofs.Added.{wrote}
 use Rattle.ods_filing.proofs.Blocks.{so_far, one_more, all_so_far}
+use Rattle.ods_filing.proofs.Led.{then_obeyed}
 use Rattle.ods_filing.proofs.put.fill.Goals as goal
 
 pub loop-k-preserved : goal.loop-k-preserved
-loop-k-preserved c = λ old heading start.
+loop-k-preserved c =
     let next = c.obey-next.result.0 in
     let bytes = c.args.bytes.now in
     let k = c.loop-k.k in
@@ -20,13 +21,19 @@ loop-k-preserved c = λ old heading start.
     let under : k < block_count bytes = omega (arith, c.loop-k-test.true, c.blocks_for-k-end.ensures) in
     let at : k + 1 - 1 ≡ k = omega arith in
     let filled : slice_set before (k + 1 - 1) block ≡ so_far bytes (block_count bytes) (k + 1) =
-    (λ i. slice_set before (at i) (c.block_of.ensures i)) ∙ one_more bytes (block_count bytes) k under in
-    subst (λ bs. IsAdded old heading c.args.id (Plain (replicate 32 0) bs) next) filled
-    (wrote old c.loop-k.filing next heading c.args.id done.0 (k + 1) block (replicate 32 0) before (c.loop-k.invariant old heading start) done.1)
+    (λ i. slice_set before (at i) (c.block_of.ensures i)) ∙ one_more bytes (block_count bytes) k under in (
+      λ old heading start.
+          subst (λ bs. IsAdded old heading c.args.id (Plain (replicate 32 0) bs) next) filled
+          (wrote old c.loop-k.filing next heading c.args.id done.0 (k + 1) block (replicate 32 0) before (c.loop-k.invariant.0 old heading start) done.1),
+      then_obeyed (Write c.args.id (k + 1) block) tt c.loop-k.invariant.1 done,
+    )
 
 pub returns-clause-ok : goal.returns-clause-ok
 returns-clause-ok c = λ old heading start.
     let bytes = c.args.bytes.now in
     let at : c.loop-k.k ≡ block_count bytes = omega (arith, c.loop-k.auto.k-end, c.loop-k-test.false, c.blocks_for-k-end.ensures) in
     subst (λ bs. IsAdded old heading c.args.id (Plain (replicate 32 0) bs) c.loop-k.filing)
-    (ap (so_far bytes (block_count bytes)) at ∙ all_so_far bytes) (c.loop-k.invariant old heading start)
+    (ap (so_far bytes (block_count bytes)) at ∙ all_so_far bytes) (c.loop-k.invariant.0 old heading start)
+
+pub returns-clause-led : goal.returns-clause-led
+returns-clause-led c = c.loop-k.invariant.1

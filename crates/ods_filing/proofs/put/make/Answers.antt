@@ -4,6 +4,7 @@ use Rattle.ods_request.specs.declared.requests.Request.TheVariants.{Create}
 use Rattle.ods_filing.specs.Filed.{Filed, IsDone, IsRefusedFor}
 use Rattle.ods_filing.specs.Put.{heading_of}
 use Rattle.ods_filing.proofs.Added.{is_created, first_added}
+use Rattle.ods_filing.proofs.Led.{obeyed}
 use Rattle.ods_filing.proofs.put.make.Goals as goal
 
 pub returns-in-Err-clause-err : goal.returns-in-Err-clause-err
@@ -30,3 +31,10 @@ returns-clause-ok c =
     let done = subst (λ x. IfOk x (λ a. IsDone c.args.filing request a next)) c.in-Ok.is c.request-filing.ensures.accepted in
     first_added c.args.filing next c.image.ensures.sound (heading_of f) c.args.blocks c.in-Created.id c.requires.plain
     (subst (λ a. IsDone c.args.filing request a next) c.in-Created.is done)
+
+pub returns-clause-led : goal.returns-clause-led
+returns-clause-led c =
+    let f = c.args.file.now in
+    let request = Create f.name f.version c.args.blocks f.stamp in
+    obeyed request tt
+    (c.in-Ok.made, subst (λ x. IfOk x (λ a. IsDone c.args.filing request a c.request-filing.result.0)) c.in-Ok.is c.request-filing.ensures.accepted)

@@ -7,6 +7,8 @@ use Rattle.ods_request.specs.Steps.{zero_blocks}
 use Rattle.ods_filing.specs.Filed.{Filed, IsDone}
 use Rattle.ods_filing.specs.Put.{Heading, IsAdded, block_count, blocks_with, heading_of}
 use Rattle.ods_filing.proofs.Added.{attributed}
+use Rattle.ods_filing.specs.Led.{Fills, IsLed}
+use Rattle.ods_filing.proofs.Led.{then_led, then_obeyed}
 use Rattle.ods_filing.proofs.put.put_file.Goals as goal
 
 pub returns-clause-ok : goal.returns-clause-ok
@@ -27,3 +29,15 @@ returns-clause-ok c =
     let set = subst (λ x. OnOk x ((a : Answer) × IsDone filled_in (SetUser id c.args.file.now.attributes) a c.obey-filing.result.0)) c.in_default-set.is c.obey-filing.ensures.ok in
     let grown = subst (λ n. IsAdded old h id (Plain none (zero_blocks n)) grown_in) c.blocks_for-count.ensures (extends old h added) in
     attributed old filled_in c.obey-filing.result.0 h id set.0 c.args.file.now.attributes none (blocks_with bytes) (fills old h grown) set.1
+
+pub returns-clause-led : goal.returns-clause-led
+returns-clause-led c =
+    let made_in = c.make-filing.result.0 in
+    let grown_in = c.extend_to-filing.result.0 in
+    let filled_in = c.fill-filing.result.0 in
+    let request = SetUser c.in-Ok.id c.args.file.now.attributes in
+    let made = subst (λ x. OnOk x (IsLed Fills c.args.filing made_in)) c.in-Ok.is c.make-filing.ensures.led in
+    let grown = subst (λ x. OnOk x (IsLed Fills made_in grown_in)) c.in_default.is c.extend_to-filing.ensures.led in
+    let filled = subst (λ x. OnOk x (IsLed Fills grown_in filled_in)) c.in_default-filled.is c.fill-filing.ensures.led in
+    let set = subst (λ x. OnOk x ((a : Answer) × IsDone filled_in request a c.obey-filing.result.0)) c.in_default-set.is c.obey-filing.ensures.ok in
+    then_obeyed request tt (then_led made (then_led grown filled)) set

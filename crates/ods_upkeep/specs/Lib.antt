@@ -1,0 +1,3 @@
+pub mod Kinds
+pub mod Left
+pub mod Pieces

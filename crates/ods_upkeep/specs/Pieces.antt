@@ -1,0 +1,38 @@
+-- Small pieces: the exit status of a refusal, and attributes that change in part.
+use Rattle.std.specs.Prelude.{◌≡◌, ℕ, ◌+◌, List, ◌∷◌, [], ◌++◌, ◌/◌, ◌%◌, take, drop}
+use Rattle.ods_request.specs.declared.refusals.Refusal.TheVariants as refusal
+use Rattle.ods_records.specs.Attributes.{attributes}
+use Rattle.ods_records.specs.declared.faults.TextFault.TheVariants as text
+use Rattle.ods_shell.specs.declared.status.Status.{Status}
+use Rattle.ods_shell.specs.declared.status.Status.TheVariants.{Words, Host, Refused}
+use Rattle.ods_upkeep.specs.declared.failure.Why.{Why}
+use Rattle.ods_upkeep.specs.declared.failure.Why.TheVariants.{Path, Request, Text, BadName, IsDirectory, DirectoryType, IntoItself, IsId, NoVersion, Several, IsNamed, PastEnd}
+
+-- The exit status of a refusal: want of memory is the host's, words that mean nothing are wrong words, and what is asked for and is not done is refused. That of a path is the path's own.
+abbrev pub HasStatus : Why → Status → Type 0
+HasStatus (Path fault) s = Unit {0}
+HasStatus (Request refusal.NoMemory) s = s ≡ Host
+HasStatus (Request reason) s = s ≡ Refused
+HasStatus (Text text.NoMemory) s = s ≡ Host
+HasStatus (Text fault) s = s ≡ Refused
+HasStatus BadName s = s ≡ Words
+HasStatus IsId s = s ≡ Words
+HasStatus NoVersion s = s ≡ Words
+HasStatus Several s = s ≡ Words
+HasStatus IsDirectory s = s ≡ Refused
+HasStatus DirectoryType s = s ≡ Refused
+HasStatus IntoItself s = s ≡ Refused
+HasStatus IsNamed s = s ≡ Refused
+HasStatus PastEnd s = s ≡ Refused
+
+-- three octal digits
+abbrev pub octal_digits : ℕ → List ℕ
+octal_digits n = (48 + n / 64) ∷ (48 + n / 8 % 8) ∷ (48 + n % 8) ∷ []
+
+-- the attributes with the record type, the record attributes and the record size of others
+abbrev pub like_those : List ℕ → List ℕ → List ℕ
+like_those attributes others = take 4 others ++ drop 4 attributes
+
+-- the attributes with F.HIBK, F.EFBK and F.FFBY of a file of so many bytes
+abbrev pub with_end : List ℕ → ℕ → List ℕ
+with_end own bytes = take 4 own ++ take 10 (drop 4 (attributes 1 0 512 bytes)) ++ drop 14 own
