@@ -1,11 +1,13 @@
 #!/usr/bin/env bash
 # Times views and compares them with targets: 8 viewers answer at least 3 times as many views a second as one does, each time beside a thread
-# that writes; a view takes at most twice as long as a look with no viewer; f11 takes at most 1.1 times the image to serve a script.
+# that writes; a view takes at most twice as long as a look with no viewer; f11 takes at most 1.1 times the image to serve a script, and to
+# serve eight scripts of 45,000 views at most 0.4 times the clock of as many by one session, on 4 idle processors.
 #
 # usage: bench/views.sh [TIMES]     (100 looks each, TIMES times, by default 10,000)
 #
 # The first two are the tests `sessions::timed_views`, proved and built, which read TRIALS and VIEWERS. RUNS runs of each are
 # made, 5 by default, and the best counts; BLOCKS is the size of the third's image, 262,144 by default, and F11 another program than ./f11.
+# A script has room for some 70,000 views, so eight times the clock of one script of 45,000 stands for one session with all of the last.
 #
 # 8 viewers and a writer are 9 threads. On 4 processors a viewer is set aside now and then within a view, the writer then waits for it, awake,
 # and the last viewers end alone: the clock measures the system's turns too. What viewers wait for is told by two measures that it leaves
@@ -83,3 +85,22 @@ echo 'STAT 1,1' >"$folder/script"
 read -r clock _ peak status <<<"$(python3 "$here/measure.py" "$folder/out" "$program" "$folder/image" "$folder/script")"
 printf 'f11 IMAGE SCRIPT: %s s, %d KiB, status %d\n' "$clock" "$peak" "$status"
 target "f11's peak to the image's size" "$(ratio "$peak" "$((blocks / 2))")" most 1.1
+
+# The least clock, and the processor seconds and the peak of that run, of eight scripts or one: scripted COUNT
+scripted() {
+    local words=() round
+    for ((round = 0; round < $1; round++)); do
+        words+=("$folder/views")
+    done
+    for ((run = 0; run < runs; run++)); do
+        python3 "$here/measure.py" "$folder/out" "$program" "$folder/small" "${words[@]}"
+    done | sort -n | head -n 1
+}
+
+python3 "$here/make_image.py" --blocks 512 --files 7 --directories 1 --held 30 --scattered 0 --most-files 16 "$folder/small" >/dev/null
+printf 'VIEW STAT 1,1\n%.0s' $(seq 45000) >"$folder/views"
+read -r one one_processor one_peak status <<<"$(scripted 1)"
+printf 'f11 with 45,000 views: %s s, %s s of processor, %d KiB, status %d\n' "$one" "$one_processor" "$one_peak" "$status"
+read -r eight eight_processor eight_peak status <<<"$(scripted 8)"
+printf 'f11 with eight times 45,000 views: %s s, %s s of processor, %d KiB, status %d\n' "$eight" "$eight_processor" "$eight_peak" "$status"
+target "eight scripts of views to one session with all, by the clock" "$(ratio "$eight" "$one" 0.125)" most 0.4

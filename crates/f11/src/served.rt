@@ -1,10 +1,13 @@
 //! Scripts from files or from standard input, served on an image.
-ghost use Rattle.std.specs.Prelude.{◌+◌, ◌≤◌, All, IfOk, length, vec_len};
+ghost use Rattle.std.specs.Prelude.{◌+◌, ◌≤◌, ◌^◌, All, IfOk, length, vec_len};
 ghost use Rattle.ods_share.specs.Scripts.{CanBeRun};
 ghost use Rattle.ods_cli.specs.Runs.{IsLimit};
 
 use crate::out_file::OutFile;
-use ods_cli::{Options, ScriptFault, ServeFault, Words, read_script, sample, serve};
+use ods_cli::{
+    Options, ScriptFault, ServeFault, Words, parse_scripts, read_script, read_script_text, sample,
+    serve,
+};
 use ods_share::{Gate, Script};
 use std::alloc::AllocError;
 use std::io::Read;
@@ -75,32 +78,68 @@ pub fn serve_words<'a, R: Files + AllocGlobal + Print + Threads + Wait + Sync>(
     serve_scripts(rt, words, scripts.as_slice())
 }
 
-/// The scripts at these paths.
-fn script_files<'a, R: Files + AllocGlobal>(
+/// The scripts at these paths. Their texts are read one behind another, up to the first that cannot be, and parsed side by side: a want of
+/// memory for a script is told before the fault of a later one.
+fn script_files<'a, R: Files + AllocGlobal + Threads + Sync>(
     rt: &R,
     paths: &[&'a str],
 ) -> Result<Vec<Script>, ServedFault<'a>>
     ensures count { IfOk result (λ scripts. vec_len scripts ≤ length paths.now) }
     ensures can { IfOk result (λ scripts. All (λ s. CanBeRun s.commands.items) scripts.items) }
 {
-    let mut scripts = Vec::new(rt.alloc());
-    for path in paths {
-        add_script(&mut scripts, script_file(rt, *path)?)?;
+    let (texts, fault) = script_texts(rt, paths)?;
+    let scripts = parse_scripts(rt, rt.alloc(), texts)?;
+    match fault {
+        Some(fault) => Err(fault),
+        None => Ok(scripts),
     }
-    Ok(scripts)
 }
 
-/// The script at this path.
-fn script_file<'a, R: Files + AllocGlobal>(rt: &R, path: &'a str) -> Result<Script, ServedFault<'a>>
-    ensures { IfOk result (λ s. CanBeRun s.commands.items) }
+/// The texts of the scripts at these paths, up to the first that cannot be read, and why it cannot.
+fn script_texts<'a, R: Files + AllocGlobal>(
+    rt: &R,
+    paths: &[&'a str],
+) -> Result<(Vec<Vec<u8>>, Option<ServedFault<'a>>), AllocError>
+    ensures count { IfOk result (λ p. vec_len p.0 ≤ length paths.now) }
+    ensures few { IfOk result (λ p. All (λ t. length t.items ≤ 2 ^ 20) p.0.items) }
+{
+    let mut texts = Vec::new(rt.alloc());
+    for path in paths {
+        match script_text(rt, *path) {
+            Ok(text) => add_text(&mut texts, text)?,
+            Err(fault) => return Ok((texts, Some(fault))),
+        }
+    }
+    Ok((texts, None))
+}
+
+/// The text of the script at this path.
+fn script_text<'a, R: Files + AllocGlobal>(
+    rt: &R,
+    path: &'a str,
+) -> Result<Vec<u8>, ServedFault<'a>>
+    ensures { IfOk result (λ t. length t.items ≤ 2 ^ 20) }
 {
     match fs::open(rt, path) {
-        Ok(mut file) => match read_script(rt.alloc(), &mut file) {
-            Ok(script) => Ok(script),
+        Ok(mut file) => match read_script_text(rt.alloc(), &mut file) {
+            Ok(text) => Ok(text),
             Err(fault) => Err(script_fault(Some(path), fault)),
         },
         Err(_) => Err(ServedFault::Fault(ServeFault::Read)),
     }
+}
+
+/// Puts a text behind the others.
+fn add_text(texts: &mut Vec<Vec<u8>>, text: Vec<u8>) -> Result<(), AllocError>
+    requires few { length text.items ≤ 2 ^ 20 }
+    requires all { All (λ t. length t.items ≤ 2 ^ 20) texts.old.items }
+    ensures count { vec_len texts.new ≤ vec_len texts.old + 1 }
+    ensures all { All (λ t. length t.items ≤ 2 ^ 20) texts.new.items }
+{
+    if texts.push(text).is_err() {
+        return Err(AllocError);
+    }
+    Ok(())
 }
 
 /// Puts a script behind the others.

@@ -1,8 +1,6 @@
 -- Runs that serve scripts, from what was read to what is written.
-use Rattle.std.proofs.Common.{◌≡◌, ◌≤◌, ◌+◌, ℕ, List, [], ◌∷◌, ◌++◌, length, Option, Some, None, true, false, refl, sym, subst, inl, inr, arith}
+use Rattle.std.proofs.Common.{◌≡◌, ◌≤◌, ◌+◌, ℕ, List, [], ◌∷◌, ◌++◌, length, Option, Some, None, true, false, refl, sym, subst, inl, inr, arith, ◌∙◌}
 use Rattle.std.specs.Prelude.{Result, Ok, Err, IfOk, IfErr, OnOk, IsOkUnless, MatchResult, is_err}
-use Rattle.std.specs.declared.vec.Vec.{Vec}
-use Rattle.std.specs.declared.alloc.Global.{Global}
 use Rattle.std.specs.Io.KnownBytes.{Appends}
 use Rattle.std.proofs.KnownBytes.{Keeps-refl}
 use Rattle.ods_base.specs.Image.{TookBytes}
@@ -12,17 +10,19 @@ use Rattle.ods_space.specs.Layout.{VolumeLayout}
 use Rattle.ods_mount.specs.Sound.{IsSoundBy}
 use Rattle.ods_state.specs.Version.{State, IsLawful}
 use Rattle.ods_state.proofs.Opening.{new_is_lawful}
-use Rattle.ods_share.specs.Scripts.{EachOutcome}
+use Rattle.ods_share.specs.Keeping.{EachEnded}
 use Rattle.ods_share.specs.Settles.{Calls, IsSettled, AreLengths}
-use Rattle.ods_share.specs.declared.outcome.Outcome.{Outcome}
+use Rattle.ods_share.specs.declared.keeping.Ended.{Ended}
 use Rattle.ods_share.specs.declared.script.Script.{Script}
 use Rattle.ods_share.specs.declared.settlement.Report.{Report}
-use Rattle.ods_share.specs.declared.outcome.Reply.{Reply}
-use Rattle.ods_script.specs.Texts.{replied_text, replies_in, sessions_text}
+use Rattle.ods_script.specs.declared.printed.Printed.{Printed}
+use Rattle.ods_script.specs.Printing.{ArePrinted, printed_text}
 use Rattle.ods_cli.specs.Reply.{AreImageBytes, IsReplyFault}
-use Rattle.ods_cli.specs.Serve.{AreSound, AreRefused, EndsServe, EndsWriting, IsFaultOf, IsRefusedWith, IsReportFault, IsServedTo, IsServingFault, IsSoundImage, IsUntouched, Wrote, calls_in, totals_text, wrote}
+use Rattle.ods_cli.specs.Serve.{AreSound, AreRefused, EndsServe, EndsWriting, IsFaultOf, IsRefusedWith, IsReportFault, IsServedTo, IsServingFault, IsSoundImage, IsUntouched, Wrote, totals_text, wrote}
+use Rattle.ods_cli.specs.Printed.{calls_kept, printed_of}
 use Rattle.ods_cli.specs.declared.fault.ServeFault.{ServeFault}
 use Rattle.ods_cli.specs.declared.fault.ServeFault.TheVariants as fault
+use Rattle.ods_cli.proofs.Printing.{Behind, behind}
 use Rattle.ods_cli.proofs.Replies.{most_of_image}
 
 -- to a writer that stays as it was nothing was written
@@ -42,50 +42,46 @@ pub whole_text : {A : Type 0} (r : Result A WriteFault) (old new : Option (List 
 whole_text (Ok u) old new bytes text same e wrote = subst (λ (t : List ℕ). Appends old new t) same wrote
 whole_text (Err f) old new bytes text same e wrote = cc
 
--- what is printed of the sessions is known by their replies alone
-by_replies : (k : ℕ) (ss : List Script) (os : List Outcome) → replied_text k ss (replies_in os) ≡ sessions_text k ss os
-by_replies k [] os = refl
-by_replies k (s ∷ ss) [] = refl
-by_replies k (s ∷ ss) (o ∷ os) = let rest = by_replies (k + 1) ss os in cc
-
 -- a volume whose list is settled was served so
-pub served_to : (stamp : List ℕ) (scripts : List Script) (v : State) (os : List Outcome) (lists : List Calls) (replies : List (Vec Reply Global)) (r : Report) (text : List ℕ) →
-    IsLawful v → 1 ≤ length scripts → length os ≡ length scripts → EachOutcome v.mounted stamp scripts os → lists ≡ calls_in os → replies ≡ replies_in os →
+pub served_to : (stamp : List ℕ) (scripts : List Script) (v : State) (es : List (Ended Printed)) (lists : List Calls) (printed : List Printed) (r : Report) (text : List ℕ) →
+    IsLawful v → 1 ≤ length scripts → length es ≡ length scripts → EachEnded ArePrinted v.mounted stamp scripts es → lists ≡ calls_kept es → printed ≡ printed_of es →
     IsSettled v.mounted v lists × AreLengths v.entries lists r →
-    text ≡ replied_text 1 scripts replies ++ totals_text (length v.entries) (length (free_blocks v.image v.layout)) (length (free_numbers v.image v.layout)) →
+    text ≡ printed_text 1 printed ++ totals_text (length v.entries) (length (free_blocks v.image v.layout)) (length (free_numbers v.image v.layout)) →
     IsServedTo stamp scripts v.mounted v.image r text
-served_to stamp scripts v os lists replies r text lawful some count each same alike settled lines = record {
-  entries = v.entries;
-  layout = v.layout;
-  version = lawful.version;
-  outcomes = os;
-  count = count;
-  each = each;
-  calls = rw same at settled.0.calls;
-  report = rw same at settled.1;
-  lines = rw (alike, by_replies 1 scripts os) at lines;
-  unchanged = λ none. absurd (omega (arith, some, none));
-}
+served_to stamp scripts v es lists printed r text lawful some count each same alike settled lines =
+    let b : Behind v.mounted stamp scripts es = behind v.mounted stamp scripts es count each in record {
+      entries = v.entries;
+      layout = v.layout;
+      version = lawful.version;
+      outcomes = b.outcomes;
+      count = b.count;
+      each = b.each;
+      calls = rw (same, b.calls) at settled.0.calls;
+      report = rw (same, b.calls) at settled.1;
+      lines = rw (alike, b.text 1) at lines;
+      unchanged = λ none. absurd (omega (arith, some, none));
+    }
 
 -- a volume whose list is not said is why the run is not served to the end
-pub not_said : (stamp : List ℕ) (scripts : List Script) (v : State) (os : List Outcome) (lists : List Calls) (limit : ℕ) (f : ServeFault) →
-    IsLawful v → length os ≡ length scripts → EachOutcome v.mounted stamp scripts os → lists ≡ calls_in os →
+pub not_said : (stamp : List ℕ) (scripts : List Script) (v : State) (es : List (Ended Printed)) (lists : List Calls) (limit : ℕ) (f : ServeFault) →
+    IsLawful v → length es ≡ length scripts → EachEnded ArePrinted v.mounted stamp scripts es → lists ≡ calls_kept es →
     IsReportFault v lists limit f → IsServingFault stamp scripts v.mounted limit f
-not_said stamp scripts v os lists limit fault.NoMemory lawful count each same why = tt
-not_said stamp scripts v os lists limit fault.Unmatched lawful count each same why = record {
-  volume = v;
-  mounted = refl;
-  lawful = lawful;
-  outcomes = os;
-  count = count;
-  each = each;
-  wrong = subst (λ (cs : List Calls). IsReportFault v cs limit fault.Unmatched) same why;
-}
-not_said stamp scripts v os lists limit fault.NoThread lawful count each same why = absurd why
-not_said stamp scripts v os lists limit fault.Read lawful count each same why = absurd why
-not_said stamp scripts v os lists limit fault.Write lawful count each same why = absurd why
-not_said stamp scripts v os lists limit (fault.WriteOut part) lawful count each same why = absurd why
-not_said stamp scripts v os lists limit (fault.Refused number) lawful count each same why = absurd why
+not_said stamp scripts v es lists limit fault.NoMemory lawful count each same why = tt
+not_said stamp scripts v es lists limit fault.Unmatched lawful count each same why =
+    let b : Behind v.mounted stamp scripts es = behind v.mounted stamp scripts es count each in record {
+      volume = v;
+      mounted = refl;
+      lawful = lawful;
+      outcomes = b.outcomes;
+      count = b.count;
+      each = b.each;
+      wrong = subst (λ (cs : List Calls). IsReportFault v cs limit fault.Unmatched) (same ∙ b.calls) why;
+    }
+not_said stamp scripts v es lists limit fault.NoThread lawful count each same why = absurd why
+not_said stamp scripts v es lists limit fault.Read lawful count each same why = absurd why
+not_said stamp scripts v es lists limit fault.Write lawful count each same why = absurd why
+not_said stamp scripts v es lists limit (fault.WriteOut part) lawful count each same why = absurd why
+not_said stamp scripts v es lists limit (fault.Refused number) lawful count each same why = absurd why
 
 -- what `no script` means
 none_of : (ss : List Script) → length ss ≡ 0 → ss ≡ []

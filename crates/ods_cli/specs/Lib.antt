@@ -8,3 +8,4 @@ pub mod Endings
 pub mod Serve
 pub mod Sample
 pub mod ScriptText
+pub mod Printed

@@ -19,5 +19,5 @@ pub use fault::ServeFault;
 pub use headers::header_run;
 pub use runs::{Run, run_for};
 pub use samples::sample;
-pub use script_text::{ScriptFault, read_script};
+pub use script_text::{ScriptFault, parse_scripts, read_script, read_script_text};
 pub use words::{Words, WordsFault, parse_words};

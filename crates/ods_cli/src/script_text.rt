@@ -1,13 +1,15 @@
 //! Scripts, as they are read.
-ghost use Rattle.std.specs.Prelude.{◌≡◌, ◌<◌, ◌≤◌, ℕ, List, length, take, IfOk, IfErr, MatchResult};
+ghost use Rattle.std.specs.Prelude.{◌≡◌, ◌<◌, ◌≤◌, ◌^◌, ℕ, List, All, length, vec_len, take, Ok, map, IfOk, IfErr, MatchResult};
 ghost use Rattle.std.specs.Io.KnownBytes.{Consumes, IsAtEnd, Keeps};
 ghost use Rattle.ods_share.specs.Scripts.{CanBeRun};
-ghost use Rattle.ods_cli.specs.ScriptText.{IsScriptOf, IsTextOf, IsScriptFault};
+ghost use Rattle.ods_script.specs.Numbered.{AreCommandsOf};
+ghost use Rattle.ods_cli.specs.ScriptText.{IsScriptOf, IsTextOf, IsScriptFault, AreScriptsOf, EachParsed};
 
 use ods_script::parse_script;
 use ods_share::Script;
 use std::alloc::{AllocError, Global};
 use std::io::Read;
+use std::thread::{Threads, map_vec};
 
 /// How many bytes a script has at most.
 const MOST_BYTES: usize = 1_048_576;
@@ -42,6 +44,64 @@ pub fn read_script<R: Read>(alloc: Global, reader: &mut R) -> Result<Script, Scr
     let mut piece = [0u8; 4096];
     let text = read_text(alloc, reader, &mut piece)?;
     Ok(parse_script(alloc, text.as_slice())?)
+}
+
+/// The text of a script that a reader gives, to its end, for [`parse_scripts`]. A read that fails is not tried again.
+pub fn read_script_text<R: Read>(alloc: Global, reader: &mut R) -> Result<Vec<u8>, ScriptFault>
+    ensures { (bytes : List ℕ) × Consumes (R.remaining reader.old) (R.remaining reader.new) bytes
+        × MatchResult result (λ text. IsTextOf bytes (R.remaining reader.new) text.items) (IsScriptFault bytes) }
+{
+    let mut piece = [0u8; 4096];
+    read_text(alloc, reader, &mut piece)
+}
+
+/// The scripts of these texts, each parsed in a thread of its own where one can be made. The error is for memory.
+pub fn parse_scripts<R: Threads + Sync>(
+    rt: &R,
+    alloc: Global,
+    texts: Vec<Vec<u8>>,
+) -> Result<Vec<Script>, AllocError>
+    requires { All (λ t. length t.items ≤ 2 ^ 20) texts.items }
+    ensures count { IfOk result (λ scripts. vec_len scripts ≡ vec_len texts) }
+    ensures scripts { IfOk result (λ scripts. AreScriptsOf texts.items scripts.items) }
+    ensures can { IfOk result (λ scripts. All (λ s. CanBeRun s.commands.items) scripts.items) }
+{
+    let done = parse_each(rt, alloc, texts)?;
+    let scripts = all_parsed(alloc, done)?;
+    Ok(scripts)
+}
+
+/// Parses each text, in a thread of its own where one can be made.
+fn parse_each<R: Threads + Sync>(
+    rt: &R,
+    alloc: Global,
+    texts: Vec<Vec<u8>>,
+) -> Result<Vec<Result<Script, AllocError>>, AllocError>
+    requires { All (λ t. length t.items ≤ 2 ^ 20) texts.items }
+    ensures count { IfOk result (λ v. vec_len v ≡ vec_len texts) }
+    ensures each { IfOk result (λ v. EachParsed texts.items v.items) }
+{
+    let parse = move |text: Vec<u8>| -> Result<Script, AllocError>
+        requires { length text.items ≤ 2 ^ 20 }
+        ensures { IfOk result (λ s. AreCommandsOf text.items s.commands.items × CanBeRun s.commands.items) }
+    { parse_script(alloc, text.as_slice()) };
+    map_vec(rt, texts, &parse)
+}
+
+/// The scripts, if each was parsed.
+fn all_parsed(
+    alloc: Global,
+    done: Vec<Result<Script, AllocError>>,
+) -> Result<Vec<Script>, AllocError>
+    ensures { IfOk result (λ v. done.items ≡ map Ok v.items) }
+{
+    let mut scripts = Vec::with_capacity(alloc, done.len())?;
+    for one in done {
+        if scripts.push(one?).is_err() {
+            return Err(AllocError);
+        }
+    }
+    Ok(scripts)
 }
 
 /// The bytes that a reader gives, to its end. The piece is room to read into.

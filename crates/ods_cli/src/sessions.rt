@@ -2,17 +2,18 @@
 ghost use Rattle.std.specs.Prelude.{◌≡◌, ◌≤◌, ◌++◌, ℕ, List, [], All, length, vec_len, IfOk, IfErr, OnOk};
 ghost use Rattle.std.specs.String.{string_bytes};
 ghost use Rattle.ods_space.specs.Free.{free_blocks, free_numbers};
-ghost use Rattle.ods_share.specs.{Scripts.CanBeRun, Scripts.EachOutcome, Settles.AreLengths, Settles.IsSettled};
-ghost use Rattle.ods_script.specs.Texts.{replies_in};
-ghost use Rattle.ods_cli.specs.Serve.{IsServedTo, IsServingFault, IsReportFault, totals_text, calls_in};
+ghost use Rattle.ods_share.specs.{Keeping.EachEnded, Scripts.CanBeRun, Settles.AreLengths, Settles.IsSettled};
+ghost use Rattle.ods_script.specs.Printing.{ArePrinted};
+ghost use Rattle.ods_cli.specs.Serve.{IsServedTo, IsServingFault, IsReportFault, totals_text};
+ghost use Rattle.ods_cli.specs.Printed.{calls_kept, printed_of};
 
 use crate::ServeFault;
 use crate::engine::Options;
 use ods_alloc::{free_count, number_count};
 use ods_mount::Mounted;
-use ods_script::sessions_text;
+use ods_script::{Printed, join_printed};
 use ods_share::{
-    Call, Gate, Outcome, Reply, Report, RunFault, Script, SettleFault, run_scripts, settle_mounted,
+    Call, Ended, Gate, Report, RunFault, Script, SettleFault, run_keeping, settle_mounted,
 };
 use ods_volume::Volume;
 use std::alloc::{AllocError, Global};
@@ -77,8 +78,8 @@ pub(crate) fn serve_all<G: Gate + Sync, R: Threads + Wait + Sync>(
     let Ok(volume) = Volume::new(alloc, mounted, options.limit) else {
         return Err(ServeFault::NoMemory);
     };
-    match run_scripts(rt, alloc, volume, scripts, options.stamp, gate) {
-        Ok((volume, outcomes)) => settled(alloc, volume, scripts, outcomes, options.limit),
+    match run_keeping::<Printed, G, R>(rt, alloc, volume, scripts, options.stamp, gate) {
+        Ok((volume, ended)) => settled(alloc, volume, scripts, ended, options.limit),
         Err(RunFault::NoMemory) => Err(ServeFault::NoMemory),
         Err(RunFault::NoThread) => Err(ServeFault::NoThread),
     }
@@ -89,22 +90,22 @@ fn settled(
     alloc: Global,
     volume: Volume,
     scripts: &[Script],
-    outcomes: Vec<Outcome>,
+    ended: Vec<Ended<Printed>>,
     limit: u32,
 ) -> Result<Served, ServeFault>
     requires some { 1 ≤ length scripts.now }
     requires few { length scripts.now ≤ 8 }
-    requires count { vec_len outcomes ≡ length scripts.now }
-    ensures ok { (stamp : List ℕ) → EachOutcome volume.mounted stamp scripts.now outcomes.items →
+    requires count { vec_len ended ≡ length scripts.now }
+    ensures ok { (stamp : List ℕ) → EachEnded ArePrinted volume.mounted stamp scripts.now ended.items →
         IfOk result (λ s. IsServedTo stamp scripts.now volume.mounted s.volume.image s.said.report (string_bytes s.said.text)) }
     ensures limit { IfOk result (λ s. s.said.report.entries ≤ limit) }
-    ensures err { (stamp : List ℕ) → EachOutcome volume.mounted stamp scripts.now outcomes.items →
+    ensures err { (stamp : List ℕ) → EachEnded ArePrinted volume.mounted stamp scripts.now ended.items →
         IfErr result (IsServingFault stamp scripts.now volume.mounted limit) }
 {
     volume.is_lawful();
-    let (calls, replies) = parted(alloc, outcomes)?;
+    let (calls, printed) = parted(alloc, ended)?;
     let report = report_of(alloc, &volume, calls, limit)?;
-    let mut text = sessions_text(alloc, scripts, replies.as_slice())?;
+    let mut text = join_printed(alloc, printed.as_slice())?;
     push_totals(
         &mut text,
         volume.entries().len(),
@@ -139,25 +140,25 @@ fn report_of(
     }
 }
 
-/// The calls of each session, and the replies of each.
+/// The calls of each session, and what each printed.
 fn parted(
     alloc: Global,
-    outcomes: Vec<Outcome>,
-) -> Result<(Vec<Vec<Call>>, Vec<Vec<Reply>>), AllocError>
-    ensures calls { IfOk result (λ p. p.0.items ≡ calls_in outcomes.items) }
-    ensures replies { IfOk result (λ p. p.1.items ≡ replies_in outcomes.items) }
+    ended: Vec<Ended<Printed>>,
+) -> Result<(Vec<Vec<Call>>, Vec<Printed>), AllocError>
+    ensures calls { IfOk result (λ p. p.0.items ≡ calls_kept ended.items) }
+    ensures printed { IfOk result (λ p. p.1.items ≡ printed_of ended.items) }
 {
-    let mut calls = Vec::with_capacity(alloc, outcomes.len())?;
-    let mut replies = Vec::with_capacity(alloc, outcomes.len())?;
-    for outcome in outcomes {
-        if calls.push(outcome.calls).is_err() {
+    let mut calls = Vec::with_capacity(alloc, ended.len())?;
+    let mut printed = Vec::with_capacity(alloc, ended.len())?;
+    for one in ended {
+        if calls.push(one.calls).is_err() {
             return Err(AllocError);
         }
-        if replies.push(outcome.replies).is_err() {
+        if printed.push(one.kept).is_err() {
             return Err(AllocError);
         }
     }
-    Ok((calls, replies))
+    Ok((calls, printed))
 }
 
 /// Appends the totals: how many entries the list has, and how many blocks and file numbers are free.

@@ -6,5 +6,6 @@ pub mod LineCuts
 pub mod Meaning
 pub mod Numerals
 pub mod Places
+pub mod Printing
 pub mod VerbWords
 pub mod Versions

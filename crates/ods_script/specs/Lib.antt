@@ -1,6 +1,7 @@
 pub mod Commands
 pub mod Naming
 pub mod Numbered
+pub mod Printing
 pub mod Said
 pub mod Spelling
 pub mod Spoken

@@ -4,16 +4,16 @@ use Rattle.std.specs.Prelude.{◌≤◌, slice_index_or, Result, Option, Some, N
 use Rattle.std.specs.declared.alloc.AllocError.{AllocError}
 use Rattle.std.specs.declared.thread.PromisedHandle.{PromisedHandle}
 use Rattle.ods_share.specs.declared.threads.OfScript.{OfScript}
-use Rattle.ods_share.specs.declared.outcome.Outcome.{Outcome}
+use Rattle.ods_share.specs.declared.keeping.Ended.{Ended}
 use Rattle.ods_share.specs.declared.script.Script.{Script}
 use Rattle.std.proofs.lemmas.List.{get_or_append_left, get_or_default, get_or_push}
 use native.Mathlib.Decide.{dec_lt}
 
 -- the handle of a session's thread
-abbrev pub Handle : Type 0 → Type 0
-Handle J = PromisedHandle (Result Outcome AllocError) (OfScript J)
+abbrev pub Handle : Type 0 → Type 0 → Type 0
+Handle J K = PromisedHandle (Result (Ended K) AllocError) (OfScript J K)
 
-pub one_longer : {J : Type 0} (was now : List (Handle J)) (h : Handle J) → now ≡ was ++ h ∷ [] → length now ≡ length was + 1
+pub one_longer : {J K : Type 0} (was now : List (Handle J K)) (h : Handle J K) → now ≡ was ++ h ∷ [] → length now ≡ length was + 1
 one_longer was now h is = ap length is ∙ length-append was (h ∷ [])
 
 -- what is true of each element by its place stays so where one more comes, of which it is true
@@ -27,14 +27,14 @@ each_snoc P xs x each last k d lt = by_place (dec_lt k (length xs))
         subst (P k) (sym (get_or_push xs x d k here)) (subst (λ i. P i x) here last)
 
 -- handle k is that of script k, with this stamp
-abbrev Tied : {J : Type 0} → List Script → List ℕ → ℕ → Handle J → Type 0
+abbrev Tied : {J K : Type 0} → List Script → List ℕ → ℕ → Handle J K → Type 0
 Tied scripts stamp k h = (s : Script) → (h.promise.script.value ≡ slice_index_or scripts k s) × (h.promise.stamp.value ≡ stamp)
 
-pub tied_snoc : {J : Type 0} (scripts : List Script) (stamp : List ℕ) (was now : List (Handle J)) (h : Handle J) (n : ℕ) (script : Script)
+pub tied_snoc : {J K : Type 0} (scripts : List Script) (stamp : List ℕ) (was now : List (Handle J K)) (h : Handle J K) (n : ℕ) (script : Script)
     → now ≡ was ++ h ∷ [] → length was ≡ n → n < length scripts → script ≡ get_or scripts n script
     → (h.promise.script.value ≡ script) × (h.promise.stamp.value ≡ stamp)
-    → ((k : ℕ) (d : Handle J) (s : Script) → k < n → ((slice_index_or was k d).promise.script.value ≡ slice_index_or scripts k s) × ((slice_index_or was k d).promise.stamp.value ≡ stamp))
-    → (k : ℕ) (d : Handle J) (s : Script) → k < n + 1 → ((slice_index_or now k d).promise.script.value ≡ slice_index_or scripts k s) × ((slice_index_or now k d).promise.stamp.value ≡ stamp)
+    → ((k : ℕ) (d : Handle J K) (s : Script) → k < n → ((slice_index_or was k d).promise.script.value ≡ slice_index_or scripts k s) × ((slice_index_or was k d).promise.stamp.value ≡ stamp))
+    → (k : ℕ) (d : Handle J K) (s : Script) → k < n + 1 → ((slice_index_or now k d).promise.script.value ≡ slice_index_or scripts k s) × ((slice_index_or now k d).promise.stamp.value ≡ stamp)
 tied_snoc scripts stamp was now h n script is len inside at promised each k d s lt =
     let here : Tied scripts stamp (length was) h = λ s'. rw len (promised.0 ∙ (at ∙ get_or_default scripts n script s' inside), promised.1) in
     rw is (each_snoc (Tied scripts stamp) was h (λ j e below s'. each j e s' (omega arith)) here k d (omega arith) s)

@@ -1,6 +1,5 @@
 -- What a script means: which requests its commands make, and which replies and calls come of it.
-use Rattle.std.specs.Prelude.{◌≡◌, ℕ, ◌<◌, List, [], ◌∷◌, ◌++◌, length, Option, Some, None, All, slice_index_or, Result, Ok, Err, IfOk, MatchOption}
-use Rattle.std.specs.declared.alloc.AllocError.{AllocError}
+use Rattle.std.specs.Prelude.{◌≡◌, ℕ, ◌<◌, List, [], ◌∷◌, ◌++◌, length, Option, Some, None, All, slice_index_or, Result, Ok, Err, MatchOption}
 use Rattle.std.specs.Option.{option_map, option_and_then}
 use Rattle.ods_base.specs.declared.file_id.Uic.{Uic}
 use Rattle.ods_base.specs.declared.file_id.FileId.{FileId}
@@ -144,10 +143,6 @@ pub record IsOutcome (M : List (List ℕ)) (stamp : List ℕ) (cs : List Command
 -- outcome k is that of script k
 abbrev pub EachOutcome : List (List ℕ) → List ℕ → List Script → List Outcome → Type 0
 EachOutcome M stamp ss os = (k : ℕ) (s : Script) (o : Outcome) → k < length ss → IsOutcome M stamp (slice_index_or ss k s).commands.items (slice_index_or os k o)
-
--- the same so far as there is an outcome
-abbrev pub EachIfOk : List (List ℕ) → List ℕ → List Script → List (Result Outcome AllocError) → Type 0
-EachIfOk M stamp ss rs = (k : ℕ) (s : Script) (r : Result Outcome AllocError) → k < length ss → IfOk (slice_index_or rs k r) (λ o. IsOutcome M stamp (slice_index_or ss k s).commands.items o)
 
 -- whatever `$` stands for, what the command asks for may be made
 abbrev pub CanBeObeyed : Action → Type 0

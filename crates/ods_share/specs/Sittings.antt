@@ -1,7 +1,6 @@
 -- A session as its code keeps it: its context, and the room for what comes of its script.
-use Rattle.std.specs.Prelude.{◌≡◌, ◌+◌, ◌≤◌, ◌++◌, ◌∷◌, [], ℕ, List, Ok, Err, length}
+use Rattle.std.specs.Prelude.{◌≡◌, ◌+◌, ◌++◌, ◌∷◌, [], ℕ, List, Ok, Err}
 use Rattle.std.specs.List.{sum_by}
-use Rattle.std.specs.Vec.{vec_capacity}
 use Rattle.ods_base.specs.declared.file_id.Uic.{Uic}
 use Rattle.ods_request.specs.declared.requests.Request.{Request}
 use Rattle.ods_request.specs.declared.requests.Query.{Query}
@@ -10,7 +9,6 @@ use Rattle.ods_share.specs.declared.script.Action.{Action}
 use Rattle.ods_share.specs.declared.script.Action.TheVariants as action
 use Rattle.ods_share.specs.declared.script.Command.{Command}
 use Rattle.ods_share.specs.declared.outcome.Call.{Call}
-use Rattle.ods_share.specs.declared.outcome.Outcome.{Outcome}
 use Rattle.ods_share.specs.declared.outcome.Reply.{Reply}
 use Rattle.ods_share.specs.declared.outcome.Reply.TheVariants as reply
 use Rattle.ods_share.specs.declared.session.Context.{Context}
@@ -48,11 +46,6 @@ stands context seen = record { context = context; seen = seen }
 abbrev pub TellsContext : List (List ℕ) → List ℕ → Command → Standing → List Call → Reply → Standing → List Call → Type 0
 TellsContext mounted stamp c s was r t now = Tells mounted stamp (sitting s.context was s.seen) c.nth c.action r (sitting t.context now t.seen)
 
--- One command from outcome to outcome: its reply is behind the others, and its call, if there is one.
-abbrev pub TellsMore : List (List ℕ) → List ℕ → Command → Standing → Outcome → Standing → Outcome → Type 0
-TellsMore mounted stamp c s was t now =
-    (r : Reply) × (now.replies.items ≡ was.replies.items ++ r ∷ []) × TellsContext mounted stamp c s was.calls.items r t now.calls.items
-
 -- how many calls may come of a command: one of a request
 abbrev pub room_of : Action → ℕ
 room_of (action.User who) = 0
@@ -63,11 +56,3 @@ room_of action.Bad = 0
 -- and of a script
 abbrev pub room_for : List Command → ℕ
 room_for cs = sum_by (λ c. room_of c.action) cs
-
--- there is room for so many calls and replies more, without another growth
-abbrev pub HasRoom : Outcome → ℕ → ℕ → Type 0
-HasRoom o calls replies = (length o.calls.items + calls ≤ vec_capacity o.calls) × (length o.replies.items + replies ≤ vec_capacity o.replies)
-
--- no room is given back
-abbrev pub KeepsRoom : Outcome → Outcome → Type 0
-KeepsRoom old new = (vec_capacity old.calls ≤ vec_capacity new.calls) × (vec_capacity old.replies ≤ vec_capacity new.replies)

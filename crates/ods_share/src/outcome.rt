@@ -1,12 +1,11 @@
-//! What comes of a script, and the room for it, which is taken before the first command.
-ghost use Rattle.std.specs.Prelude.{◌≡◌, ◌≤◌, [], IfOk, length};
-ghost use Rattle.ods_share.specs.Sittings.{room_for, HasRoom};
+//! What comes of a script, and how many calls may, for which room is taken before the first command.
+ghost use Rattle.std.specs.Prelude.{◌≡◌, ◌≤◌, length};
+ghost use Rattle.ods_share.specs.Sittings.{room_for};
 
 use crate::compact::CompactAnswer;
 use crate::script::{Action, Command};
 use ods_base::Uic;
 use ods_request::{CompactRequest, Refusal};
-use std::alloc::{AllocError, Global};
 
 /// What a command is replied.
 #[derive(Drop, PartialEq, Eq, Debug)]
@@ -44,7 +43,7 @@ pub struct Outcome {
 }
 
 /// How many calls may come of these commands: one of each request.
-fn submit_count(script: &[Command]) -> usize
+pub(crate) fn submit_count(script: &[Command]) -> usize
     ensures value { result ≡ room_for script.now }
     ensures bound { result ≤ length script.now }
 {
@@ -55,13 +54,4 @@ fn submit_count(script: &[Command]) -> usize
         }
     }
     count
-}
-
-/// An outcome of nothing yet, with room for all that may come of a script.
-pub(crate) fn reserve_outcome(alloc: Global, script: &[Command]) -> Result<Outcome, AllocError>
-    ensures { IfOk result (λ o. (o.calls.items ≡ []) × (o.replies.items ≡ []) × HasRoom o (room_for script.now) (length script.now)) }
-{
-    let calls = Vec::with_capacity(alloc, submit_count(script))?;
-    let replies = Vec::with_capacity(alloc, script.len())?;
-    Ok(Outcome { calls, replies })
 }

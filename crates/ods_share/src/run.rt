@@ -1,12 +1,13 @@
 //! All sessions: they run at one desk, and the volume comes back from it.
 ghost use Rattle.std.specs.Prelude.{◌≡◌, ◌≤◌, All, length, map, Ok, vec_len, IfOk};
 ghost use Rattle.ods_request.specs.Lists.{Begins};
-ghost use Rattle.ods_share.specs.Scripts.{CanBeRun, EachIfOk, EachOutcome};
+ghost use Rattle.ods_share.specs.{Keeping.EachEnded, Scripts.CanBeRun, Scripts.EachOutcome};
 
 use crate::desk::Desk;
 use crate::faults::RunFault;
 use crate::gate::Gate;
-use crate::outcome::Outcome;
+use crate::keeping::{Ended, Keep, outcomes};
+use crate::outcome::{Outcome, Reply};
 use crate::script::Script;
 use crate::threads::run_all;
 use ods_request::Stamp;
@@ -17,17 +18,49 @@ use std::marker::Brand;
 use std::sync::{Mutex, Wait};
 use std::thread::Threads;
 
-/// The outcomes, if each session came to its end.
-fn unpack(alloc: Global, done: Vec<Result<Outcome, AllocError>>) -> Result<Vec<Outcome>, AllocError>
+/// What came of all sessions, if each came to its end.
+fn unpack<K: Keep>(
+    alloc: Global,
+    done: Vec<Result<Ended<K>, AllocError>>,
+) -> Result<Vec<Ended<K>>, AllocError>
     ensures { IfOk result (λ v. done.items ≡ map Ok v.items) }
 {
-    let mut outcomes = Vec::with_capacity(alloc, done.len())?;
+    let mut ended = Vec::with_capacity(alloc, done.len())?;
     for one in done {
-        if outcomes.push(one?).is_err() {
+        if ended.push(one?).is_err() {
             return Err(AllocError);
         }
     }
-    Ok(outcomes)
+    Ok(ended)
+}
+
+/// Runs the scripts at a desk as [`run_sessions`] does, and gives the volume back with what each session kept.
+fn run_desk<K: Keep + Send, J: Naming + Send + Sync, G: Gate + Sync, R: Threads + Wait + Sync>(
+    rt: &R,
+    alloc: Global,
+    desk: Desk<J>,
+    viewers: Vec<Viewer<J>>,
+    scripts: &[Script],
+    stamp: Stamp,
+    gate: &G,
+) -> Result<(Volume, Vec<Ended<K>>), RunFault>
+    requires few { length scripts.now ≤ 8 }
+    requires enough { length scripts.now ≤ vec_len viewers }
+    requires can { All (λ s. CanBeRun s.commands.items) scripts.now }
+    ensures mounted { IfOk result (λ p. p.0.mounted ≡ J.mounted) }
+    ensures opening { IfOk result (λ p. Begins J.opening p.0.entries) }
+    ensures ended { IfOk result (λ p. (vec_len p.1 ≡ length scripts.now) × EachEnded K.keeps J.mounted stamp scripts.now p.1.items) }
+{
+    let lock = Mutex::new(desk);
+    let done = run_all::<K, J, G, R>(rt, alloc, &lock, gate, viewers, scripts, &stamp);
+    let volume = lock.into_inner().close(rt);
+    match done {
+        Ok(done) => match unpack(alloc, done) {
+            Ok(ended) => Ok((volume, ended)),
+            Err(_) => Err(RunFault::NoMemory),
+        },
+        Err(fault) => Err(fault),
+    }
 }
 
 /// Runs each of at most 8 scripts as a session in a thread of its own, the first as session 1 and with the first viewer, waits for all,
@@ -49,11 +82,8 @@ pub fn run_sessions<J: Naming + Send + Sync, G: Gate + Sync, R: Threads + Wait +
     ensures opening { IfOk result (λ p. Begins J.opening p.0.entries) }
     ensures outcomes { IfOk result (λ p. (vec_len p.1 ≡ length scripts.now) × EachOutcome J.mounted stamp scripts.now p.1.items) }
 {
-    let lock = Mutex::new(desk);
-    let done = run_all(rt, alloc, &lock, gate, viewers, scripts, &stamp);
-    let volume = lock.into_inner().close(rt);
-    match done {
-        Ok(done) => match unpack(alloc, done) {
+    match run_desk::<Vec<Reply>, J, G, R>(rt, alloc, desk, viewers, scripts, stamp, gate) {
+        Ok((volume, ended)) => match outcomes(alloc, ended) {
             Ok(outcomes) => Ok((volume, outcomes)),
             Err(_) => Err(RunFault::NoMemory),
         },
@@ -71,27 +101,48 @@ fn places_for(scripts: usize) -> usize
     if scripts == 0 { 1 } else { scripts }
 }
 
-/// Opens a desk with this name, and runs the scripts at it. It is apart from [`run_scripts`] since a name is picked at a call alone.
-fn run_named<J: Naming + Send + Sync, G: Gate + Sync, R: Threads + Wait + Sync>(
+/// Opens a desk with this name, and runs the scripts at it. It is apart from [`run_keeping`] since a name is picked at a call alone.
+fn run_named<K: Keep + Send, J: Naming + Send + Sync, G: Gate + Sync, R: Threads + Wait + Sync>(
     rt: &R,
     alloc: Global,
     volume: Volume,
     scripts: &[Script],
     stamp: Stamp,
     gate: &G,
-) -> Result<(Volume, Vec<Outcome>), RunFault>
+) -> Result<(Volume, Vec<Ended<K>>), RunFault>
     requires mounted { volume.mounted ≡ J.mounted }
     requires opening { volume.entries ≡ J.opening }
     requires few { length scripts.now ≤ 8 }
     requires can { All (λ s. CanBeRun s.commands.items) scripts.now }
     ensures mounted { IfOk result (λ p. p.0.mounted ≡ volume.mounted) }
     ensures opening { IfOk result (λ p. Begins volume.entries p.0.entries) }
-    ensures outcomes { IfOk result (λ p. (vec_len p.1 ≡ length scripts.now) × EachOutcome volume.mounted stamp scripts.now p.1.items) }
+    ensures ended { IfOk result (λ p. (vec_len p.1 ≡ length scripts.now) × EachEnded K.keeps volume.mounted stamp scripts.now p.1.items) }
 {
     match Desk::<J>::new(rt, alloc, volume, places_for(scripts.len())) {
-        Ok((desk, viewers)) => { run_sessions(rt, alloc, desk, viewers, scripts, stamp, gate) }
+        Ok((desk, viewers)) => {
+            run_desk::<K, J, G, R>(rt, alloc, desk, viewers, scripts, stamp, gate)
+        }
         Err(_) => Err(RunFault::NoMemory),
     }
+}
+
+/// Opens a desk of a volume, and runs each of at most 8 scripts as a session at it, as [`run_sessions`] does, with no name to be picked. Of
+/// its replies a session keeps what `K` makes of each, in its own thread and as soon as it is given.
+pub fn run_keeping<K: Keep + Send, G: Gate + Sync, R: Threads + Wait + Sync>(
+    rt: &R,
+    alloc: Global,
+    volume: Volume,
+    scripts: &[Script],
+    stamp: Stamp,
+    gate: &G,
+) -> Result<(Volume, Vec<Ended<K>>), RunFault>
+    requires few { length scripts.now ≤ 8 }
+    requires can { All (λ s. CanBeRun s.commands.items) scripts.now }
+    ensures mounted { IfOk result (λ p. p.0.mounted ≡ volume.mounted) }
+    ensures opening { IfOk result (λ p. Begins volume.entries p.0.entries) }
+    ensures ended { IfOk result (λ p. (vec_len p.1 ≡ length scripts.now) × EachEnded K.keeps volume.mounted stamp scripts.now p.1.items) }
+{
+    run_named::<K, Brand, G, R>(rt, alloc, volume, scripts, stamp, gate)
 }
 
 /// Opens a desk of a volume, and runs each of at most 8 scripts as a session at it, as [`run_sessions`] does, with no name to be picked.
@@ -109,5 +160,11 @@ pub fn run_scripts<G: Gate + Sync, R: Threads + Wait + Sync>(
     ensures opening { IfOk result (λ p. Begins volume.entries p.0.entries) }
     ensures outcomes { IfOk result (λ p. (vec_len p.1 ≡ length scripts.now) × EachOutcome volume.mounted stamp scripts.now p.1.items) }
 {
-    run_named::<Brand, G, R>(rt, alloc, volume, scripts, stamp, gate)
+    match run_keeping::<Vec<Reply>, G, R>(rt, alloc, volume, scripts, stamp, gate) {
+        Ok((volume, ended)) => match outcomes(alloc, ended) {
+            Ok(all) => Ok((volume, all)),
+            Err(_) => Err(RunFault::NoMemory),
+        },
+        Err(fault) => Err(fault),
+    }
 }

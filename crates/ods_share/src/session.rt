@@ -2,19 +2,24 @@
 ghost use Rattle.std.specs.Prelude.{◌≡◌, ◌+◌, ◌<◌, ◌≤◌, IfOk, length};
 ghost use Rattle.std.specs.Vec.{vec_capacity};
 ghost use Rattle.ods_state.specs.Outcome.{CanBeAsked};
-ghost use Rattle.ods_share.specs.{Scripts.CanBeObeyed, Scripts.CanBeRun, Scripts.IsOutcome, Sittings.room_of, Sittings.IsReply, Sittings.IsView, Sittings.stands, Sittings.TellsContext, Sittings.TellsMore, Sittings.HasRoom, Sittings.KeepsRoom};
+ghost use Rattle.ods_share.specs.{Scripts.CanBeObeyed, Scripts.CanBeRun, Keeping.IsEnded, Keeping.TellsOn, Sittings.room_of, Sittings.IsReply, Sittings.IsView, Sittings.stands, Sittings.TellsContext};
 
 use crate::asking::{query_for, request_for};
 use crate::compact::CompactAnswer;
 use crate::desk::Desk;
 use crate::gate::Gate;
-use crate::outcome::{Call, Outcome, Reply, reserve_outcome};
+use crate::keeping::{Ended, Keep, reserve};
+use crate::outcome::{Call, Reply};
 use crate::script::{Action, Command};
 use ods_base::{FileId, Uic};
 use ods_request::{CompactRequest, Query, Request, Stamp};
 use ods_views::{Naming, ViewFault, Viewer};
 use std::alloc::{AllocError, Global};
+use std::hint::spin_loop;
 use std::sync::{Mutex, MutexGuard, Wait};
+
+/// How often a desk that is in use is tried before its lock is waited for, which is a sleep as soon as another session sleeps.
+const TRIES: u32 = 50;
 
 /// A session with its number, from 1, at a desk: what it waits by, the gate, the allocator of what comes of it, and the stamp of the files
 /// that it makes.
@@ -50,7 +55,7 @@ impl<J: Naming, G: Gate, R: Wait> Session<'_, J, G, R> {
         ensures few { IfOk result (λ _. length calls.new.items ≤ length calls.old.items + 1) }
         ensures capacity { vec_capacity calls.new ≡ vec_capacity calls.old }
     {
-        let mut guard = self.desk.lock(self.rt);
+        let mut guard = take(self.rt, self.desk);
         self.gate.held(self.number, nth);
         guard.is_of_its_name();
         let (result, _told) = guard.submit(self.rt, self.number, nth, who, *request);
@@ -114,36 +119,40 @@ impl<J: Naming, G: Gate, R: Wait> Session<'_, J, G, R> {
         }
     }
 
-    /// One command, between the gate's calls. There is room for its call and its reply, so neither takes memory where it is put.
-    fn take_turn(
+    /// One command, between the gate's calls. There is room for its call, which takes no memory where it is put.
+    fn take_turn<K: Keep>(
         &self,
         viewer: &mut Viewer<J>,
         context: &mut Context,
-        outcome: &mut Outcome,
+        ended: &mut Ended<K>,
         command: &Command,
     ) -> Result<(), AllocError>
         requires can { CanBeObeyed command.now.action }
-        requires room { HasRoom outcome.old (room_of command.now.action) 1 }
-        ensures room { IfOk result (λ _. KeepsRoom outcome.old outcome.new) }
-        ensures calls { IfOk result (λ _. length outcome.new.calls.items ≤ length outcome.old.calls.items + room_of command.now.action) }
-        ensures tells { IfOk result (λ _. TellsMore J.mounted self.now.stamp command.now (stands context.old viewer.old.seen) outcome.old (stands context.new viewer.new.seen) outcome.new) }
+        requires room { length ended.old.calls.items + room_of command.now.action ≤ vec_capacity ended.old.calls }
+        ensures room { IfOk result (λ _. vec_capacity ended.new.calls ≡ vec_capacity ended.old.calls) }
+        ensures calls { IfOk result (λ _. length ended.new.calls.items ≤ length ended.old.calls.items + room_of command.now.action) }
+        ensures tells { IfOk result (λ _. TellsOn K.keeps J.mounted self.now.stamp command.now (stands context.old viewer.old.seen) ended.old (stands context.new viewer.new.seen) ended.new) }
     {
         self.gate.before(self.number, command.nth);
-        let reply = self.obey(viewer, context, &mut outcome.calls, command)?;
+        let reply = self.obey(viewer, context, &mut ended.calls, command)?;
         self.gate.after(self.number, command.nth);
-        outcome.replies.push_reserved(reply);
+        ended.kept.keep(command, reply)?;
         Ok(())
     }
 
-    /// Obeys a script, from its first command on, as user [1,1], with a viewer of its own. The lists of calls and of replies get all their
-    /// room before; what may want memory afterwards is what the desk takes, the copy of a directory's names, and the boxes of long answers
-    /// and of Writes.
-    pub(crate) fn sit(&self, viewer: Viewer<J>, script: &[Command]) -> Result<Outcome, AllocError>
+    /// Obeys a script, from its first command on, as user [1,1], with a viewer of its own. The list of calls gets all its room before; what
+    /// may want memory afterwards is what the desk takes, the copy of a directory's names, the boxes of long answers and of Writes, and what
+    /// is kept of the replies.
+    pub(crate) fn sit<K: Keep>(
+        &self,
+        viewer: Viewer<J>,
+        script: &[Command],
+    ) -> Result<Ended<K>, AllocError>
         requires { CanBeRun script.now }
-        ensures { IfOk result (λ o. IsOutcome J.mounted self.now.stamp script.now o) }
+        ensures { IfOk result (λ e. IsEnded K.keeps J.mounted self.now.stamp script.now e) }
     {
         let mut viewer = viewer;
-        let mut outcome = reserve_outcome(self.alloc, script)?;
+        let mut ended = reserve::<K>(self.alloc, script)?;
         let mut context = Context {
             who: Uic {
                 group: 1,
@@ -152,10 +161,21 @@ impl<J: Naming, G: Gate, R: Wait> Session<'_, J, G, R> {
             last: None,
         };
         for command in script {
-            self.take_turn(&mut viewer, &mut context, &mut outcome, command)?;
+            self.take_turn(&mut viewer, &mut context, &mut ended, command)?;
         }
-        Ok(outcome)
+        Ok(ended)
     }
+}
+
+/// The desk, once no other session is at it. Before it waits it tries so long as about one request takes: a sleep and a wake cost more.
+fn take<'a, J: Naming, R: Wait>(rt: &R, desk: &'a Mutex<Desk<J>>) -> MutexGuard<'a, Desk<J>> {
+    for _ in 0..TRIES {
+        if let Some(guard) = desk.try_lock() {
+            return guard;
+        }
+        spin_loop();
+    }
+    desk.lock(rt)
 }
 
 /// Answers a query by a session's viewer, beside the lock.

@@ -1,11 +1,11 @@
 //! The threads of a run: one for each script, with a viewer, all joined.
 ghost use Rattle.std.specs.Prelude.{◌≡◌, ◌+◌, ◌≤◌, ◌++◌, ◌∷◌, [], All, length, vec_len, IfOk};
-ghost use Rattle.ods_share.specs.Scripts.{CanBeRun, IsOutcome, EachIfOk};
+ghost use Rattle.ods_share.specs.{Scripts.CanBeRun, Keeping.IsEnded, Keeping.EachIfOk};
 
 use crate::desk::Desk;
 use crate::faults::RunFault;
 use crate::gate::Gate;
-use crate::outcome::Outcome;
+use crate::keeping::{Ended, Keep};
 use crate::script::Script;
 use crate::session::Session;
 use ods_request::Stamp;
@@ -17,25 +17,26 @@ use std::sync::{Mutex, Wait};
 use std::thread;
 use std::thread::{Promise, PromisedHandle, Scope, Threads};
 
-/// That what a thread gives is the outcome of this script, at a desk of this name.
+/// That what a thread gives is what comes of this script, at a desk of this name.
 #[derive(Drop)]
-pub(crate) struct OfScript<J> {
+pub(crate) struct OfScript<J, K> {
     script: Snapshot<Script>,
     stamp: Snapshot<Stamp>,
     of: PhantomData<J>,
+    kept: PhantomData<K>,
 }
 
-impl<J: Naming> Promise<Result<Outcome, AllocError>> for OfScript<J> {
+impl<J: Naming, K: Keep> Promise<Result<Ended<K>, AllocError>> for OfScript<J, K> {
     ghost use Rattle.std.specs.Prelude.{IfOk};
-    ghost use Rattle.ods_share.specs.Scripts.{IsOutcome};
+    ghost use Rattle.ods_share.specs.Keeping.{IsEnded};
 
-    ghost kept_by = { λ p r. IfOk r (λ o. IsOutcome J.mounted p.stamp.value p.script.value.commands.items o) };
+    ghost kept_by = { λ p r. IfOk r (λ e. IsEnded K.keeps J.mounted p.stamp.value p.script.value.commands.items e) };
 }
 
-type Handle<J> = PromisedHandle<Result<Outcome, AllocError>, OfScript<J>>;
+type Handle<J, K> = PromisedHandle<Result<Ended<K>, AllocError>, OfScript<J, K>>;
 
 /// Obeys a script as the session with this number and viewer.
-fn run_session<J: Naming, G: Gate, R: Wait>(
+fn run_session<K: Keep, J: Naming, G: Gate, R: Wait>(
     rt: &R,
     alloc: Global,
     desk: &Mutex<Desk<J>>,
@@ -44,9 +45,9 @@ fn run_session<J: Naming, G: Gate, R: Wait>(
     viewer: Viewer<J>,
     stamp: &Stamp,
     script: &Script,
-) -> Result<Outcome, AllocError>
+) -> Result<Ended<K>, AllocError>
     requires { CanBeRun script.now.commands.items }
-    ensures { IfOk result (λ o. IsOutcome J.mounted stamp.now script.now.commands.items o) }
+    ensures { IfOk result (λ e. IsEnded K.keeps J.mounted stamp.now script.now.commands.items e) }
 {
     let session = Session {
         rt,
@@ -60,7 +61,14 @@ fn run_session<J: Naming, G: Gate, R: Wait>(
 }
 
 /// Starts the thread of one script.
-fn begin_thread<'s, E, J: Naming + Send + Sync + 's, G: Gate + Sync, R: Threads + Wait + Sync>(
+fn begin_thread<
+    's,
+    E,
+    K: Keep + Send + 's,
+    J: Naming + Send + Sync + 's,
+    G: Gate + Sync,
+    R: Threads + Wait + Sync,
+>(
     scope: &Scope<'s, E>,
     rt: &'s R,
     alloc: Global,
@@ -70,18 +78,19 @@ fn begin_thread<'s, E, J: Naming + Send + Sync + 's, G: Gate + Sync, R: Threads 
     viewer: Viewer<J>,
     stamp: &'s Stamp,
     script: &'s Script,
-) -> Result<Handle<J>, RunFault>
+) -> Result<Handle<J, K>, RunFault>
     requires { CanBeRun script.now.commands.items }
     ensures { IfOk result (λ h. (h.promise.script.value ≡ script.entry.now) × (h.promise.stamp.value ≡ stamp.entry.now)) }
 {
-    let work = move || -> Result<Outcome, AllocError>
+    let work = move || -> Result<Ended<K>, AllocError>
         requires { CanBeRun script.now.commands.items }
-        ensures { IfOk result (λ o. IsOutcome J.mounted stamp.entry.now script.entry.now.commands.items o) }
+        ensures { IfOk result (λ e. IsEnded K.keeps J.mounted stamp.entry.now script.entry.now.commands.items e) }
     { run_session(rt, alloc, desk, gate, number, viewer, stamp, script) };
     let promise = OfScript {
         script: Snapshot::of(script),
         stamp: Snapshot::of(stamp),
         of: PhantomData,
+        kept: PhantomData,
     };
     match scope.spawn_with(promise, work) {
         Ok(handle) => Ok(handle),
@@ -90,7 +99,10 @@ fn begin_thread<'s, E, J: Naming + Send + Sync + 's, G: Gate + Sync, R: Threads 
 }
 
 /// Puts the handle of a thread behind the others.
-fn hold<J: Naming>(handles: &mut Vec<Handle<J>>, handle: Handle<J>) -> Result<(), RunFault>
+fn hold<J: Naming, K: Keep>(
+    handles: &mut Vec<Handle<J, K>>,
+    handle: Handle<J, K>,
+) -> Result<(), RunFault>
     ensures items { IfOk result (λ _. handles.new.items ≡ handles.old.items ++ handle ∷ []) }
     ensures len { IfOk result (λ _. vec_len handles.new ≡ vec_len handles.old + 1) }
 {
@@ -101,7 +113,14 @@ fn hold<J: Naming>(handles: &mut Vec<Handle<J>>, handle: Handle<J>) -> Result<()
 }
 
 /// Starts a thread for each script, with the next viewer, and waits for all.
-fn begin_all<'s, E, J: Naming + Send + Sync + 's, G: Gate + Sync, R: Threads + Wait + Sync>(
+fn begin_all<
+    's,
+    E,
+    K: Keep + Send + 's,
+    J: Naming + Send + Sync + 's,
+    G: Gate + Sync,
+    R: Threads + Wait + Sync,
+>(
     scope: &Scope<'s, E>,
     rt: &'s R,
     alloc: Global,
@@ -110,11 +129,11 @@ fn begin_all<'s, E, J: Naming + Send + Sync + 's, G: Gate + Sync, R: Threads + W
     viewers: Vec<Viewer<J>>,
     scripts: &'s [Script],
     stamp: &'s Stamp,
-) -> Result<Vec<Result<Outcome, AllocError>>, RunFault>
+) -> Result<Vec<Result<Ended<K>, AllocError>>, RunFault>
     requires few { length scripts.now ≤ 8 }
     requires enough { length scripts.now ≤ vec_len viewers }
     requires can { All (λ s. CanBeRun s.commands.items) scripts.now }
-    ensures { IfOk result (λ v. (vec_len v ≡ length scripts.entry.now) × EachIfOk J.mounted stamp.entry.now scripts.entry.now v.items) }
+    ensures { IfOk result (λ v. (vec_len v ≡ length scripts.entry.now) × EachIfOk K.keeps J.mounted stamp.entry.now scripts.entry.now v.items) }
 {
     let mut handles = Vec::new(alloc);
     let mut number = 0u16;
@@ -133,7 +152,12 @@ fn begin_all<'s, E, J: Naming + Send + Sync + 's, G: Gate + Sync, R: Threads + W
 
 /// Runs each script as a session in a thread of its own, the first as session 1, with the first viewer. All threads have ended when it
 /// returns, also where one could not be started.
-pub(crate) fn run_all<J: Naming + Send + Sync, G: Gate + Sync, R: Threads + Wait + Sync>(
+pub(crate) fn run_all<
+    K: Keep + Send,
+    J: Naming + Send + Sync,
+    G: Gate + Sync,
+    R: Threads + Wait + Sync,
+>(
     rt: &R,
     alloc: Global,
     desk: &Mutex<Desk<J>>,
@@ -141,18 +165,18 @@ pub(crate) fn run_all<J: Naming + Send + Sync, G: Gate + Sync, R: Threads + Wait
     viewers: Vec<Viewer<J>>,
     scripts: &[Script],
     stamp: &Stamp,
-) -> Result<Vec<Result<Outcome, AllocError>>, RunFault>
+) -> Result<Vec<Result<Ended<K>, AllocError>>, RunFault>
     requires few { length scripts.now ≤ 8 }
     requires enough { length scripts.now ≤ vec_len viewers }
     requires can { All (λ s. CanBeRun s.commands.items) scripts.now }
-    ensures { IfOk result (λ v. (vec_len v ≡ length scripts.now) × EachIfOk J.mounted stamp.now scripts.now v.items) }
+    ensures { IfOk result (λ v. (vec_len v ≡ length scripts.now) × EachIfOk K.keeps J.mounted stamp.now scripts.now v.items) }
 {
     thread::scope(
         thread::scope_env(),
         rt,
-        |scope| -> Result<Vec<Result<Outcome, AllocError>>, RunFault>
+        |scope| -> Result<Vec<Result<Ended<K>, AllocError>>, RunFault>
             requires { (length scripts.now ≤ 8) × (length scripts.now ≤ vec_len viewers) × All (λ s. CanBeRun s.commands.items) scripts.now }
-            ensures { IfOk result (λ v. (vec_len v ≡ length scripts.entry.now) × EachIfOk J.mounted stamp.entry.now scripts.entry.now v.items) }
+            ensures { IfOk result (λ v. (vec_len v ≡ length scripts.entry.now) × EachIfOk K.keeps J.mounted stamp.entry.now scripts.entry.now v.items) }
         { begin_all(scope, rt, alloc, desk, gate, viewers, scripts, stamp) },
     )
 }

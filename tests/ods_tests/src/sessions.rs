@@ -7,6 +7,7 @@ mod engine;
 mod gates;
 mod lines;
 mod poor_desks;
+mod printed;
 mod requests;
 mod runs;
 mod scripts;

@@ -54,8 +54,26 @@ fn is_refused(outcome: Result<Mounted, Failure>, path: &str, why: Why) -> bool {
 }
 
 /// Puts one file, and remarks nothing.
-fn put(alloc: Global, volume: Mounted, to: &str, name: &str, bytes: &[u8]) -> Result<Mounted, Fail> {
-    done(alloc, try_put(alloc, volume, Some(to), name, bytes, PutForm::ByContents, None, false))
+fn put(
+    alloc: Global,
+    volume: Mounted,
+    to: &str,
+    name: &str,
+    bytes: &[u8],
+) -> Result<Mounted, Fail> {
+    done(
+        alloc,
+        try_put(
+            alloc,
+            volume,
+            Some(to),
+            name,
+            bytes,
+            PutForm::ByContents,
+            None,
+            false,
+        ),
+    )
 }
 
 /// Puts one file.
@@ -100,7 +118,9 @@ fn the(alloc: Global, volume: &Mounted, path: &str) -> Result<Target, Fail> {
 fn bytes_of(alloc: Global, volume: &Mounted, path: &str, wanted: Wanted) -> Result<Vec<u8>, Fail> {
     let target = the(alloc, volume, path)?;
     let facts = target.facts.ok_or("no file")?;
-    let contents = open_contents(alloc, volume, facts.file.number, wanted).ok().ok_or("contents")?;
+    let contents = open_contents(alloc, volume, facts.file.number, wanted)
+        .ok()
+        .ok_or("contents")?;
     let mut bytes = Vec::new(alloc);
     contents.write_to(&mut bytes).ok().ok_or("written")?;
     Ok(bytes)

@@ -11,7 +11,10 @@ use std::test::Fail;
 fn a_copy_has_the_blocks_and_the_attributes(rt: HostRuntime) -> Result<(), Fail> {
     let alloc = rt.alloc();
     let volume = put(alloc, volume_of(alloc, 40)?, "A.TXT", "x", b"AB\nC\n")?;
-    let volume = done(alloc, copy_files(alloc, volume, &asked()?, &["A.TXT"], "B.TXT"))?;
+    let volume = done(
+        alloc,
+        copy_files(alloc, volume, &asked()?, &["A.TXT"], "B.TXT"),
+    )?;
     assert!(rt; has(alloc, &volume, "B.TXT;1", b"AB\nC\n")?);
     let old = the(alloc, &volume, "A.TXT")?.facts.ok_or("a file")?;
     let new = the(alloc, &volume, "B.TXT")?.facts.ok_or("a file")?;
@@ -25,7 +28,10 @@ fn versions_stay_in_order(rt: HostRuntime) -> Result<(), Fail> {
     let volume = put(alloc, volume_of(alloc, 40)?, "A.TXT;3", "x", b"3\n")?;
     let volume = put(alloc, volume, "A.TXT;9", "x", b"9\n")?;
     let volume = done(alloc, make_directories(alloc, volume, &asked()?, &["D"], 0))?;
-    let volume = done(alloc, copy_files(alloc, volume, &asked()?, &["A.TXT;*"], "[D]"))?;
+    let volume = done(
+        alloc,
+        copy_files(alloc, volume, &asked()?, &["A.TXT;*"], "[D]"),
+    )?;
     assert!(rt; paths(alloc, &volume, "[D]*.*;*")?.as_str() == "[D]A.TXT;2 [D]A.TXT;1 ");
     assert!(rt; has(alloc, &volume, "[D]A.TXT;2", b"9\n")?);
     Ok(())
@@ -45,7 +51,13 @@ fn what_cannot_be_copied(rt: HostRuntime) -> Result<(), Fail> {
     assert!(rt; is_refused(two, "A.B", Why::Several));
     let nowhere = copy_files(alloc, volume_of(alloc, 40)?, &asked, &["CORIMG.SYS"], "[E]");
     assert!(rt; is_refused(nowhere, "[E]", Why::Path(PathFault::Nothing)));
-    let kind = copy_files(alloc, volume_of(alloc, 40)?, &asked, &["CORIMG.SYS"], "A.DIR");
+    let kind = copy_files(
+        alloc,
+        volume_of(alloc, 40)?,
+        &asked,
+        &["CORIMG.SYS"],
+        "A.DIR",
+    );
     assert!(rt; is_refused(kind, "[0,0]CORIMG.SYS;1", Why::DirectoryType));
     Ok(())
 }
@@ -53,7 +65,13 @@ fn what_cannot_be_copied(rt: HostRuntime) -> Result<(), Fail> {
 #[test]
 fn nothing_is_left_of_a_command_that_is_refused(rt: HostRuntime) -> Result<(), Fail> {
     let alloc = rt.alloc();
-    let denied = copy_files(alloc, volume_of(alloc, 40)?, &asked_by(STRANGER)?, &["CORIMG.SYS"], "A.B");
+    let denied = copy_files(
+        alloc,
+        volume_of(alloc, 40)?,
+        &asked_by(STRANGER)?,
+        &["CORIMG.SYS"],
+        "A.B",
+    );
     assert!(rt; is_refused(denied, "[0,0]CORIMG.SYS;1", Why::Request(Refusal::Denied)));
     Ok(())
 }
@@ -63,7 +81,10 @@ fn blocks_behind_the_end_are_copied(rt: HostRuntime) -> Result<(), Fail> {
     let alloc = rt.alloc();
     let volume = put(alloc, volume_of(alloc, 40)?, "A.DAT", "x", &[9; 1_030])?;
     let volume = done(alloc, truncate_file(alloc, volume, &asked()?, "A.DAT", 514))?;
-    let volume = done(alloc, copy_files(alloc, volume, &asked()?, &["A.DAT"], "B.DAT"))?;
+    let volume = done(
+        alloc,
+        copy_files(alloc, volume, &asked()?, &["A.DAT"], "B.DAT"),
+    )?;
     let new = the(alloc, &volume, "B.DAT")?.facts.ok_or("a file")?;
     assert!(rt; new.blocks == 2 && new.bytes == 514);
     Ok(())

@@ -10,9 +10,18 @@ use std::test::Fail;
 fn paths_of_directories(rt: HostRuntime) -> Result<(), Fail> {
     let alloc = rt.alloc();
     let words = ["[A]", "[1,2]", "b/", "c", "3,4", "A/D", "[A.D.E]", "F.DIR"];
-    let volume = done(alloc, make_directories(alloc, volume_of(alloc, 40)?, &asked()?, &words, 33))?;
-    assert!(rt; paths(alloc, &volume, "?.DIR;*")?.as_str() == "[0,0]A.DIR;1 [0,0]B.DIR;1 [0,0]C.DIR;1 [0,0]F.DIR;1 ");
-    assert!(rt; paths(alloc, &volume, "00?00?.DIR;*")?.as_str() == "[0,0]000000.DIR;1 [0,0]001002.DIR;1 [0,0]003004.DIR;1 ");
+    let volume = done(
+        alloc,
+        make_directories(alloc, volume_of(alloc, 40)?, &asked()?, &words, 33),
+    )?;
+    assert!(rt;
+        paths(alloc, &volume, "?.DIR;*")?.as_str()
+            == "[0,0]A.DIR;1 [0,0]B.DIR;1 [0,0]C.DIR;1 [0,0]F.DIR;1 "
+    );
+    assert!(rt;
+        paths(alloc, &volume, "00?00?.DIR;*")?.as_str()
+            == "[0,0]000000.DIR;1 [0,0]001002.DIR;1 [0,0]003004.DIR;1 "
+    );
     assert!(rt; paths(alloc, &volume, "[A.D]*.*")?.as_str() == "[A.D]E.DIR;1 ");
     let facts = the(alloc, &volume, "A.DIR")?.facts.ok_or("a directory")?;
     assert!(rt; facts.blocks == 2);
@@ -38,8 +47,14 @@ fn what_is_not_made(rt: HostRuntime) -> Result<(), Fail> {
 fn empty_directories_go(rt: HostRuntime) -> Result<(), Fail> {
     let alloc = rt.alloc();
     let asked = asked()?;
-    let volume = done(alloc, make_directories(alloc, volume_of(alloc, 40)?, &asked, &["A", "A/B"], 0))?;
-    let volume = done(alloc, remove_directories(alloc, volume, &asked, &["A/B", "[A]"]))?;
+    let volume = done(
+        alloc,
+        make_directories(alloc, volume_of(alloc, 40)?, &asked, &["A", "A/B"], 0),
+    )?;
+    let volume = done(
+        alloc,
+        remove_directories(alloc, volume, &asked, &["A/B", "[A]"]),
+    )?;
     assert!(rt; paths(alloc, &volume, "A.DIR;*")?.is_empty());
     assert!(rt; paths(alloc, &volume, "#6,1")?.is_empty());
     let volume = done(alloc, make_directories(alloc, volume, &asked, &["A"], 0))?;

@@ -14,7 +14,9 @@ fn a_file_ends_earlier(rt: HostRuntime) -> Result<(), Fail> {
     let facts = the(alloc, &volume, "A.DAT")?.facts.ok_or("a file")?;
     assert!(rt; facts.blocks == 2 && facts.bytes == 513);
     assert!(rt; facts.attributes[4..14] == [0, 0, 2, 0, 0, 0, 2, 0, 1, 0]);
-    assert!(rt; bytes_of(alloc, &volume, "A.DAT", Wanted::Binary)?.as_slice() == [200; 513].as_slice());
+    assert!(rt;
+        bytes_of(alloc, &volume, "A.DAT", Wanted::Binary)?.as_slice() == [200; 513].as_slice()
+    );
     let volume = done(alloc, truncate_file(alloc, volume, &asked()?, "#6,1", 0))?;
     let facts = the(alloc, &volume, "A.DAT")?.facts.ok_or("a file")?;
     assert!(rt; facts.blocks == 0 && facts.bytes == 0);

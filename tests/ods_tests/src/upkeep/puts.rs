@@ -9,7 +9,13 @@ use std::test::Fail;
 #[test]
 fn text_is_put_as_records(rt: HostRuntime) -> Result<(), Fail> {
     let alloc = rt.alloc();
-    let volume = put(alloc, volume_of(alloc, 40)?, "[0,0]", "notes.txt", b"AB\nC\n")?;
+    let volume = put(
+        alloc,
+        volume_of(alloc, 40)?,
+        "[0,0]",
+        "notes.txt",
+        b"AB\nC\n",
+    )?;
     assert!(rt; paths(alloc, &volume, "NOTES.*;*")?.as_str() == "[0,0]NOTES.TXT;1 ");
     assert!(rt; has(alloc, &volume, "NOTES.TXT", b"AB\nC\n")?);
     let raw = bytes_of(alloc, &volume, "NOTES.TXT", Wanted::Binary)?;
@@ -39,7 +45,16 @@ fn a_name_gets_its_next_version(rt: HostRuntime) -> Result<(), Fail> {
     assert!(rt; paths(alloc, &volume, "A.TXT;*")?.as_str() == "[0,0]A.TXT;8 [0,0]A.TXT;7 ");
     let facts = the(alloc, &volume, "A.TXT")?.facts.ok_or("a file")?;
     assert!(rt; facts.ident[8] == 8);
-    let taken = try_put(alloc, volume, Some("A.TXT;7"), "x", b"", PutForm::Binary, None, false);
+    let taken = try_put(
+        alloc,
+        volume,
+        Some("A.TXT;7"),
+        "x",
+        b"",
+        PutForm::Binary,
+        None,
+        false,
+    );
     assert!(rt; is_refused(taken, "x", Why::Request(Refusal::NameTaken)));
     Ok(())
 }
@@ -49,14 +64,44 @@ fn several_files_go_into_a_directory(rt: HostRuntime) -> Result<(), Fail> {
     let alloc = rt.alloc();
     let asked = asked()?;
     let volume = volume_of(alloc, 40)?;
-    let begun = Putting::begin(alloc, volume, &asked, None, true, PutForm::ByContents, None, false);
+    let begun = Putting::begin(
+        alloc,
+        volume,
+        &asked,
+        None,
+        true,
+        PutForm::ByContents,
+        None,
+        false,
+    );
     let putting = begun.ok().ok_or("begun")?;
-    let (putting, _) = putting.put(&HostFile { name: "a.txt", bytes: b"1\n" }).ok().ok_or("a")?;
-    let (putting, remark) = putting.put(&HostFile { name: "b", bytes: b"2" }).ok().ok_or("b")?;
+    let (putting, _) = putting
+        .put(&HostFile {
+            name: "a.txt",
+            bytes: b"1\n",
+        })
+        .ok()
+        .ok_or("a")?;
+    let (putting, remark) = putting
+        .put(&HostFile {
+            name: "b",
+            bytes: b"2",
+        })
+        .ok()
+        .ok_or("b")?;
     assert!(rt; remark.is_none());
     let volume = done(alloc, Ok(putting.end()))?;
     assert!(rt; paths(alloc, &volume, "?.*")?.as_str() == "[0,0]A.TXT;1 [0,0]B.;1 ");
-    let several = Putting::begin(alloc, volume, &asked, Some("C.TXT"), true, PutForm::Text, None, false);
+    let several = Putting::begin(
+        alloc,
+        volume,
+        &asked,
+        Some("C.TXT"),
+        true,
+        PutForm::Text,
+        None,
+        false,
+    );
     assert!(rt; is_refused(several.map(|p| p.end()), "C.TXT", Why::Several));
     Ok(())
 }
@@ -65,9 +110,21 @@ fn several_files_go_into_a_directory(rt: HostRuntime) -> Result<(), Fail> {
 fn a_last_line_is_remarked(rt: HostRuntime) -> Result<(), Fail> {
     let alloc = rt.alloc();
     let volume = volume_of(alloc, 40)?;
-    let begun = Putting::begin(alloc, volume, &asked()?, None, false, PutForm::Text, None, false);
+    let begun = Putting::begin(
+        alloc,
+        volume,
+        &asked()?,
+        None,
+        false,
+        PutForm::Text,
+        None,
+        false,
+    );
     let putting = begun.ok().ok_or("begun")?;
-    let put = putting.put(&HostFile { name: "a.txt", bytes: b"1\r\n2" });
+    let put = putting.put(&HostFile {
+        name: "a.txt",
+        bytes: b"1\r\n2",
+    });
     let (putting, remark) = put.ok().ok_or("put")?;
     assert!(rt; remark.is_some());
     let volume = done(alloc, Ok(putting.end()))?;
@@ -79,11 +136,29 @@ fn a_last_line_is_remarked(rt: HostRuntime) -> Result<(), Fail> {
 fn a_file_is_made_like_another(rt: HostRuntime) -> Result<(), Fail> {
     let alloc = rt.alloc();
     let volume = put(alloc, volume_of(alloc, 40)?, "A.TXT", "x", b"longer\n")?;
-    let like = try_put(alloc, volume, Some("B.TXT"), "x", b"1\n", PutForm::Binary, Some("A.TXT"), false);
+    let like = try_put(
+        alloc,
+        volume,
+        Some("B.TXT"),
+        "x",
+        b"1\n",
+        PutForm::Binary,
+        Some("A.TXT"),
+        false,
+    );
     let volume = done(alloc, like)?;
     let facts = the(alloc, &volume, "B.TXT")?.facts.ok_or("a file")?;
     assert!(rt; facts.attributes[..14] == [2, 2, 6, 0, 0, 0, 1, 0, 0, 0, 1, 0, 4, 0]);
-    let none = try_put(alloc, volume, Some("B.TXT"), "x", b"", PutForm::Text, Some("C.TXT"), false);
+    let none = try_put(
+        alloc,
+        volume,
+        Some("B.TXT"),
+        "x",
+        b"",
+        PutForm::Text,
+        Some("C.TXT"),
+        false,
+    );
     assert!(rt; is_refused(none, "C.TXT", Why::Path(PathFault::Nothing)));
     Ok(())
 }
@@ -93,7 +168,16 @@ fn a_file_is_replaced(rt: HostRuntime) -> Result<(), Fail> {
     let alloc = rt.alloc();
     let volume = put(alloc, volume_of(alloc, 40)?, "A.TXT;3", "x", b"old\n")?;
     let free = the(alloc, &volume, "A.TXT")?.facts.ok_or("a file")?.file;
-    let other = try_put(alloc, volume, Some("A.TXT"), "x", b"new\n", PutForm::ByContents, None, true);
+    let other = try_put(
+        alloc,
+        volume,
+        Some("A.TXT"),
+        "x",
+        b"new\n",
+        PutForm::ByContents,
+        None,
+        true,
+    );
     let volume = done(alloc, other)?;
     assert!(rt; paths(alloc, &volume, "A.TXT;*")?.as_str() == "[0,0]A.TXT;3 ");
     assert!(rt; has(alloc, &volume, "A.TXT", b"new\n")?);
@@ -110,9 +194,27 @@ fn what_is_no_name_is_not_put(rt: HostRuntime) -> Result<(), Fail> {
         let put = try_put(alloc, volume, None, name, b"", PutForm::Text, None, false);
         assert!(rt; is_refused(put, name, Why::BadName), "{name}");
     }
-    let directory = try_put(alloc, volume_of(alloc, 40)?, None, "a.dir", b"", PutForm::Text, None, false);
+    let directory = try_put(
+        alloc,
+        volume_of(alloc, 40)?,
+        None,
+        "a.dir",
+        b"",
+        PutForm::Text,
+        None,
+        false,
+    );
     assert!(rt; is_refused(directory, "a.dir", Why::DirectoryType));
-    let full = try_put(alloc, volume_of(alloc, 40)?, None, "a", &[0; 9_217], PutForm::Binary, None, false);
+    let full = try_put(
+        alloc,
+        volume_of(alloc, 40)?,
+        None,
+        "a",
+        &[0; 9_217],
+        PutForm::Binary,
+        None,
+        false,
+    );
     assert!(rt; is_refused(full, "a", Why::Request(Refusal::VolumeFull)));
     Ok(())
 }

@@ -20,7 +20,12 @@ const PLAIN: Removal = Removal {
 fn with_name(alloc: Global, volume: Mounted, name: &[u8], file: FileId) -> Result<Mounted, Fail> {
     let (name, _) = parse_name(name).ok().ok_or("a name")?;
     let filing = Filing::new(alloc, volume, crate::persons::USER)?;
-    let (filing, answer) = filing.request(Request::Enter { dir: MASTER, name, version: None, file });
+    let (filing, answer) = filing.request(Request::Enter {
+        dir: MASTER,
+        name,
+        version: None,
+        file,
+    });
     answer.ok().ok_or("entered")?;
     Ok(filing.into_mounted())
 }
@@ -31,14 +36,20 @@ fn a_file_goes_with_its_last_name(rt: HostRuntime) -> Result<(), Fail> {
     let volume = put(alloc, volume_of(alloc, 40)?, "A.TXT", "x", b"1\n")?;
     let file = the(alloc, &volume, "A.TXT")?.facts.ok_or("a file")?.file;
     let volume = with_name(alloc, volume, b"B.TXT", file)?;
-    let volume = done(alloc, remove_files(alloc, volume, &asked()?, &["A.TXT;1"], PLAIN))?;
+    let volume = done(
+        alloc,
+        remove_files(alloc, volume, &asked()?, &["A.TXT;1"], PLAIN),
+    )?;
     assert!(rt; paths(alloc, &volume, "?.TXT;*")?.as_str() == "[0,0]B.TXT;1 ");
     assert!(rt; the(alloc, &volume, "B.TXT")?.facts.is_some());
     let named = remove_files(alloc, volume, &asked()?, &["#6,1"], PLAIN);
     assert!(rt; is_refused(named, "#6,1", Why::IsNamed));
     let volume = put(alloc, volume_of(alloc, 40)?, "A.TXT", "x", b"1\n")?;
     let volume = with_name(alloc, volume, b"B.TXT", file)?;
-    let volume = done(alloc, remove_files(alloc, volume, &asked()?, &["?.TXT;*", "A.TXT;1"], PLAIN))?;
+    let volume = done(
+        alloc,
+        remove_files(alloc, volume, &asked()?, &["?.TXT;*", "A.TXT;1"], PLAIN),
+    )?;
     assert!(rt; paths(alloc, &volume, "#6,1")?.is_empty());
     Ok(())
 }
@@ -51,11 +62,17 @@ fn an_entry_alone_leaves_its_file(rt: HostRuntime) -> Result<(), Fail> {
         entry_alone: true,
         newest: true,
     };
-    let volume = done(alloc, remove_files(alloc, volume, &asked()?, &["A.TXT"], alone))?;
+    let volume = done(
+        alloc,
+        remove_files(alloc, volume, &asked()?, &["A.TXT"], alone),
+    )?;
     assert!(rt; paths(alloc, &volume, "A.TXT;*")?.is_empty());
     assert!(rt; paths(alloc, &volume, "#6,1")?.as_str() == "#6,1 ");
     // Now no entry names it.
-    let volume = done(alloc, remove_files(alloc, volume, &asked()?, &["#6,1"], PLAIN))?;
+    let volume = done(
+        alloc,
+        remove_files(alloc, volume, &asked()?, &["#6,1"], PLAIN),
+    )?;
     assert!(rt; paths(alloc, &volume, "#6,1")?.is_empty());
     Ok(())
 }
@@ -68,7 +85,10 @@ fn an_entry_of_no_file_goes(rt: HostRuntime) -> Result<(), Fail> {
     let filing = Filing::new(alloc, volume, crate::persons::USER)?;
     let (filing, _) = filing.request(Request::Delete { file });
     let volume = filing.into_mounted();
-    let volume = done(alloc, remove_files(alloc, volume, &asked()?, &["A.TXT;*"], PLAIN))?;
+    let volume = done(
+        alloc,
+        remove_files(alloc, volume, &asked()?, &["A.TXT;*"], PLAIN),
+    )?;
     assert!(rt; paths(alloc, &volume, "A.TXT;*")?.is_empty());
     Ok(())
 }
@@ -79,9 +99,27 @@ fn what_is_not_removed(rt: HostRuntime) -> Result<(), Fail> {
     let asked = asked()?;
     let unsaid = remove_files(alloc, volume_of(alloc, 40)?, &asked, &["CORIMG.SYS"], PLAIN);
     assert!(rt; is_refused(unsaid, "CORIMG.SYS", Why::NoVersion));
-    let reserved = remove_files(alloc, volume_of(alloc, 40)?, &asked, &["CORIMG.SYS;1"], PLAIN);
-    assert!(rt; is_refused(reserved, "[0,0]CORIMG.SYS;1", Why::Request(Refusal::Reserved)));
-    let directory = remove_files(alloc, volume_of(alloc, 40)?, &asked, &["000000.DIR;1"], PLAIN);
+    let reserved = remove_files(
+        alloc,
+        volume_of(alloc, 40)?,
+        &asked,
+        &["CORIMG.SYS;1"],
+        PLAIN,
+    );
+    assert!(rt;
+        is_refused(
+            reserved,
+            "[0,0]CORIMG.SYS;1",
+            Why::Request(Refusal::Reserved)
+        )
+    );
+    let directory = remove_files(
+        alloc,
+        volume_of(alloc, 40)?,
+        &asked,
+        &["000000.DIR;1"],
+        PLAIN,
+    );
     assert!(rt; is_refused(directory, "[0,0]000000.DIR;1", Why::IsDirectory));
     let made = make_directories(alloc, volume_of(alloc, 40)?, &asked, &["A"], 0);
     let id = remove_files(alloc, done(alloc, made)?, &asked, &["#6,1"], PLAIN);

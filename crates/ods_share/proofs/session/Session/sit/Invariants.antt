@@ -1,9 +1,12 @@
-use Rattle.std.proofs.Common.{drop, take, length}
-use Rattle.ods_share.specs.Sittings.{sitting, room_for, HasRoom}
+use Rattle.std.proofs.Common.{◌+◌, ◌≤◌, List, drop, take, length}
+use Rattle.std.specs.Vec.{vec_capacity}
+use Rattle.ods_share.specs.declared.outcome.Reply.{Reply}
+use Rattle.ods_share.specs.Sittings.{sitting, room_for}
 use Rattle.ods_share.specs.Scripts.{Runs, start}
 use Rattle.ods_share.proofs.session.Session.sit.Given as goal
 
 abbrev pub invariant-loop-command : goal.invariant-loop-command
 invariant-loop-command g l =
-    HasRoom l.outcome (room_for (drop l.command-index l.script)) (length (drop l.command-index l.script))
-    × Runs g.J.Naming.mounted l.self.stamp (start l.fn.viewer.seen) (take l.command-index l.script) l.outcome.replies.items (sitting l.context l.outcome.calls.items l.viewer.seen)
+    (length l.ended.calls.items + room_for (drop l.command-index l.script) ≤ vec_capacity l.ended.calls)
+    × ((rs : List Reply) × Runs g.J.Naming.mounted l.self.stamp (start l.fn.viewer.seen) (take l.command-index l.script) rs (sitting l.context l.ended.calls.items l.viewer.seen)
+    × g.K.Keep.keeps (take l.command-index l.script) rs l.ended.kept)
