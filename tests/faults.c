@@ -1,5 +1,6 @@
 /* Fails one call of a program that opens, reads, writes or starts a thread: the one with the number in FAIL; with SHORT set, that call moves one byte
-   instead, where it is to move several. It writes which call it was to the file FAILED. For LD_PRELOAD: see tests/faults. */
+   instead, where it is to move several. With SAVES set, calls that sync, lock, seek, name and own files, and say what they are, are counted too.
+   It writes which call it was to the file FAILED. For LD_PRELOAD: see tests/faults and tests/fs_faults. */
 #define _GNU_SOURCE
 #include <dlfcn.h>
 #include <errno.h>
@@ -9,6 +10,7 @@
 #include <stdio.h>
 #include <stdlib.h>
 #include <string.h>
+#include <sys/stat.h>
 #include <sys/syscall.h>
 #include <unistd.h>
 
@@ -66,3 +68,32 @@ int pthread_create(pthread_t *thread, const pthread_attr_t *how, void *(*work)(v
     int (*next)(pthread_t *, const pthread_attr_t *, void *(*)(void *), void *) = dlsym(RTLD_NEXT, "pthread_create");
     return !getenv("SHORT") && is_it("thread", 0) ? EAGAIN : next(thread, how, work, with);
 }
+
+/* Whether this call of those that save files is the one. */
+static int saves(const char *what, long of) {
+    if (!getenv("SAVES") || getenv("SHORT") || !is_it(what, of)) return 0;
+    errno = EIO;
+    return 1;
+}
+
+int fsync(int file) { return saves("fsync", file) ? -1 : syscall(SYS_fsync, file); }
+
+int flock(int file, int how) { return saves("flock", how) ? -1 : syscall(SYS_flock, file, how); }
+
+off_t lseek(int file, off_t to, int from) { return saves("lseek", file) ? -1 : syscall(SYS_lseek, file, to, from); }
+
+int rename(const char *from, const char *to) { return saves("rename", 0) ? -1 : syscall(SYS_rename, from, to); }
+
+int link(const char *from, const char *to) { return saves("link", 0) ? -1 : syscall(SYS_link, from, to); }
+
+int unlink(const char *path) { return saves("unlink", 0) ? -1 : syscall(SYS_unlink, path); }
+
+int chown(const char *path, uid_t user, gid_t group) { return saves("chown", 0) ? -1 : syscall(SYS_chown, path, user, group); }
+
+int fchmod(int file, mode_t mode) { return saves("fchmod", file) ? -1 : syscall(SYS_fchmod, file, mode); }
+
+int statx(int at, const char *path, int flags, unsigned mask, struct statx *found) {
+    return saves("statx", 0) ? -1 : syscall(SYS_statx, at, path, flags, mask, found);
+}
+
+ssize_t readlink(const char *path, char *text, size_t room) { return saves("readlink", 0) ? -1 : syscall(SYS_readlink, path, text, room); }
