@@ -20,7 +20,7 @@ Function = collections.namedtuple("Function", "file name keys first body last")
 # one is outside of bodies, and the names of the functions that have to be proved in a round with it.
 Edit = collections.namedtuple("Edit", "label clause changes functions waits")
 
-IMPL = re.compile(r"(?:unsafe )?impl(?:<.*?>)? (?:(.*) for )?(\w+)")
+IMPL = re.compile(r"(?:unsafe )?impl(?:<.*?>)? (?:(.*) for )?(\w+)(?:<([^{]*)>)?")
 FUNCTION = re.compile(r"( *)(?:pub(?:\(.*?\))? )?(?:const |unsafe )*fn (\w+)")
 PAIR = re.compile(r"^(?:file: (.*)\n)?old: (.+)\nnew: ?(.*)$", re.M)
 
@@ -45,12 +45,14 @@ def module_of(file):
 
 
 def scope_of(impl, folder, file):
-    """Returns the first part of the names of an impl's methods: a method is in its type's module, one of a trait in the impl's."""
+    """Returns the first part of the names of an impl's methods: a method is in its type's module, one of a trait in the impl's. Types that the
+    type is of, as in Vec<Reply>, stand behind it; parameters, which have one letter, do not."""
+    of = re.findall(r"\b[A-Z]\w+", impl[3] or "")
     traits = re.findall(r"[A-Z]\w*", re.sub(r"(<\w+)<.*?>", r"\1", impl[1] or ""))
     declared = re.compile(rf"^(?:pub\S* )?(?:struct|enum) {impl[2]}\b", re.M)
     homes = [it for it in folder.glob("src/**/*.rt") if declared.search(it.read_text("utf-8"))]
     home = file if traits or len(homes) != 1 else str(homes[0].relative_to(folder))
-    return "".join([module_of(home), impl[2], *traits, "::"])
+    return "".join([module_of(home), impl[2], *of, *traits, "::"])
 
 
 @functools.lru_cache(None)
