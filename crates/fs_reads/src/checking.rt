@@ -1,5 +1,6 @@
 //! `check`: what is wrong with an image, sound or not.
 ghost use Rattle.ods_space.specs.Files.{IsLayoutOf};
+ghost use Rattle.ods_space.specs.Disks.{on};
 
 use crate::stop::{Stop, send};
 use crate::volume::{VolumeFault, open_image};
@@ -7,7 +8,7 @@ use ods_base::Image;
 use ods_check::{Checked, FaultLine, Finding, check_all, findings};
 use ods_mount::MountFault;
 use ods_shell::{Status, number_object, spoiled_records, text_object};
-use ods_space::{Layout, last_number, sequence};
+use ods_space::{Disk, last_number, sequence};
 use std::alloc::{AllocError, Global};
 use std::rt::Files;
 
@@ -46,8 +47,9 @@ pub fn check_image<'a, R: AllocGlobal + Print>(
     let mut lines = Vec::new(rt.alloc());
     if let Some(layout) = &checked.layout {
         let all_read = !checked.faults.iter().any(is_of_names);
-        add_findings(rt.alloc(), image, layout, all_read, &mut lines)?;
-        add_spoiled(rt.alloc(), image, layout, &mut lines)?;
+        let disk = Disk { image, layout };
+        add_findings(rt.alloc(), &disk, all_read, &mut lines)?;
+        add_spoiled(rt.alloc(), &disk, &mut lines)?;
     }
     if checked.faults.is_empty() && lines.is_empty() {
         return send(
@@ -82,14 +84,13 @@ fn is_of_names(fault: &FaultLine) -> bool {
 /// named by none.
 fn add_findings(
     alloc: Global,
-    image: &Image,
-    layout: &Layout,
+    disk: &Disk<'_>,
     all_read: bool,
     lines: &mut Vec<String>,
 ) -> Result<(), AllocError>
-    requires { IsLayoutOf image.now layout.now }
+    requires { on IsLayoutOf disk.now }
 {
-    for finding in &findings(alloc, image, layout)? {
+    for finding in &findings(alloc, disk)? {
         if all_read || !is_lost(finding) {
             add(lines, format!(in alloc; "{finding}")?)?;
         }
@@ -103,17 +104,12 @@ fn is_lost(finding: &Finding) -> bool {
 }
 
 /// Adds a line for each file above 2 whose records are not whole.
-fn add_spoiled(
-    alloc: Global,
-    image: &Image,
-    layout: &Layout,
-    lines: &mut Vec<String>,
-) -> Result<(), AllocError>
-    requires { IsLayoutOf image.now layout.now }
+fn add_spoiled(alloc: Global, disk: &Disk<'_>, lines: &mut Vec<String>) -> Result<(), AllocError>
+    requires { on IsLayoutOf disk.now }
 {
-    for number in 3..=last_number(layout) {
-        if let Some(fault) = spoiled_records(alloc, image, layout, number)? {
-            let sequence = sequence(image, layout, number);
+    for number in 3..=last_number(disk.layout) {
+        if let Some(fault) = spoiled_records(alloc, disk, number)? {
+            let sequence = sequence(disk, number);
             add(
                 lines,
                 format!(in alloc; "file {number},{sequence}: {fault}")?,

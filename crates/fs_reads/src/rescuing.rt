@@ -1,5 +1,6 @@
 //! `rescue`: each file whose own chain is whole, copied out of an image that may be refused.
 ghost use Rattle.ods_space.specs.Files.{IsLayoutOf};
+ghost use Rattle.ods_space.specs.Disks.{on};
 
 use crate::progress::Progress;
 use crate::stop::Stop;
@@ -8,7 +9,7 @@ use fs_words::Words;
 use ods_base::{FileId, Image, ImageError};
 use ods_check::{Finding, check_all, findings};
 use ods_shell::{Contents, Rescued, Status, open_rescued};
-use ods_space::{Layout, last_number};
+use ods_space::{Disk, last_number};
 use std::fs;
 use std::fs::OpenOptions;
 use std::io::ErrorKind;
@@ -51,11 +52,15 @@ pub fn rescue<'a, R: Files + Clock + AllocGlobal + Print + Eprint>(
         return Ok(Status::Found);
     };
     make_folder(rt, *folder)?;
+    let disk = Disk {
+        image: &image,
+        layout,
+    };
     for number in FIRST..=last_number(layout) {
-        status = status.or(rescue_file(rt, &image, layout, number, *folder, text)?);
+        status = status.or(rescue_file(rt, &disk, number, *folder, text)?);
         progress.show(rt, u64::from(number), u64::from(last_number(layout)));
     }
-    for finding in &findings(rt.alloc(), &image, layout)? {
+    for finding in &findings(rt.alloc(), &disk)? {
         if let Finding::BadHeader(_, _) = finding {
             say(rt, format!(in rt.alloc(); "left: {finding}")?.as_str())?;
             status = status.or(Status::Found);
@@ -115,15 +120,14 @@ fn say<'a, R: Print>(rt: &R, line: &str) -> Result<(), Stop<'a>> {
 /// Copies the file with this number, where its own chain is whole.
 fn rescue_file<'a, R: Files + AllocGlobal + Print + Eprint>(
     rt: &R,
-    image: &Image,
-    layout: &Layout,
+    disk: &Disk<'_>,
     number: u16,
     folder: &str,
     text: bool,
 ) -> Result<Status, Stop<'a>>
-    requires { IsLayoutOf image.now layout.now }
+    requires { on IsLayoutOf disk.now }
 {
-    match open_rescued(rt.alloc(), image, layout, number, text)? {
+    match open_rescued(rt.alloc(), disk, number, text)? {
         Rescued::Nothing => Ok(Status::Done),
         Rescued::Broken(file, fault) => {
             say(

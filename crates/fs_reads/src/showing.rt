@@ -53,12 +53,7 @@ fn stat_file<'a, R: AllocGlobal + Print + Eprint>(
         let text = stat_object(rt.alloc(), path, facts)?;
         return send(rt, text.as_str());
     }
-    let Ok(lbns) = chain(
-        rt.alloc(),
-        volume.image(),
-        volume.layout(),
-        facts.file.number,
-    ) else {
+    let Ok(lbns) = chain(rt.alloc(), &volume.disk(), facts.file.number) else {
         return Err(Stop::NoMemory);
     };
     let text = stat_lines(rt.alloc(), path, facts, &lbns)?;

@@ -2,9 +2,10 @@
 ghost use Rattle.std.specs.Prelude.{◌≡◌, ◌^◌, ◌<◌, ◌≤◌, length, IfSome, IsTrue, OnOk};
 ghost use Rattle.ods_space.specs.{Draft.applied, Free.is_covered};
 ghost use Rattle.ods_alloc.specs.Marks.{HasPlaces, Puts, IsBitOf, IsIndexed, MarksBlocks, MarksNumbers, block_bit as block_bit_of, number_bit as number_bit_of};
+ghost use Rattle.ods_space.specs.Disks.{drafted};
 
 use ods_base::{Image, bit};
-use ods_space::{Draft, Layout};
+use ods_space::{Disk, Draft, Layout};
 use std::alloc::AllocError;
 
 /// Sets or clears a bit that a bitmap has: a block of it, and a bit of that. Where the bit stands so already, nothing
@@ -53,35 +54,33 @@ fn number_bit(layout: &Layout, number: u16) -> Option<(u32, u32)>
 
 /// Marks blocks as free or as taken, as far as the storage bitmap covers them.
 pub(crate) fn mark_blocks(
-    image: &Image,
-    layout: &Layout,
+    disk: &Disk<'_>,
     blocks: &[u32],
     free: bool,
     draft: &mut Draft,
 ) -> Result<(), AllocError>
-    requires places { HasPlaces (length image.now) layout.now }
-    ensures { OnOk result (MarksBlocks (applied image.now draft.old) layout.now blocks.now free (applied image.now draft.new)) }
+    requires places { HasPlaces (length disk.now.image.now) disk.now.layout.now }
+    ensures { OnOk result (drafted MarksBlocks disk.now draft.old blocks.now free (applied disk.now.image.now draft.new)) }
 {
     for lbn in blocks {
-        put_bit(image, block_bit(layout, *lbn), free, draft)?;
+        put_bit(disk.image, block_bit(disk.layout, *lbn), free, draft)?;
     }
     Ok(())
 }
 
 /// Marks numbers as used or as free, as far as the index bitmap covers them.
 pub(crate) fn mark_numbers(
-    image: &Image,
-    layout: &Layout,
+    disk: &Disk<'_>,
     numbers: &[u16],
     used: bool,
     draft: &mut Draft,
 ) -> Result<(), AllocError>
-    requires places { HasPlaces (length image.now) layout.now }
-    ensures { OnOk result (MarksNumbers (applied image.now draft.old) layout.now numbers.now used (applied image.now draft.new)) }
+    requires places { HasPlaces (length disk.now.image.now) disk.now.layout.now }
+    ensures { OnOk result (drafted MarksNumbers disk.now draft.old numbers.now used (applied disk.now.image.now draft.new)) }
 {
-    let _ = image.len();
+    let _ = disk.image.len();
     for number in numbers {
-        put_bit(image, number_bit(layout, *number), used, draft)?;
+        put_bit(disk.image, number_bit(disk.layout, *number), used, draft)?;
     }
     Ok(())
 }

@@ -3,20 +3,20 @@ ghost use Rattle.std.specs.Prelude.{◌≡◌, ◌+◌, ◌*◌, ◌<◌, ◌≤
 ghost use Rattle.std.specs.List.{All};
 ghost use Rattle.std.specs.List.Sorted.{IsStrictlyIncreasing};
 ghost use Rattle.ods_header.specs.Header.{IsRun, header_of, sequence_of};
-ghost use Rattle.ods_space.specs.{Layout.header_at, Free.is_free_number, Draft.applied};
+ghost use Rattle.ods_space.specs.{Free.is_free_number, Draft.applied};
 ghost use Rattle.ods_alloc.specs.{Extension.MakesHeaders, Extension.first_number, Extension.first_sequence, Marks.HasPlaces};
+ghost use Rattle.ods_space.specs.Disks.{header_drafted};
 
 use crate::drafted::drafted_header;
-use ods_base::{FileId, Image};
+use ods_base::FileId;
 use ods_header::{Header, Run, extension_block, file_sequence};
-use ods_space::{Draft, Layout};
+use ods_space::{Disk, Draft};
 use std::alloc::AllocError;
 
 /// Writes new extension headers of the file with this first header: each takes the next 102 of the runs and names
 /// the one behind it, and their segments follow this one. What their blocks had is read through the old draft.
 pub(crate) fn write_extensions(
-    image: &Image,
-    layout: &Layout,
+    disk: &Disk<'_>,
     first: &Header,
     segment: u8,
     numbers: &[u16],
@@ -24,17 +24,17 @@ pub(crate) fn write_extensions(
     old: &Draft,
     draft: &mut Draft,
 ) -> Result<(), AllocError>
-    requires places { HasPlaces (length image.now) layout.now }
-    requires free { All (λ m. IsTrue (is_free_number (applied image.now old.now) layout.now m)) numbers.now }
+    requires places { HasPlaces (length disk.now.image.now) disk.now.layout.now }
+    requires free { All (λ m. IsTrue (is_free_number (applied disk.now.image.now old.now) disk.now.layout.now m)) numbers.now }
     requires rising { IsStrictlyIncreasing numbers.now }
     requires segments { segment + length numbers.now ≤ 255 }
     requires runs { All IsRun runs.now }
-    ensures { OnOk result ((f : List ℕ) → header_of f ≡ first.now → MakesHeaders (applied image.now old.now) (applied image.now draft.old) layout.now f (segment + 1) numbers.now runs.now (length numbers.now) (applied image.now draft.new)) }
+    ensures { OnOk result ((f : List ℕ) → header_of f ≡ first.now → MakesHeaders (applied disk.now.image.now old.now) (applied disk.now.image.now draft.old) disk.now.layout.now f (segment + 1) numbers.now runs.now (length numbers.now) (applied disk.now.image.now draft.new)) }
 {
     for (i, number) in numbers.iter().enumerate() {
-        if let Some(lbn) = layout.place(*number) {
-            let file = first_id(image, layout, old, &numbers[i..]);
-            let next = first_id(image, layout, old, &numbers[i + 1..]);
+        if let Some(lbn) = disk.layout.place(*number) {
+            let file = first_id(disk, old, &numbers[i..]);
+            let next = first_id(disk, old, &numbers[i + 1..]);
             let pointers = piece(runs, 102 * i, 102);
             let block = extension_block(first, file, segment + (i + 1) as u8, next, pointers);
             draft.set(lbn, block)?;
@@ -54,11 +54,11 @@ pub(crate) fn piece(runs: &[Run], at: usize, most: usize) -> &[Run]
 
 /// The file ID of the first of these new headers: its sequence number is one more than its block had. Number 0
 /// where there is none.
-pub(crate) fn first_id(image: &Image, layout: &Layout, draft: &Draft, numbers: &[u16]) -> FileId
-    requires places { HasPlaces (length image.now) layout.now }
-    requires free { All (λ m. IsTrue (is_free_number (applied image.now draft.now) layout.now m)) numbers.now }
+pub(crate) fn first_id(disk: &Disk<'_>, draft: &Draft, numbers: &[u16]) -> FileId
+    requires places { HasPlaces (length disk.now.image.now) disk.now.layout.now }
+    requires free { All (λ m. IsTrue (is_free_number (applied disk.now.image.now draft.now) disk.now.layout.now m)) numbers.now }
     ensures number { result.number ≡ first_number numbers.now }
-    ensures sequence { result.sequence ≡ first_sequence (applied image.now draft.now) layout.now numbers.now }
+    ensures sequence { result.sequence ≡ first_sequence (applied disk.now.image.now draft.now) disk.now.layout.now numbers.now }
 {
     match numbers {
         [] => FileId {
@@ -67,18 +67,18 @@ pub(crate) fn first_id(image: &Image, layout: &Layout, draft: &Draft, numbers: &
         },
         [number, ..] => FileId {
             number: *number,
-            sequence: new_sequence(image, layout, draft, *number),
+            sequence: new_sequence(disk, draft, *number),
         },
     }
 }
 
 /// The sequence number that a new header gets: one more than its block had.
-fn new_sequence(image: &Image, layout: &Layout, draft: &Draft, number: u16) -> u16
-    requires places { HasPlaces (length image.now) layout.now }
-    requires below { sequence_of (header_at (applied image.now draft.now) layout.now number) < 65535 }
-    ensures { result ≡ sequence_of (header_at (applied image.now draft.now) layout.now number) + 1 }
+fn new_sequence(disk: &Disk<'_>, draft: &Draft, number: u16) -> u16
+    requires places { HasPlaces (length disk.now.image.now) disk.now.layout.now }
+    requires below { sequence_of (header_drafted disk.now draft.now number) < 65535 }
+    ensures { result ≡ sequence_of (header_drafted disk.now draft.now number) + 1 }
 {
-    match drafted_header(image, layout, number, draft) {
+    match drafted_header(disk, number, draft) {
         Some(block) => file_sequence(block) + 1,
         None => 1,
     }

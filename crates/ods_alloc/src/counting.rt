@@ -5,11 +5,12 @@ ghost use Rattle.ods_base.specs.Image.{block_at};
 ghost use Rattle.ods_space.specs.Draft.{applied};
 ghost use Rattle.ods_alloc.specs.Counts.{free_counts, clear_counts, low_bits_set};
 ghost use Rattle.ods_alloc.specs.Bitmaps.{IsNextChanged, IsStretch, counted, counts_in, place_in, size_of};
+ghost use Rattle.ods_space.specs.Disks.{seen};
 
 use crate::words::low_bits;
 use ods_base::{Block, Image, bit_word};
 use ods_header::Home;
-use ods_space::{Draft, Layout};
+use ods_space::{Disk, Draft, Layout};
 use std::alloc::{AllocError, Global};
 
 /// How many of the first `few` bits of a block are set.
@@ -51,20 +52,16 @@ fn few_of(len: u32, k: usize) -> u32
 }
 
 /// The free blocks that each block of the storage bitmap covers.
-pub(crate) fn count_blocks(
-    alloc: Global,
-    image: &Image,
-    layout: &Layout,
-) -> Result<Vec<u32>, AllocError>
-    ensures counts { IfOk result (λ counts. counts.items ≡ free_counts image.now layout.now) }
+pub(crate) fn count_blocks(alloc: Global, disk: &Disk<'_>) -> Result<Vec<u32>, AllocError>
+    ensures counts { IfOk result (λ counts. counts.items ≡ seen free_counts disk.now) }
     ensures few { IfOk result (λ counts. sum counts.items ≤ 2 ^ 20) }
 {
-    let len = image.len();
-    let bitmap = layout.bitmap();
+    let len = disk.image.len();
+    let bitmap = disk.layout.bitmap();
     let mut counts = Vec::new(alloc);
     for k in 0..bitmap.len().saturating_sub(1) {
         let few = few_of(len, k);
-        counts.push(bits_at(image, bitmap[k + 1] as u64, few))?;
+        counts.push(bits_at(disk.image, bitmap[k + 1] as u64, few))?;
     }
     Ok(counts)
 }
@@ -131,22 +128,16 @@ fn stretch(layout: &Layout, bitmap: Bitmap, k: usize) -> usize
 
 /// The first block of a bitmap from block `from` on that a draft changes, or the number of its blocks for none. Stretches of blocks are
 /// looked for in one pass over the draft.
-pub(crate) fn next_changed(
-    image: &Image,
-    layout: &Layout,
-    draft: &Draft,
-    bitmap: Bitmap,
-    from: usize,
-) -> usize
-    requires { from ≤ size_of layout.now bitmap }
-    ensures { IsNextChanged image.now (applied image.now draft.now) layout.now bitmap from result }
+pub(crate) fn next_changed(disk: &Disk<'_>, draft: &Draft, bitmap: Bitmap, from: usize) -> usize
+    requires { from ≤ size_of disk.now.layout.now bitmap }
+    ensures { IsNextChanged disk.now.image.now (applied disk.now.image.now draft.now) disk.now.layout.now bitmap from result }
 {
-    let size = size_of(layout, bitmap);
-    let len = image.len() as u64;
+    let size = size_of(disk.layout, bitmap);
+    let len = disk.image.len() as u64;
     let mut k = from;
     while k < size {
-        let many = stretch(layout, bitmap, k);
-        let first = place_in(layout, bitmap, k);
+        let many = stretch(disk.layout, bitmap, k);
+        let first = place_in(disk.layout, bitmap, k);
         let end = len.min(first + many as u64).max(first);
         let lbn = draft.next_change(first, end);
         if lbn < end {
@@ -189,25 +180,24 @@ fn count_after(len: u32, bitmap: Bitmap, k: usize, count: u32, old: &Block, new:
 
 /// Counts anew the blocks of a bitmap that a draft changes, of which this is the first.
 pub(crate) fn recount(
-    image: &Image,
-    layout: &Layout,
+    disk: &Disk<'_>,
     draft: &Draft,
     bitmap: Bitmap,
     first: usize,
     counts: &mut [u32],
 )
-    requires counts { counts.old ≡ counts_in image.now layout.now bitmap }
-    requires first { IsNextChanged image.now (applied image.now draft.now) layout.now bitmap 0 first }
-    ensures counts { counts.new ≡ counts_in (applied image.now draft.now) layout.now bitmap }
+    requires counts { counts.old ≡ seen counts_in disk.now bitmap }
+    requires first { IsNextChanged disk.now.image.now (applied disk.now.image.now draft.now) disk.now.layout.now bitmap 0 first }
+    ensures counts { counts.new ≡ counts_in (applied disk.now.image.now draft.now) disk.now.layout.now bitmap }
     ensures size { length counts.new ≡ length counts.old }
 {
-    let size = size_of(layout, bitmap);
-    let len = image.len();
+    let size = size_of(disk.layout, bitmap);
+    let len = disk.image.len();
     let mut k = first;
     while k < size {
-        let lbn = place_in(layout, bitmap, k) as u32;
-        let (old, new) = (image.block(lbn), draft.block(image, lbn));
+        let lbn = place_in(disk.layout, bitmap, k) as u32;
+        let (old, new) = (disk.image.block(lbn), draft.block(disk.image, lbn));
         counts[k] = count_after(len, bitmap, k, counts[k], old, new);
-        k = next_changed(image, layout, draft, bitmap, k + 1);
+        k = next_changed(disk, draft, bitmap, k + 1);
     }
 }

@@ -1,8 +1,7 @@
 //! Counts of free blocks and of clear index bits, one for each block of the bitmaps. They are kept beside an image, so that nobody
 //! reads blocks of a bitmap that have nothing left.
 use crate::counting::{Bitmap, count_blocks, count_numbers, next_changed, recount, size_of};
-use ods_base::Image;
-use ods_space::{Draft, Layout};
+use ods_space::{Disk, Draft};
 use std::alloc::{AllocError, Global};
 use std::marker::Model;
 
@@ -30,42 +29,38 @@ impl FreeCounts {
     ghost use Rattle.std.specs.Prelude.{◌≡◌, ℕ, List, length, IfOk};
     ghost use Rattle.ods_space.specs.{Layout.VolumeLayout, Files.IsLayoutOf, Free.free_blocks, Draft.applied};
     ghost use Rattle.ods_alloc.specs.Counts.{counts_of, AreCountsAfter};
+    ghost use Rattle.ods_space.specs.Disks.{on, seen};
 
     /// The counts of an image, made anew.
-    pub fn of(alloc: Global, image: &Image, layout: &Layout) -> Result<FreeCounts, AllocError>
-        requires { IsLayoutOf image.now layout.now }
-        ensures { IfOk result (λ counts. counts ≡ counts_of image.now layout.now) }
+    pub fn of(alloc: Global, disk: &Disk<'_>) -> Result<FreeCounts, AllocError>
+        requires { on IsLayoutOf disk.now }
+        ensures { IfOk result (λ counts. counts ≡ seen counts_of disk.now) }
     {
-        let blocks = count_blocks(alloc, image, layout)?;
-        let numbers = count_numbers(alloc, image, &layout.home())?;
+        let blocks = count_blocks(alloc, disk)?;
+        let numbers = count_numbers(alloc, disk.image, &disk.layout.home())?;
         Ok(FreeCounts { blocks, numbers })
     }
 
     /// The counts once a draft is applied; none where it changes no block of either bitmap. Only the blocks that it changes are
     /// counted anew.
-    pub fn after(
-        &self,
-        image: &Image,
-        layout: &Layout,
-        draft: &Draft,
-    ) -> Result<Option<FreeCounts>, AllocError>
-        requires layout { IsLayoutOf image.now layout.now }
-        requires counts { self.now ≡ counts_of image.now layout.now }
-        ensures { IfOk result (AreCountsAfter image.now (applied image.now draft.now) layout.now) }
+    pub fn after(&self, disk: &Disk<'_>, draft: &Draft) -> Result<Option<FreeCounts>, AllocError>
+        requires layout { on IsLayoutOf disk.now }
+        requires counts { self.now ≡ seen counts_of disk.now }
+        ensures { IfOk result (AreCountsAfter disk.now.image.now (applied disk.now.image.now draft.now) disk.now.layout.now) }
     {
-        let storage = next_changed(image, layout, draft, Bitmap::Storage, 0);
-        let index = next_changed(image, layout, draft, Bitmap::Index, 0);
-        let storage_end = size_of(layout, Bitmap::Storage);
-        let index_end = size_of(layout, Bitmap::Index);
+        let storage = next_changed(disk, draft, Bitmap::Storage, 0);
+        let index = next_changed(disk, draft, Bitmap::Index, 0);
+        let storage_end = size_of(disk.layout, Bitmap::Storage);
+        let index_end = size_of(disk.layout, Bitmap::Index);
         if storage == storage_end && index == index_end {
             return Ok(None);
         }
         // An image has at most 2 ^ 20 blocks.
-        let _ = image.len();
+        let _ = disk.image.len();
         let mut blocks = Vec::from_slice(*self.blocks.allocator(), &self.blocks)?;
-        recount(image, layout, draft, Bitmap::Storage, storage, &mut blocks);
+        recount(disk, draft, Bitmap::Storage, storage, &mut blocks);
         let mut numbers = Vec::from_slice(*self.numbers.allocator(), &self.numbers)?;
-        recount(image, layout, draft, Bitmap::Index, index, &mut numbers);
+        recount(disk, draft, Bitmap::Index, index, &mut numbers);
         Ok(Some(FreeCounts { blocks, numbers }))
     }
 

@@ -5,44 +5,44 @@ ghost use Rattle.ods_base.specs.Image.{IsImage};
 ghost use Rattle.ods_header.specs.Header.{room_of};
 ghost use Rattle.ods_space.specs.{Draft.applied, Files.IsLayoutOf};
 ghost use Rattle.ods_alloc.specs.{Ends.IsHeaderAt, Extend.IsWellPlaced, Extend.cut, Zeroed.AppendsBlocks};
+ghost use Rattle.ods_space.specs.Disks.{on};
 
 use crate::bitmap::mark_blocks;
 use crate::runs::runs_of_blocks;
 use crate::zero::zero_runs;
-use ods_base::{Block, Image};
+use ods_base::Block;
 use ods_header::append_runs;
-use ods_space::{Draft, Layout};
+use ods_space::{Disk, Draft};
 use std::alloc::{AllocError, Global};
 
 /// The draft by which INDEXF.SYS gets these blocks behind its own: they become zeros and are marked as taken, and its last
 /// header, which is this one, gets pointers to them.
 pub fn grow_index(
     alloc: Global,
-    image: &Image,
-    layout: &Layout,
+    disk: &Disk<'_>,
     end: u16,
     last: &Block,
     blocks: &[u32],
 ) -> Result<Draft, AllocError>
-    requires layout { IsLayoutOf image.now layout.now }
-    requires places { IsWellPlaced layout.now }
-    requires last { IsHeaderAt image.now layout.now end last.now }
+    requires layout { on IsLayoutOf disk.now }
+    requires places { IsWellPlaced disk.now.layout.now }
+    requires last { on IsHeaderAt disk.now end last.now }
     requires room { length (cut blocks.now) ≤ room_of last.now / 2 }
-    requires inside { All (λ b. b < length image.now) blocks.now }
-    requires apart { (b : ℕ) → Contains blocks.now b → ¬ Contains layout.now.index b × ¬ Contains layout.now.bitmap b }
-    ensures appends { IfOk result (λ d. AppendsBlocks image.now layout.now end blocks.now (applied image.now d)) }
+    requires inside { All (λ b. b < length disk.now.image.now) blocks.now }
+    requires apart { (b : ℕ) → Contains blocks.now b → ¬ Contains disk.now.layout.now.index b × ¬ Contains disk.now.layout.now.bitmap b }
+    ensures appends { IfOk result (λ d. on AppendsBlocks disk.now end blocks.now (applied disk.now.image.now d)) }
     // What the image becomes is an image.
-    ensures image { IfOk result (λ d. IsImage (applied image.now d)) }
+    ensures image { IfOk result (λ d. IsImage (applied disk.now.image.now d)) }
 {
     // An image has fewer blocks than a pointer can say.
-    let _ = image.len();
+    let _ = disk.image.len();
     let runs = runs_of_blocks(alloc, blocks)?;
     let mut draft = Draft::new(alloc);
     let all = runs.as_slice();
     zero_runs(all, &mut draft)?;
-    let place = layout.place(end).unwrap();
+    let place = disk.layout.place(end).unwrap();
     draft.set(place, append_runs(last, all))?;
-    mark_blocks(image, layout, blocks, false, &mut draft)?;
-    draft.makes_image(image);
+    mark_blocks(disk, blocks, false, &mut draft)?;
+    draft.makes_image(disk.image);
     Ok(draft)
 }

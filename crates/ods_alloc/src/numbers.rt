@@ -3,42 +3,43 @@ ghost use Rattle.std.specs.Prelude.{◌≡◌, ◌≤◌, true, length, take, If
 ghost use Rattle.std.specs.List.{filter, range_with_len};
 ghost use Rattle.ods_space.specs.{Files.IsLayoutOf, Free.is_free_number, Free.free_numbers, Free.is_open_number, Free.open_numbers, Layout.greatest_number as greatest_of};
 ghost use Rattle.ods_alloc.specs.{Scan.IsNext, Scan.NoneIsNext, Scan.NonePasses, Scan.is_clear, Faults.IsShort, Counts.ShowsNone, Counts.clear_in, Counts.counts_of};
+ghost use Rattle.ods_space.specs.Disks.{on, seen};
 
 use crate::words::{first_in, has_none, used_word};
 use crate::{FreeCounts, SpaceFault};
 use ods_base::Image;
 use ods_header::Home;
-use ods_space::{Layout, in_use, last_number, sequence};
+use ods_space::{Disk, Layout, in_use, last_number, sequence};
 use std::alloc::Global;
 
 /// Whether a number may be given to a new header.
-pub fn is_number_free(image: &Image, layout: &Layout, number: u16) -> bool
-    requires { IsLayoutOf image.now layout.now }
-    ensures { result ≡ is_free_number image.now layout.now number }
+pub fn is_number_free(disk: &Disk<'_>, number: u16) -> bool
+    requires { on IsLayoutOf disk.now }
+    ensures { result ≡ seen is_free_number disk.now number }
 {
-    is_number_open(image, layout, last_number(layout), number)
+    is_number_open(disk, last_number(disk.layout), number)
 }
 
 /// Whether a number may be given to a new header, where this is the greatest that may be.
-fn is_number_open(image: &Image, layout: &Layout, most: u16, number: u16) -> bool
-    requires { IsLayoutOf image.now layout.now }
-    ensures { result ≡ is_open_number image.now layout.now most number }
+fn is_number_open(disk: &Disk<'_>, most: u16, number: u16) -> bool
+    requires { on IsLayoutOf disk.now }
+    ensures { result ≡ seen is_open_number disk.now most number }
 {
     if number < 6 || most < number {
         return false;
     }
-    !in_use(image, layout, number) && sequence(image, layout, number) < 65535
+    !in_use(disk, number) && sequence(disk, number) < 65535
 }
 
 /// The number of free numbers.
-pub fn number_count(image: &Image, layout: &Layout) -> u32
-    requires { IsLayoutOf image.now layout.now }
-    ensures { result ≡ length (free_numbers image.now layout.now) }
+pub fn number_count(disk: &Disk<'_>) -> u32
+    requires { on IsLayoutOf disk.now }
+    ensures { result ≡ length (seen free_numbers disk.now) }
 {
-    let last = last_number(layout);
+    let last = last_number(disk.layout);
     let mut count = 0;
     let mut from = 1;
-    while let Some(number) = next_open_number(image, layout, &[], last, from) {
+    while let Some(number) = next_open_number(disk, &[], last, from) {
         count += 1;
         from = number as u32 + 1;
     }
@@ -46,26 +47,20 @@ pub fn number_count(image: &Image, layout: &Layout) -> u32
 }
 
 /// The least number from `from` on that is open up to this one.
-fn next_open_number(
-    image: &Image,
-    layout: &Layout,
-    counts: &[u32],
-    most: u16,
-    from: u32,
-) -> Option<u16>
-    requires layout { IsLayoutOf image.now layout.now }
-    requires counts { ShowsNone counts.now (clear_in image.now layout.now.home) }
-    ensures some { IfSome result (IsNext (is_open_number image.now layout.now most) from) }
-    ensures none { IfNone result (NoneIsNext (is_open_number image.now layout.now most) from) }
+fn next_open_number(disk: &Disk<'_>, counts: &[u32], most: u16, from: u32) -> Option<u16>
+    requires layout { on IsLayoutOf disk.now }
+    requires counts { ShowsNone counts.now (clear_in disk.now.image.now disk.now.layout.now.home) }
+    ensures some { IfSome result (IsNext (seen is_open_number disk.now most) from) }
+    ensures none { IfNone result (NoneIsNext (seen is_open_number disk.now most) from) }
 {
     let last = most as u32;
-    let home = layout.home();
-    let mut at = skip_used(image, &home, counts, from.max(6), last);
+    let home = disk.layout.home();
+    let mut at = skip_used(disk.image, &home, counts, from.max(6), last);
     while at <= last {
-        if is_number_open(image, layout, most, at as u16) {
+        if is_number_open(disk, most, at as u16) {
             return Some(at as u16);
         }
-        at = skip_used(image, &home, counts, at + 1, last);
+        at = skip_used(disk.image, &home, counts, at + 1, last);
     }
     None
 }
@@ -97,34 +92,32 @@ fn skip_used(image: &Image, home: &Home, counts: &[u32], from: u32, last: u32) -
 /// The lowest free numbers, ascending.
 pub fn pick_numbers(
     alloc: Global,
-    image: &Image,
-    layout: &Layout,
+    disk: &Disk<'_>,
     counts: &FreeCounts,
     count: u32,
 ) -> Result<Vec<u16>, SpaceFault>
-    requires layout { IsLayoutOf image.now layout.now }
-    requires counts { counts.now ≡ counts_of image.now layout.now }
-    ensures ok { IfOk result (λ numbers. (numbers.items ≡ take count (free_numbers image.now layout.now)) × (count ≤ length (free_numbers image.now layout.now))) }
-    ensures err { IfErr result (IsShort SpaceFault.HeadersFull (length (free_numbers image.now layout.now)) count) }
+    requires layout { on IsLayoutOf disk.now }
+    requires counts { counts.now ≡ seen counts_of disk.now }
+    ensures ok { IfOk result (λ numbers. (numbers.items ≡ take count (seen free_numbers disk.now)) × (count ≤ length (seen free_numbers disk.now))) }
+    ensures err { IfErr result (IsShort SpaceFault.HeadersFull (length (seen free_numbers disk.now)) count) }
 {
-    pick_up_to(alloc, image, layout, counts, last_number(layout), count)
+    pick_up_to(alloc, disk, counts, last_number(disk.layout), count)
 }
 
 /// The lowest numbers that new headers may get where INDEXF.SYS may grow, ascending: free ones, and then such for which it has
 /// no block yet.
 pub fn pick_open_numbers(
     alloc: Global,
-    image: &Image,
-    layout: &Layout,
+    disk: &Disk<'_>,
     counts: &FreeCounts,
     count: u32,
 ) -> Result<Vec<u16>, SpaceFault>
-    requires layout { IsLayoutOf image.now layout.now }
-    requires counts { counts.now ≡ counts_of image.now layout.now }
-    ensures ok { IfOk result (λ numbers. (numbers.items ≡ take count (open_numbers image.now layout.now)) × (count ≤ length (open_numbers image.now layout.now))) }
-    ensures err { IfErr result (IsShort SpaceFault.HeadersFull (length (open_numbers image.now layout.now)) count) }
+    requires layout { on IsLayoutOf disk.now }
+    requires counts { counts.now ≡ seen counts_of disk.now }
+    ensures ok { IfOk result (λ numbers. (numbers.items ≡ take count (seen open_numbers disk.now)) × (count ≤ length (seen open_numbers disk.now))) }
+    ensures err { IfErr result (IsShort SpaceFault.HeadersFull (length (seen open_numbers disk.now)) count) }
 {
-    pick_up_to(alloc, image, layout, counts, greatest_number(layout), count)
+    pick_up_to(alloc, disk, counts, greatest_number(disk.layout), count)
 }
 
 /// The greatest number for which INDEXF.SYS may ever have a header.
@@ -139,22 +132,21 @@ fn greatest_number(layout: &Layout) -> u16
 /// The lowest numbers that are open up to this one, ascending.
 fn pick_up_to(
     alloc: Global,
-    image: &Image,
-    layout: &Layout,
+    disk: &Disk<'_>,
     counts: &FreeCounts,
     most: u16,
     count: u32,
 ) -> Result<Vec<u16>, SpaceFault>
-    requires layout { IsLayoutOf image.now layout.now }
-    requires counts { counts.now ≡ counts_of image.now layout.now }
-    ensures ok { IfOk result (λ numbers. (numbers.items ≡ take count (filter (is_open_number image.now layout.now most) (range_with_len 1 most)))
-        × (count ≤ length (filter (is_open_number image.now layout.now most) (range_with_len 1 most)))) }
-    ensures err { IfErr result (IsShort SpaceFault.HeadersFull (length (filter (is_open_number image.now layout.now most) (range_with_len 1 most))) count) }
+    requires layout { on IsLayoutOf disk.now }
+    requires counts { counts.now ≡ seen counts_of disk.now }
+    ensures ok { IfOk result (λ numbers. (numbers.items ≡ take count (filter (seen is_open_number disk.now most) (range_with_len 1 most)))
+        × (count ≤ length (filter (seen is_open_number disk.now most) (range_with_len 1 most)))) }
+    ensures err { IfErr result (IsShort SpaceFault.HeadersFull (length (filter (seen is_open_number disk.now most) (range_with_len 1 most))) count) }
 {
     let mut numbers = Vec::new(alloc);
     let mut from = 1;
     for _k in 0..count {
-        let Some(number) = next_open_number(image, layout, counts.numbers(), most, from) else {
+        let Some(number) = next_open_number(disk, counts.numbers(), most, from) else {
             return Err(SpaceFault::HeadersFull);
         };
         numbers.push(number)?;

@@ -4,10 +4,11 @@ ghost use Rattle.std.specs.Int.{bit_at};
 ghost use Rattle.ods_base.specs.Bits.{IsWordOf};
 ghost use Rattle.ods_space.specs.{Layout.is_in_use, Free.is_free_block};
 ghost use Rattle.ods_alloc.specs.Scan.{IsNext, NonePasses};
+ghost use Rattle.ods_space.specs.Disks.{seen};
 
 use ods_base::{Image, bit_word};
 use ods_header::Home;
-use ods_space::Layout;
+use ods_space::Disk;
 
 /// The lowest `count` bits of a word.
 pub(crate) fn low_bits(word: u64, count: u32) -> u64
@@ -21,19 +22,22 @@ pub(crate) fn low_bits(word: u64, count: u32) -> u64
 }
 
 /// Which of the blocks from LBN `64 * k` on are free.
-pub(crate) fn free_word(image: &Image, layout: &Layout, k: u32) -> u64
+pub(crate) fn free_word(disk: &Disk<'_>, k: u32) -> u64
     requires { k < 2 ^ 20 }
-    ensures { IsWordOf (λ i. is_free_block image.now layout.now (64 * k + i)) result }
+    ensures { IsWordOf (λ i. seen is_free_block disk.now (64 * k + i)) result }
 {
     let at = 1 + k as usize / 64;
-    if image.len() <= 64 * k || layout.bitmap().len() <= at {
+    if disk.image.len() <= 64 * k || disk.layout.bitmap().len() <= at {
         return 0;
     }
-    let map = layout.bitmap()[at];
-    if image.len() <= map {
+    let map = disk.layout.bitmap()[at];
+    if disk.image.len() <= map {
         return 0;
     }
-    low_bits(bit_word(image.block(map), k % 64), image.len() - 64 * k)
+    low_bits(
+        bit_word(disk.image.block(map), k % 64),
+        disk.image.len() - 64 * k,
+    )
 }
 
 /// Which of the numbers from `64 * k + 1` on have a set index bit.

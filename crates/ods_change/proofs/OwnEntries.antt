@@ -9,14 +9,14 @@ use Rattle.ods_change.specs.Entering.{IsEntryFor, IsNewEntry}
 
 module _ {I : List (List ℕ)} {L : VolumeLayout} {who : Uic} {dir : FileId} {name : RadName} {given : Option ℕ} {file : FileId} {new : NewEntry}
     (e : IsNewEntry I L who dir name given file new) where
-  place : ◌≡◌ {A = List (List ℕ) × VolumeLayout × FileId} (new.image.now, new.layout.now, new.dir) (I, L, dir)
+  place : ◌≡◌ {A = List (List ℕ) × VolumeLayout × FileId} (new.disk.image.now, new.disk.layout.now, new.dir) (I, L, dir)
   place i = (e.image i, e.layout i, e.directory i)
 
-  pub is_own : (P : List (List ℕ) → VolumeLayout → FileId → Type 0) → P I L dir → P new.image.now new.layout.now new.dir
+  pub is_own : (P : List (List ℕ) → VolumeLayout → FileId → Type 0) → P I L dir → P new.disk.image.now new.disk.layout.now new.dir
   is_own P = subst (λ p. P p.0 p.1 p.2) (sym place)
 
-  pub own_is : (P : List (List ℕ) → VolumeLayout → FileId → Type 0) → P new.image.now new.layout.now new.dir → P I L dir
+  pub own_is : (P : List (List ℕ) → VolumeLayout → FileId → Type 0) → P new.disk.image.now new.disk.layout.now new.dir → P I L dir
   own_is P = subst (λ p. P p.0 p.1 p.2) place
 
-  pub own_words : IsEntryFor new.image.now new.layout.now who new.dir name given file new
+  pub own_words : IsEntryFor new.disk.image.now new.disk.layout.now who new.dir name given file new
   own_words = is_own (λ J M d. IsEntryFor J M who d name given file new) e.entry

@@ -41,8 +41,8 @@ pub record IsEntryFor (I : List (List ℕ)) (L : VolumeLayout) (who : Uic) (dir 
 
 -- and the entry knows its volume and its directory
 pub record IsNewEntry (I : List (List ℕ)) (L : VolumeLayout) (who : Uic) (dir : FileId) (name : RadName) (given : Option ℕ) (file : FileId) (new : NewEntry) : Type 0 where
-  pub image : new.image.now ≡ I
-  pub layout : new.layout.now ≡ L
+  pub image : new.disk.image.now ≡ I
+  pub layout : new.disk.layout.now ≡ L
   pub directory : new.dir ≡ dir
   pub entry : IsEntryFor I L who dir name given file new
 
@@ -61,15 +61,15 @@ IsWhyNotEntering I L dir new f = (who : Uic) (name : RadName) (given : Option �
 
 -- some Enter writes this, in the directory and on the volume that it names
 abbrev pub IsOwnEntry : NewEntry → Type 0
-IsOwnEntry new = IsSomeEntry new.image.now new.layout.now new.dir new
+IsOwnEntry new = IsSomeEntry new.disk.image.now new.disk.layout.now new.dir new
 
 -- the draft carries out each such Enter, and the layout stays; or it is refused so
 abbrev pub IsOwnEntering : NewEntry → Result Changes Refusal → Type 0
-IsOwnEntering new result = MatchResult result (λ draft. IsEntering new.image.now new.layout.now new.dir new (applied new.image.now draft) new.layout.now) (IsWhyNotEntering new.image.now new.layout.now new.dir new)
+IsOwnEntering new result = MatchResult result (λ draft. IsEntering new.disk.image.now new.disk.layout.now new.dir new (applied new.disk.image.now draft) new.disk.layout.now) (IsWhyNotEntering new.disk.image.now new.disk.layout.now new.dir new)
 
 -- the draft carries out each such Enter, with these blocks for INDEXF.SYS; or it is refused so
 abbrev pub IsOwnGrowing : NewEntry → Result Drafted Refusal → Type 0
-IsOwnGrowing new result = MatchResult result (λ d. IsEntering new.image.now new.layout.now new.dir new (applied new.image.now d.draft) (with_places new.layout.now d.places.items)) (IsWhyNotEntering new.image.now new.layout.now new.dir new)
+IsOwnGrowing new result = MatchResult result (λ d. IsEntering new.disk.image.now new.disk.layout.now new.dir new (applied new.disk.image.now d.draft) (with_places new.disk.layout.now d.places.items)) (IsWhyNotEntering new.disk.image.now new.disk.layout.now new.dir new)
 
 -- directory n takes this block, and these numbers for its headers, for each of which INDEXF.SYS has a block
 abbrev pub IsTakenFor : List (List ℕ) → VolumeLayout → ℕ → List ℕ → List ℕ → Type 0

@@ -1,3 +1,4 @@
+pub mod Steps
 pub mod Beginning
 pub mod Creating
 pub mod Entering

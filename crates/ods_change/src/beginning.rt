@@ -4,11 +4,11 @@ ghost use Rattle.ods_mount.specs.Sound.{IsSoundBy};
 ghost use Rattle.ods_space.specs.Draft.{applied};
 ghost use Rattle.ods_state.specs.IndexGrowth.{CanGrowIndex};
 ghost use Rattle.ods_change.specs.Beginning.{IsBegun};
+ghost use Rattle.ods_space.specs.Disks.{on};
 
 use crate::taking::index_end;
 use ods_alloc::grow_index;
-use ods_base::Image;
-use ods_space::{Draft, Layout};
+use ods_space::{Disk, Draft, Layout};
 use std::alloc::{AllocError, Global};
 
 /// What a request that takes blocks makes: what changes of the volume, and the blocks, as LBNs, that INDEXF.SYS gets behind its own.
@@ -41,27 +41,22 @@ pub(crate) struct Begun {
 }
 
 /// The volume where INDEXF.SYS has got these blocks; where there are none, it is as it was.
-pub(crate) fn begin(
-    alloc: Global,
-    image: &Image,
-    layout: &Layout,
-    places: &[u32],
-) -> Result<Begun, AllocError>
-    requires sound { IsSoundBy image.now layout.now }
-    requires can { CanGrowIndex image.now layout.now places.now }
-    ensures { IfOk result (λ b. IsBegun image.now layout.now places.now (applied image.now b.draft) (unwrap_or b.layout layout.now)) }
+pub(crate) fn begin(alloc: Global, disk: &Disk<'_>, places: &[u32]) -> Result<Begun, AllocError>
+    requires sound { on IsSoundBy disk.now }
+    requires can { on CanGrowIndex disk.now places.now }
+    ensures { IfOk result (λ b. on IsBegun disk.now places.now (applied disk.now.image.now b.draft) (unwrap_or b.layout disk.now.layout.now)) }
 {
     // The blocks of an image have bytes.
-    let _ = image.len();
+    let _ = disk.image.len();
     if places.is_empty() {
         return Ok(Begun {
             layout: None,
             draft: Draft::new(alloc),
         });
     }
-    let end = index_end(image, layout);
-    let draft = grow_index(alloc, image, layout, end.number, end.last, places)?;
-    let mut grown = layout.copy()?;
+    let end = index_end(disk);
+    let draft = grow_index(alloc, disk, end.number, end.last, places)?;
+    let mut grown = disk.layout.copy()?;
     grown.grow(places);
     Ok(Begun {
         layout: Some(grown),

@@ -5,31 +5,31 @@ ghost use Rattle.ods_request.specs.{declared.answers.Answer.TheVariants.Done, de
 ghost use Rattle.ods_request.specs.{declared.requests.Request.TheVariants.Write as WriteRequest, declared.requests.Request.TheVariants.SetUser, declared.requests.Request.TheVariants.Remove};
 ghost use Rattle.ods_space.specs.Draft.{applied};
 ghost use Rattle.ods_state.specs.Served.{IsStepOf, IsRefusalOf};
+ghost use Rattle.ods_space.specs.Disks.{on};
 
 use crate::drafts::{one_block, with_entry};
-use ods_base::{Block, FileId, Image, Name, Pick, Uic};
+use ods_base::{Block, FileId, Name, Pick, Uic};
 use ods_header::with_attributes;
 use ods_look::opening::{open_block, open_directory, open_plain};
 use ods_request::{Refusal, Right};
-use ods_space::{Draft, Layout};
+use ods_space::{Disk, Draft};
 use std::alloc::Global;
 
 /// The draft that puts other bytes into a block of a file, counted from 1, or why that is refused.
 pub fn write(
     alloc: Global,
-    image: &Image,
-    layout: &Layout,
+    disk: &Disk<'_>,
     who: Uic,
     file: FileId,
     vbn: u32,
     block: &Block,
 ) -> Result<Draft, Refusal>
-    requires { IsSoundBy image.now layout.now }
+    requires { on IsSoundBy disk.now }
     ensures { MatchResult result
-        (λ draft. IsStepOf image.now layout.now who (WriteRequest file vbn block.now) Done (applied image.now draft) layout.now)
-        (IsRefusalOf image.now layout.now who (WriteRequest file vbn block.now)) }
+        (λ draft. on IsStepOf disk.now who (WriteRequest file vbn block.now) Done (applied disk.now.image.now draft) disk.now.layout.now)
+        (on IsRefusalOf disk.now who (WriteRequest file vbn block.now)) }
 {
-    let lbn = match open_block(image, layout, who, file, 5, Right::Write, vbn) {
+    let lbn = match open_block(disk, who, file, 5, Right::Write, vbn) {
         Ok(lbn) => lbn,
         Err(refusal) => return Err(refusal),
     };
@@ -42,23 +42,22 @@ pub fn write(
 /// The draft that puts these attributes into the first header of a file, or why that is refused.
 pub fn set_user(
     alloc: Global,
-    image: &Image,
-    layout: &Layout,
+    disk: &Disk<'_>,
     who: Uic,
     file: FileId,
     attributes: [u8; 32],
 ) -> Result<Draft, Refusal>
-    requires { IsSoundBy image.now layout.now }
+    requires { on IsSoundBy disk.now }
     ensures { MatchResult result
-        (λ draft. IsStepOf image.now layout.now who (SetUser file attributes) Done (applied image.now draft) layout.now)
-        (IsRefusalOf image.now layout.now who (SetUser file attributes)) }
+        (λ draft. on IsStepOf disk.now who (SetUser file attributes) Done (applied disk.now.image.now draft) disk.now.layout.now)
+        (on IsRefusalOf disk.now who (SetUser file attributes)) }
 {
-    let first = match open_plain(image, layout, who, file, 5, Right::Write) {
+    let first = match open_plain(disk, who, file, 5, Right::Write) {
         Ok(first) => first,
         Err(refusal) => return Err(refusal),
     };
     let header = with_attributes(first, &attributes);
-    let lbn = layout.place(file.number).unwrap();
+    let lbn = disk.layout.place(file.number).unwrap();
     match one_block(alloc, lbn, header) {
         Ok(draft) => Ok(draft),
         Err(_) => Err(Refusal::NoMemory),
@@ -69,19 +68,18 @@ pub fn set_user(
 /// that is refused.
 pub fn remove(
     alloc: Global,
-    image: &Image,
-    layout: &Layout,
+    disk: &Disk<'_>,
     who: Uic,
     dir: FileId,
     name: Name,
     pick: Pick,
 ) -> Result<(Draft, FileId, u16), Refusal>
-    requires { IsSoundBy image.now layout.now }
+    requires { on IsSoundBy disk.now }
     ensures { MatchResult result
-        (λ r. IsStepOf image.now layout.now who (Remove dir name pick) (Removed r.1 r.2) (applied image.now r.0) layout.now)
-        (IsRefusalOf image.now layout.now who (Remove dir name pick)) }
+        (λ r. on IsStepOf disk.now who (Remove dir name pick) (Removed r.1 r.2) (applied disk.now.image.now r.0) disk.now.layout.now)
+        (on IsRefusalOf disk.now who (Remove dir name pick)) }
 {
-    let opened = match open_directory(image, layout, who, dir, Right::Write) {
+    let opened = match open_directory(disk, who, dir, Right::Write) {
         Ok(opened) => opened,
         Err(refusal) => return Err(refusal),
     };
@@ -91,7 +89,7 @@ pub fn remove(
         Ok(entry) => entry,
         Err(_) => return Err(Refusal::NoSuchName),
     };
-    let (lbn, block) = with_entry(image, layout, dir.number, &opened, entry.2, [0; 16]);
+    let (lbn, block) = with_entry(disk, dir.number, &opened, entry.2, [0; 16]);
     match one_block(alloc, lbn, block) {
         Ok(draft) => Ok((draft, entry.0, entry.1)),
         Err(_) => Err(Refusal::NoMemory),

@@ -5,18 +5,20 @@ ghost use Rattle.ods_base.specs.Image.{IsImage};
 ghost use Rattle.ods_header.specs.Header.{sequence_of};
 ghost use Rattle.ods_mount.specs.Sound.{IsSoundBy};
 ghost use Rattle.ods_request.specs.{declared.answers.Answer.TheVariants.Created, declared.requests.Request.TheVariants.Create};
-ghost use Rattle.ods_space.specs.{Draft.applied, Layout.header_at, Layout.with_places};
-ghost use Rattle.ods_state.specs.{Growth.IsNewFirst, Growth.IsTaking, Moves.new_attributes, Outcome.CanBeAsked, Served.IsStepOf, Served.IsRefusalOf, Wants.taken_blocks};
+ghost use Rattle.ods_space.specs.Draft.{applied};
+ghost use Rattle.ods_state.specs.{Growth.IsNewFirst, Growth.IsTaking, Moves.new_attributes, Outcome.CanBeAsked, Served.IsRefusalOf, Wants.taken_blocks};
 ghost use Rattle.ods_change.specs.Creating.{IsMadeFile, IsNewHeaderFor, new_id};
+ghost use Rattle.ods_space.specs.Disks.{drafted, header_drafted, header_on, on, seen};
+ghost use Rattle.ods_change.specs.Steps.{IsDraftFor};
 
 use crate::beginning::{Begun, Drafted, begin, layout_then};
 use crate::taking::take;
 use ods_alloc::{ChainEnds, FreeCounts, extend_from, zero_runs};
-use ods_base::{Block, FileId, Image, Name, Uic};
+use ods_base::{Block, FileId, Name, Uic};
 use ods_directory::with_mark;
 use ods_header::{Run, first_block};
 use ods_request::{Refusal, Stamp, new_ident};
-use ods_space::{Draft, Layout, sequence};
+use ods_space::{Disk, Draft, sequence};
 use std::alloc::{AllocError, Global};
 
 /// The type of a directory, DIR.
@@ -26,8 +28,7 @@ const DIRECTORY_TYPE: u16 = 6778;
 /// needed than are free, INDEXF.SYS grows.
 pub fn create(
     alloc: Global,
-    image: &Image,
-    layout: &Layout,
+    disk: &Disk<'_>,
     counts: &FreeCounts,
     who: Uic,
     name: Name,
@@ -35,32 +36,32 @@ pub fn create(
     count: u32,
     stamp: Stamp,
 ) -> Result<(Drafted, FileId), Refusal>
-    requires sound { IsSoundBy image.now layout.now }
-    requires counts { counts.now ≡ counts_of image.now layout.now }
+    requires sound { on IsSoundBy disk.now }
+    requires counts { counts.now ≡ seen counts_of disk.now }
     requires asked { CanBeAsked (Create name version count stamp) }
     ensures { MatchResult result
-        (λ r. IsStepOf image.now layout.now who (Create name version count stamp) (Created r.1) (applied image.now r.0.draft) (with_places layout.now r.0.places.items))
-        (IsRefusalOf image.now layout.now who (Create name version count stamp)) }
+        (λ r. IsDraftFor disk.now who (Create name version count stamp) (Created r.1) r.0.draft r.0.places.items)
+        (on IsRefusalOf disk.now who (Create name version count stamp)) }
 {
     if count > 65535 {
         return Err(Refusal::BadCount);
     }
     // A new header has room for 204 words of pointers.
-    let taken = match take(alloc, image, layout, counts, 0, 204, count) {
+    let taken = match take(alloc, disk, counts, 0, 204, count) {
         Ok(taken) => taken,
         Err(refusal) => return Err(refusal),
     };
     // A name has three words, and the blocks of an image have bytes.
     let _ = name.words();
-    let _ = image.len();
+    let _ = disk.image.len();
     let numbers = taken.numbers.as_slice();
-    let file = new_id(image, layout, numbers[0]);
-    let protection = layout.home().protection;
+    let file = new_id(disk, numbers[0]);
+    let protection = disk.layout.home().protection;
     let header = new_header(file, who, protection, &name, version, count, &stamp);
     let blocks = taken.blocks.as_slice();
     let runs = taken.runs.as_slice();
     let others = &numbers[1..];
-    let begun = match begin(alloc, image, layout, &taken.places) {
+    let begun = match begin(alloc, disk, &taken.places) {
         Ok(begun) => begun,
         Err(_) => return Err(Refusal::NoMemory),
     };
@@ -68,17 +69,12 @@ pub fn create(
         layout: grown,
         draft,
     } = begun;
-    let then = layout_then(&grown, layout);
-    match new_file(
-        image,
-        then,
-        draft,
-        file.number,
-        header,
-        blocks,
-        runs,
-        others,
-    ) {
+    let then = layout_then(&grown, disk.layout);
+    let later = Disk {
+        image: disk.image,
+        layout: then,
+    };
+    match new_file(&later, draft, file.number, header, blocks, runs, others) {
         Ok(draft) => Ok((
             Drafted {
                 draft,
@@ -91,21 +87,20 @@ pub fn create(
 }
 
 /// The ID of a new file whose first header has this number.
-fn new_id(image: &Image, layout: &Layout, number: u16) -> FileId
-    requires { sequence_of (header_at image.now layout.now number) < 65535 }
-    ensures { result ≡ new_id image.now layout.now number }
+fn new_id(disk: &Disk<'_>, number: u16) -> FileId
+    requires { sequence_of (header_on disk.now number) < 65535 }
+    ensures { result ≡ seen new_id disk.now number }
 {
     FileId {
         number,
-        sequence: sequence(image, layout, number) + 1,
+        sequence: sequence(disk, number) + 1,
     }
 }
 
 /// This draft with a file made, with this first header: the blocks that it takes become zeros, and its chain grows by
 /// them, with these headers behind the first.
 fn new_file(
-    image: &Image,
-    layout: &Layout,
+    disk: &Disk<'_>,
     mut draft: Draft,
     number: u16,
     header: Block,
@@ -113,16 +108,16 @@ fn new_file(
     runs: &[Run],
     others: &[u16],
 ) -> Result<Draft, AllocError>
-    requires sound { IsSoundBy (applied image.now draft) layout.now }
-    requires image { IsImage (applied image.now draft) }
-    requires taking { IsTaking (applied image.now draft) layout.now number [] [] (length blocks.now) others.now }
-    requires lowest { blocks.now ≡ taken_blocks (applied image.now draft) layout.now (length blocks.now) }
+    requires sound { drafted IsSoundBy disk.now draft }
+    requires image { IsImage (applied disk.now.image.now draft) }
+    requires taking { drafted IsTaking disk.now draft number [] [] (length blocks.now) others.now }
+    requires lowest { blocks.now ≡ taken_blocks (applied disk.now.image.now draft) disk.now.layout.now (length blocks.now) }
     requires runs { runs.now ≡ cut blocks.now }
-    requires header { IsNewFirst (header_at (applied image.now draft) layout.now number) header number }
-    ensures { IfOk result (λ made. IsMadeFile (applied image.now draft) layout.now number header (length blocks.now) others.now (applied image.now made)) }
+    requires header { IsNewFirst (header_drafted disk.now draft number) header number }
+    ensures { IfOk result (λ made. drafted IsMadeFile disk.now draft number header (length blocks.now) others.now (applied disk.now.image.now made)) }
 {
     zero_runs(runs, &mut draft)?;
-    let first = layout.place(number).unwrap();
+    let first = disk.layout.place(number).unwrap();
     draft.set(first, header)?;
     // The first header is the last that the chain has.
     let ends = ChainEnds {
@@ -130,7 +125,7 @@ fn new_file(
         number,
         last: &header,
     };
-    let grown = extend_from(image, layout, number, &ends, blocks, others, runs, draft)?;
+    let grown = extend_from(disk, number, &ends, blocks, others, runs, draft)?;
     Ok(grown)
 }
 

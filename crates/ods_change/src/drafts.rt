@@ -6,12 +6,13 @@ ghost use Rattle.ods_space.specs.Files.{Holds};
 ghost use Rattle.ods_directory.specs.Mark.{marked};
 ghost use Rattle.ods_mount.specs.Sound.{IsSoundBy};
 ghost use Rattle.ods_look.specs.Opening.{IsDirectoryAt};
+ghost use Rattle.ods_space.specs.Disks.{on};
 
-use ods_base::{Block, Image};
+use ods_base::Block;
 use ods_directory::with_mark;
 use ods_header::{attributes, with_attributes};
 use ods_look::opening::OpenDirectory;
-use ods_space::{Draft, Layout, locate_whole};
+use ods_space::{Disk, Draft, locate_whole};
 use std::alloc::{AllocError, Global};
 
 /// The draft that sets one block.
@@ -40,23 +41,22 @@ pub(crate) fn two_blocks(
 
 /// The LBN of the block of a directory where the entry at this byte stands, and that block with other bytes for the entry.
 pub(crate) fn with_entry(
-    image: &Image,
-    layout: &Layout,
+    disk: &Disk<'_>,
     number: u16,
     opened: &OpenDirectory,
     at: u64,
     bytes: [u8; 16],
 ) -> (u32, Block)
-    requires sound { IsSoundBy image.now layout.now }
-    requires directory { IsDirectoryAt image.now layout.now number opened.now }
+    requires sound { on IsSoundBy disk.now }
+    requires directory { on IsDirectoryAt disk.now number opened.now }
     requires within { at / 512 < length opened.now.blocks }
     requires whole { at % 512 + 16 ≤ 512 }
-    ensures held { Holds image.now layout.now number (at / 512 + 1) result.0 }
-    ensures block { result.1 ≡ with_bytes (block_at image.now result.0) (at % 512) bytes }
+    ensures held { on Holds disk.now number (at / 512 + 1) result.0 }
+    ensures block { result.1 ≡ with_bytes (block_at disk.now.image.now result.0) (at % 512) bytes }
 {
     let vbn = (at / 512) as u32 + 1;
-    let lbn = locate_whole(image, layout, number, opened.header, vbn).unwrap();
-    let mut block = *image.block(lbn);
+    let lbn = locate_whole(disk, number, opened.header, vbn).unwrap();
+    let mut block = *disk.image.block(lbn);
     block.set_bytes((at % 512) as usize, &bytes);
     (lbn, block)
 }

@@ -5,17 +5,18 @@ ghost use Rattle.ods_base.specs.Image.{IsImage};
 ghost use Rattle.ods_mount.specs.Sound.{IsSoundBy};
 ghost use Rattle.ods_space.specs.Draft.{applied};
 ghost use Rattle.ods_change.specs.{Entering.IsEntering, Entering.IsOwnGrowing, Entering.IsOwnEntry, Entering.IsSomeEntry, Entering.IsTakenFor, Taking.IsEndOf};
+ghost use Rattle.ods_space.specs.Disks.{drafted, on, seen};
 
 use crate::beginning::{Begun, Drafted, begin, layout_then};
 use crate::drafts::marked_header;
 use crate::entry::NewEntry;
 use crate::taking::{ChainEnd, ends_with, take};
 use ods_alloc::{FreeCounts, extend_from};
-use ods_base::{Block, FileId, Image};
+use ods_base::{Block, FileId};
 use ods_directory::DirBlocks;
 use ods_header::Run;
 use ods_request::Refusal;
-use ods_space::{Draft, Layout};
+use ods_space::{Disk, Draft};
 use std::alloc::{AllocError, Global};
 
 /// The draft that puts a block of zeros with an entry behind the blocks of a directory, or what the volume lacks.
@@ -24,23 +25,22 @@ pub(crate) fn enter_behind(
     counts: &FreeCounts,
     entry: &NewEntry,
 ) -> Result<Drafted, Refusal>
-    requires sound { IsSoundBy entry.now.image.now entry.now.layout.now }
-    requires counts { counts.now ≡ counts_of entry.now.image.now entry.now.layout.now }
+    requires sound { on IsSoundBy entry.now.disk }
+    requires counts { counts.now ≡ seen counts_of entry.now.disk }
     requires entry { IsOwnEntry entry.now }
     requires grows { entry.now.slot.grows ≡ true }
     ensures { IsOwnGrowing entry.now result }
 {
-    let image = entry.image;
-    let layout = entry.layout;
+    let disk = &entry.disk;
     let dir = entry.dir;
-    let end = ChainEnd::of(image, layout, dir.number, entry.opened.header);
-    let taken = match take(alloc, image, layout, counts, end.headers, end.room, 1) {
+    let end = ChainEnd::of(disk, dir.number, entry.opened.header);
+    let taken = match take(alloc, disk, counts, end.headers, end.room, 1) {
         Ok(taken) => taken,
         Err(refusal) => return Err(refusal),
     };
     // The blocks of an image have bytes.
-    let _ = image.len();
-    let begun = match begin(alloc, image, layout, &taken.places) {
+    let _ = disk.image.len();
+    let begun = match begin(alloc, disk, &taken.places) {
         Ok(begun) => begun,
         Err(_) => return Err(Refusal::NoMemory),
     };
@@ -48,10 +48,13 @@ pub(crate) fn enter_behind(
         layout: index,
         draft,
     } = begun;
-    let then = layout_then(&index, layout);
+    let then = layout_then(&index, disk.layout);
+    let later = Disk {
+        image: disk.image,
+        layout: then,
+    };
     match with_block(
-        image,
-        then,
+        &later,
         draft,
         dir,
         entry,
@@ -70,8 +73,7 @@ pub(crate) fn enter_behind(
 
 /// This draft with more changes, by which an entry stands in the block that a directory whose chain ends so takes, and this block behind its own.
 fn with_block(
-    image: &Image,
-    layout: &Layout,
+    disk: &Disk<'_>,
     mut draft: Draft,
     dir: FileId,
     entry: &NewEntry,
@@ -80,28 +82,27 @@ fn with_block(
     numbers: &[u16],
     runs: &[Run],
 ) -> Result<Draft, AllocError>
-    requires sound { IsSoundBy (applied image.now draft) layout.now }
-    requires image { IsImage (applied image.now draft) }
-    requires entry { IsSomeEntry (applied image.now draft) layout.now dir entry.now }
+    requires sound { drafted IsSoundBy disk.now draft }
+    requires image { IsImage (applied disk.now.image.now draft) }
+    requires entry { drafted IsSomeEntry disk.now draft dir entry.now }
     requires grows { entry.now.slot.grows ≡ true }
-    requires end { IsEndOf (applied image.now draft) layout.now dir.number end.now }
-    requires taken { IsTakenFor (applied image.now draft) layout.now dir.number blocks.now numbers.now }
+    requires end { drafted IsEndOf disk.now draft dir.number end.now }
+    requires taken { drafted IsTakenFor disk.now draft dir.number blocks.now numbers.now }
     requires runs { runs.now ≡ cut blocks.now }
-    ensures { IfOk result (λ made. IsEntering (applied image.now draft) layout.now dir entry.now (applied image.now made) layout.now) }
+    ensures { IfOk result (λ made. drafted IsEntering disk.now draft dir entry.now (applied disk.now.image.now made) disk.now.layout.now) }
 {
     let mut block = Block::zeros();
     let bytes = entry.bytes;
     block.set_bytes(0, &bytes);
     let count = entry.opened.blocks.count() + 1;
     let header = marked_header(entry.opened.header, entry.slot.mark, count);
-    let first = layout.place(dir.number).unwrap();
+    let first = disk.layout.place(dir.number).unwrap();
     draft.set(blocks[0], block)?;
     draft.set(first, header)?;
     // The blocks of what the image becomes have bytes, so its chains have at most 256 headers.
-    draft.makes_image(image);
+    draft.makes_image(disk.image);
     let grown = extend_from(
-        image,
-        layout,
+        disk,
         dir.number,
         &ends_with(dir.number, &header, end.number, end.last),
         blocks,

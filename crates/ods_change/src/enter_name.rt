@@ -3,25 +3,25 @@ ghost use Rattle.std.specs.Prelude.{◌≡◌, MatchResult};
 ghost use Rattle.ods_alloc.specs.Counts.{counts_of};
 ghost use Rattle.ods_mount.specs.Sound.{IsSoundBy};
 ghost use Rattle.ods_request.specs.{declared.answers.Answer.TheVariants.Entered, declared.requests.Request.TheVariants.Enter};
-ghost use Rattle.ods_space.specs.{Draft.applied, Layout.with_places};
-ghost use Rattle.ods_state.specs.{Outcome.CanBeAsked, Served.IsStepOf, Served.IsRefusalOf};
+ghost use Rattle.ods_state.specs.{Outcome.CanBeAsked, Served.IsRefusalOf};
+ghost use Rattle.ods_space.specs.Disks.{on, seen};
+ghost use Rattle.ods_change.specs.Steps.{IsDraftFor};
 
 use crate::beginning::Drafted;
 use crate::enter_behind::enter_behind;
 use crate::enter_within::enter_within;
 use crate::entry::new_entry;
 use ods_alloc::FreeCounts;
-use ods_base::{FileId, Image, Name, Uic};
+use ods_base::{FileId, Name, Uic};
 use ods_request::Refusal;
-use ods_space::Layout;
+use ods_space::Disk;
 use std::alloc::Global;
 
 /// The draft that enters a file in a directory, with the version under which it stands there, or why that is refused.
 /// Where the directory needs a block more, it is taken; and where that takes more numbers than are free, INDEXF.SYS grows.
 pub fn enter(
     alloc: Global,
-    image: &Image,
-    layout: &Layout,
+    disk: &Disk<'_>,
     counts: &FreeCounts,
     who: Uic,
     dir: FileId,
@@ -29,14 +29,14 @@ pub fn enter(
     version: Option<u16>,
     file: FileId,
 ) -> Result<(Drafted, u16), Refusal>
-    requires sound { IsSoundBy image.now layout.now }
-    requires counts { counts.now ≡ counts_of image.now layout.now }
+    requires sound { on IsSoundBy disk.now }
+    requires counts { counts.now ≡ seen counts_of disk.now }
     requires asked { CanBeAsked (Enter dir name version file) }
     ensures { MatchResult result
-        (λ r. IsStepOf image.now layout.now who (Enter dir name version file) (Entered r.1) (applied image.now r.0.draft) (with_places layout.now r.0.places.items))
-        (IsRefusalOf image.now layout.now who (Enter dir name version file)) }
+        (λ r. IsDraftFor disk.now who (Enter dir name version file) (Entered r.1) r.0.draft r.0.places.items)
+        (on IsRefusalOf disk.now who (Enter dir name version file)) }
 {
-    let entry = match new_entry(image, layout, who, dir, name, version, file) {
+    let entry = match new_entry(disk, who, dir, name, version, file) {
         Ok(entry) => entry,
         Err(refusal) => return Err(refusal),
     };

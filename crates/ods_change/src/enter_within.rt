@@ -2,6 +2,7 @@
 ghost use Rattle.std.specs.Prelude.{◌≡◌, false};
 ghost use Rattle.ods_mount.specs.Sound.{IsSoundBy};
 ghost use Rattle.ods_change.specs.Entering.{IsOwnEntering, IsOwnEntry};
+ghost use Rattle.ods_space.specs.Disks.{on};
 
 use crate::drafts::{marked_header, one_block, two_blocks, with_entry};
 use crate::entry::NewEntry;
@@ -12,15 +13,14 @@ use std::alloc::Global;
 
 /// The draft that writes an entry into the block where its slot is. The first header changes only where the end mark moves.
 pub(crate) fn enter_within(alloc: Global, entry: &NewEntry) -> Result<Draft, Refusal>
-    requires sound { IsSoundBy entry.now.image.now entry.now.layout.now }
+    requires sound { on IsSoundBy entry.now.disk }
     requires entry { IsOwnEntry entry.now }
     requires within { entry.now.slot.grows ≡ false }
     ensures { IsOwnEntering entry.now result }
 {
     let bytes = entry.bytes;
     let (lbn, block) = with_entry(
-        entry.image,
-        entry.layout,
+        &entry.disk,
         entry.dir.number,
         &entry.opened,
         entry.slot.at,
@@ -34,7 +34,7 @@ pub(crate) fn enter_within(alloc: Global, entry: &NewEntry) -> Result<Draft, Ref
     }
     let count = entry.opened.blocks.count();
     let header = marked_header(entry.opened.header, entry.slot.mark, count);
-    let first = entry.layout.place(entry.dir.number).unwrap();
+    let first = entry.disk.layout.place(entry.dir.number).unwrap();
     match two_blocks(alloc, lbn, block, first, header) {
         Ok(draft) => Ok(draft),
         Err(_) => Err(Refusal::NoMemory),

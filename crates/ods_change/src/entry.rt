@@ -4,19 +4,19 @@ ghost use Rattle.ods_mount.specs.Sound.{IsSoundBy};
 ghost use Rattle.ods_request.specs.declared.requests.Request.TheVariants.{Enter};
 ghost use Rattle.ods_state.specs.{Change.IsFaultBy, Outcome.CanBeAsked};
 ghost use Rattle.ods_change.specs.Entering.{IsNewEntry, refusal_of};
+ghost use Rattle.ods_space.specs.Disks.{on};
 
-use ods_base::{FileId, Image, Name, Uic};
+use ods_base::{FileId, Name, Uic};
 use ods_directory::{DirFault, Slot, enter};
 use ods_look::opening::{OpenDirectory, named_header, open_directory};
 use ods_request::{Refusal, Right};
-use ods_space::Layout;
+use ods_space::Disk;
 
 /// A name that can be entered in a directory: the volume, the directory, the name's version, its slot, and the bytes of its
 /// entry.
 #[derive(Drop)]
 pub struct NewEntry<'a> {
-    pub image: &'a Image,
-    pub layout: &'a Layout,
+    pub disk: Disk<'a>,
     pub dir: FileId,
     pub opened: OpenDirectory<'a>,
     pub version: u16,
@@ -27,23 +27,22 @@ pub struct NewEntry<'a> {
 /// The entry that an Enter writes, or the first fault of entering the name. Where the slot grows, the directory needs
 /// a block more.
 pub(crate) fn new_entry<'a>(
-    image: &'a Image,
-    layout: &'a Layout,
+    disk: &Disk<'a>,
     who: Uic,
     dir: FileId,
     name: Name,
     version: Option<u16>,
     file: FileId,
 ) -> Result<NewEntry<'a>, Refusal>
-    requires sound { IsSoundBy image.now layout.now }
+    requires sound { on IsSoundBy disk.now }
     requires asked { CanBeAsked (Enter dir name version file) }
-    ensures { MatchResult result (IsNewEntry image.now layout.now who dir name version file)
-        (IsFaultBy image.now layout.now who (Enter dir name version file)) }
+    ensures { MatchResult result (on IsNewEntry disk.now who dir name version file)
+        (on IsFaultBy disk.now who (Enter dir name version file)) }
 {
-    let Some(_) = named_header(image, layout, file) else {
+    let Some(_) = named_header(disk, file) else {
         return Err(Refusal::NoSuchFile);
     };
-    let opened = match open_directory(image, layout, who, dir, Right::Write) {
+    let opened = match open_directory(disk, who, dir, Right::Write) {
         Ok(opened) => opened,
         Err(refusal) => return Err(refusal),
     };
@@ -55,8 +54,7 @@ pub(crate) fn new_entry<'a>(
     };
     let bytes = entered.2;
     Ok(NewEntry {
-        image,
-        layout,
+        disk: *disk,
         dir,
         opened,
         version: entered.0,

@@ -3,35 +3,36 @@ ghost use Rattle.std.specs.Prelude.{◌≡◌, ◌<◌, ◌==◌, ◌||◌, nat_
 ghost use Rattle.ods_alloc.specs.Counts.{counts_of};
 ghost use Rattle.ods_base.specs.Image.{IsImage};
 ghost use Rattle.ods_header.specs.Header.{owner_of, protection_of};
-ghost use Rattle.ods_space.specs.{Draft.applied, Layout.header_at, Layout.with_places};
+ghost use Rattle.ods_space.specs.Draft.{applied};
 ghost use Rattle.ods_mount.specs.Sound.{IsSoundBy};
 ghost use Rattle.ods_request.specs.{declared.answers.Answer.TheVariants.Extended, declared.requests.Request.TheVariants.Extend, Rights.permits};
-ghost use Rattle.ods_state.specs.{Change.IsFaultBy, Served.IsStepOf, Served.IsRefusalOf};
+ghost use Rattle.ods_state.specs.{Change.IsFaultBy, Served.IsRefusalOf};
 ghost use Rattle.ods_change.specs.{Extending.IsExtensible, Extending.IsGrownBy, Extending.IsWanted, Taking.IsEndOf};
+ghost use Rattle.ods_space.specs.Disks.{drafted, header_drafted, header_on, on, seen};
+ghost use Rattle.ods_change.specs.Steps.{IsDraftFor};
 
 use crate::beginning::{Begun, Drafted, begin, layout_then};
 use crate::taking::{ChainEnd, Taken, ends_with, take};
 use ods_alloc::{FreeCounts, extend_from, zero_runs};
-use ods_base::{Block, FileId, Image, Uic};
+use ods_base::{Block, FileId, Uic};
 use ods_header::{is_directory, owner, protection, without_contiguous};
 use ods_look::opening::named_header;
 use ods_request::{Refusal, Right, permits};
-use ods_space::{Draft, Layout};
+use ods_space::{Disk, Draft};
 use std::alloc::{AllocError, Global};
 
 /// The first header of a file that the user may extend by so many blocks, or the first fault.
 fn open_to_extend<'a>(
-    image: &'a Image,
-    layout: &Layout,
+    disk: &Disk<'a>,
     who: Uic,
     file: FileId,
     count: u32,
 ) -> Result<&'a Block, Refusal>
-    requires { IsSoundBy image.now layout.now }
-    ensures ok { IfOk result (λ block. IsExtensible image.now layout.now who file count × (block.now ≡ header_at image.now layout.now file.number)) }
-    ensures err { IfErr result (IsFaultBy image.now layout.now who (Extend file count)) }
+    requires { on IsSoundBy disk.now }
+    ensures ok { IfOk result (λ block. on IsExtensible disk.now who file count × (block.now ≡ header_on disk.now file.number)) }
+    ensures err { IfErr result (on IsFaultBy disk.now who (Extend file count)) }
 {
-    let Some(block) = named_header(image, layout, file) else {
+    let Some(block) = named_header(disk, file) else {
         return Err(Refusal::NoSuchFile);
     };
     if file.number <= 5 {
@@ -66,32 +67,30 @@ pub(crate) fn may_extend(header: &Block, who: Uic) -> bool
 /// This draft with more changes, by which a file whose chain ends so takes these blocks and numbers. The blocks become zeros, and the
 /// first header says no more that the file's blocks are contiguous.
 fn grown(
-    image: &Image,
-    layout: &Layout,
+    disk: &Disk<'_>,
     mut draft: Draft,
     number: u16,
     first: &Block,
     end: &ChainEnd<'_>,
     taken: &Taken,
 ) -> Result<Draft, AllocError>
-    requires sound { IsSoundBy (applied image.now draft) layout.now }
-    requires image { IsImage (applied image.now draft) }
+    requires sound { drafted IsSoundBy disk.now draft }
+    requires image { IsImage (applied disk.now.image.now draft) }
     requires above { 5 < number }
-    requires first { first.now ≡ header_at (applied image.now draft) layout.now number }
-    requires end { IsEndOf (applied image.now draft) layout.now number end.now }
-    requires wanted { (headers : List ℕ) × (old : List ℕ) × (count : ℕ) × IsWanted (applied image.now draft) layout.now number headers old count taken.now }
-    ensures { IfOk result (λ made. (headers old : List ℕ) (count : ℕ) → IsWanted (applied image.now draft) layout.now number headers old count taken.now
-        → IsGrownBy (applied image.now draft) layout.now number headers old count taken.now.numbers.items (applied image.now made)) }
+    requires first { first.now ≡ header_drafted disk.now draft number }
+    requires end { drafted IsEndOf disk.now draft number end.now }
+    requires wanted { (headers : List ℕ) × (old : List ℕ) × (count : ℕ) × drafted IsWanted disk.now draft number headers old count taken.now }
+    ensures { IfOk result (λ made. (headers old : List ℕ) (count : ℕ) → drafted IsWanted disk.now draft number headers old count taken.now
+        → drafted IsGrownBy disk.now draft number headers old count taken.now.numbers.items (applied disk.now.image.now made)) }
 {
     zero_runs(&taken.runs, &mut draft)?;
-    let lbn = layout.place(number).unwrap();
+    let lbn = disk.layout.place(number).unwrap();
     let header = without_contiguous(first);
     draft.set(lbn, header)?;
     // The blocks of what the image becomes have bytes, so its chains have at most 256 headers.
-    draft.makes_image(image);
+    draft.makes_image(disk.image);
     let grown = extend_from(
-        image,
-        layout,
+        disk,
         number,
         &ends_with(number, &header, end.number, end.last),
         &taken.blocks,
@@ -106,31 +105,30 @@ fn grown(
 /// refused. Where more numbers are needed than are free, INDEXF.SYS grows.
 pub fn extend(
     alloc: Global,
-    image: &Image,
-    layout: &Layout,
+    disk: &Disk<'_>,
     counts: &FreeCounts,
     who: Uic,
     file: FileId,
     count: u32,
 ) -> Result<(Drafted, u32), Refusal>
-    requires sound { IsSoundBy image.now layout.now }
-    requires counts { counts.now ≡ counts_of image.now layout.now }
+    requires sound { on IsSoundBy disk.now }
+    requires counts { counts.now ≡ seen counts_of disk.now }
     ensures { MatchResult result
-        (λ r. IsStepOf image.now layout.now who (Extend file count) (Extended r.1) (applied image.now r.0.draft) (with_places layout.now r.0.places.items))
-        (IsRefusalOf image.now layout.now who (Extend file count)) }
+        (λ r. IsDraftFor disk.now who (Extend file count) (Extended r.1) r.0.draft r.0.places.items)
+        (on IsRefusalOf disk.now who (Extend file count)) }
 {
-    let first = match open_to_extend(image, layout, who, file, count) {
+    let first = match open_to_extend(disk, who, file, count) {
         Ok(first) => first,
         Err(refusal) => return Err(refusal),
     };
-    let end = ChainEnd::of(image, layout, file.number, first);
-    let taken = match take(alloc, image, layout, counts, end.headers, end.room, count) {
+    let end = ChainEnd::of(disk, file.number, first);
+    let taken = match take(alloc, disk, counts, end.headers, end.room, count) {
         Ok(taken) => taken,
         Err(refusal) => return Err(refusal),
     };
     // The blocks of an image have bytes.
-    let _ = image.len();
-    let begun = match begin(alloc, image, layout, &taken.places) {
+    let _ = disk.image.len();
+    let begun = match begin(alloc, disk, &taken.places) {
         Ok(begun) => begun,
         Err(_) => return Err(Refusal::NoMemory),
     };
@@ -138,8 +136,12 @@ pub fn extend(
         layout: index,
         draft,
     } = begun;
-    let then = layout_then(&index, layout);
-    match grown(image, then, draft, file.number, first, &end, &taken) {
+    let then = layout_then(&index, disk.layout);
+    let later = Disk {
+        image: disk.image,
+        layout: then,
+    };
+    match grown(&later, draft, file.number, first, &end, &taken) {
         Ok(draft) => Ok((
             Drafted {
                 draft,

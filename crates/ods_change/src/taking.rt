@@ -2,18 +2,19 @@
 ghost use Rattle.std.specs.Prelude.{◌≡◌, ◌≢◌, ◌+◌, ◌⊎◌, ◌<◌, ◌≤◌, ◌^◌, ℕ, List, None, Some, length, IfOk, IfErr, OnOk};
 ghost use Rattle.ods_alloc.specs.Counts.{counts_of};
 ghost use Rattle.ods_header.specs.Header.{room_of};
-ghost use Rattle.ods_space.specs.{Chain.chain_blocks, Files.IsLayoutOf, Free.free_blocks, Layout.header_at};
+ghost use Rattle.ods_space.specs.{Chain.chain_blocks, Files.IsLayoutOf, Free.free_blocks};
 ghost use Rattle.ods_alloc.specs.Extend.{cut};
 ghost use Rattle.ods_state.specs.Wants.{HasHeaders, index_end, index_growth, new_headers};
 ghost use Rattle.ods_change.specs.Taking.{HasPlacesFor, IsEndOf, IsMeasured, IsTakenBy, IsWhyNotTaken, LacksPlaces, refusal_for};
+ghost use Rattle.ods_space.specs.Disks.{header_on, on, seen};
 
 use ods_alloc::{
     ChainEnds, FreeCounts, SpaceFault, pick_blocks, pick_open_numbers, runs_of_blocks,
 };
-use ods_base::{Block, Image};
+use ods_base::Block;
 use ods_header::{Run, pointer_sum, room_words};
 use ods_request::Refusal;
-use ods_space::{ChainHeaders, Layout, header_block, last_number};
+use ods_space::{ChainHeaders, Disk, Layout, header_block, last_number};
 use std::alloc::{AllocError, Global};
 
 /// Where the chain of a file ends: how many headers it has, how many blocks they map, and the last of them, with its number
@@ -28,23 +29,25 @@ pub(crate) struct ChainEnd<'a> {
 }
 
 impl<'a> ChainEnd<'a> {
+    ghost use Rattle.ods_space.specs.Disks.{header_on, on};
+
     /// Where the chain of a file ends, by one walk along it. `first` is its first header.
-    pub fn of(image: &'a Image, layout: &'a Layout, number: u16, first: &'a Block) -> Self
-        requires layout { IsLayoutOf image.now layout.now }
-        requires whole { (hs : List ℕ) × (blocks : List ℕ) × HasHeaders image.now layout.now number hs blocks }
-        requires first { first.now ≡ header_at image.now layout.now number }
-        ensures end { IsMeasured image.now layout.now number result }
-        ensures last { IsEndOf image.now layout.now number result }
+    pub fn of(disk: &Disk<'a>, number: u16, first: &'a Block) -> Self
+        requires layout { on IsLayoutOf disk.now }
+        requires whole { (hs : List ℕ) × (blocks : List ℕ) × on HasHeaders disk.now number hs blocks }
+        requires first { first.now ≡ header_on disk.now number }
+        ensures end { on IsMeasured disk.now number result }
+        ensures last { on IsEndOf disk.now number result }
         ensures few { result.headers ≤ 256 }
         ensures small { result.blocks ≤ chain_blocks }
     {
         // The blocks of an image have bytes, so a chain has at most 256 headers.
-        let _ = image.len();
+        let _ = disk.image.len();
         let mut count = 0;
         let mut blocks = 0;
         let mut end = number;
         let mut last = first;
-        let mut headers = ChainHeaders::from(image, layout, number, first);
+        let mut headers = ChainHeaders::from(disk, number, first);
         while let Some((at, header)) = headers.next() {
             count += 1;
             blocks += pointer_sum(header);
@@ -96,22 +99,21 @@ pub(crate) struct Taken {
 /// the last of them (for a new file none, and 204); or what the volume lacks.
 pub(crate) fn take(
     alloc: Global,
-    image: &Image,
-    layout: &Layout,
+    disk: &Disk<'_>,
     counts: &FreeCounts,
     headers: u32,
     room: u32,
     count: u32,
 ) -> Result<Taken, Refusal>
-    requires layout { IsLayoutOf image.now layout.now }
-    requires counts { counts.now ≡ counts_of image.now layout.now }
+    requires layout { on IsLayoutOf disk.now }
+    requires counts { counts.now ≡ seen counts_of disk.now }
     requires few { headers ≤ 256 }
     requires small { count ≤ 65535 }
-    ensures ok { IfOk result (IsTakenBy image.now layout.now headers room count) }
+    ensures ok { IfOk result (on IsTakenBy disk.now headers room count) }
     ensures runs { IfOk result (λ t. t.runs.items ≡ cut t.blocks.items) }
-    ensures err { IfErr result (IsWhyNotTaken image.now layout.now headers room count) }
+    ensures err { IfErr result (on IsWhyNotTaken disk.now headers room count) }
 {
-    let blocks = match pick_blocks(alloc, image, layout, counts, count) {
+    let blocks = match pick_blocks(alloc, disk, counts, count) {
         Ok(blocks) => blocks,
         Err(fault) => return Err(refusal_for(fault)),
     };
@@ -120,11 +122,11 @@ pub(crate) fn take(
         Err(_) => return Err(Refusal::NoMemory),
     };
     let needed = headers_wanted(headers, room, runs.as_slice().len());
-    let numbers = match pick_open_numbers(alloc, image, layout, counts, needed) {
+    let numbers = match pick_open_numbers(alloc, disk, counts, needed) {
         Ok(numbers) => numbers,
         Err(fault) => return Err(refusal_for(fault)),
     };
-    let places = match places_for(alloc, image, layout, counts, count, &numbers) {
+    let places = match places_for(alloc, disk, counts, count, &numbers) {
         Ok(places) => places,
         Err(refusal) => return Err(refusal),
     };
@@ -144,24 +146,23 @@ pub(crate) fn take(
 /// cannot get them.
 fn places_for(
     alloc: Global,
-    image: &Image,
-    layout: &Layout,
+    disk: &Disk<'_>,
     counts: &FreeCounts,
     count: u32,
     numbers: &[u16],
 ) -> Result<Vec<u32>, Refusal>
-    requires layout { IsLayoutOf image.now layout.now }
-    requires counts { counts.now ≡ counts_of image.now layout.now }
+    requires layout { on IsLayoutOf disk.now }
+    requires counts { counts.now ≡ seen counts_of disk.now }
     requires small { count ≤ 65535 }
-    requires enough { count ≤ length (free_blocks image.now layout.now) }
-    ensures ok { IfOk result (λ places. HasPlacesFor image.now layout.now count numbers.now places.items) }
-    ensures err { IfErr result (λ f. (f ≡ Refusal.NoMemory) ⊎ ((f ≡ Refusal.HeadersFull) × LacksPlaces image.now layout.now count numbers.now)) }
+    requires enough { count ≤ length (seen free_blocks disk.now) }
+    ensures ok { IfOk result (λ places. on HasPlacesFor disk.now count numbers.now places.items) }
+    ensures err { IfErr result (λ f. (f ≡ Refusal.NoMemory) ⊎ ((f ≡ Refusal.HeadersFull) × on LacksPlaces disk.now count numbers.now)) }
 {
-    let growth = index_growth(layout, numbers);
+    let growth = index_growth(disk.layout, numbers);
     if growth == 0 {
         return Ok(Vec::new(alloc));
     }
-    let all = match pick_blocks(alloc, image, layout, counts, count + growth) {
+    let all = match pick_blocks(alloc, disk, counts, count + growth) {
         Ok(all) => all,
         Err(SpaceFault::NoMemory) => return Err(Refusal::NoMemory),
         Err(_) => return Err(Refusal::HeadersFull),
@@ -174,7 +175,7 @@ fn places_for(
         Ok(runs) => runs,
         Err(_) => return Err(Refusal::NoMemory),
     };
-    let room = index_end(image, layout).room as usize / 2;
+    let room = index_end(disk).room as usize / 2;
     if room < runs.as_slice().len() {
         return Err(Refusal::HeadersFull);
     }
@@ -203,15 +204,15 @@ fn copy_of(alloc: Global, blocks: &[u32]) -> Result<Vec<u32>, AllocError>
 }
 
 /// Where the chain of INDEXF.SYS ends.
-pub(crate) fn index_end<'a>(image: &'a Image, layout: &'a Layout) -> ChainEnd<'a>
-    requires { IsLayoutOf image.now layout.now }
-    ensures number { result.number ≡ index_end image.now layout.now }
-    ensures last { result.last.now ≡ header_at image.now layout.now (index_end image.now layout.now) }
-    ensures room { result.room ≡ room_of (header_at image.now layout.now (index_end image.now layout.now)) }
+pub(crate) fn index_end<'a>(disk: &Disk<'a>) -> ChainEnd<'a>
+    requires { on IsLayoutOf disk.now }
+    ensures number { result.number ≡ seen index_end disk.now }
+    ensures last { result.last.now ≡ header_on disk.now (seen index_end disk.now) }
+    ensures room { result.room ≡ room_of (header_on disk.now (seen index_end disk.now)) }
 {
-    let _ = image.len();
-    let first = header_block(image, layout, 1).unwrap();
-    ChainEnd::of(image, layout, 1, first)
+    let _ = disk.image.len();
+    let first = header_block(disk, 1).unwrap();
+    ChainEnd::of(disk, 1, first)
 }
 
 /// A want of room as a refusal.

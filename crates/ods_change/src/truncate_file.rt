@@ -1,42 +1,42 @@
 //! A Truncate: its checks, and the draft by which the file keeps its first blocks and gives the others back.
 ghost use Rattle.std.specs.Prelude.{◌≡◌, ◌<◌, ◌≤◌, nat_lt, ℕ, List, length, IfOk, IfErr, MatchResult};
 ghost use Rattle.ods_header.specs.Header.{owner_of, protection_of};
-ghost use Rattle.ods_space.specs.{Draft.applied, Layout.header_at, Chain.IsChain, Files.HasBlocks, Files.IsFile, Files.IsLayoutOf, Files.IsWhole};
+ghost use Rattle.ods_space.specs.{Draft.applied, Chain.IsChain, Files.HasBlocks, Files.IsFile, Files.IsLayoutOf, Files.IsWhole};
 ghost use Rattle.ods_mount.specs.Sound.{IsSoundBy};
 ghost use Rattle.ods_request.specs.{declared.answers.Answer.TheVariants.Truncated, declared.requests.Request.TheVariants.Truncate};
 ghost use Rattle.ods_state.specs.{Change.IsFaultBy, Cutting.CutsOff, Served.IsStepOf, Served.IsRefusalOf};
 ghost use Rattle.ods_change.specs.Truncating.{IsCutPlace, IsCuttable};
+ghost use Rattle.ods_space.specs.Disks.{header_on, on};
 
 use crate::delete_file::delete_headers;
 use crate::extend_file::may_extend;
 use ods_alloc::mark_free;
-use ods_base::{Block, FileId, Image, Uic};
+use ods_base::{Block, FileId, Uic};
 use ods_header::{cut_header, is_directory, pointer_sum};
 use ods_look::opening::named_header;
 use ods_request::Refusal;
-use ods_space::{ChainHeaders, Draft, Layout, count_whole, push_header};
+use ods_space::{ChainHeaders, Disk, Draft, count_whole, push_header};
 use std::alloc::{AllocError, Global};
 
 /// The draft by which a file keeps so many of its blocks, the first ones: the others are given back, with the headers
 /// behind the one that has the last of them. Or why that is refused.
 pub fn truncate(
     alloc: Global,
-    image: &Image,
-    layout: &Layout,
+    disk: &Disk<'_>,
     who: Uic,
     file: FileId,
     count: u32,
 ) -> Result<Draft, Refusal>
-    requires { IsSoundBy image.now layout.now }
+    requires { on IsSoundBy disk.now }
     ensures { MatchResult result
-        (λ draft. IsStepOf image.now layout.now who (Truncate file count) (Truncated count) (applied image.now draft) layout.now)
-        (IsRefusalOf image.now layout.now who (Truncate file count)) }
+        (λ draft. on IsStepOf disk.now who (Truncate file count) (Truncated count) (applied disk.now.image.now draft) disk.now.layout.now)
+        (on IsRefusalOf disk.now who (Truncate file count)) }
 {
-    let first = match open_to_truncate(image, layout, who, file, count) {
+    let first = match open_to_truncate(disk, who, file, count) {
         Ok(first) => first,
         Err(refusal) => return Err(refusal),
     };
-    match cut_off(alloc, image, layout, file.number, first, count) {
+    match cut_off(alloc, disk, file.number, first, count) {
         Ok(draft) => Ok(draft),
         Err(_) => Err(Refusal::NoMemory),
     }
@@ -44,17 +44,16 @@ pub fn truncate(
 
 /// The first header of a file that the user may cut to so many blocks, or the first fault.
 fn open_to_truncate<'a>(
-    image: &'a Image,
-    layout: &'a Layout,
+    disk: &Disk<'a>,
     who: Uic,
     file: FileId,
     count: u32,
 ) -> Result<&'a Block, Refusal>
-    requires { IsSoundBy image.now layout.now }
-    ensures ok { IfOk result (λ first. IsCuttable image.now layout.now who file count × (first.now ≡ header_at image.now layout.now file.number)) }
-    ensures err { IfErr result (IsFaultBy image.now layout.now who (Truncate file count)) }
+    requires { on IsSoundBy disk.now }
+    ensures ok { IfOk result (λ first. on IsCuttable disk.now who file count × (first.now ≡ header_on disk.now file.number)) }
+    ensures err { IfErr result (on IsFaultBy disk.now who (Truncate file count)) }
 {
-    let Some(first) = named_header(image, layout, file) else {
+    let Some(first) = named_header(disk, file) else {
         return Err(Refusal::NoSuchFile);
     };
     if file.number <= 5 {
@@ -63,7 +62,7 @@ fn open_to_truncate<'a>(
     if is_directory(file.number, first) {
         return Err(Refusal::IsDirectory);
     }
-    if has_fewer(image, layout, file.number, first, count) {
+    if has_fewer(disk, file.number, first, count) {
         return Err(Refusal::BadCount);
     }
     if !may_extend(first, who) {
@@ -73,55 +72,48 @@ fn open_to_truncate<'a>(
 }
 
 /// Whether the file with this first header has fewer blocks.
-fn has_fewer(image: &Image, layout: &Layout, number: u16, first: &Block, count: u32) -> bool
-    requires sound { IsSoundBy image.now layout.now }
-    requires file { IsFile image.now layout.now number }
-    requires header { first.now ≡ header_at image.now layout.now number }
+fn has_fewer(disk: &Disk<'_>, number: u16, first: &Block, count: u32) -> bool
+    requires sound { on IsSoundBy disk.now }
+    requires file { on IsFile disk.now number }
+    requires header { first.now ≡ header_on disk.now number }
     requires above { 5 < number }
-    ensures { (held : List ℕ) → HasBlocks image.now layout.now number held → result ≡ nat_lt (length held) count }
+    ensures { (held : List ℕ) → on HasBlocks disk.now number held → result ≡ nat_lt (length held) count }
 {
-    count_whole(image, layout, number, first) < count
+    count_whole(disk, number, first) < count
 }
 
 /// The draft that cuts the file with this first header: the headers behind the cut are deleted along its chain, the
 /// header in which it is cut is written, and then the bits of both bitmaps are marked.
 fn cut_off(
     alloc: Global,
-    image: &Image,
-    layout: &Layout,
+    disk: &Disk<'_>,
     number: u16,
     first: &Block,
     count: u32,
 ) -> Result<Draft, AllocError>
-    requires sound { IsSoundBy image.now layout.now }
-    requires file { IsFile image.now layout.now number }
+    requires sound { on IsSoundBy disk.now }
+    requires file { on IsFile disk.now number }
     requires above { 5 < number }
-    requires first { first.now ≡ header_at image.now layout.now number }
-    requires enough { (blocks : List ℕ) → HasBlocks image.now layout.now number blocks → count ≤ length blocks }
-    ensures { IfOk result (λ draft. (others blocks : List ℕ) → IsWhole image.now layout.now number others blocks
-        → CutsOff image.now layout.now number others blocks count (applied image.now draft)) }
+    requires first { first.now ≡ header_on disk.now number }
+    requires enough { (blocks : List ℕ) → on HasBlocks disk.now number blocks → count ≤ length blocks }
+    ensures { IfOk result (λ draft. (others blocks : List ℕ) → on IsWhole disk.now number others blocks
+        → on CutsOff disk.now number others blocks count (applied disk.now.image.now draft)) }
 {
     // The blocks of an image have bytes.
-    let _ = image.len();
+    let _ = disk.image.len();
     let CutPlace {
         number: last,
         header,
         left,
         behind,
-    } = cut_place(image, layout, number, first, count);
+    } = cut_place(disk, number, first, count);
     let mut lbns = Vec::new(alloc);
     push_header(&mut lbns, header)?;
     let mut draft = Draft::new(alloc);
-    let held = delete_headers(alloc, image, layout, lbns, behind, &mut draft)?;
-    let lbn = layout.place(last).unwrap();
+    let held = delete_headers(alloc, disk, lbns, behind, &mut draft)?;
+    let lbn = disk.layout.place(last).unwrap();
     draft.set(lbn, cut_header(header, left))?;
-    let given = mark_free(
-        image,
-        layout,
-        &held.lbns[left as usize..],
-        &held.numbers,
-        draft,
-    )?;
+    let given = mark_free(disk, &held.lbns[left as usize..], &held.numbers, draft)?;
     Ok(given)
 }
 
@@ -137,22 +129,16 @@ struct CutPlace<'a> {
 
 /// Where the chain of a file is cut that keeps so many blocks, by one walk along it: in the header that has the last of
 /// them, and in the first one where none is kept.
-fn cut_place<'a>(
-    image: &'a Image,
-    layout: &'a Layout,
-    number: u16,
-    first: &'a Block,
-    count: u32,
-) -> CutPlace<'a>
-    requires layout { IsLayoutOf image.now layout.now }
-    requires chain { (others : List ℕ) × (blocks : List ℕ) × IsChain image.now layout.now number others blocks × (count ≤ length blocks) }
-    requires first { first.now ≡ header_at image.now layout.now number }
-    ensures { IsCutPlace image.now layout.now number count result }
+fn cut_place<'a>(disk: &Disk<'a>, number: u16, first: &'a Block, count: u32) -> CutPlace<'a>
+    requires layout { on IsLayoutOf disk.now }
+    requires chain { (others : List ℕ) × (blocks : List ℕ) × on IsChain disk.now number others blocks × (count ≤ length blocks) }
+    requires first { first.now ≡ header_on disk.now number }
+    ensures { on IsCutPlace disk.now number count result }
 {
     // The blocks of an image have bytes, so a chain has at most 256 headers.
-    let _ = image.len();
+    let _ = disk.image.len();
     let mut left = count;
-    let mut headers = ChainHeaders::from(image, layout, number, first);
+    let mut headers = ChainHeaders::from(disk, number, first);
     while let Some((at, header)) = headers.next() {
         let has = pointer_sum(header);
         if left <= has {

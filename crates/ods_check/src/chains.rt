@@ -3,47 +3,38 @@ ghost use Rattle.std.specs.Prelude.{◌≡◌, ◌+◌, ℕ, ◌⊎◌, OnOk};
 ghost use Rattle.std.specs.List.{Contains};
 ghost use Rattle.ods_header.specs.Home.{IsHomeAt};
 ghost use Rattle.ods_header.specs.Header.{attributes_of};
-ghost use Rattle.ods_space.specs.{Layout.header_at, Files.HasBlocks, Files.IsFile, Files.IsLayoutOf};
+ghost use Rattle.ods_space.specs.{Files.HasBlocks, Files.IsFile, Files.IsLayoutOf};
 ghost use Rattle.ods_mount.specs.Faults.{IsTrueOf, SharesHeader};
 ghost use Rattle.ods_check.specs.{Lists.Adds, Sets.IsSetOf, Lines.IsLineOf, Lines.IsIndexFault, Faults.Tells, Faults.TellsFile, Faults.TellsWhole, Marks.IsOfTwo};
+ghost use Rattle.ods_space.specs.Disks.{header_on, on};
 
 use crate::add::push_if;
 use crate::shared_headers::{header_numbers, shared_headers};
 use crate::sharing::first_in;
 use crate::{FaultLine, IndexFault};
-use ods_base::Image;
 use ods_directory::{DirBlocks, Verdict, check, mark_of};
 use ods_header::attributes;
 use ods_mount::{
     FileBlocks, MountFault, NumberSet, chain_fault, is_directory_file, is_loose_place,
 };
-use ods_space::{Layout, chain, check_chain, first_header, is_free};
+use ods_space::{Disk, chain, check_chain, first_header, is_free};
 use std::alloc::{AllocError, Global};
 
 /// Adds the faults of each file.
 pub(crate) fn push_files(
     alloc: Global,
-    image: &Image,
-    layout: &Layout,
+    disk: &Disk<'_>,
     home_lbn: u32,
     faults: &mut Vec<FaultLine>,
 ) -> Result<(), AllocError>
-    requires layout { IsLayoutOf image.now layout.now }
-    requires home { IsHomeAt image.now home_lbn }
-    ensures adds { OnOk result (Adds (IsLineOf image.now layout.now) faults.old.items faults.new.items) }
-    ensures files { OnOk result ((n : ℕ) → TellsFile image.now layout.now faults.new.items n) }
+    requires layout { on IsLayoutOf disk.now }
+    requires home { IsHomeAt disk.now.image.now home_lbn }
+    ensures adds { OnOk result (Adds (on IsLineOf disk.now) faults.old.items faults.new.items) }
+    ensures files { OnOk result ((n : ℕ) → on TellsFile disk.now faults.new.items n) }
 {
-    let shared = shared_headers(alloc, image, layout)?;
-    for number in 0..layout.home().max_files as u32 + 1 {
-        push_file(
-            alloc,
-            image,
-            layout,
-            home_lbn,
-            number as u16,
-            &shared,
-            faults,
-        )?;
+    let shared = shared_headers(alloc, disk)?;
+    for number in 0..disk.layout.home().max_files as u32 + 1 {
+        push_file(alloc, disk, home_lbn, number as u16, &shared, faults)?;
     }
     Ok(())
 }
@@ -51,40 +42,30 @@ pub(crate) fn push_files(
 /// Adds the faults of a file, where the number is one. `shared` has the headers that chains of two files have.
 fn push_file(
     alloc: Global,
-    image: &Image,
-    layout: &Layout,
+    disk: &Disk<'_>,
     home_lbn: u32,
     number: u16,
     shared: &NumberSet,
     faults: &mut Vec<FaultLine>,
 ) -> Result<(), AllocError>
-    requires layout { IsLayoutOf image.now layout.now }
-    requires home { IsHomeAt image.now home_lbn }
-    requires shared { IsSetOf (IsOfTwo image.now layout.now (layout.now.home.max_files + 1)) shared.now }
-    ensures adds { OnOk result (Adds (IsLineOf image.now layout.now) faults.old.items faults.new.items) }
-    ensures file { OnOk result (TellsFile image.now layout.now faults.new.items number) }
+    requires layout { on IsLayoutOf disk.now }
+    requires home { IsHomeAt disk.now.image.now home_lbn }
+    requires shared { IsSetOf (on IsOfTwo disk.now (disk.now.layout.now.home.max_files + 1)) shared.now }
+    ensures adds { OnOk result (Adds (on IsLineOf disk.now) faults.old.items faults.new.items) }
+    ensures file { OnOk result (on TellsFile disk.now faults.new.items number) }
 {
-    let Some(first) = first_header(image, layout, number) else {
+    let Some(first) = first_header(disk, number) else {
         return Ok(());
     };
-    push_sharing(alloc, image, layout, number, shared, faults)?;
-    if let Err(fault) = check_chain(image, layout, number) {
+    push_sharing(alloc, disk, number, shared, faults)?;
+    if let Err(fault) = check_chain(disk, number) {
         faults.push(FaultLine::Plain(chain_fault(number, fault)))?;
         return Ok(());
     }
-    match chain(alloc, image, layout, number) {
+    match chain(alloc, disk, number) {
         Ok(blocks) => {
             let attributes = attributes(first);
-            push_whole(
-                alloc,
-                image,
-                layout,
-                home_lbn,
-                number,
-                &attributes,
-                &blocks,
-                faults,
-            )?;
+            push_whole(alloc, disk, home_lbn, number, &attributes, &blocks, faults)?;
             Ok(())
         }
         Err(_) => Err(AllocError),
@@ -94,19 +75,18 @@ fn push_file(
 /// Adds that a file shares a header with another one, where it does. `shared` has the headers that chains of two files have.
 fn push_sharing(
     alloc: Global,
-    image: &Image,
-    layout: &Layout,
+    disk: &Disk<'_>,
     number: u16,
     shared: &NumberSet,
     faults: &mut Vec<FaultLine>,
 ) -> Result<(), AllocError>
-    requires layout { IsLayoutOf image.now layout.now }
-    requires file { IsFile image.now layout.now number }
-    requires shared { IsSetOf (IsOfTwo image.now layout.now (layout.now.home.max_files + 1)) shared.now }
-    ensures adds { OnOk result (Adds (IsLineOf image.now layout.now) faults.old.items faults.new.items) }
-    ensures shares { OnOk result (SharesHeader image.now layout.now number → Tells faults.new.items (MountFault.BadChain number)) }
+    requires layout { on IsLayoutOf disk.now }
+    requires file { on IsFile disk.now number }
+    requires shared { IsSetOf (on IsOfTwo disk.now (disk.now.layout.now.home.max_files + 1)) shared.now }
+    ensures adds { OnOk result (Adds (on IsLineOf disk.now) faults.old.items faults.new.items) }
+    ensures shares { OnOk result (on SharesHeader disk.now number → Tells faults.new.items (MountFault.BadChain number)) }
 {
-    let headers = header_numbers(alloc, image, layout, number)?;
+    let headers = header_numbers(alloc, disk, number)?;
     let Some(_) = first_in(&headers, shared) else {
         return Ok(());
     };
@@ -117,42 +97,40 @@ fn push_sharing(
 /// Adds the faults of a file that has these blocks.
 fn push_whole(
     alloc: Global,
-    image: &Image,
-    layout: &Layout,
+    disk: &Disk<'_>,
     home_lbn: u32,
     number: u16,
     attributes: &[u8; 32],
     lbns: &[u32],
     faults: &mut Vec<FaultLine>,
 ) -> Result<(), AllocError>
-    requires home { IsHomeAt image.now home_lbn }
-    requires whole { HasBlocks image.now layout.now number lbns.now }
-    requires attributes { attributes.now ≡ attributes_of (header_at image.now layout.now number) }
-    ensures adds { OnOk result (Adds (IsLineOf image.now layout.now) faults.old.items faults.new.items) }
-    ensures file { OnOk result (TellsWhole image.now layout.now faults.new.items number) }
+    requires home { IsHomeAt disk.now.image.now home_lbn }
+    requires whole { on HasBlocks disk.now number lbns.now }
+    requires attributes { attributes.now ≡ attributes_of (header_on disk.now number) }
+    ensures adds { OnOk result (Adds (on IsLineOf disk.now) faults.old.items faults.new.items) }
+    ensures file { OnOk result (on TellsWhole disk.now faults.new.items number) }
 {
-    push_free(image, layout, number, lbns, faults)?;
-    push_places(image, layout, home_lbn, number, lbns, faults)?;
-    push_names(alloc, image, layout, number, attributes, lbns, faults)?;
+    push_free(disk, number, lbns, faults)?;
+    push_places(disk, home_lbn, number, lbns, faults)?;
+    push_names(alloc, disk, number, attributes, lbns, faults)?;
     Ok(())
 }
 
 /// Adds each place of a home block below that in force which this file holds, and a request can change.
 fn push_places(
-    image: &Image,
-    layout: &Layout,
+    disk: &Disk<'_>,
     home_lbn: u32,
     number: u16,
     lbns: &[u32],
     faults: &mut Vec<FaultLine>,
 ) -> Result<(), AllocError>
-    requires home { IsHomeAt image.now home_lbn }
-    requires whole { HasBlocks image.now layout.now number lbns.now }
-    ensures adds { OnOk result (Adds (IsLineOf image.now layout.now) faults.old.items faults.new.items) }
-    ensures places { OnOk result ((k : ℕ) → IsIndexFault image.now layout.now (IndexFault.HeldPlace k number) → Contains faults.new.items (FaultLine.Index (IndexFault.HeldPlace k number))) }
+    requires home { IsHomeAt disk.now.image.now home_lbn }
+    requires whole { on HasBlocks disk.now number lbns.now }
+    ensures adds { OnOk result (Adds (on IsLineOf disk.now) faults.old.items faults.new.items) }
+    ensures places { OnOk result ((k : ℕ) → on IsIndexFault disk.now (IndexFault.HeldPlace k number) → Contains faults.new.items (FaultLine.Index (IndexFault.HeldPlace k number))) }
 {
     // An image has few blocks, and so has a chain.
-    let _ = image.len();
+    let _ = disk.image.len();
     for i in 0..lbns.len() {
         let lbn = lbns[i];
         let loose = is_loose_place(home_lbn, number, i as u32, lbn);
@@ -164,19 +142,18 @@ fn push_places(
 
 /// Adds each block of a file that is marked free.
 fn push_free(
-    image: &Image,
-    layout: &Layout,
+    disk: &Disk<'_>,
     number: u16,
     lbns: &[u32],
     faults: &mut Vec<FaultLine>,
 ) -> Result<(), AllocError>
-    requires { HasBlocks image.now layout.now number lbns.now }
-    ensures adds { OnOk result (Adds (IsLineOf image.now layout.now) faults.old.items faults.new.items) }
-    ensures free { OnOk result ((b : ℕ) → IsTrueOf image.now layout.now (MountFault.MarkedFree number b) → Tells faults.new.items (MountFault.MarkedFree number b)) }
+    requires { on HasBlocks disk.now number lbns.now }
+    ensures adds { OnOk result (Adds (on IsLineOf disk.now) faults.old.items faults.new.items) }
+    ensures free { OnOk result ((b : ℕ) → on IsTrueOf disk.now (MountFault.MarkedFree number b) → Tells faults.new.items (MountFault.MarkedFree number b)) }
 {
     for i in 0..lbns.len() {
         let lbn = lbns[i];
-        let free = is_free(image, layout, lbn);
+        let free = is_free(disk, lbn);
         push_if(
             faults,
             FaultLine::Plain(MountFault::MarkedFree(number, lbn)),
@@ -189,25 +166,24 @@ fn push_free(
 /// Adds that the names of a directory are no good ones, where the file is one and they are not.
 fn push_names(
     alloc: Global,
-    image: &Image,
-    layout: &Layout,
+    disk: &Disk<'_>,
     number: u16,
     attributes: &[u8; 32],
     lbns: &[u32],
     faults: &mut Vec<FaultLine>,
 ) -> Result<(), AllocError>
-    requires whole { HasBlocks image.now layout.now number lbns.now }
-    requires attributes { attributes.now ≡ attributes_of (header_at image.now layout.now number) }
-    ensures adds { OnOk result (Adds (IsLineOf image.now layout.now) faults.old.items faults.new.items) }
-    ensures names { OnOk result ((IsTrueOf image.now layout.now (MountFault.BadDirectory number) ⊎ IsTrueOf image.now layout.now (MountFault.DuplicateName number))
+    requires whole { on HasBlocks disk.now number lbns.now }
+    requires attributes { attributes.now ≡ attributes_of (header_on disk.now number) }
+    ensures adds { OnOk result (Adds (on IsLineOf disk.now) faults.old.items faults.new.items) }
+    ensures names { OnOk result ((on IsTrueOf disk.now (MountFault.BadDirectory number) ⊎ on IsTrueOf disk.now (MountFault.DuplicateName number))
         → Tells faults.new.items (MountFault.BadDirectory number) ⊎ Tells faults.new.items (MountFault.DuplicateName number)) }
 {
-    if !is_directory_file(image, layout, number) {
+    if !is_directory_file(disk, number) {
         return Ok(());
     }
     // An image has few blocks, and so has a chain.
-    let _ = image.len();
-    let blocks = FileBlocks::new(image, lbns);
+    let _ = disk.image.len();
+    let blocks = FileBlocks::new(disk.image, lbns);
     let mark = mark_of(attributes, blocks.count());
     match check(alloc, &blocks, mark) {
         Ok(Verdict::Good) => Ok(()),

@@ -3,52 +3,48 @@ ghost use Rattle.std.specs.Prelude.{◌≡◌, ◌*◌, ◌<◌, ℕ, length, On
 ghost use Rattle.std.specs.List.{Contains};
 ghost use Rattle.ods_space.specs.Files.{IsLayoutOf};
 ghost use Rattle.ods_check.specs.{Lists.Adds, Findings.IsFound, Findings.IsEndPast, Findings.id_at, Findings.end_of};
+ghost use Rattle.ods_space.specs.Disks.{on, seen};
 
 use crate::Finding;
 use crate::add::push_if;
 use crate::ids::id_of;
-use ods_base::Image;
 use ods_directory::mark_of;
 use ods_header::attributes;
 use ods_mount::is_directory_file;
-use ods_space::{Layout, block_count, first_header};
+use ods_space::{Disk, block_count, first_header};
 use std::alloc::AllocError;
 
 /// Adds each file above 2, and no directory, that ends past its blocks.
-pub(crate) fn push_ends(
-    image: &Image,
-    layout: &Layout,
-    findings: &mut Vec<Finding>,
-) -> Result<(), AllocError>
-    requires { IsLayoutOf image.now layout.now }
-    ensures adds { OnOk result (Adds (IsFound image.now layout.now) findings.old.items findings.new.items) }
-    ensures all { OnOk result ((n : ℕ) → IsEndPast image.now layout.now n → Contains findings.new.items (Finding.EndPast (id_at image.now layout.now n))) }
+pub(crate) fn push_ends(disk: &Disk<'_>, findings: &mut Vec<Finding>) -> Result<(), AllocError>
+    requires { on IsLayoutOf disk.now }
+    ensures adds { OnOk result (Adds (on IsFound disk.now) findings.old.items findings.new.items) }
+    ensures all { OnOk result ((n : ℕ) → on IsEndPast disk.now n → Contains findings.new.items (Finding.EndPast (seen id_at disk.now n))) }
 {
-    for number in 0..layout.home().max_files as u32 + 1 {
-        let file = id_of(image, layout, number as u16);
-        let past = ends_past(image, layout, number as u16);
+    for number in 0..disk.layout.home().max_files as u32 + 1 {
+        let file = id_of(disk, number as u16);
+        let past = ends_past(disk, number as u16);
         push_if(findings, Finding::EndPast(file), past)?;
     }
     Ok(())
 }
 
 /// Whether this is a file above 2, and no directory, that ends past its blocks.
-fn ends_past(image: &Image, layout: &Layout, number: u16) -> bool
-    requires { IsLayoutOf image.now layout.now }
-    ensures { MatchBool result (IsEndPast image.now layout.now number) (¬ IsEndPast image.now layout.now number) }
+fn ends_past(disk: &Disk<'_>, number: u16) -> bool
+    requires { on IsLayoutOf disk.now }
+    ensures { MatchBool result (on IsEndPast disk.now number) (¬ on IsEndPast disk.now number) }
 {
     if number < 3 {
         return false;
     }
-    let Some(first) = first_header(image, layout, number) else {
+    let Some(first) = first_header(disk, number) else {
         return false;
     };
-    if is_directory_file(image, layout, number) {
+    if is_directory_file(disk, number) {
         return false;
     }
     // An image has few blocks, and so has a file.
-    let _ = image.len();
-    match block_count(image, layout, number) {
+    let _ = disk.image.len();
+    match block_count(disk, number) {
         Some(count) => is_past(&attributes(first), count),
         None => false,
     }

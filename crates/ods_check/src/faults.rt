@@ -5,6 +5,7 @@ ghost use Rattle.ods_header.specs.Home.{IsHomeAt};
 ghost use Rattle.ods_space.specs.Files.{IsLayoutOf};
 ghost use Rattle.ods_mount.specs.Faults.{IsSound, FaultIsTrue};
 ghost use Rattle.ods_check.specs.{Lists.Adds, Lines.fault_of, Lines.IsLineOf, Lines.LineIsTrue, Faults.TellsAll};
+ghost use Rattle.ods_space.specs.Disks.{on};
 
 use crate::FaultLine;
 use crate::chains::push_files;
@@ -13,7 +14,7 @@ use crate::sharing::push_shared;
 use crate::system::{push_formats, push_system};
 use ods_base::Image;
 use ods_mount::{MountFault, check_image, read_layout};
-use ods_space::Layout;
+use ods_space::{Disk, Layout};
 use std::alloc::{AllocError, Global};
 
 /// What a check of an image finds: the layout, where there is one; the fault that a mount answers; and a line for each fault.
@@ -88,7 +89,11 @@ fn all_faults(alloc: Global, image: &Image, known: MountFault) -> Result<Checked
     let mut faults = Vec::new(alloc);
     match read_layout(alloc, image) {
         Ok((home_lbn, layout)) => {
-            push_all(alloc, image, &layout, home_lbn, &mut faults)?;
+            let disk = Disk {
+                image,
+                layout: &layout,
+            };
+            push_all(alloc, &disk, home_lbn, &mut faults)?;
             tell(known, &mut faults)?;
             Ok(Checked {
                 layout: Some(layout),
@@ -152,20 +157,19 @@ fn pair_of(fault: MountFault) -> Option<(u16, u16)> {
 /// and the pairs of files that hold the same blocks.
 fn push_all(
     alloc: Global,
-    image: &Image,
-    layout: &Layout,
+    disk: &Disk<'_>,
     home_lbn: u32,
     faults: &mut Vec<FaultLine>,
 ) -> Result<(), AllocError>
-    requires layout { IsLayoutOf image.now layout.now }
-    requires home { IsHomeAt image.now home_lbn }
-    ensures adds { OnOk result (Adds (IsLineOf image.now layout.now) faults.old.items faults.new.items) }
-    ensures all { OnOk result (TellsAll image.now layout.now faults.new.items) }
+    requires layout { on IsLayoutOf disk.now }
+    requires home { IsHomeAt disk.now.image.now home_lbn }
+    ensures adds { OnOk result (Adds (on IsLineOf disk.now) faults.old.items faults.new.items) }
+    ensures all { OnOk result (on TellsAll disk.now faults.new.items) }
 {
-    push_index(image, layout, home_lbn, faults)?;
-    push_system(image, layout, faults)?;
-    push_formats(image, layout, faults)?;
-    push_files(alloc, image, layout, home_lbn, faults)?;
-    push_shared(alloc, image, layout, faults)?;
+    push_index(disk, home_lbn, faults)?;
+    push_system(disk, faults)?;
+    push_formats(disk, faults)?;
+    push_files(alloc, disk, home_lbn, faults)?;
+    push_shared(alloc, disk, faults)?;
     Ok(())
 }

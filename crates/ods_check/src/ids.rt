@@ -1,14 +1,15 @@
 //! File IDs of headers.
 ghost use Rattle.std.specs.Prelude.{◌≡◌};
 ghost use Rattle.ods_check.specs.Findings.{id_at};
+ghost use Rattle.ods_space.specs.Disks.{seen};
 
-use ods_base::{FileId, Image};
-use ods_space::{Layout, sequence};
+use ods_base::FileId;
+use ods_space::{Disk, sequence};
 
 /// The ID of the header of this number: its number and its sequence number.
-pub(crate) fn id_of(image: &Image, layout: &Layout, number: u16) -> FileId
-    ensures { result ≡ id_at image.now layout.now number }
+pub(crate) fn id_of(disk: &Disk<'_>, number: u16) -> FileId
+    ensures { result ≡ seen id_at disk.now number }
 {
-    let sequence = sequence(image, layout, number);
+    let sequence = sequence(disk, number);
     FileId { number, sequence }
 }

@@ -4,31 +4,30 @@ ghost use Rattle.std.specs.List.{Contains};
 ghost use Rattle.ods_header.specs.Home.{IsHomeAt, IsHomePlace};
 ghost use Rattle.ods_space.specs.Free.{is_free_block};
 ghost use Rattle.ods_check.specs.{Lists.Adds, Lines.IsElsewhere, Lines.IsIndexFault, Lines.IsLineOf, Faults.TellsIndex};
+ghost use Rattle.ods_space.specs.Disks.{on, seen};
 
 use crate::add::push_if;
 use crate::{FaultLine, IndexFault};
-use ods_base::Image;
 use ods_mount::is_home_place;
-use ods_space::{Layout, is_free};
+use ods_space::{Disk, Layout, is_free};
 use std::alloc::AllocError;
 
 /// Adds each reason why the index is bad, but for places of a home block that files hold.
 pub(crate) fn push_index(
-    image: &Image,
-    layout: &Layout,
+    disk: &Disk<'_>,
     home_lbn: u32,
     faults: &mut Vec<FaultLine>,
 ) -> Result<(), AllocError>
-    requires { IsHomeAt image.now home_lbn }
-    ensures adds { OnOk result (Adds (IsLineOf image.now layout.now) faults.old.items faults.new.items) }
-    ensures index { OnOk result (TellsIndex image.now layout.now faults.new.items) }
+    requires { IsHomeAt disk.now.image.now home_lbn }
+    ensures adds { OnOk result (Adds (on IsLineOf disk.now) faults.old.items faults.new.items) }
+    ensures index { OnOk result (on TellsIndex disk.now faults.new.items) }
 {
     let short = FaultLine::Index(IndexFault::TooShort);
-    push_if(faults, short, is_too_short(layout))?;
-    push_misplaced(image, layout, faults)?;
+    push_if(faults, short, is_too_short(disk.layout))?;
+    push_misplaced(disk, faults)?;
     let other = FaultLine::Index(IndexFault::OtherHome(home_lbn));
-    push_if(faults, other, is_other_home(layout, home_lbn))?;
-    push_free_places(image, layout, home_lbn, faults)?;
+    push_if(faults, other, is_other_home(disk.layout, home_lbn))?;
+    push_free_places(disk, home_lbn, faults)?;
     Ok(())
 }
 
@@ -52,16 +51,12 @@ fn is_other_home(layout: &Layout, home_lbn: u32) -> bool
 }
 
 /// Adds the first block of INDEXF.SYS that is not where the index bitmap or one of the first 16 headers is.
-fn push_misplaced(
-    image: &Image,
-    layout: &Layout,
-    faults: &mut Vec<FaultLine>,
-) -> Result<(), AllocError>
-    ensures adds { OnOk result (Adds (IsLineOf image.now layout.now) faults.old.items faults.new.items) }
-    ensures some { OnOk result ((i : ℕ) → IsElsewhere layout.now i → (v : ℕ) × Contains faults.new.items (FaultLine.Index (IndexFault.Misplaced v))) }
-    ensures first { OnOk result ((v : ℕ) → IsIndexFault image.now layout.now (IndexFault.Misplaced v) → Contains faults.new.items (FaultLine.Index (IndexFault.Misplaced v))) }
+fn push_misplaced(disk: &Disk<'_>, faults: &mut Vec<FaultLine>) -> Result<(), AllocError>
+    ensures adds { OnOk result (Adds (on IsLineOf disk.now) faults.old.items faults.new.items) }
+    ensures some { OnOk result ((i : ℕ) → IsElsewhere disk.now.layout.now i → (v : ℕ) × Contains faults.new.items (FaultLine.Index (IndexFault.Misplaced v))) }
+    ensures first { OnOk result ((v : ℕ) → on IsIndexFault disk.now (IndexFault.Misplaced v) → Contains faults.new.items (FaultLine.Index (IndexFault.Misplaced v))) }
 {
-    let Some(at) = first_misplaced(layout) else {
+    let Some(at) = first_misplaced(disk.layout) else {
         return Ok(());
     };
     faults.push(FaultLine::Index(IndexFault::Misplaced(at + 3)))?;
@@ -96,27 +91,26 @@ fn is_at(index: &[u32], at: usize, lbn: u64) -> bool
 
 /// Adds each place of a home block below this one that is free.
 fn push_free_places(
-    image: &Image,
-    layout: &Layout,
+    disk: &Disk<'_>,
     home_lbn: u32,
     faults: &mut Vec<FaultLine>,
 ) -> Result<(), AllocError>
-    requires { IsHomeAt image.now home_lbn }
-    ensures adds { OnOk result (Adds (IsLineOf image.now layout.now) faults.old.items faults.new.items) }
-    ensures free { OnOk result ((k : ℕ) → IsIndexFault image.now layout.now (IndexFault.FreePlace k) → Contains faults.new.items (FaultLine.Index (IndexFault.FreePlace k))) }
+    requires { IsHomeAt disk.now.image.now home_lbn }
+    ensures adds { OnOk result (Adds (on IsLineOf disk.now) faults.old.items faults.new.items) }
+    ensures free { OnOk result ((k : ℕ) → on IsIndexFault disk.now (IndexFault.FreePlace k) → Contains faults.new.items (FaultLine.Index (IndexFault.FreePlace k))) }
 {
     for lbn in 0..home_lbn {
-        let free = is_free_place(image, layout, lbn);
+        let free = is_free_place(disk, lbn);
         push_if(faults, FaultLine::Index(IndexFault::FreePlace(lbn)), free)?;
     }
     Ok(())
 }
 
 /// Whether the block is a place of a home block, and free.
-fn is_free_place(image: &Image, layout: &Layout, lbn: u32) -> bool
+fn is_free_place(disk: &Disk<'_>, lbn: u32) -> bool
     ensures { MatchBool result
-        (IsHomePlace lbn × IsTrue (is_free_block image.now layout.now lbn))
-        (¬ (IsHomePlace lbn × IsTrue (is_free_block image.now layout.now lbn))) }
+        (IsHomePlace lbn × IsTrue (seen is_free_block disk.now lbn))
+        (¬ (IsHomePlace lbn × IsTrue (seen is_free_block disk.now lbn))) }
 {
-    is_home_place(lbn) && is_free(image, layout, lbn)
+    is_home_place(lbn) && is_free(disk, lbn)
 }

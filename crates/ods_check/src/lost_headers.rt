@@ -4,93 +4,92 @@ ghost use Rattle.std.specs.List.{Contains};
 ghost use Rattle.ods_space.specs.{Chain.IsChain, Files.IsLayoutOf};
 ghost use Rattle.ods_mount.specs.Tables.{has};
 ghost use Rattle.ods_check.specs.{Lists.Adds, Sets.IsSetOf, Findings.HasAsHeader, Findings.IsFound, Findings.IsLostHeader, Findings.id_at};
+ghost use Rattle.ods_space.specs.Disks.{on, seen};
 
 use crate::Finding;
 use crate::add::push_if;
 use crate::ids::id_of;
-use ods_base::Image;
 use ods_header::{is_valid_header, segment};
 use ods_mount::NumberSet;
-use ods_space::{ChainFault, ChainHeaders, Layout, check_chain, header_block, in_use};
+use ods_space::{ChainFault, ChainHeaders, Disk, check_chain, header_block, in_use};
 use std::alloc::{AllocError, Global};
 
 /// Adds each valid extension header that no file has.
 pub(crate) fn push_lost_headers(
     alloc: Global,
-    image: &Image,
-    layout: &Layout,
+    disk: &Disk<'_>,
     findings: &mut Vec<Finding>,
 ) -> Result<(), AllocError>
-    requires { IsLayoutOf image.now layout.now }
-    ensures adds { OnOk result (Adds (IsFound image.now layout.now) findings.old.items findings.new.items) }
-    ensures all { OnOk result ((n : ℕ) → IsLostHeader image.now layout.now n → Contains findings.new.items (Finding.LostHeader (id_at image.now layout.now n))) }
+    requires { on IsLayoutOf disk.now }
+    ensures adds { OnOk result (Adds (on IsFound disk.now) findings.old.items findings.new.items) }
+    ensures all { OnOk result ((n : ℕ) → on IsLostHeader disk.now n → Contains findings.new.items (Finding.LostHeader (seen id_at disk.now n))) }
 {
-    let reached = reached_headers(alloc, image, layout)?;
+    let reached = reached_headers(alloc, disk)?;
     // The blocks of an image have bytes, so no header has a greater number than a word.
-    let _ = image.len();
-    let last = (4096 * layout.home().index_bitmap_size as u32).min(65535);
+    let _ = disk.image.len();
+    let last = (4096 * disk.layout.home().index_bitmap_size as u32).min(65535);
     for number in 0..last + 1 {
-        let file = id_of(image, layout, number as u16);
-        let lost = is_lost_header(image, layout, &reached, number as u16);
+        let file = id_of(disk, number as u16);
+        let lost = is_lost_header(disk, &reached, number as u16);
         push_if(findings, Finding::LostHeader(file), lost)?;
     }
     Ok(())
 }
 
 /// Whether this is a valid extension header that no file has. `reached` has the headers of all files.
-fn is_lost_header(image: &Image, layout: &Layout, reached: &NumberSet, number: u16) -> bool
-    requires { IsSetOf (λ n. (m : ℕ) × HasAsHeader image.now layout.now m n) reached.now }
-    ensures { MatchBool result (IsLostHeader image.now layout.now number) (¬ IsLostHeader image.now layout.now number) }
+fn is_lost_header(disk: &Disk<'_>, reached: &NumberSet, number: u16) -> bool
+    requires { IsSetOf (λ n. (m : ℕ) × on HasAsHeader disk.now m n) reached.now }
+    ensures { MatchBool result (on IsLostHeader disk.now number) (¬ on IsLostHeader disk.now number) }
 {
-    if !in_use(image, layout, number) || reached.contains(number as u32) {
+    if !in_use(disk, number) || reached.contains(number as u32) {
         return false;
     }
-    match header_block(image, layout, number) {
+    match header_block(disk, number) {
         Some(block) => is_valid_header(block, number) && segment(block) != 0,
         None => false,
     }
 }
 
 /// The headers of all files that have a chain.
-fn reached_headers(alloc: Global, image: &Image, layout: &Layout) -> Result<NumberSet, AllocError>
-    requires { IsLayoutOf image.now layout.now }
-    ensures { IfOk result (IsSetOf (λ n. (m : ℕ) × HasAsHeader image.now layout.now m n)) }
+fn reached_headers(alloc: Global, disk: &Disk<'_>) -> Result<NumberSet, AllocError>
+    requires { on IsLayoutOf disk.now }
+    ensures { IfOk result (IsSetOf (λ n. (m : ℕ) × on HasAsHeader disk.now m n)) }
 {
     // The number of a header is a word.
     let mut reached = NumberSet::new(alloc, 65536)?;
-    for number in 0..layout.home().max_files as u32 + 1 {
-        note_headers(image, layout, number as u16, &mut reached);
+    for number in 0..disk.layout.home().max_files as u32 + 1 {
+        note_headers(disk, number as u16, &mut reached);
     }
     Ok(reached)
 }
 
 /// Notes the headers of a file, where it has a chain.
-fn note_headers(image: &Image, layout: &Layout, number: u16, reached: &mut NumberSet)
-    requires layout { IsLayoutOf image.now layout.now }
+fn note_headers(disk: &Disk<'_>, number: u16, reached: &mut NumberSet)
+    requires layout { on IsLayoutOf disk.now }
     requires room { 65536 ≤ 64 * length reached.old }
-    ensures with { IsSetOf (λ n. (has reached.old n ≡ true) ⊎ HasAsHeader image.now layout.now number n) reached.new }
+    ensures with { IsSetOf (λ n. (has reached.old n ≡ true) ⊎ on HasAsHeader disk.now number n) reached.new }
     ensures room { length reached.new ≡ length reached.old }
 {
-    match check_chain(image, layout, number) {
-        Ok(()) => note_chain(image, layout, number, reached),
+    match check_chain(disk, number) {
+        Ok(()) => note_chain(disk, number, reached),
         // A chain is there, though it names blocks that the image lacks.
-        Err(ChainFault::OutsideVolume(_)) => note_chain(image, layout, number, reached),
+        Err(ChainFault::OutsideVolume(_)) => note_chain(disk, number, reached),
         Err(ChainFault::BadChain) => {}
         Err(ChainFault::NoMemory) => {}
     }
 }
 
 /// Notes the headers of a chain.
-fn note_chain(image: &Image, layout: &Layout, number: u16, reached: &mut NumberSet)
-    requires layout { IsLayoutOf image.now layout.now }
-    requires chain { (others : List ℕ) × (blocks : List ℕ) × IsChain image.now layout.now number others blocks }
+fn note_chain(disk: &Disk<'_>, number: u16, reached: &mut NumberSet)
+    requires layout { on IsLayoutOf disk.now }
+    requires chain { (others : List ℕ) × (blocks : List ℕ) × on IsChain disk.now number others blocks }
     requires room { 65536 ≤ 64 * length reached.old }
-    ensures with { IsSetOf (λ n. (has reached.old n ≡ true) ⊎ HasAsHeader image.now layout.now number n) reached.new }
+    ensures with { IsSetOf (λ n. (has reached.old n ≡ true) ⊎ on HasAsHeader disk.now number n) reached.new }
     ensures room { length reached.new ≡ length reached.old }
 {
     // The blocks of an image have bytes, so a chain has at most 256 headers.
-    let _ = image.len();
-    let mut headers = ChainHeaders::of(image, layout, number);
+    let _ = disk.image.len();
+    let mut headers = ChainHeaders::of(disk, number);
     while let Some((header, _)) = headers.next() {
         reached.insert(header as u32);
     }

@@ -5,65 +5,64 @@ ghost use Rattle.ods_base.specs.declared.listed.Listed.{Listed as Line};
 ghost use Rattle.ods_space.specs.Files.{IsLayoutOf};
 ghost use Rattle.ods_mount.specs.Tables.{has};
 ghost use Rattle.ods_check.specs.{Lists.Adds, Sets.IsSetOf, Findings.IsFound, Findings.HasName, Findings.NamesFile, Findings.NamesAt, Findings.IsNumberOf, Findings.IsIdOfFile, Findings.IsNamingNone, Findings.IsLostFile, Findings.id_at};
+ghost use Rattle.ods_space.specs.Disks.{on, seen};
 
 use crate::Finding;
 use crate::add::push_if;
 use crate::ids::id_of;
 use crate::names::names_of;
-use ods_base::{FileId, Image, Listed};
+use ods_base::{FileId, Listed};
 use ods_mount::NumberSet;
-use ods_space::{Layout, first_header, sequence};
+use ods_space::{Disk, first_header, sequence};
 use std::alloc::{AllocError, Global};
 
 /// Adds each name that names no file, and each file above 5 that no name names.
 pub(crate) fn push_naming(
     alloc: Global,
-    image: &Image,
-    layout: &Layout,
+    disk: &Disk<'_>,
     findings: &mut Vec<Finding>,
 ) -> Result<(), AllocError>
-    requires { IsLayoutOf image.now layout.now }
-    ensures adds { OnOk result (Adds (IsFound image.now layout.now) findings.old.items findings.new.items) }
-    ensures names { OnOk result ((d : ℕ) (line : Line) → IsNamingNone image.now layout.now d line → Contains findings.new.items (Finding.NamesNone d line)) }
-    ensures lost { OnOk result ((n : ℕ) → IsLostFile image.now layout.now n → Contains findings.new.items (Finding.LostFile (id_at image.now layout.now n))) }
+    requires { on IsLayoutOf disk.now }
+    ensures adds { OnOk result (Adds (on IsFound disk.now) findings.old.items findings.new.items) }
+    ensures names { OnOk result ((d : ℕ) (line : Line) → on IsNamingNone disk.now d line → Contains findings.new.items (Finding.NamesNone d line)) }
+    ensures lost { OnOk result ((n : ℕ) → on IsLostFile disk.now n → Contains findings.new.items (Finding.LostFile (seen id_at disk.now n))) }
 {
     // The number of a file is a word.
     let mut named = NumberSet::new(alloc, 65536)?;
-    for number in 0..layout.home().max_files as u32 + 1 {
-        push_names(alloc, image, layout, number as u16, &mut named, findings)?;
+    for number in 0..disk.layout.home().max_files as u32 + 1 {
+        push_names(alloc, disk, number as u16, &mut named, findings)?;
     }
-    push_lost_files(image, layout, &named, findings)?;
+    push_lost_files(disk, &named, findings)?;
     Ok(())
 }
 
 /// Adds each file above 5 that no name names. `named` has the files that are named.
 fn push_lost_files(
-    image: &Image,
-    layout: &Layout,
+    disk: &Disk<'_>,
     named: &NumberSet,
     findings: &mut Vec<Finding>,
 ) -> Result<(), AllocError>
-    requires { IsSetOf (λ n. (d : ℕ) × NamesFile image.now layout.now d n) named.now }
-    ensures adds { OnOk result (Adds (IsFound image.now layout.now) findings.old.items findings.new.items) }
-    ensures all { OnOk result ((n : ℕ) → IsLostFile image.now layout.now n → Contains findings.new.items (Finding.LostFile (id_at image.now layout.now n))) }
+    requires { IsSetOf (λ n. (d : ℕ) × on NamesFile disk.now d n) named.now }
+    ensures adds { OnOk result (Adds (on IsFound disk.now) findings.old.items findings.new.items) }
+    ensures all { OnOk result ((n : ℕ) → on IsLostFile disk.now n → Contains findings.new.items (Finding.LostFile (seen id_at disk.now n))) }
 {
-    for number in 0..layout.home().max_files as u32 + 1 {
-        let file = id_of(image, layout, number as u16);
-        let lost = is_lost(image, layout, named, number as u16);
+    for number in 0..disk.layout.home().max_files as u32 + 1 {
+        let file = id_of(disk, number as u16);
+        let lost = is_lost(disk, named, number as u16);
         push_if(findings, Finding::LostFile(file), lost)?;
     }
     Ok(())
 }
 
 /// Whether this is a file above 5 that no name names.
-fn is_lost(image: &Image, layout: &Layout, named: &NumberSet, number: u16) -> bool
-    requires { IsSetOf (λ n. (d : ℕ) × NamesFile image.now layout.now d n) named.now }
-    ensures { MatchBool result (IsLostFile image.now layout.now number) (¬ IsLostFile image.now layout.now number) }
+fn is_lost(disk: &Disk<'_>, named: &NumberSet, number: u16) -> bool
+    requires { IsSetOf (λ n. (d : ℕ) × on NamesFile disk.now d n) named.now }
+    ensures { MatchBool result (on IsLostFile disk.now number) (¬ on IsLostFile disk.now number) }
 {
     if number <= 5 {
         return false;
     }
-    match first_header(image, layout, number) {
+    match first_header(disk, number) {
         Some(_) => !named.contains(number as u32),
         None => false,
     }
@@ -72,63 +71,60 @@ fn is_lost(image: &Image, layout: &Layout, named: &NumberSet, number: u16) -> bo
 /// Adds each name of a directory that names no file, and notes the files that the others name.
 fn push_names(
     alloc: Global,
-    image: &Image,
-    layout: &Layout,
+    disk: &Disk<'_>,
     directory: u16,
     named: &mut NumberSet,
     findings: &mut Vec<Finding>,
 ) -> Result<(), AllocError>
-    requires layout { IsLayoutOf image.now layout.now }
+    requires layout { on IsLayoutOf disk.now }
     requires room { 65536 ≤ 64 * length named.old }
-    ensures adds { OnOk result (Adds (IsFound image.now layout.now) findings.old.items findings.new.items) }
-    ensures names { OnOk result ((line : Line) → IsNamingNone image.now layout.now directory line → Contains findings.new.items (Finding.NamesNone directory line)) }
-    ensures named { OnOk result (IsSetOf (λ n. (has named.old n ≡ true) ⊎ NamesFile image.now layout.now directory n) named.new) }
+    ensures adds { OnOk result (Adds (on IsFound disk.now) findings.old.items findings.new.items) }
+    ensures names { OnOk result ((line : Line) → on IsNamingNone disk.now directory line → Contains findings.new.items (Finding.NamesNone directory line)) }
+    ensures named { OnOk result (IsSetOf (λ n. (has named.old n ≡ true) ⊎ on NamesFile disk.now directory n) named.new) }
     ensures room { length named.new ≡ length named.old }
 {
-    let lines = names_of(alloc, image, layout, directory)?;
-    push_lines(image, layout, directory, &lines, named, findings)?;
+    let lines = names_of(alloc, disk, directory)?;
+    push_lines(disk, directory, &lines, named, findings)?;
     Ok(())
 }
 
 /// Adds each of these lines that names no file, and notes the files that the others name.
 fn push_lines(
-    image: &Image,
-    layout: &Layout,
+    disk: &Disk<'_>,
     directory: u16,
     lines: &[Listed],
     named: &mut NumberSet,
     findings: &mut Vec<Finding>,
 ) -> Result<(), AllocError>
-    requires lines { All (HasName image.now layout.now directory) lines.now }
+    requires lines { All (on HasName disk.now directory) lines.now }
     requires room { 65536 ≤ 64 * length named.old }
-    ensures adds { OnOk result (Adds (IsFound image.now layout.now) findings.old.items findings.new.items) }
-    ensures names { OnOk result ((i : ℕ) (line : Line) → slice_get lines.now i ≡ Some line → ¬ IsIdOfFile image.now layout.now line.file → Contains findings.new.items (Finding.NamesNone directory line)) }
-    ensures named { OnOk result (IsSetOf (λ n. (has named.old n ≡ true) ⊎ ((i : ℕ) × NamesAt image.now layout.now lines.now i n)) named.new) }
+    ensures adds { OnOk result (Adds (on IsFound disk.now) findings.old.items findings.new.items) }
+    ensures names { OnOk result ((i : ℕ) (line : Line) → slice_get lines.now i ≡ Some line → ¬ on IsIdOfFile disk.now line.file → Contains findings.new.items (Finding.NamesNone directory line)) }
+    ensures named { OnOk result (IsSetOf (λ n. (has named.old n ≡ true) ⊎ ((i : ℕ) × on NamesAt disk.now lines.now i n)) named.new) }
     ensures room { length named.new ≡ length named.old }
 {
     for i in 0..lines.len() {
-        push_line(image, layout, directory, &lines[i], named, findings)?;
+        push_line(disk, directory, &lines[i], named, findings)?;
     }
     Ok(())
 }
 
 /// Adds a line that names no file, or notes the file that it names.
 fn push_line(
-    image: &Image,
-    layout: &Layout,
+    disk: &Disk<'_>,
     directory: u16,
     line: &Listed,
     named: &mut NumberSet,
     findings: &mut Vec<Finding>,
 ) -> Result<(), AllocError>
-    requires line { HasName image.now layout.now directory line.now }
+    requires line { on HasName disk.now directory line.now }
     requires room { 65536 ≤ 64 * length named.old }
-    ensures adds { OnOk result (Adds (IsFound image.now layout.now) findings.old.items findings.new.items) }
-    ensures told { OnOk result (¬ IsIdOfFile image.now layout.now line.now.file → Contains findings.new.items (Finding.NamesNone directory line.now)) }
-    ensures named { OnOk result (IsSetOf (λ n. (has named.old n ≡ true) ⊎ IsNumberOf image.now layout.now line.now n) named.new) }
+    ensures adds { OnOk result (Adds (on IsFound disk.now) findings.old.items findings.new.items) }
+    ensures told { OnOk result (¬ on IsIdOfFile disk.now line.now.file → Contains findings.new.items (Finding.NamesNone directory line.now)) }
+    ensures named { OnOk result (IsSetOf (λ n. (has named.old n ≡ true) ⊎ on IsNumberOf disk.now line.now n) named.new) }
     ensures room { length named.new ≡ length named.old }
 {
-    if is_id_of_file(image, layout, line.file) {
+    if is_id_of_file(disk, line.file) {
         named.insert(line.file.number as u32);
         return Ok(());
     }
@@ -137,11 +133,11 @@ fn push_line(
 }
 
 /// Whether this is the ID of a file.
-fn is_id_of_file(image: &Image, layout: &Layout, file: FileId) -> bool
-    ensures { MatchBool result (IsIdOfFile image.now layout.now file) (¬ IsIdOfFile image.now layout.now file) }
+fn is_id_of_file(disk: &Disk<'_>, file: FileId) -> bool
+    ensures { MatchBool result (on IsIdOfFile disk.now file) (¬ on IsIdOfFile disk.now file) }
 {
-    match first_header(image, layout, file.number) {
-        Some(_) => sequence(image, layout, file.number) == file.sequence,
+    match first_header(disk, file.number) {
+        Some(_) => sequence(disk, file.number) == file.sequence,
         None => false,
     }
 }

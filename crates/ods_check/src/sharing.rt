@@ -3,14 +3,14 @@ ghost use Rattle.std.specs.Prelude.{◌≡◌, ◌*◌, ◌+◌, ◌<◌, ◌≤
 ghost use Rattle.ods_space.specs.Files.{HasBlocks, IsLayoutOf};
 ghost use Rattle.ods_mount.specs.{Tables.has};
 ghost use Rattle.ods_check.specs.{Lists.Adds, Lists.AreDistinct, Sets.IsSetOf, Findings.HasBlock, Lines.IsLineOf, Faults.TellsPair, Marks.HasShared, Marks.IsFirstIn};
+ghost use Rattle.ods_space.specs.Disks.{on};
 
 use crate::FaultLine;
 use crate::counting::{count_of, new_counted};
 use crate::repeats::{insert_new, insert_twice};
 use crate::unheld::insert_all;
-use ods_base::Image;
 use ods_mount::NumberSet;
-use ods_space::{ChainFault, Layout, chain};
+use ods_space::{ChainFault, Disk, chain};
 use std::alloc::{AllocError, Global};
 
 /// Adds each pair of files with whole chains that share blocks, and each such file that holds blocks twice, with the first of these
@@ -18,17 +18,16 @@ use std::alloc::{AllocError, Global};
 /// all chains where no blocks are shared, and at most one for each file, with a number for each block of the image made for it.
 pub(crate) fn push_shared(
     alloc: Global,
-    image: &Image,
-    layout: &Layout,
+    disk: &Disk<'_>,
     faults: &mut Vec<FaultLine>,
 ) -> Result<(), AllocError>
-    requires { IsLayoutOf image.now layout.now }
-    ensures adds { OnOk result (Adds (IsLineOf image.now layout.now) faults.old.items faults.new.items) }
-    ensures all { OnOk result ((m n : ℕ) → m ≤ n → TellsPair image.now layout.now faults.new.items m n) }
+    requires { on IsLayoutOf disk.now }
+    ensures adds { OnOk result (Adds (on IsLineOf disk.now) faults.old.items faults.new.items) }
+    ensures all { OnOk result ((m n : ℕ) → m ≤ n → on TellsPair disk.now faults.new.items m n) }
 {
-    let mut held = NumberSet::new(alloc, image.len())?;
-    for number in 0..layout.home().max_files as u32 + 1 {
-        push_shared_of(alloc, image, layout, number as u16, &mut held, faults)?;
+    let mut held = NumberSet::new(alloc, disk.image.len())?;
+    for number in 0..disk.layout.home().max_files as u32 + 1 {
+        push_shared_of(alloc, disk, number as u16, &mut held, faults)?;
     }
     Ok(())
 }
@@ -36,25 +35,24 @@ pub(crate) fn push_shared(
 /// Adds each pair of this file with one before it and with itself, and notes its blocks. `held` has the blocks of the files before it.
 fn push_shared_of(
     alloc: Global,
-    image: &Image,
-    layout: &Layout,
+    disk: &Disk<'_>,
     number: u16,
     held: &mut NumberSet,
     faults: &mut Vec<FaultLine>,
 ) -> Result<(), AllocError>
-    requires layout { IsLayoutOf image.now layout.now }
-    requires held { IsSetOf (λ b. (m : ℕ) × (m < number) × HasBlock image.now layout.now m b) held.old }
-    requires room { length image.now ≤ 64 * length held.old }
-    ensures adds { OnOk result (Adds (IsLineOf image.now layout.now) faults.old.items faults.new.items) }
-    ensures told { OnOk result ((m : ℕ) → m ≤ number → TellsPair image.now layout.now faults.new.items m number) }
-    ensures held { OnOk result (IsSetOf (λ b. (m : ℕ) × (m < number + 1) × HasBlock image.now layout.now m b) held.new) }
+    requires layout { on IsLayoutOf disk.now }
+    requires held { IsSetOf (λ b. (m : ℕ) × (m < number) × on HasBlock disk.now m b) held.old }
+    requires room { length disk.now.image.now ≤ 64 * length held.old }
+    ensures adds { OnOk result (Adds (on IsLineOf disk.now) faults.old.items faults.new.items) }
+    ensures told { OnOk result ((m : ℕ) → m ≤ number → on TellsPair disk.now faults.new.items m number) }
+    ensures held { OnOk result (IsSetOf (λ b. (m : ℕ) × (m < number + 1) × on HasBlock disk.now m b) held.new) }
     ensures room { length held.new ≡ length held.old }
 {
-    match chain(alloc, image, layout, number) {
+    match chain(alloc, disk, number) {
         Ok(lbns) => {
-            push_pairs(alloc, image, layout, number, &lbns, held, faults)?;
+            push_pairs(alloc, disk, number, &lbns, held, faults)?;
             let is_new = insert_new(&lbns, held);
-            push_own(alloc, image, layout, number, &lbns, is_new, faults)?;
+            push_own(alloc, disk, number, &lbns, is_new, faults)?;
             Ok(())
         }
         Err(ChainFault::NoMemory) => Err(AllocError),
@@ -66,47 +64,45 @@ fn push_shared_of(
 /// Adds each pair of this file, which has these blocks, with one before it. `held` has the blocks of the files before it.
 fn push_pairs(
     alloc: Global,
-    image: &Image,
-    layout: &Layout,
+    disk: &Disk<'_>,
     number: u16,
     lbns: &[u32],
     held: &NumberSet,
     faults: &mut Vec<FaultLine>,
 ) -> Result<(), AllocError>
-    requires layout { IsLayoutOf image.now layout.now }
-    requires whole { HasBlocks image.now layout.now number lbns.now }
-    requires held { IsSetOf (λ b. (m : ℕ) × (m < number) × HasBlock image.now layout.now m b) held.now }
-    ensures adds { OnOk result (Adds (IsLineOf image.now layout.now) faults.old.items faults.new.items) }
-    ensures told { OnOk result ((m : ℕ) → m < number → TellsPair image.now layout.now faults.new.items m number) }
+    requires layout { on IsLayoutOf disk.now }
+    requires whole { on HasBlocks disk.now number lbns.now }
+    requires held { IsSetOf (λ b. (m : ℕ) × (m < number) × on HasBlock disk.now m b) held.now }
+    ensures adds { OnOk result (Adds (on IsLineOf disk.now) faults.old.items faults.new.items) }
+    ensures told { OnOk result ((m : ℕ) → m < number → on TellsPair disk.now faults.new.items m number) }
 {
     let Some(_) = first_in(lbns, held) else {
         return Ok(());
     };
-    let mut own = NumberSet::new(alloc, image.len())?;
+    let mut own = NumberSet::new(alloc, disk.image.len())?;
     insert_all(lbns, &mut own);
-    let mut counted = new_counted(alloc, image.len())?;
-    push_each_pair(alloc, image, layout, number, &own, &mut counted, faults)
+    let mut counted = new_counted(alloc, disk.image.len())?;
+    push_each_pair(alloc, disk, number, &own, &mut counted, faults)
 }
 
 /// Adds each pair of this file, which has the blocks `own`, with one before it.
 fn push_each_pair(
     alloc: Global,
-    image: &Image,
-    layout: &Layout,
+    disk: &Disk<'_>,
     number: u16,
     own: &NumberSet,
     counted: &mut [u32],
     faults: &mut Vec<FaultLine>,
 ) -> Result<(), AllocError>
-    requires layout { IsLayoutOf image.now layout.now }
-    requires own { IsSetOf (HasBlock image.now layout.now number) own.now }
-    requires size { length counted.old ≡ length image.now }
+    requires layout { on IsLayoutOf disk.now }
+    requires own { IsSetOf (on HasBlock disk.now number) own.now }
+    requires size { length counted.old ≡ length disk.now.image.now }
     requires counted { (i : ℕ) → slice_index counted.old i ≡ 0 }
-    ensures adds { OnOk result (Adds (IsLineOf image.now layout.now) faults.old.items faults.new.items) }
-    ensures told { OnOk result ((m : ℕ) → m < number → TellsPair image.now layout.now faults.new.items m number) }
+    ensures adds { OnOk result (Adds (on IsLineOf disk.now) faults.old.items faults.new.items) }
+    ensures told { OnOk result ((m : ℕ) → m < number → on TellsPair disk.now faults.new.items m number) }
 {
     for one in 0..number {
-        push_pair(alloc, image, layout, one, number, own, counted, faults)?;
+        push_pair(alloc, disk, one, number, own, counted, faults)?;
     }
     Ok(())
 }
@@ -114,28 +110,26 @@ fn push_each_pair(
 /// Adds this pair of files, where they share blocks. `own` has the blocks of the second.
 fn push_pair(
     alloc: Global,
-    image: &Image,
-    layout: &Layout,
+    disk: &Disk<'_>,
     one: u16,
     other: u16,
     own: &NumberSet,
     counted: &mut [u32],
     faults: &mut Vec<FaultLine>,
 ) -> Result<(), AllocError>
-    requires layout { IsLayoutOf image.now layout.now }
+    requires layout { on IsLayoutOf disk.now }
     requires before { one < other }
-    requires own { IsSetOf (HasBlock image.now layout.now other) own.now }
-    requires size { length counted.old ≡ length image.now }
+    requires own { IsSetOf (on HasBlock disk.now other) own.now }
+    requires size { length counted.old ≡ length disk.now.image.now }
     requires counted { (i : ℕ) → slice_index counted.old i ≤ one }
-    ensures adds { OnOk result (Adds (IsLineOf image.now layout.now) faults.old.items faults.new.items) }
-    ensures told { OnOk result (TellsPair image.now layout.now faults.new.items one other) }
-    ensures size { length counted.new ≡ length image.now }
+    ensures adds { OnOk result (Adds (on IsLineOf disk.now) faults.old.items faults.new.items) }
+    ensures told { OnOk result (on TellsPair disk.now faults.new.items one other) }
+    ensures size { length counted.new ≡ length disk.now.image.now }
     ensures counted { (i : ℕ) → slice_index counted.new i ≤ one + 1 }
 {
-    match chain(alloc, image, layout, one) {
+    match chain(alloc, disk, one) {
         Ok(lbns) => push_common(
-            image,
-            layout,
+            disk,
             one,
             other,
             &lbns,
@@ -153,44 +147,32 @@ fn push_pair(
 /// Adds that this file holds blocks twice, where it does. `is_new` says that no block of it was met before.
 fn push_own(
     alloc: Global,
-    image: &Image,
-    layout: &Layout,
+    disk: &Disk<'_>,
     number: u16,
     lbns: &[u32],
     is_new: bool,
     faults: &mut Vec<FaultLine>,
 ) -> Result<(), AllocError>
-    requires layout { IsLayoutOf image.now layout.now }
-    requires whole { HasBlocks image.now layout.now number lbns.now }
+    requires layout { on IsLayoutOf disk.now }
+    requires whole { on HasBlocks disk.now number lbns.now }
     requires new { is_new ≡ true → AreDistinct lbns.now }
-    ensures adds { OnOk result (Adds (IsLineOf image.now layout.now) faults.old.items faults.new.items) }
-    ensures told { OnOk result (TellsPair image.now layout.now faults.new.items number number) }
+    ensures adds { OnOk result (Adds (on IsLineOf disk.now) faults.old.items faults.new.items) }
+    ensures told { OnOk result (on TellsPair disk.now faults.new.items number number) }
 {
     if is_new {
         return Ok(());
     }
-    let mut once = NumberSet::new(alloc, image.len())?;
-    let mut twice = NumberSet::new(alloc, image.len())?;
+    let mut once = NumberSet::new(alloc, disk.image.len())?;
+    let mut twice = NumberSet::new(alloc, disk.image.len())?;
     insert_twice(lbns, &mut once, &mut twice);
-    let mut counted = new_counted(alloc, image.len())?;
-    push_common(
-        image,
-        layout,
-        number,
-        number,
-        lbns,
-        &twice,
-        &mut counted,
-        1,
-        faults,
-    )
+    let mut counted = new_counted(alloc, disk.image.len())?;
+    push_common(disk, number, number, lbns, &twice, &mut counted, 1, faults)
 }
 
 /// Adds a pair of files, where they share blocks. `lbns` are the blocks of the first, of which `shared` has those that they share.
 /// `counted` has a number for each block of the image, none of which is `stamp`.
 fn push_common(
-    image: &Image,
-    layout: &Layout,
+    disk: &Disk<'_>,
     one: u16,
     other: u16,
     lbns: &[u32],
@@ -199,17 +181,17 @@ fn push_common(
     stamp: u32,
     faults: &mut Vec<FaultLine>,
 ) -> Result<(), AllocError>
-    requires whole { HasBlocks image.now layout.now one lbns.now }
-    requires shared { HasShared image.now layout.now one other shared.now }
-    requires size { length counted.old ≡ length image.now }
+    requires whole { on HasBlocks disk.now one lbns.now }
+    requires shared { on HasShared disk.now one other shared.now }
+    requires size { length counted.old ≡ length disk.now.image.now }
     requires counted { (i : ℕ) → slice_index counted.old i < stamp }
-    ensures adds { OnOk result (Adds (IsLineOf image.now layout.now) faults.old.items faults.new.items) }
-    ensures told { OnOk result (TellsPair image.now layout.now faults.new.items one other) }
-    ensures size { length counted.new ≡ length image.now }
+    ensures adds { OnOk result (Adds (on IsLineOf disk.now) faults.old.items faults.new.items) }
+    ensures told { OnOk result (on TellsPair disk.now faults.new.items one other) }
+    ensures size { length counted.new ≡ length disk.now.image.now }
     ensures counted { (i : ℕ) → slice_index counted.new i ≤ stamp }
 {
     // An image has few blocks, and so has a chain.
-    let _ = image.len();
+    let _ = disk.image.len();
     let Some(lbn) = first_in(lbns, shared) else {
         return Ok(());
     };

@@ -4,60 +4,59 @@ ghost use Rattle.std.specs.List.{All, Contains};
 ghost use Rattle.ods_space.specs.Files.{IsLayoutOf};
 ghost use Rattle.ods_mount.specs.Tables.{has};
 ghost use Rattle.ods_check.specs.{Lists.Adds, Sets.IsSetOf, Findings.HasBlock, Findings.IsFound, Findings.IsHeldByNone, Findings.IsMarkedUsed};
+ghost use Rattle.ods_space.specs.Disks.{on};
 
 use crate::Finding;
 use crate::add::push_if;
-use ods_base::Image;
 use ods_mount::{NumberSet, is_home_place};
-use ods_space::{ChainFault, Layout, chain, is_free};
+use ods_space::{ChainFault, Disk, chain, is_free};
 use std::alloc::{AllocError, Global};
 
 /// Adds each block that is marked used, that no file holds, and that is no place of a home block.
 pub(crate) fn push_unheld(
     alloc: Global,
-    image: &Image,
-    layout: &Layout,
+    disk: &Disk<'_>,
     findings: &mut Vec<Finding>,
 ) -> Result<(), AllocError>
-    requires { IsLayoutOf image.now layout.now }
-    ensures adds { OnOk result (Adds (IsFound image.now layout.now) findings.old.items findings.new.items) }
-    ensures all { OnOk result ((b : ℕ) → IsHeldByNone image.now layout.now b → Contains findings.new.items (Finding.HeldByNone b)) }
+    requires { on IsLayoutOf disk.now }
+    ensures adds { OnOk result (Adds (on IsFound disk.now) findings.old.items findings.new.items) }
+    ensures all { OnOk result ((b : ℕ) → on IsHeldByNone disk.now b → Contains findings.new.items (Finding.HeldByNone b)) }
 {
-    let held = held_blocks(alloc, image, layout)?;
-    for lbn in 0..image.len() {
-        let unheld = is_unheld(image, layout, &held, lbn);
+    let held = held_blocks(alloc, disk)?;
+    for lbn in 0..disk.image.len() {
+        let unheld = is_unheld(disk, &held, lbn);
         push_if(findings, Finding::HeldByNone(lbn), unheld)?;
     }
     Ok(())
 }
 
 /// Whether the block is marked used, no file holds it, and it is no place of a home block. `held` has what files hold.
-fn is_unheld(image: &Image, layout: &Layout, held: &NumberSet, lbn: u32) -> bool
-    requires { IsSetOf (λ b. (m : ℕ) × HasBlock image.now layout.now m b) held.now }
-    ensures { MatchBool result (IsHeldByNone image.now layout.now lbn) (¬ IsHeldByNone image.now layout.now lbn) }
+fn is_unheld(disk: &Disk<'_>, held: &NumberSet, lbn: u32) -> bool
+    requires { IsSetOf (λ b. (m : ℕ) × on HasBlock disk.now m b) held.now }
+    ensures { MatchBool result (on IsHeldByNone disk.now lbn) (¬ on IsHeldByNone disk.now lbn) }
 {
     if lbn == 0 || is_home_place(lbn) || held.contains(lbn) {
         return false;
     }
-    is_marked_used(image, layout, lbn)
+    is_marked_used(disk, lbn)
 }
 
 /// Whether the block is one of the image, and the storage bitmap says that it is used.
-fn is_marked_used(image: &Image, layout: &Layout, lbn: u32) -> bool
-    ensures { MatchBool result (IsMarkedUsed image.now layout.now lbn) (¬ IsMarkedUsed image.now layout.now lbn) }
+fn is_marked_used(disk: &Disk<'_>, lbn: u32) -> bool
+    ensures { MatchBool result (on IsMarkedUsed disk.now lbn) (¬ on IsMarkedUsed disk.now lbn) }
 {
-    let is_covered = 1 + lbn as usize / 4096 < layout.bitmap().len();
-    lbn < image.len() && is_covered && !is_free(image, layout, lbn)
+    let is_covered = 1 + lbn as usize / 4096 < disk.layout.bitmap().len();
+    lbn < disk.image.len() && is_covered && !is_free(disk, lbn)
 }
 
 /// The blocks that files with whole chains hold.
-fn held_blocks(alloc: Global, image: &Image, layout: &Layout) -> Result<NumberSet, AllocError>
-    requires { IsLayoutOf image.now layout.now }
-    ensures { IfOk result (IsSetOf (λ b. (m : ℕ) × HasBlock image.now layout.now m b)) }
+fn held_blocks(alloc: Global, disk: &Disk<'_>) -> Result<NumberSet, AllocError>
+    requires { on IsLayoutOf disk.now }
+    ensures { IfOk result (IsSetOf (λ b. (m : ℕ) × on HasBlock disk.now m b)) }
 {
-    let mut held = NumberSet::new(alloc, image.len())?;
-    for number in 0..layout.home().max_files as u32 + 1 {
-        note_blocks(alloc, image, layout, number as u16, &mut held)?;
+    let mut held = NumberSet::new(alloc, disk.image.len())?;
+    for number in 0..disk.layout.home().max_files as u32 + 1 {
+        note_blocks(alloc, disk, number as u16, &mut held)?;
     }
     Ok(held)
 }
@@ -65,17 +64,16 @@ fn held_blocks(alloc: Global, image: &Image, layout: &Layout) -> Result<NumberSe
 /// Notes the blocks of a file, where it has a whole chain.
 fn note_blocks(
     alloc: Global,
-    image: &Image,
-    layout: &Layout,
+    disk: &Disk<'_>,
     number: u16,
     held: &mut NumberSet,
 ) -> Result<(), AllocError>
-    requires layout { IsLayoutOf image.now layout.now }
-    requires room { length image.now ≤ 64 * length held.old }
-    ensures with { OnOk result (IsSetOf (λ b. (has held.old b ≡ true) ⊎ HasBlock image.now layout.now number b) held.new) }
+    requires layout { on IsLayoutOf disk.now }
+    requires room { length disk.now.image.now ≤ 64 * length held.old }
+    ensures with { OnOk result (IsSetOf (λ b. (has held.old b ≡ true) ⊎ on HasBlock disk.now number b) held.new) }
     ensures room { length held.new ≡ length held.old }
 {
-    match chain(alloc, image, layout, number) {
+    match chain(alloc, disk, number) {
         Ok(lbns) => {
             insert_all(&lbns, held);
             Ok(())

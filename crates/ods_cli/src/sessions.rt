@@ -47,8 +47,9 @@ pub(crate) fn unserved(
     ensures served { (stamp : List ℕ) → IfOk result (λ s. IsServedTo stamp scripts.now mounted.now.image mounted.now.image s.report (string_bytes s.text)) }
 {
     let mut text = String::new(alloc);
-    let blocks = free_count(mounted.image(), mounted.layout());
-    let numbers = number_count(mounted.image(), mounted.layout());
+    let disk = mounted.disk();
+    let blocks = free_count(&disk);
+    let numbers = number_count(&disk);
     push_totals(&mut text, 0, blocks, numbers)?;
     let report = Report {
         entries: 0,

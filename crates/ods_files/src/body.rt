@@ -9,7 +9,7 @@ use crate::{CopyFault, FileFault, Form};
 use ods_base::Image;
 use ods_directory::mark_of;
 use ods_header::attributes;
-use ods_space::{Layout, chain, first_header};
+use ods_space::{Disk, chain, first_header};
 use std::alloc::{AllocError, Global};
 use std::io::Write;
 use std::marker::Model;
@@ -36,25 +36,22 @@ impl<'a> Model for FileBody<'a> {
 }
 
 impl<'a> FileBody<'a> {
+    ghost use Rattle.ods_space.specs.Disks.{on};
+
     /// The body of a file, where its own chain is whole.
-    pub fn open(
-        alloc: Global,
-        image: &'a Image,
-        layout: &Layout,
-        number: u16,
-    ) -> Result<FileBody<'a>, FileFault>
-        requires { IsLayoutOf image.now layout.now }
-        ensures ok { IfOk result (HasBody image.now layout.now number) }
-        ensures err { IfErr result (IsFileFault image.now layout.now number) }
+    pub fn open(alloc: Global, disk: &Disk<'a>, number: u16) -> Result<FileBody<'a>, FileFault>
+        requires { on IsLayoutOf disk.now }
+        ensures ok { IfOk result (on HasBody disk.now number) }
+        ensures err { IfErr result (on IsFileFault disk.now number) }
     {
         // An image has few blocks, and so has a chain.
-        let _ = image.len();
-        let Some(first) = first_header(image, layout, number) else {
+        let _ = disk.image.len();
+        let Some(first) = first_header(disk, number) else {
             return Err(FileFault::NoSuchFile);
         };
-        match chain(alloc, image, layout, number) {
+        match chain(alloc, disk, number) {
             Ok(lbns) => Ok(FileBody {
-                image,
+                image: disk.image,
                 lbns,
                 attributes: attributes(first),
             }),

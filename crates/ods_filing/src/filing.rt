@@ -1,5 +1,6 @@
 //! Requests made one after another on a mounted volume.
 ghost use Rattle.std.specs.Prelude.{◌≡◌, ◌≢◌, ◌<◌, ◌⊎◌, length, IfOk, IfErr, OnErr};
+ghost use Rattle.ods_space.specs.Disks.{on};
 ghost use Rattle.ods_mount.specs.Sound.{IsSoundBy};
 ghost use Rattle.ods_request.specs.declared.refusals.Refusal.{Refusal};
 ghost use Rattle.ods_state.specs.{Outcome.CanBeAsked, Outcome.disk_of, Served.IsRefusalOf};
@@ -9,7 +10,7 @@ use crate::seat::{LIMIT, Seat, with_room};
 use ods_base::{Image, Uic};
 use ods_mount::Mounted;
 use ods_request::{Answer, Refusal, Request};
-use ods_space::Layout;
+use ods_space::{Disk, Layout};
 use ods_volume::Volume;
 use std::alloc::{AllocError, Global};
 use std::marker::Model;
@@ -112,6 +113,18 @@ impl Filing {
         match &self.seat {
             Seat::Listed(volume) => volume.layout(),
             Seat::Unlisted(mounted) => mounted.layout(),
+        }
+    }
+
+    /// The image with its layout, as they are now.
+    pub fn disk(&self) -> Disk<'_>
+        ensures image { result.image.now ≡ self.now.image }
+        ensures layout { result.layout.now ≡ self.now.layout }
+        ensures sound { on IsSoundBy result }
+    {
+        match &self.seat {
+            Seat::Listed(volume) => volume.disk(),
+            Seat::Unlisted(mounted) => mounted.disk(),
         }
     }
 

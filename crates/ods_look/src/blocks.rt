@@ -1,18 +1,17 @@
 //! The blocks of a directory on the volume, each found by its number in the file, with no list of them.
 ghost use Rattle.std.specs.Prelude.{◌≡◌, ◌≢◌, ◌≤◌, ℕ, List, length};
-ghost use Rattle.ods_space.specs.{Layout.header_at, Files.IsFile, Files.HasBlocks, Chain.chain_blocks};
+ghost use Rattle.ods_space.specs.{Files.IsFile, Files.HasBlocks, Chain.chain_blocks};
 ghost use Rattle.ods_mount.specs.{Faults.contents_of, Sound.IsSoundBy};
 
 use ods_base::{Block, Image};
 use ods_directory::DirBlocks;
-use ods_space::{BlockCursor, Layout, count_whole, locate_whole};
+use ods_space::{BlockCursor, Disk, count_whole, locate_whole};
 use std::marker::Model;
 
 /// The blocks of a file of a sound image, any but INDEXF.SYS. A contract sees the list of them.
 #[derive(Drop)]
 pub struct DirectoryBlocks<'a> {
-    image: &'a Image,
-    layout: &'a Layout,
+    disk: Disk<'a>,
     number: u16,
     count: u32,
     /// The first header.
@@ -27,32 +26,33 @@ impl<'a> Model for DirectoryBlocks<'a> {
 
     ghost Value = { List (List ℕ) };
 
-    ghost view = { λ d. contents_of d.image.now (blocks_in_order d.image.now d.layout.now d.number) };
+    ghost view = { λ d. contents_of d.disk.image.now (blocks_in_order d.disk.image.now d.disk.layout.now d.number) };
 
-    ghost invariant = { λ d. IsSoundBy d.image.now d.layout.now
-        × HasBlocks d.image.now d.layout.now d.number (blocks_in_order d.image.now d.layout.now d.number)
-        × (d.count ≡ length (blocks_in_order d.image.now d.layout.now d.number))
-        × (length (blocks_in_order d.image.now d.layout.now d.number) ≤ chain_blocks)
-        × (d.header.now ≡ header_at d.image.now d.layout.now d.number)
+    ghost invariant = { λ d. IsSoundBy d.disk.image.now d.disk.layout.now
+        × HasBlocks d.disk.image.now d.disk.layout.now d.number (blocks_in_order d.disk.image.now d.disk.layout.now d.number)
+        × (d.count ≡ length (blocks_in_order d.disk.image.now d.disk.layout.now d.number))
+        × (length (blocks_in_order d.disk.image.now d.disk.layout.now d.number) ≤ chain_blocks)
+        × (d.header.now ≡ header_at d.disk.image.now d.disk.layout.now d.number)
         × (d.number ≢ 1) };
 }
 
 impl<'a> DirectoryBlocks<'a> {
+    ghost use Rattle.ods_space.specs.Disks.{header_on, on};
+
     /// The blocks of the file with this first header.
-    pub(crate) fn of(image: &'a Image, layout: &'a Layout, number: u16, header: &'a Block) -> Self
-        requires sound { IsSoundBy image.now layout.now }
-        requires file { IsFile image.now layout.now number }
+    pub(crate) fn of(disk: &Disk<'a>, number: u16, header: &'a Block) -> Self
+        requires sound { on IsSoundBy disk.now }
+        requires file { on IsFile disk.now number }
         requires other { number ≢ 1 }
-        requires header { header.now ≡ header_at image.now layout.now number }
-        ensures contents { (held : List ℕ) → HasBlocks image.now layout.now number held → result ≡ contents_of image.now held }
+        requires header { header.now ≡ header_on disk.now number }
+        ensures contents { (held : List ℕ) → on HasBlocks disk.now number held → result ≡ contents_of disk.now.image.now held }
         ensures few { length result ≤ chain_blocks }
     {
         // An image has few blocks, and so has a chain.
-        let _ = image.len();
-        let count = count_whole(image, layout, number, header);
+        let _ = disk.image.len();
+        let count = count_whole(disk, number, header);
         DirectoryBlocks {
-            image,
-            layout,
+            disk: *disk,
             number,
             count,
             header,
@@ -106,14 +106,14 @@ impl<'a> DirBlocks for DirectoryBlocks<'a> {
     }
 
     fn block(&self, i: u32) -> &Block {
-        let lbn = locate_whole(self.image, self.layout, self.number, self.header, i + 1).unwrap();
-        self.image.block(lbn)
+        let lbn = locate_whole(&self.disk, self.number, self.header, i + 1).unwrap();
+        self.disk.image.block(lbn)
     }
 
     fn cursor(&self) -> BlocksToCome<'a> {
         BlocksToCome {
-            image: self.image,
-            lbns: BlockCursor::from(self.image, self.layout, self.number, self.header),
+            image: self.disk.image,
+            lbns: BlockCursor::from(&self.disk, self.number, self.header),
         }
     }
 

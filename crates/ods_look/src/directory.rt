@@ -3,28 +3,28 @@ ghost use Rattle.std.specs.Prelude.{MatchResult};
 ghost use Rattle.ods_mount.specs.Sound.{IsSoundBy};
 ghost use Rattle.ods_request.specs.{declared.requests.Request.TheVariants.LookUp, declared.requests.Request.TheVariants.List as Lines, declared.answers.Answer.TheVariants.Found, declared.answers.Answer.TheVariants.Names};
 ghost use Rattle.ods_state.specs.{Change.IsAnsweredBy, Served.IsRefusalOf};
+ghost use Rattle.ods_space.specs.Disks.{on};
 
 use crate::opening::open_directory;
-use ods_base::{FileId, Image, Name, Pick, Uic};
+use ods_base::{FileId, Name, Pick, Uic};
 use ods_directory::entries;
 use ods_request::{Listing, Refusal, Right};
-use ods_space::Layout;
+use ods_space::Disk;
 use std::alloc::Global;
 
 /// The file and the version that a name with a pick means in a directory, or the first fault of looking it up.
 pub fn look_up(
-    image: &Image,
-    layout: &Layout,
+    disk: &Disk<'_>,
     who: Uic,
     dir: FileId,
     name: Name,
     pick: Pick,
 ) -> Result<(FileId, u16), Refusal>
-    requires { IsSoundBy image.now layout.now }
-    ensures { MatchResult result (λ found. IsAnsweredBy image.now layout.now who (LookUp dir name pick) (Found found.0 found.1))
-        (IsRefusalOf image.now layout.now who (LookUp dir name pick)) }
+    requires { on IsSoundBy disk.now }
+    ensures { MatchResult result (λ found. on IsAnsweredBy disk.now who (LookUp dir name pick) (Found found.0 found.1))
+        (on IsRefusalOf disk.now who (LookUp dir name pick)) }
 {
-    let opened = match open_directory(image, layout, who, dir, Right::Read) {
+    let opened = match open_directory(disk, who, dir, Right::Read) {
         Ok(opened) => opened,
         Err(refusal) => return Err(refusal),
     };
@@ -38,18 +38,12 @@ pub fn look_up(
 
 /// The lines of a directory in the order of their names and versions, or the first fault of listing it; or, where it
 /// has none, want of memory.
-pub fn list(
-    alloc: Global,
-    image: &Image,
-    layout: &Layout,
-    who: Uic,
-    dir: FileId,
-) -> Result<Listing, Refusal>
-    requires { IsSoundBy image.now layout.now }
-    ensures { MatchResult result (λ lines. IsAnsweredBy image.now layout.now who (Lines dir) (Names lines))
-        (IsRefusalOf image.now layout.now who (Lines dir)) }
+pub fn list(alloc: Global, disk: &Disk<'_>, who: Uic, dir: FileId) -> Result<Listing, Refusal>
+    requires { on IsSoundBy disk.now }
+    ensures { MatchResult result (λ lines. on IsAnsweredBy disk.now who (Lines dir) (Names lines))
+        (on IsRefusalOf disk.now who (Lines dir)) }
 {
-    let opened = match open_directory(image, layout, who, dir, Right::Read) {
+    let opened = match open_directory(disk, who, dir, Right::Read) {
         Ok(opened) => opened,
         Err(refusal) => return Err(refusal),
     };

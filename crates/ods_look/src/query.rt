@@ -3,42 +3,42 @@ ghost use Rattle.std.specs.Prelude.{◌≡◌, MatchResult};
 ghost use Rattle.ods_state.specs.{Change.IsAnsweredBy, Served.IsRefusalOf, Outcome.request_of};
 ghost use Rattle.ods_request.specs.declared.answers.Answer.TheVariants.{Bytes};
 ghost use Rattle.ods_mount.specs.Sound.{IsSoundBy};
+ghost use Rattle.ods_space.specs.Disks.{on};
 
 use crate::directory::look_up;
 use crate::reading::shown_block;
 use crate::shown::stat;
-use ods_base::{Block, Image, Uic};
+use ods_base::{Block, Uic};
 use ods_request::{Answer, Query, Refusal};
-use ods_space::Layout;
+use ods_space::Disk;
 
 /// Writes the answer of a query into this place, or gives its first fault and leaves the place as it is.
 pub fn look_into(
-    image: &Image,
-    layout: &Layout,
+    disk: &Disk<'_>,
     who: Uic,
     query: Query,
     answer: &mut Answer,
 ) -> Result<(), Refusal>
-    requires { IsSoundBy image.now layout.now }
-    ensures { MatchResult result (λ _. IsAnsweredBy image.now layout.now who (request_of query) answer.new)
-        (λ f. IsRefusalOf image.now layout.now who (request_of query) f × (answer.new ≡ answer.old)) }
+    requires { on IsSoundBy disk.now }
+    ensures { MatchResult result (λ _. on IsAnsweredBy disk.now who (request_of query) answer.new)
+        (λ f. on IsRefusalOf disk.now who (request_of query) f × (answer.new ≡ answer.old)) }
 {
     match query {
-        Query::LookUp { dir, name, pick } => match look_up(image, layout, who, dir, name, pick) {
+        Query::LookUp { dir, name, pick } => match look_up(disk, who, dir, name, pick) {
             Ok(found) => {
                 *answer = Answer::Found(found.0, found.1);
                 Ok(())
             }
             Err(refusal) => Err(refusal),
         },
-        Query::Read { file, vbn } => match shown_block(image, layout, who, file, vbn) {
+        Query::Read { file, vbn } => match shown_block(disk, who, file, vbn) {
             Ok(block) => {
                 put_block(answer, block);
                 Ok(())
             }
             Err(refusal) => Err(refusal),
         },
-        Query::Stat { file } => match stat(image, layout, file) {
+        Query::Stat { file } => match stat(disk, file) {
             Ok(stat) => {
                 *answer = Answer::Info(stat);
                 Ok(())
@@ -62,15 +62,15 @@ fn put_block(answer: &mut Answer, block: &Block)
 }
 
 /// The answer of a query, or its first fault.
-pub fn look(image: &Image, layout: &Layout, who: Uic, query: Query) -> Result<Answer, Refusal>
-    requires { IsSoundBy image.now layout.now }
-    ensures { MatchResult result (IsAnsweredBy image.now layout.now who (request_of query)) (IsRefusalOf image.now layout.now who (request_of query)) }
+pub fn look(disk: &Disk<'_>, who: Uic, query: Query) -> Result<Answer, Refusal>
+    requires { on IsSoundBy disk.now }
+    ensures { MatchResult result (on IsAnsweredBy disk.now who (request_of query)) (on IsRefusalOf disk.now who (request_of query)) }
 {
     let mut result = Ok(Answer::Bytes(Block::zeros()));
     let Ok(answer) = &mut result else {
         unreachable!()
     };
-    if let Err(refusal) = look_into(image, layout, who, query, answer) {
+    if let Err(refusal) = look_into(disk, who, query, answer) {
         return Err(refusal);
     }
     result

@@ -3,43 +3,37 @@ ghost use Rattle.std.specs.Prelude.{MatchResult};
 ghost use Rattle.ods_request.specs.{declared.requests.Request.TheVariants.Read as ReadRequest, declared.answers.Answer.TheVariants.Bytes};
 ghost use Rattle.ods_state.specs.{Change.IsAnsweredBy, Served.IsRefusalOf};
 ghost use Rattle.ods_mount.specs.Sound.{IsSoundBy};
+ghost use Rattle.ods_space.specs.Disks.{on};
 
 use crate::opening::open_block;
-use ods_base::{Block, FileId, Image, Uic};
+use ods_base::{Block, FileId, Uic};
 use ods_request::{Refusal, Right};
-use ods_space::Layout;
+use ods_space::Disk;
 
 /// The block of a file with this virtual block number, counted from 1, where it stands in the image, or the first fault of reading it.
 pub(crate) fn shown_block<'a>(
-    image: &'a Image,
-    layout: &Layout,
+    disk: &Disk<'a>,
     who: Uic,
     file: FileId,
     vbn: u32,
 ) -> Result<&'a Block, Refusal>
-    requires { IsSoundBy image.now layout.now }
-    ensures { MatchResult result (λ block. IsAnsweredBy image.now layout.now who (ReadRequest file vbn) (Bytes block.now))
-        (IsRefusalOf image.now layout.now who (ReadRequest file vbn)) }
+    requires { on IsSoundBy disk.now }
+    ensures { MatchResult result (λ block. on IsAnsweredBy disk.now who (ReadRequest file vbn) (Bytes block.now))
+        (on IsRefusalOf disk.now who (ReadRequest file vbn)) }
 {
-    match open_block(image, layout, who, file, 2, Right::Read, vbn) {
-        Ok(lbn) => Ok(image.block(lbn)),
+    match open_block(disk, who, file, 2, Right::Read, vbn) {
+        Ok(lbn) => Ok(disk.image.block(lbn)),
         Err(refusal) => Err(refusal),
     }
 }
 
 /// The block of a file with this virtual block number, counted from 1, or the first fault of reading it.
-pub fn read(
-    image: &Image,
-    layout: &Layout,
-    who: Uic,
-    file: FileId,
-    vbn: u32,
-) -> Result<Block, Refusal>
-    requires { IsSoundBy image.now layout.now }
-    ensures { MatchResult result (λ block. IsAnsweredBy image.now layout.now who (ReadRequest file vbn) (Bytes block))
-        (IsRefusalOf image.now layout.now who (ReadRequest file vbn)) }
+pub fn read(disk: &Disk<'_>, who: Uic, file: FileId, vbn: u32) -> Result<Block, Refusal>
+    requires { on IsSoundBy disk.now }
+    ensures { MatchResult result (λ block. on IsAnsweredBy disk.now who (ReadRequest file vbn) (Bytes block))
+        (on IsRefusalOf disk.now who (ReadRequest file vbn)) }
 {
-    match shown_block(image, layout, who, file, vbn) {
+    match shown_block(disk, who, file, vbn) {
         Ok(block) => Ok(*block),
         Err(refusal) => Err(refusal),
     }

@@ -1,5 +1,7 @@
 //! The whole check of an image.
-ghost use Rattle.std.specs.Prelude.{◌≡◌, ◌≢◌, IfOk, IfErr};
+ghost use Rattle.std.specs.Prelude.{◌≡◌, ◌≢◌, IfOk, IfErr, OnOk};
+ghost use Rattle.ods_header.specs.Home.{IsHomeAt};
+ghost use Rattle.ods_space.specs.{Disks.on, Files.IsLayoutOf};
 ghost use Rattle.ods_mount.specs.{Faults.FaultIsTrue, Faults.IsSound, Checks.IsChecked, Sound.IsSoundBy};
 
 use crate::file::check_files;
@@ -9,7 +11,7 @@ use crate::layout::read_layout;
 use crate::system::check_system_files;
 use crate::{MountFault, Mounted};
 use ods_base::Image;
-use ods_space::Layout;
+use ods_space::{Disk, Layout};
 use std::alloc::Global;
 
 /// The image with its layout, where it is sound. Else the image as it came, and one of its faults.
@@ -26,7 +28,6 @@ pub fn mount(alloc: Global, image: Image) -> Result<Mounted, (Image, MountFault)
 }
 
 /// The layout of an image that is sound: it passes each check. Else one of its faults.
-#[tactic(auto, using(crate::proofs::Unlaid::true_by_layout))]
 pub fn check_image(alloc: Global, image: &Image) -> Result<Layout, MountFault>
     ensures ok { IfOk result (IsChecked image.now) }
     ensures err { IfErr result (λ e. e ≢ MountFault.NoMemory → FaultIsTrue image.now e) }
@@ -35,17 +36,35 @@ pub fn check_image(alloc: Global, image: &Image) -> Result<Layout, MountFault>
         Ok(found) => found,
         Err(fault) => return Err(fault),
     };
-    if let Err(fault) = check_index(image, &layout, home_lbn) {
-        return Err(fault);
-    }
-    if let Err(fault) = check_system_files(image, &layout) {
-        return Err(fault);
-    }
-    if let Err(fault) = check_formats(image, &layout) {
-        return Err(fault);
-    }
-    match check_files(alloc, image, &layout, home_lbn) {
+    let disk = Disk {
+        image,
+        layout: &layout,
+    };
+    match check_by_layout(alloc, &disk, home_lbn) {
         Ok(()) => Ok(layout),
+        Err(fault) => Err(fault),
+    }
+}
+
+/// The image passes each check, by its layout. Else one of its faults.
+#[tactic(auto, using(crate::proofs::Unlaid::true_by_layout))]
+fn check_by_layout(alloc: Global, disk: &Disk<'_>, home_lbn: u32) -> Result<(), MountFault>
+    requires layout { on IsLayoutOf disk.now }
+    requires home { IsHomeAt disk.now.image.now home_lbn }
+    ensures ok { OnOk result (on IsChecked disk.now) }
+    ensures err { IfErr result (λ e. e ≢ MountFault.NoMemory → FaultIsTrue disk.now.image.now e) }
+{
+    if let Err(fault) = check_index(disk, home_lbn) {
+        return Err(fault);
+    }
+    if let Err(fault) = check_system_files(disk) {
+        return Err(fault);
+    }
+    if let Err(fault) = check_formats(disk) {
+        return Err(fault);
+    }
+    match check_files(alloc, disk, home_lbn) {
+        Ok(()) => Ok(()),
         Err(fault) => Err(fault),
     }
 }

@@ -1,44 +1,43 @@
 //! The check of a file that is a directory.
 ghost use Rattle.std.specs.Prelude.{◌≡◌, List, ℕ, MatchBool, OnOk, IfOk, IfErr};
 ghost use Rattle.ods_header.specs.Header.{attributes_of};
-ghost use Rattle.ods_space.specs.{Layout.header_at, Files.IsFile, Files.HasBlocks, Files.IsLayoutOf};
+ghost use Rattle.ods_space.specs.{Files.IsFile, Files.HasBlocks, Files.IsLayoutOf};
 ghost use Rattle.ods_directory.specs.Names.{IsDirectory};
 ghost use Rattle.ods_mount.specs.{Faults.IsTrueOf, Faults.IsDirectoryFile, Faults.contents_of, Faults.mark_at, Checks.IsFault};
+ghost use Rattle.ods_space.specs.Disks.{header_on, on, seen};
 
 use crate::MountFault;
 use crate::blocks::FileBlocks;
 use crate::layout::chain_fault;
-use ods_base::Image;
 use ods_directory::{DirBlocks, Verdict, check, mark_of};
 use ods_header::is_directory;
-use ods_space::{Layout, chain, header_block};
+use ods_space::{Disk, chain, header_block};
 use std::alloc::Global;
 
 /// Where this file is a directory, its used entries are good and distinct. `attributes` are those of its header.
 pub fn check_directory(
     alloc: Global,
-    image: &Image,
-    layout: &Layout,
+    disk: &Disk<'_>,
     number: u16,
     attributes: &[u8; 32],
 ) -> Result<(), MountFault>
-    requires layout { IsLayoutOf image.now layout.now }
-    requires file { IsFile image.now layout.now number }
-    requires attributes { attributes.now ≡ attributes_of (header_at image.now layout.now number) }
-    ensures ok { OnOk result ((blocks : List ℕ) → HasBlocks image.now layout.now number blocks → IsDirectoryFile image.now layout.now number
-        → IsDirectory (contents_of image.now blocks) (mark_at image.now layout.now number blocks)) }
-    ensures err { IfErr result (IsFault image.now layout.now) }
+    requires layout { on IsLayoutOf disk.now }
+    requires file { on IsFile disk.now number }
+    requires attributes { attributes.now ≡ attributes_of (header_on disk.now number) }
+    ensures ok { OnOk result ((blocks : List ℕ) → on HasBlocks disk.now number blocks → on IsDirectoryFile disk.now number
+        → IsDirectory (contents_of disk.now.image.now blocks) (seen mark_at disk.now number blocks)) }
+    ensures err { IfErr result (on IsFault disk.now) }
 {
-    if !is_directory_file(image, layout, number) {
+    if !is_directory_file(disk, number) {
         return Ok(());
     }
     // An image has few blocks, and so has a chain.
-    let _ = image.len();
-    let lbns = match file_blocks(alloc, image, layout, number) {
+    let _ = disk.image.len();
+    let lbns = match file_blocks(alloc, disk, number) {
         Ok(lbns) => lbns,
         Err(fault) => return Err(fault),
     };
-    let blocks = FileBlocks::new(image, &lbns);
+    let blocks = FileBlocks::new(disk.image, &lbns);
     let mark = mark_of(attributes, blocks.count());
     match check(alloc, &blocks, mark) {
         Ok(Verdict::Good) => Ok(()),
@@ -49,29 +48,24 @@ pub fn check_directory(
 }
 
 /// All blocks of a file. A chain that is not whole is a fault.
-fn file_blocks(
-    alloc: Global,
-    image: &Image,
-    layout: &Layout,
-    number: u16,
-) -> Result<Vec<u32>, MountFault>
-    requires layout { IsLayoutOf image.now layout.now }
-    requires file { IsFile image.now layout.now number }
-    ensures ok { IfOk result (λ blocks. HasBlocks image.now layout.now number blocks.items) }
-    ensures err { IfErr result (IsFault image.now layout.now) }
+fn file_blocks(alloc: Global, disk: &Disk<'_>, number: u16) -> Result<Vec<u32>, MountFault>
+    requires layout { on IsLayoutOf disk.now }
+    requires file { on IsFile disk.now number }
+    ensures ok { IfOk result (λ blocks. on HasBlocks disk.now number blocks.items) }
+    ensures err { IfErr result (on IsFault disk.now) }
 {
-    match chain(alloc, image, layout, number) {
+    match chain(alloc, disk, number) {
         Ok(blocks) => Ok(blocks),
         Err(fault) => Err(chain_fault(number, fault)),
     }
 }
 
 /// Whether this file is a directory: file 4, or one above 5 whose ident has the type DIR.
-pub fn is_directory_file(image: &Image, layout: &Layout, number: u16) -> bool
-    requires { IsFile image.now layout.now number }
-    ensures { MatchBool result (IsDirectoryFile image.now layout.now number) (¬ IsDirectoryFile image.now layout.now number) }
+pub fn is_directory_file(disk: &Disk<'_>, number: u16) -> bool
+    requires { on IsFile disk.now number }
+    ensures { MatchBool result (on IsDirectoryFile disk.now number) (¬ on IsDirectoryFile disk.now number) }
 {
-    match header_block(image, layout, number) {
+    match header_block(disk, number) {
         Some(block) => is_directory(number, block),
         None => false,
     }

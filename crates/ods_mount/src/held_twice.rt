@@ -4,20 +4,21 @@ ghost use Rattle.std.specs.List.{Contains};
 ghost use Rattle.ods_header.specs.Header.{IsLaidOut, blocks_of};
 ghost use Rattle.ods_space.specs.{Chain.headers_of, Chain.named_by, Files.HasBlocks, Files.Holds, Files.IsLayoutOf};
 ghost use Rattle.ods_mount.specs.{Faults.IsTrueOf, Checks.IsHeldTwice};
+ghost use Rattle.ods_space.specs.Disks.{on, seen};
 
 use crate::MountFault;
-use ods_base::{Block, Image};
+use ods_base::Block;
 use ods_header::{pointer_at, pointer_count};
-use ods_space::{ChainHeaders, Layout, check_chain};
+use ods_space::{ChainHeaders, Disk, check_chain};
 
 /// The fault of a file that has a block which is held twice: by a file before it too, or by itself.
-pub(crate) fn double_use(image: &Image, layout: &Layout, number: u16, lbn: u32) -> MountFault
-    requires layout { IsLayoutOf image.now layout.now }
-    requires twice { IsHeldTwice image.now layout.now number lbn }
-    ensures { IsTrueOf image.now layout.now result }
+pub(crate) fn double_use(disk: &Disk<'_>, number: u16, lbn: u32) -> MountFault
+    requires layout { on IsLayoutOf disk.now }
+    requires twice { on IsHeldTwice disk.now number lbn }
+    ensures { on IsTrueOf disk.now result }
 {
     for other in 1..number {
-        if holds(image, layout, other, lbn) {
+        if holds(disk, other, lbn) {
             return MountFault::DoublyUsed(other, number, lbn);
         }
     }
@@ -25,29 +26,29 @@ pub(crate) fn double_use(image: &Image, layout: &Layout, number: u16, lbn: u32) 
 }
 
 /// Whether this number is a file with a whole chain that has this block.
-fn holds(image: &Image, layout: &Layout, number: u16, lbn: u32) -> bool
-    requires { IsLayoutOf image.now layout.now }
+fn holds(disk: &Disk<'_>, number: u16, lbn: u32) -> bool
+    requires { on IsLayoutOf disk.now }
     ensures { MatchBool result
-        ((v : ℕ) × Holds image.now layout.now number v lbn)
-        ((v : ℕ) → ¬ Holds image.now layout.now number v lbn) }
+        ((v : ℕ) × on Holds disk.now number v lbn)
+        ((v : ℕ) → ¬ on Holds disk.now number v lbn) }
 {
     // The blocks of an image have bytes, so a chain has at most 256 headers.
-    let _ = image.len();
-    match check_chain(image, layout, number) {
-        Ok(()) => one_names(image, layout, number, lbn),
+    let _ = disk.image.len();
+    match check_chain(disk, number) {
+        Ok(()) => one_names(disk, number, lbn),
         Err(_) => false,
     }
 }
 
 /// Whether one of the headers of a file's chain names this block.
-fn one_names(image: &Image, layout: &Layout, number: u16, lbn: u32) -> bool
-    requires layout { IsLayoutOf image.now layout.now }
-    requires whole { (blocks : List ℕ) × HasBlocks image.now layout.now number blocks }
+fn one_names(disk: &Disk<'_>, number: u16, lbn: u32) -> bool
+    requires layout { on IsLayoutOf disk.now }
+    requires whole { (blocks : List ℕ) × on HasBlocks disk.now number blocks }
     ensures { MatchBool result
-        (Contains (named_by (headers_of image.now layout.now number)) lbn)
-        (¬ Contains (named_by (headers_of image.now layout.now number)) lbn) }
+        (Contains (named_by (seen headers_of disk.now number)) lbn)
+        (¬ Contains (named_by (seen headers_of disk.now number)) lbn) }
 {
-    let mut headers = ChainHeaders::of(image, layout, number);
+    let mut headers = ChainHeaders::of(disk, number);
     while let Some((_, header)) = headers.next() {
         if names(header, lbn) {
             return true;

@@ -2,22 +2,22 @@
 ghost use Rattle.std.specs.Prelude.{◌≡◌, ◌≢◌, Some, slice_get, MatchBool, OnOk, IfErr};
 ghost use Rattle.ods_header.specs.Home.{IsHomeAt};
 ghost use Rattle.ods_mount.specs.{Faults.IsTrueOf, Checks.IsWellIndexed, Checks.IsBadlyIndexed, Checks.NoPlaceIsFree};
+ghost use Rattle.ods_space.specs.Disks.{on};
 
 use crate::MountFault;
 use crate::places::check_free_places;
-use ods_base::Image;
-use ods_space::Layout;
+use ods_space::{Disk, Layout};
 
 /// INDEXF.SYS maps what headers are found by and the home block, and no lower place of a home block is free.
-pub fn check_index(image: &Image, layout: &Layout, home_lbn: u32) -> Result<(), MountFault>
-    requires { IsHomeAt image.now home_lbn }
-    ensures ok { OnOk result (IsWellIndexed layout.now home_lbn × NoPlaceIsFree image.now layout.now home_lbn) }
-    ensures err { IfErr result (IsTrueOf image.now layout.now) }
+pub fn check_index(disk: &Disk<'_>, home_lbn: u32) -> Result<(), MountFault>
+    requires { IsHomeAt disk.now.image.now home_lbn }
+    ensures ok { OnOk result (IsWellIndexed disk.now.layout.now home_lbn × on NoPlaceIsFree disk.now home_lbn) }
+    ensures err { IfErr result (on IsTrueOf disk.now) }
 {
-    if !is_well_indexed(layout, home_lbn) {
+    if !is_well_indexed(disk.layout, home_lbn) {
         return Err(MountFault::BadIndex);
     }
-    check_free_places(image, layout, home_lbn)
+    check_free_places(disk, home_lbn)
 }
 
 /// Whether INDEXF.SYS maps the index bitmap and headers 1 to 16 from VBN 3 on, and the home block as VBN 1 or 2.

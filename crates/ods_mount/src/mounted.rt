@@ -1,9 +1,10 @@
 //! A sound image with its layout.
 ghost use Rattle.std.specs.Prelude.{◌≡◌, IfOk, IfErr};
+ghost use Rattle.ods_space.specs.Disks.{on};
 ghost use Rattle.ods_mount.specs.Sound.{IsSoundBy};
 
 use ods_base::{FixedImage, Image};
-use ods_space::Layout;
+use ods_space::{Disk, Layout};
 use std::alloc::AllocError;
 use std::marker::Model;
 
@@ -68,6 +69,18 @@ impl Mounted {
         ensures sound { IsSoundBy self.now.image self.now.layout }
     {
         &self.layout
+    }
+
+    /// The image with its layout.
+    pub fn disk(&self) -> Disk<'_>
+        ensures image { result.image.now ≡ self.now.image }
+        ensures layout { result.layout.now ≡ self.now.layout }
+        ensures sound { on IsSoundBy result }
+    {
+        Disk {
+            image: &self.image,
+            layout: &self.layout,
+        }
     }
 
     /// The image and its layout.

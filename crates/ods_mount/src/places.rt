@@ -3,10 +3,10 @@ ghost use Rattle.std.specs.Prelude.{◌≡◌, ◌↔◌, ◌<◌, ℕ, IsTrue, 
 ghost use Rattle.ods_header.specs.Home.{IsHomeAt, IsHomePlace};
 ghost use Rattle.ods_space.specs.Free.{is_free_block};
 ghost use Rattle.ods_mount.specs.{Faults.IsTrueOf, Checks.NoPlaceIsFree, Checks.IsFixed};
+ghost use Rattle.ods_space.specs.Disks.{on};
 
 use crate::MountFault;
-use ods_base::Image;
-use ods_space::{Layout, is_free};
+use ods_space::{Disk, is_free};
 
 /// Whether the LBN is a place of a home block: 1, 256, 512, 768 and so on.
 pub fn is_home_place(lbn: u32) -> bool
@@ -16,17 +16,13 @@ pub fn is_home_place(lbn: u32) -> bool
 }
 
 /// No place of a home block below this one is free.
-pub(crate) fn check_free_places(
-    image: &Image,
-    layout: &Layout,
-    home_lbn: u32,
-) -> Result<(), MountFault>
-    requires { IsHomeAt image.now home_lbn }
-    ensures ok { OnOk result (NoPlaceIsFree image.now layout.now home_lbn) }
-    ensures err { IfErr result (IsTrueOf image.now layout.now) }
+pub(crate) fn check_free_places(disk: &Disk<'_>, home_lbn: u32) -> Result<(), MountFault>
+    requires { IsHomeAt disk.now.image.now home_lbn }
+    ensures ok { OnOk result (on NoPlaceIsFree disk.now home_lbn) }
+    ensures err { IfErr result (on IsTrueOf disk.now) }
 {
     for lbn in 0..home_lbn {
-        if is_home_place(lbn) && is_free(image, layout, lbn) {
+        if is_home_place(lbn) && is_free(disk, lbn) {
             return Err(MountFault::BadIndex);
         }
     }

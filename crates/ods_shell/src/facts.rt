@@ -54,12 +54,11 @@ pub struct Facts {
 pub fn facts_of(volume: &Mounted, number: u16) -> Option<Facts>
     ensures { MatchOption result ((facts : Facts) → AreFacts volume.now.image volume.now.layout number facts → ⊥) (AreFacts volume.now.image volume.now.layout number) }
 {
-    let image = volume.image();
-    let layout = volume.layout();
-    let Some(header) = first_header(image, layout, number) else {
+    let disk = volume.disk();
+    let Some(header) = first_header(&disk, number) else {
         return None;
     };
-    let Some(blocks) = block_count(image, layout, number) else {
+    let Some(blocks) = block_count(&disk, number) else {
         return None;
     };
     Some(facts_in(number, header, blocks))

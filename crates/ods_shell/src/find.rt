@@ -70,7 +70,7 @@ fn unnamed_lines(
         if is_named.get(number as usize) == Some(&true) {
             continue;
         }
-        if let Some(header) = first_header(volume.image(), volume.layout(), number) {
+        if let Some(header) = first_header(&volume.disk(), number) {
             let sequence = file_sequence(header);
             if json {
                 let id = format!(in alloc; "{number},{sequence}")?;
@@ -85,7 +85,7 @@ fn unnamed_lines(
 
 /// Whether there is a file with this ID.
 fn is_there(volume: &Mounted, file: FileId) -> bool {
-    match first_header(volume.image(), volume.layout(), file.number) {
+    match first_header(&volume.disk(), file.number) {
         Some(header) => file_sequence(header) == file.sequence,
         None => false,
     }

@@ -61,19 +61,19 @@ pub(crate) fn lines_of(
     ensures none { IfOk result (λ lines. ¬ IsDirectoryFile volume.now.image volume.now.layout number → lines.items ≡ []) }
     ensures sorted { IfOk result (λ lines. IsSortedByKey shown listing_cmp lines.items) }
 {
-    let image = volume.image();
-    let layout = volume.layout();
+    let disk = volume.disk();
     if !is_directory_file(volume, number) {
         return Ok(Vec::new(alloc));
     }
-    listing(alloc, image, layout, number)
+    listing(alloc, &disk, number)
 }
 
 /// Whether the number is that of a directory.
 fn is_directory_file(volume: &Mounted, number: u16) -> bool
     ensures { MatchBool result (IsDirectoryFile volume.now.image volume.now.layout number) (¬ IsDirectoryFile volume.now.image volume.now.layout number) }
 {
-    match first_header(volume.image(), volume.layout(), number) {
+    let disk = volume.disk();
+    match first_header(&disk, number) {
         Some(header) => is_directory(number, header),
         None => false,
     }
@@ -84,7 +84,8 @@ pub(crate) fn directory_of(volume: &Mounted, entry: &Listed) -> Option<u16>
     ensures { MatchOption result (¬ NamesDirectory volume.now.image volume.now.layout entry.now)
         (λ number. NamesDirectory volume.now.image volume.now.layout entry.now × (number ≡ entry.now.file.number)) }
 {
-    if names_directory(volume.image(), volume.layout(), entry) {
+    let disk = volume.disk();
+    if names_directory(&disk, entry) {
         Some(entry.file.number)
     } else {
         None
@@ -265,13 +266,8 @@ fn add_walked(
     if !is_directory_file(volume, start.number) {
         return Ok(());
     }
-    let walk = walk_past(
-        alloc,
-        volume.image(),
-        volume.layout(),
-        start.number,
-        closed.numbers,
-    )?;
+    let disk = volume.disk();
+    let walk = walk_past(alloc, &disk, start.number, closed.numbers)?;
     for place in 0..65_536 {
         let Some(entered) = walk.directory(place) else {
             break;

@@ -82,7 +82,8 @@ pub(crate) fn body_of<'a>(
     ensures ok { IfOk result (HasBody volume.now.image volume.now.layout number) }
     ensures err { IfErr result (HasNone volume.now.image volume.now.layout number) }
 {
-    match FileBody::open(alloc, volume.image(), volume.layout(), number) {
+    let disk = volume.disk();
+    match FileBody::open(alloc, &disk, number) {
         Ok(body) => Ok(body),
         Err(FileFault::NoSuchFile) => Err(FormFault::NoSuchFile),
         Err(FileFault::Chain(ChainFault::NoMemory)) => Err(FormFault::NoMemory),

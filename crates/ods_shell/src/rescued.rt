@@ -1,12 +1,13 @@
 //! What is got out of an image that may be refused: each file whose own chain is whole.
 ghost use Rattle.ods_space.specs.Files.{IsLayoutOf};
+ghost use Rattle.ods_space.specs.Disks.{on};
 
 use crate::form::Contents;
-use ods_base::{FileId, Image};
+use ods_base::FileId;
 use ods_files::{FileBody, FileFault, Form};
 use ods_header::{file_sequence, ident, is_directory, print_ident};
 use ods_records::{RecordFault, kind_of, records_to_text};
-use ods_space::{ChainFault, Layout, first_header};
+use ods_space::{ChainFault, Disk, first_header};
 use std::alloc::{AllocError, Global};
 
 /// What is got out of a number.
@@ -24,14 +25,13 @@ pub enum Rescued<'a> {
 /// `text` the lines of its records where these are whole.
 pub fn open_rescued<'a>(
     alloc: Global,
-    image: &'a Image,
-    layout: &Layout,
+    disk: &Disk<'a>,
     number: u16,
     text: bool,
 ) -> Result<Rescued<'a>, AllocError>
-    requires { IsLayoutOf image.now layout.now }
+    requires { on IsLayoutOf disk.now }
 {
-    let Some(header) = first_header(image, layout, number) else {
+    let Some(header) = first_header(disk, number) else {
         return Ok(Rescued::Nothing);
     };
     if is_directory(number, header) {
@@ -41,7 +41,7 @@ pub fn open_rescued<'a>(
         number,
         sequence: file_sequence(header),
     };
-    match FileBody::open(alloc, image, layout, number) {
+    match FileBody::open(alloc, disk, number) {
         Ok(body) => {
             let name = String::from_str(alloc, print_ident(&ident(header)).as_str())?;
             Ok(Rescued::Whole(file, name, kept(alloc, body, text)?))

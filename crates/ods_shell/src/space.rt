@@ -3,11 +3,11 @@ ghost use Rattle.std.specs.Prelude.{◌≡◌, ◌↔◌, ℕ, ◌+◌, ◌<◌,
 ghost use Rattle.std.specs.List.{filter, range_with_len};
 ghost use Rattle.ods_space.specs.Layout.{is_in_use};
 ghost use Rattle.ods_shell.specs.Space.{EndsRun, HasFreeRun, IsSpaceOf};
+ghost use Rattle.ods_space.specs.Disks.{on};
 
 use ods_alloc::{free_count, number_count};
-use ods_base::Image;
 use ods_mount::Mounted;
-use ods_space::{Layout, in_use, is_free};
+use ods_space::{Disk, in_use, is_free};
 use std::alloc::{AllocError, Global};
 
 /// How much of a volume is used.
@@ -31,26 +31,25 @@ pub struct Space {
 pub fn space_of(volume: &Mounted) -> Space
     ensures { IsSpaceOf volume.now.image volume.now.layout result }
 {
-    let image = volume.image();
-    let layout = volume.layout();
+    let disk = volume.disk();
     Space {
-        blocks: image.len(),
-        free: free_count(image, layout),
-        longest: longest_free(image, layout),
-        numbers: numbers_in_use(image, layout),
-        ready: number_count(image, layout),
-        most: layout.home().max_files,
+        blocks: disk.image.len(),
+        free: free_count(&disk),
+        longest: longest_free(&disk),
+        numbers: numbers_in_use(&disk),
+        ready: number_count(&disk),
+        most: disk.layout.home().max_files,
     }
 }
 
 /// The most free blocks that follow one another.
-fn longest_free(image: &Image, layout: &Layout) -> u32
-    ensures { (n : ℕ) → (n ≤ result) ↔ HasFreeRun image.now layout.now n }
+fn longest_free(disk: &Disk<'_>) -> u32
+    ensures { (n : ℕ) → (n ≤ result) ↔ on HasFreeRun disk.now n }
 {
     let mut longest: u32 = 0;
     let mut run: u32 = 0;
-    for lbn in 0..image.len() {
-        run = run_to(image, layout, lbn, run);
+    for lbn in 0..disk.image.len() {
+        run = run_to(disk, lbn, run);
         longest = larger(longest, run);
     }
     longest
@@ -63,26 +62,22 @@ fn larger(a: u32, b: u32) -> u32
 }
 
 /// How many free blocks follow one another up to this LBN, of which so many stand before it.
-fn run_to(image: &Image, layout: &Layout, lbn: u32, before: u32) -> u32
+fn run_to(disk: &Disk<'_>, lbn: u32, before: u32) -> u32
     requires few { before ≤ lbn }
-    requires inside { lbn < length image.now }
-    ensures { EndsRun image.now layout.now lbn before → EndsRun image.now layout.now (lbn + 1) result }
+    requires inside { lbn < length disk.now.image.now }
+    ensures { on EndsRun disk.now lbn before → on EndsRun disk.now (lbn + 1) result }
 {
-    let _ = image.len();
-    if is_free(image, layout, lbn) {
-        before + 1
-    } else {
-        0
-    }
+    let _ = disk.image.len();
+    if is_free(disk, lbn) { before + 1 } else { 0 }
 }
 
 /// How many file numbers have their index bit set.
-fn numbers_in_use(image: &Image, layout: &Layout) -> u32
-    ensures { result ≡ length (filter (is_in_use image.now layout.now.home) (range_with_len 1 layout.now.home.max_files)) }
+fn numbers_in_use(disk: &Disk<'_>) -> u32
+    ensures { result ≡ length (filter (is_in_use disk.now.image.now disk.now.layout.now.home) (range_with_len 1 disk.now.layout.now.home.max_files)) }
 {
     let mut count: u32 = 0;
-    for before in 0..layout.home().max_files {
-        count += one_if(in_use(image, layout, before + 1));
+    for before in 0..disk.layout.home().max_files {
+        count += one_if(in_use(disk, before + 1));
     }
     count
 }

@@ -3,26 +3,25 @@ ghost use Rattle.std.specs.Prelude.{◌≡◌, ◌≢◌, None, IfOk, IfSome, If
 ghost use Rattle.ods_space.specs.Files.{IsLayoutOf};
 ghost use Rattle.ods_records.specs.declared.faults.RecordFault.{RecordFault as Fault};
 ghost use Rattle.ods_shell.specs.Spoiled.{HasSpoiledRecords, IsSpoiled};
+ghost use Rattle.ods_space.specs.Disks.{on};
 
-use ods_base::Image;
 use ods_files::{FileBody, FileFault, Form};
 use ods_records::{RecordFault, kind_of, records_to_text};
-use ods_space::{ChainFault, Layout};
+use ods_space::{ChainFault, Disk};
 use std::alloc::{AllocError, Global};
 
 /// What is wrong with the records of the file with this number; `None` where they are whole, where it is not of records, and where it is no
 /// file with a whole chain and an end within its blocks.
 pub fn spoiled_records(
     alloc: Global,
-    image: &Image,
-    layout: &Layout,
+    disk: &Disk<'_>,
     number: u16,
 ) -> Result<Option<RecordFault>, AllocError>
-    requires { IsLayoutOf image.now layout.now }
-    ensures some { IfOk result (λ found. IfSome found (HasSpoiledRecords image.now layout.now number)) }
-    ensures none { IfOk result (λ found. IfNone found ((fault : Fault) → ¬ HasSpoiledRecords image.now layout.now number fault)) }
+    requires { on IsLayoutOf disk.now }
+    ensures some { IfOk result (λ found. IfSome found (on HasSpoiledRecords disk.now number)) }
+    ensures none { IfOk result (λ found. IfNone found ((fault : Fault) → ¬ on HasSpoiledRecords disk.now number fault)) }
 {
-    match FileBody::open(alloc, image, layout, number) {
+    match FileBody::open(alloc, disk, number) {
         Ok(body) => fault_in(alloc, &body),
         Err(fault) => none_of(fault),
     }

@@ -1,8 +1,9 @@
 //! The bits of blocks and numbers.
 ghost use Rattle.std.specs.Prelude.{◌≡◌};
 ghost use Rattle.ods_space.specs.{Layout.is_in_use, Free.is_free_block};
+ghost use Rattle.ods_space.specs.Disks.{seen};
 
-use crate::Layout;
+use crate::Disk;
 use ods_base::{Image, bit};
 use ods_header::Home;
 
@@ -18,20 +19,20 @@ pub(crate) fn is_used(image: &Image, home: &Home, number: u16) -> bool
 }
 
 /// Whether a block is free.
-pub fn is_free(image: &Image, layout: &Layout, lbn: u32) -> bool
-    ensures { result ≡ is_free_block image.now layout.now lbn }
+pub fn is_free(disk: &Disk<'_>, lbn: u32) -> bool
+    ensures { result ≡ seen is_free_block disk.now lbn }
 {
     let at = 1 + lbn as usize / 4096;
-    if image.len() <= lbn || layout.bitmap().len() <= at {
+    if disk.image.len() <= lbn || disk.layout.bitmap().len() <= at {
         return false;
     }
-    let map = layout.bitmap()[at];
-    map < image.len() && bit(image.block(map), lbn % 4096)
+    let map = disk.layout.bitmap()[at];
+    map < disk.image.len() && bit(disk.image.block(map), lbn % 4096)
 }
 
 /// Whether a number's index bit is set.
-pub fn in_use(image: &Image, layout: &Layout, number: u16) -> bool
-    ensures { result ≡ is_in_use image.now layout.now.home number }
+pub fn in_use(disk: &Disk<'_>, number: u16) -> bool
+    ensures { result ≡ is_in_use disk.now.image.now disk.now.layout.now.home number }
 {
-    is_used(image, &layout.home(), number)
+    is_used(disk.image, &disk.layout.home(), number)
 }

@@ -1,10 +1,10 @@
 //! Cursors over a file with a whole chain: its runs and its blocks, one after another from the first on. No memory is taken.
 ghost use Rattle.std.specs.Prelude.{◌≡◌};
-ghost use Rattle.ods_space.specs.{Layout.header_at, Chain.IsChain, Files.IsLayoutOf};
+ghost use Rattle.ods_space.specs.{Chain.IsChain, Files.IsLayoutOf};
 
-use crate::Layout;
+use crate::Disk;
 use crate::whole_chain::ChainHeaders;
-use ods_base::{Block, Image};
+use ods_base::Block;
 use ods_header::{Run, pointer_at, pointer_count};
 use std::marker::Model;
 
@@ -34,18 +34,19 @@ impl<'a> Model for ChainRuns<'a> {
 impl<'a> ChainRuns<'a> {
     ghost use Rattle.std.specs.Prelude.{◌≡◌, [], ◌++◌, ℕ, List, IfSome, IfNone};
     ghost use Rattle.ods_header.specs.Header.{IsRun, run_blocks};
-    ghost use Rattle.ods_space.specs.{Layout.header_at, Chain.IsChain, Chain.headers_of, Chain.named_by, Files.IsLayoutOf};
+    ghost use Rattle.ods_space.specs.{Chain.IsChain, Chain.headers_of, Chain.named_by, Files.IsLayoutOf};
+    ghost use Rattle.ods_space.specs.Disks.{header_on, on, seen};
 
     /// The runs of the chain with this first header.
-    pub fn from(image: &'a Image, layout: &'a Layout, number: u16, first: &'a Block) -> Self
-        requires layout { IsLayoutOf image.now layout.now }
-        requires chain { (others : List ℕ) × (blocks : List ℕ) × IsChain image.now layout.now number others blocks }
-        requires first { first.now ≡ header_at image.now layout.now number }
-        ensures { result ≡ named_by (headers_of image.now layout.now number) }
+    pub fn from(disk: &Disk<'a>, number: u16, first: &'a Block) -> Self
+        requires layout { on IsLayoutOf disk.now }
+        requires chain { (others : List ℕ) × (blocks : List ℕ) × on IsChain disk.now number others blocks }
+        requires first { first.now ≡ header_on disk.now number }
+        ensures { result ≡ named_by (seen headers_of disk.now number) }
     {
         // The blocks of an image have bytes, so a chain has at most 256 headers.
-        let _ = image.len();
-        let headers = ChainHeaders::from(image, layout, number, first);
+        let _ = disk.image.len();
+        let headers = ChainHeaders::from(disk, number, first);
         // As if the pointers of a header before the first had come.
         Self {
             headers,
@@ -95,16 +96,17 @@ impl<'a> Model for BlockCursor<'a> {
 
 impl<'a> BlockCursor<'a> {
     ghost use Rattle.std.specs.Prelude.{◌≡◌, [], ◌∷◌, ℕ, List, IfSome, IfNone};
-    ghost use Rattle.ods_space.specs.{Layout.header_at, Chain.IsChain, Chain.headers_of, Chain.named_by, Files.IsLayoutOf};
+    ghost use Rattle.ods_space.specs.{Chain.IsChain, Chain.headers_of, Chain.named_by, Files.IsLayoutOf};
+    ghost use Rattle.ods_space.specs.Disks.{header_on, on, seen};
 
     /// The blocks of the chain with this first header.
-    pub fn from(image: &'a Image, layout: &'a Layout, number: u16, first: &'a Block) -> Self
-        requires layout { IsLayoutOf image.now layout.now }
-        requires chain { (others : List ℕ) × (blocks : List ℕ) × IsChain image.now layout.now number others blocks }
-        requires first { first.now ≡ header_at image.now layout.now number }
-        ensures { result ≡ named_by (headers_of image.now layout.now number) }
+    pub fn from(disk: &Disk<'a>, number: u16, first: &'a Block) -> Self
+        requires layout { on IsLayoutOf disk.now }
+        requires chain { (others : List ℕ) × (blocks : List ℕ) × on IsChain disk.now number others blocks }
+        requires first { first.now ≡ header_on disk.now number }
+        ensures { result ≡ named_by (seen headers_of disk.now number) }
     {
-        let runs = ChainRuns::from(image, layout, number, first);
+        let runs = ChainRuns::from(disk, number, first);
         Self {
             runs,
             lbn: 0,

@@ -3,27 +3,28 @@ ghost use Rattle.std.specs.Prelude.{◌≡◌, ◌≢◌, ◌^◌, ◌≤◌, �
 ghost use Rattle.std.specs.Option.{option_map};
 ghost use Rattle.std.specs.List.{Contains};
 ghost use Rattle.ods_header.specs.Header.{header_of};
-ghost use Rattle.ods_space.specs.{Layout.header_at, Chain.IsChain, Chain.chain_blocks, Chain.index_for as index_of, Files.IsFile, Files.HasBlocks, Files.Holds, Files.IsLayoutOf, Files.AreInside, Faults.IsChainFault, Walk.IsSurveyOf};
+ghost use Rattle.ods_space.specs.{Chain.IsChain, Chain.chain_blocks, Chain.index_for as index_of, Files.IsFile, Files.HasBlocks, Files.Holds, Files.IsLayoutOf, Files.AreInside, Faults.IsChainFault, Walk.IsSurveyOf};
+ghost use Rattle.ods_space.specs.Disks.{header_on, on};
 
 use crate::bits::in_use;
 use crate::collect::collect;
 use crate::headers::{header_block, last_number};
 use crate::survey::{Survey, Surveyor};
 use crate::walk::{segment_block, walk};
-use crate::{ChainFault, Layout};
+use crate::{ChainFault, Disk, Layout};
 use ods_base::{Block, Image};
 use ods_header::{Header, read_header};
 use std::alloc::Global;
 
 /// The first header of a file.
-pub fn file_header(image: &Image, layout: &Layout, number: u16) -> Option<Header>
-    requires { IsLayoutOf image.now layout.now }
-    ensures { SomeIff result (IsFile image.now layout.now number) (header_of (header_at image.now layout.now number)) }
+pub fn file_header(disk: &Disk<'_>, number: u16) -> Option<Header>
+    requires { on IsLayoutOf disk.now }
+    ensures { SomeIff result (on IsFile disk.now number) (header_of (header_on disk.now number)) }
 {
-    if number == 0 || last_number(layout) < number || !in_use(image, layout, number) {
+    if number == 0 || last_number(disk.layout) < number || !in_use(disk, number) {
         return None;
     }
-    let block = header_block(image, layout, number)?;
+    let block = header_block(disk, number)?;
     match read_header(block, number) {
         Ok(header) => {
             if header.segment == 0 {
@@ -37,37 +38,32 @@ pub fn file_header(image: &Image, layout: &Layout, number: u16) -> Option<Header
 }
 
 /// The block of a file's first header. It is looked at in place, with no copy of its fields.
-pub fn first_header<'a>(image: &'a Image, layout: &Layout, number: u16) -> Option<&'a Block>
-    ensures some { IfSome result (λ block. IsFile image.now layout.now number × (block.now ≡ header_at image.now layout.now number)) }
-    ensures none { IfNone result (¬ IsFile image.now layout.now number) }
+pub fn first_header<'a>(disk: &Disk<'a>, number: u16) -> Option<&'a Block>
+    ensures some { IfSome result (λ block. on IsFile disk.now number × (block.now ≡ header_on disk.now number)) }
+    ensures none { IfNone result (¬ on IsFile disk.now number) }
 {
     segment_block(
-        image,
-        &layout.home(),
-        layout.index(),
-        last_number(layout),
+        disk.image,
+        &disk.layout.home(),
+        disk.layout.index(),
+        last_number(disk.layout),
         number,
         0,
     )
 }
 
 /// All blocks of a file, in order. A number that is no file has no chain.
-pub fn chain(
-    alloc: Global,
-    image: &Image,
-    layout: &Layout,
-    number: u16,
-) -> Result<Vec<u32>, ChainFault>
-    requires { IsLayoutOf image.now layout.now }
-    ensures ok { IfOk result (λ blocks. HasBlocks image.now layout.now number blocks.items) }
-    ensures err { IfErr result (IsChainFault image.now layout.now number) }
+pub fn chain(alloc: Global, disk: &Disk<'_>, number: u16) -> Result<Vec<u32>, ChainFault>
+    requires { on IsLayoutOf disk.now }
+    ensures ok { IfOk result (λ blocks. on HasBlocks disk.now number blocks.items) }
+    ensures err { IfErr result (on IsChainFault disk.now number) }
 {
-    let index = index_for(layout, number);
-    let blocks = match collect(alloc, image, &layout.home(), index, number) {
+    let index = index_for(disk.layout, number);
+    let blocks = match collect(alloc, disk.image, &disk.layout.home(), index, number) {
         Ok(blocks) => blocks,
         Err(fault) => return Err(fault),
     };
-    match outside(image, &blocks) {
+    match outside(disk.image, &blocks) {
         Some(lbn) => Err(ChainFault::OutsideVolume(lbn)),
         None => Ok(blocks),
     }
@@ -100,13 +96,13 @@ pub(crate) fn outside(image: &Image, blocks: &[u32]) -> Option<u32>
 }
 
 /// The chain of a file is whole, and all its blocks are of the image. A number that is no file has no chain.
-pub fn check_chain(image: &Image, layout: &Layout, number: u16) -> Result<(), ChainFault>
-    requires { IsLayoutOf image.now layout.now }
-    ensures ok { OnOk result ((blocks : List ℕ) × HasBlocks image.now layout.now number blocks) }
-    ensures err { IfErr result (IsChainFault image.now layout.now number) }
+pub fn check_chain(disk: &Disk<'_>, number: u16) -> Result<(), ChainFault>
+    requires { on IsLayoutOf disk.now }
+    ensures ok { OnOk result ((blocks : List ℕ) × on HasBlocks disk.now number blocks) }
+    ensures err { IfErr result (on IsChainFault disk.now number) }
     ensures memory { IfErr result (λ e. e ≢ ChainFault.NoMemory) }
 {
-    let Some(survey) = survey(image, layout, number, 0) else {
+    let Some(survey) = survey(disk, number, 0) else {
         return Err(ChainFault::BadChain);
     };
     match survey.past {
@@ -116,33 +112,33 @@ pub fn check_chain(image: &Image, layout: &Layout, number: u16) -> Result<(), Ch
 }
 
 /// One block of a file, counted from 1. There is none where the file has no whole chain.
-pub fn locate(image: &Image, layout: &Layout, number: u16, vbn: u32) -> Option<u32>
-    requires { IsLayoutOf image.now layout.now }
-    ensures found { IfSome result (Holds image.now layout.now number vbn) }
-    ensures none { IfNone result ((lbn : ℕ) → ¬ Holds image.now layout.now number vbn lbn) }
+pub fn locate(disk: &Disk<'_>, number: u16, vbn: u32) -> Option<u32>
+    requires { on IsLayoutOf disk.now }
+    ensures found { IfSome result (on Holds disk.now number vbn) }
+    ensures none { IfNone result ((lbn : ℕ) → ¬ on Holds disk.now number vbn lbn) }
 {
     if vbn == 0 {
         return None;
     }
-    survey_whole(image, layout, number, vbn - 1)?.found
+    survey_whole(disk, number, vbn - 1)?.found
 }
 
 /// How many blocks a file has.
-pub fn block_count(image: &Image, layout: &Layout, number: u16) -> Option<u32>
-    requires { IsLayoutOf image.now layout.now }
-    ensures count { IfSome result (λ count. (blocks : List ℕ) × HasBlocks image.now layout.now number blocks × (count ≡ length blocks)) }
-    ensures none { IfNone result ((blocks : List ℕ) → ¬ HasBlocks image.now layout.now number blocks) }
+pub fn block_count(disk: &Disk<'_>, number: u16) -> Option<u32>
+    requires { on IsLayoutOf disk.now }
+    ensures count { IfSome result (λ count. (blocks : List ℕ) × on HasBlocks disk.now number blocks × (count ≡ length blocks)) }
+    ensures none { IfNone result ((blocks : List ℕ) → ¬ on HasBlocks disk.now number blocks) }
 {
-    Some(survey_whole(image, layout, number, 0)?.count)
+    Some(survey_whole(disk, number, 0)?.count)
 }
 
 /// What a file with a whole chain has: how many blocks, and the one with the index `wanted`, counted from 0.
-fn survey_whole(image: &Image, layout: &Layout, number: u16, wanted: u32) -> Option<Survey>
-    requires { IsLayoutOf image.now layout.now }
-    ensures some { IfSome result (λ s. (blocks : List ℕ) × HasBlocks image.now layout.now number blocks × IsSurveyOf (length image.now) wanted s blocks) }
-    ensures none { IfNone result ((blocks : List ℕ) → ¬ HasBlocks image.now layout.now number blocks) }
+fn survey_whole(disk: &Disk<'_>, number: u16, wanted: u32) -> Option<Survey>
+    requires { on IsLayoutOf disk.now }
+    ensures some { IfSome result (λ s. (blocks : List ℕ) × on HasBlocks disk.now number blocks × IsSurveyOf (length disk.now.image.now) wanted s blocks) }
+    ensures none { IfNone result ((blocks : List ℕ) → ¬ on HasBlocks disk.now number blocks) }
 {
-    let survey = survey(image, layout, number, wanted)?;
+    let survey = survey(disk, number, wanted)?;
     match survey.past {
         Some(_) => None,
         None => Some(survey),
@@ -150,20 +146,20 @@ fn survey_whole(image: &Image, layout: &Layout, number: u16, wanted: u32) -> Opt
 }
 
 /// What the chain of a file has: how many blocks, the one with the index `wanted`, counted from 0, and one that the image lacks.
-fn survey(image: &Image, layout: &Layout, number: u16, wanted: u32) -> Option<Survey>
-    requires { IsLayoutOf image.now layout.now }
-    ensures some { IfSome result (λ s. (others : List ℕ) × (blocks : List ℕ) × IsChain image.now layout.now number others blocks × IsSurveyOf (length image.now) wanted s blocks) }
-    ensures none { IfNone result ((others blocks : List ℕ) → ¬ IsChain image.now layout.now number others blocks) }
+fn survey(disk: &Disk<'_>, number: u16, wanted: u32) -> Option<Survey>
+    requires { on IsLayoutOf disk.now }
+    ensures some { IfSome result (λ s. (others : List ℕ) × (blocks : List ℕ) × on IsChain disk.now number others blocks × IsSurveyOf (length disk.now.image.now) wanted s blocks) }
+    ensures none { IfNone result ((others blocks : List ℕ) → ¬ on IsChain disk.now number others blocks) }
 {
     // An image has few blocks, and so has a chain.
-    let len = image.len();
-    let index = layout.index();
+    let len = disk.image.len();
+    let index = disk.layout.index();
     // The layout has the blocks of INDEXF.SYS.
     if number == 1 {
         return Some(survey_index(index, wanted));
     }
     let mut surveyor = Surveyor::new(index, len, wanted);
-    let Ok(whole) = walk(image, &layout.home(), number, &mut surveyor);
+    let Ok(whole) = walk(disk.image, &disk.layout.home(), number, &mut surveyor);
     if whole { Some(surveyor.survey) } else { None }
 }
 

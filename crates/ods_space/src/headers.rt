@@ -1,9 +1,10 @@
 //! Where headers stand.
 ghost use Rattle.std.specs.Prelude.{◌≡◌, ◌+◌, ◌^◌, ◌<◌, ◌≤◌, [], IfSome, IfNone};
 ghost use Rattle.ods_header.specs.Header.{sequence_of};
-ghost use Rattle.ods_space.specs.Layout.{place_by, header_by, header_at, last_number as last_of, most_index_blocks as most_blocks};
+ghost use Rattle.ods_space.specs.Layout.{place_by, header_by, last_number as last_of, most_index_blocks as most_blocks};
+ghost use Rattle.ods_space.specs.Disks.{header_on};
 
-use crate::Layout;
+use crate::{Disk, Layout};
 use ods_base::{Block, Image};
 use ods_header::{Home, file_sequence};
 
@@ -42,18 +43,18 @@ pub(crate) fn block_by<'a>(
 }
 
 /// The block of header `number`.
-pub fn header_block<'a>(image: &'a Image, layout: &Layout, number: u16) -> Option<&'a Block>
-    ensures some { IfSome result (λ block. block.now ≡ header_at image.now layout.now number) }
-    ensures none { IfNone result (header_at image.now layout.now number ≡ []) }
+pub fn header_block<'a>(disk: &Disk<'a>, number: u16) -> Option<&'a Block>
+    ensures some { IfSome result (λ block. block.now ≡ header_on disk.now number) }
+    ensures none { IfNone result (header_on disk.now number ≡ []) }
 {
-    block_by(image, &layout.home(), layout.index(), number)
+    block_by(disk.image, &disk.layout.home(), disk.layout.index(), number)
 }
 
 /// The sequence word of header `number`.
-pub fn sequence(image: &Image, layout: &Layout, number: u16) -> u16
-    ensures { result ≡ sequence_of (header_at image.now layout.now number) }
+pub fn sequence(disk: &Disk<'_>, number: u16) -> u16
+    ensures { result ≡ sequence_of (header_on disk.now number) }
 {
-    match header_block(image, layout, number) {
+    match header_block(disk, number) {
         Some(block) => file_sequence(block),
         None => 0,
     }

@@ -4,6 +4,7 @@
 mod bits;
 mod collect;
 mod cursor;
+mod disk;
 mod draft;
 mod fault;
 mod files;
@@ -20,6 +21,7 @@ mod whole_chain;
 pub use bits::{in_use, is_free};
 pub use collect::push_header;
 pub use cursor::BlockCursor;
+pub use disk::Disk;
 pub use draft::Draft;
 pub use fault::{ChainFault, LayoutFault};
 pub use files::{block_count, chain, check_chain, file_header, first_header, locate};

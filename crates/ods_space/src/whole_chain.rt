@@ -1,19 +1,19 @@
 //! Chains that are known to be whole, as each file's of a sound image is: no header is checked again.
 ghost use Rattle.std.specs.Prelude.{◌≡◌, ◌≢◌, ℕ, List, length, IfSome, IfNone};
-ghost use Rattle.ods_space.specs.{Layout.header_at, Chain.IsChain, Files.HasBlocks, Files.Holds, Files.IsLayoutOf};
+ghost use Rattle.ods_space.specs.{Chain.IsChain, Files.HasBlocks, Files.Holds, Files.IsLayoutOf};
+ghost use Rattle.ods_space.specs.Disks.{header_on, on};
 
-use crate::Layout;
+use crate::Disk;
 use crate::headers::header_block;
 use crate::mapped::mapped_block;
-use ods_base::{Block, Image};
+use ods_base::Block;
 use ods_header::{next_number, pointer_sum};
 use std::marker::Model;
 
 /// The headers of a chain, one after another. A contract sees those that are still to come, each with its number.
 #[derive(Drop)]
 pub struct ChainHeaders<'a> {
-    image: &'a Image,
-    layout: &'a Layout,
+    disk: Disk<'a>,
     /// The next header, 0 for none, and its block.
     number: u16,
     block: &'a Block,
@@ -27,41 +27,41 @@ impl<'a> Model for ChainHeaders<'a> {
 
     ghost Value = { List (ℕ × List ℕ) };
 
-    ghost view = { λ h. headers_along h.image.now h.layout.now h.left h.number };
+    ghost view = { λ h. headers_along h.disk.image.now h.disk.layout.now h.left h.number };
 
-    ghost invariant = { λ h. (h.number ≢ 0 → h.block.now ≡ header_at h.image.now h.layout.now h.number)
-        × AreValid (headers_along h.image.now h.layout.now h.left h.number) };
+    ghost invariant = { λ h. (h.number ≢ 0 → h.block.now ≡ header_at h.disk.image.now h.disk.layout.now h.number)
+        × AreValid (headers_along h.disk.image.now h.disk.layout.now h.left h.number) };
 }
 
 impl<'a> ChainHeaders<'a> {
     ghost use Rattle.std.specs.Prelude.{◌≡◌, [], ◌∷◌, ℕ, List, IfSome, IfNone};
     ghost use Rattle.ods_header.specs.Header.{IsValidHeader};
-    ghost use Rattle.ods_space.specs.{Layout.header_at, Chain.IsChain, Chain.headers_of, Files.IsLayoutOf};
+    ghost use Rattle.ods_space.specs.{Chain.IsChain, Chain.headers_of, Files.IsLayoutOf};
+    ghost use Rattle.ods_space.specs.Disks.{header_on, on, seen};
 
     /// The headers of the chain of this file.
-    pub fn of(image: &'a Image, layout: &'a Layout, number: u16) -> Self
-        requires layout { IsLayoutOf image.now layout.now }
-        requires chain { (others : List ℕ) × (blocks : List ℕ) × IsChain image.now layout.now number others blocks }
-        ensures { result ≡ headers_of image.now layout.now number }
+    pub fn of(disk: &Disk<'a>, number: u16) -> Self
+        requires layout { on IsLayoutOf disk.now }
+        requires chain { (others : List ℕ) × (blocks : List ℕ) × on IsChain disk.now number others blocks }
+        ensures { result ≡ seen headers_of disk.now number }
     {
         // The blocks of an image have bytes, so a chain has at most 256 headers.
-        let _ = image.len();
-        let first = header_block(image, layout, number).unwrap();
-        ChainHeaders::from(image, layout, number, first)
+        let _ = disk.image.len();
+        let first = header_block(disk, number).unwrap();
+        ChainHeaders::from(disk, number, first)
     }
 
     /// The headers of the chain with this first header.
-    pub fn from(image: &'a Image, layout: &'a Layout, number: u16, first: &'a Block) -> Self
-        requires layout { IsLayoutOf image.now layout.now }
-        requires chain { (others : List ℕ) × (blocks : List ℕ) × IsChain image.now layout.now number others blocks }
-        requires first { first.now ≡ header_at image.now layout.now number }
-        ensures { result ≡ headers_of image.now layout.now number }
+    pub fn from(disk: &Disk<'a>, number: u16, first: &'a Block) -> Self
+        requires layout { on IsLayoutOf disk.now }
+        requires chain { (others : List ℕ) × (blocks : List ℕ) × on IsChain disk.now number others blocks }
+        requires first { first.now ≡ header_on disk.now number }
+        ensures { result ≡ seen headers_of disk.now number }
     {
         // The blocks of an image have bytes, so a chain has at most 256 headers.
-        let _ = image.len();
+        let _ = disk.image.len();
         Self {
-            image,
-            layout,
+            disk: *disk,
             number,
             block: first,
             left: 256,
@@ -79,7 +79,7 @@ impl<'a> ChainHeaders<'a> {
         let header = (self.number, self.block);
         self.left -= 1;
         self.number = next_number(self.block);
-        match header_block(self.image, self.layout, self.number) {
+        match header_block(&self.disk, self.number) {
             Some(block) => self.block = block,
             None => self.number = 0,
         }
@@ -89,27 +89,21 @@ impl<'a> ChainHeaders<'a> {
 
 /// One block of a file with a whole chain, counted from 1. `first` is its first header. INDEXF.SYS has its blocks in the layout.
 /// Headers before that of the block are passed over by the counts of their pointers.
-pub fn locate_whole(
-    image: &Image,
-    layout: &Layout,
-    number: u16,
-    first: &Block,
-    vbn: u32,
-) -> Option<u32>
-    requires layout { IsLayoutOf image.now layout.now }
+pub fn locate_whole(disk: &Disk<'_>, number: u16, first: &Block, vbn: u32) -> Option<u32>
+    requires layout { on IsLayoutOf disk.now }
     requires other { number ≢ 1 }
-    requires whole { (blocks : List ℕ) × HasBlocks image.now layout.now number blocks }
-    requires first { first.now ≡ header_at image.now layout.now number }
-    ensures found { IfSome result (Holds image.now layout.now number vbn) }
-    ensures none { IfNone result ((lbn : ℕ) → ¬ Holds image.now layout.now number vbn lbn) }
+    requires whole { (blocks : List ℕ) × on HasBlocks disk.now number blocks }
+    requires first { first.now ≡ header_on disk.now number }
+    ensures found { IfSome result (on Holds disk.now number vbn) }
+    ensures none { IfNone result ((lbn : ℕ) → ¬ on Holds disk.now number vbn lbn) }
 {
     // The blocks of an image have bytes, so a chain names few blocks.
-    let _ = image.len();
+    let _ = disk.image.len();
     if vbn == 0 {
         return None;
     }
     let mut index = vbn - 1;
-    let mut headers = ChainHeaders::from(image, layout, number, first);
+    let mut headers = ChainHeaders::from(disk, number, first);
     while let Some((_, header)) = headers.next() {
         let count = pointer_sum(header);
         if index < count {
@@ -121,17 +115,17 @@ pub fn locate_whole(
 }
 
 /// How many blocks a file with a whole chain has. `first` is its first header.
-pub fn count_whole(image: &Image, layout: &Layout, number: u16, first: &Block) -> u32
-    requires layout { IsLayoutOf image.now layout.now }
+pub fn count_whole(disk: &Disk<'_>, number: u16, first: &Block) -> u32
+    requires layout { on IsLayoutOf disk.now }
     requires other { number ≢ 1 }
-    requires whole { (blocks : List ℕ) × HasBlocks image.now layout.now number blocks }
-    requires first { first.now ≡ header_at image.now layout.now number }
-    ensures { (blocks : List ℕ) × HasBlocks image.now layout.now number blocks × (result ≡ length blocks) }
+    requires whole { (blocks : List ℕ) × on HasBlocks disk.now number blocks }
+    requires first { first.now ≡ header_on disk.now number }
+    ensures { (blocks : List ℕ) × on HasBlocks disk.now number blocks × (result ≡ length blocks) }
 {
     // The blocks of an image have bytes, so a chain names few blocks.
-    let _ = image.len();
+    let _ = disk.image.len();
     let mut count = 0;
-    let mut headers = ChainHeaders::from(image, layout, number, first);
+    let mut headers = ChainHeaders::from(disk, number, first);
     while let Some((_, header)) = headers.next() {
         count += pointer_sum(header);
     }

@@ -149,9 +149,8 @@ fn copy(
 
 /// The bytes of all blocks of a file.
 fn all_bytes(alloc: Global, filing: &Filing, file: FileId) -> Result<Vec<u8>, Why> {
-    let image = filing.image();
-    let layout = filing.layout();
-    let body = match FileBody::open(alloc, image, layout, file.number) {
+    let disk = filing.disk();
+    let body = match FileBody::open(alloc, &disk, file.number) {
         Ok(body) => body,
         Err(FileFault::Chain(ChainFault::NoMemory)) => {
             return Err(Why::Request(Refusal::NoMemory));

@@ -185,9 +185,8 @@ fn check_empty(alloc: Global, volume: &Mounted, found: &Found) -> Result<(), Why
     if facts.file.number <= 5 {
         return Err(Why::Request(Refusal::Reserved));
     }
-    let image = volume.image();
-    let layout = volume.layout();
-    let lines = listing(alloc, image, layout, facts.file.number)?;
+    let disk = volume.disk();
+    let lines = listing(alloc, &disk, facts.file.number)?;
     if !lines.is_empty() {
         return Err(Why::Request(Refusal::NotEmpty));
     }

@@ -97,9 +97,8 @@ fn leads_to(alloc: Global, volume: &Mounted, from: u16, to: u16) -> Result<bool,
     if !is_directory_file(volume, from) {
         return Ok(false);
     }
-    let image = volume.image();
-    let layout = volume.layout();
-    let walk = walk_from(alloc, image, layout, from)?;
+    let disk = volume.disk();
+    let walk = walk_from(alloc, &disk, from)?;
     for place in 0..65_536 {
         match walk.directory(place) {
             Some(entered) => {

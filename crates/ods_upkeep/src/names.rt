@@ -20,7 +20,7 @@ pub(crate) struct Names {
 pub(crate) fn is_directory_file(volume: &Mounted, number: u16) -> bool
     ensures { MatchBool result (IsDirectoryFile volume.now.image volume.now.layout number) (¬ IsDirectoryFile volume.now.image volume.now.layout number) }
 {
-    match first_header(volume.image(), volume.layout(), number) {
+    match first_header(&volume.disk(), number) {
         Some(header) => is_directory(number, header),
         None => false,
     }
@@ -47,9 +47,8 @@ impl Names {
         if !is_directory_file(volume, number) {
             return Ok(());
         }
-        let image = volume.image();
-        let layout = volume.layout();
-        let entries = listing(alloc, image, layout, number)?;
+        let disk = volume.disk();
+        let entries = listing(alloc, &disk, number)?;
         for entry in &entries {
             if named(volume, entry.file).is_some() {
                 self.add(entry.file);

@@ -23,9 +23,8 @@ impl Highest {
         if !is_directory_file(volume, directory.number) {
             return Ok(highest);
         }
-        let image = volume.image();
-        let layout = volume.layout();
-        let entries = listing(alloc, image, layout, directory.number)?;
+        let disk = volume.disk();
+        let entries = listing(alloc, &disk, directory.number)?;
         for entry in &entries {
             highest.note(&entry.name, entry.version)?;
         }

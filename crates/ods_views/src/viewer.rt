@@ -13,6 +13,7 @@ use left_right::reader::{Reader, Reading};
 use ods_base::{Block, Coded, Row, Uic};
 use ods_look::look_into;
 use ods_request::{Answer, Query, Refusal};
+use ods_space::Disk;
 use std::alloc::{AllocError, Global};
 use std::marker::{Brand, Model};
 use thiserror::Error;
@@ -113,7 +114,11 @@ impl<J: Naming> Viewer<J> {
                     self.reader = Some(reading.leave());
                     return Err(ViewFault::Closed);
                 }
-                let found = look_into(&version.image, &version.layout, who, query, answer);
+                let disk = Disk {
+                    image: &version.image,
+                    layout: &version.layout,
+                };
+                let found = look_into(&disk, who, query, answer);
                 self.reader = Some(reading.leave());
                 match found {
                     Ok(()) => Ok(()),

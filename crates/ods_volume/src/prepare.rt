@@ -2,36 +2,37 @@
 //! request or draft its change.
 ghost use Rattle.std.specs.Prelude.{◌≡◌, ◌≢◌, ◌<◌, false, true, length, MatchResult, IfOk, IfErr, OnErr, IsErr, Some};
 ghost use Rattle.ods_alloc.specs.Counts.{AreCountsAfter, counts_of};
-ghost use Rattle.ods_space.specs.{Draft.applied, Layout.VolumeLayout, Layout.with_places};
+ghost use Rattle.ods_space.specs.{Draft.applied, Layout.VolumeLayout};
 ghost use Rattle.ods_mount.specs.Sound.{IsSoundBy};
 ghost use Rattle.ods_request.specs.{declared.refusals.Refusal.Refusal, declared.requests.Request.TheVariants.List as Lines, Catalogue.Catalogue, Faults.fault_of, Queries.request_of, Table.only_looks, Table.takes_memory};
 ghost use Rattle.ods_state.specs.{Version.IsPresent, Wants.Lacks, Served.IsStepOf, Served.IsRefusalOf, Outcome.CanBeAsked, Outcome.IsReason, Outcome.IsLawfulPlan, Outcome.entry_of};
+ghost use Rattle.ods_change.specs.Steps.{IsDraftFor};
 ghost use Rattle.ods_volume.specs.Made.{answer_of};
+ghost use Rattle.ods_space.specs.Disks.{drafted, on, seen};
 
 use crate::planned::{Prepared, kept, lines_of};
 use crate::volume::Volume;
 use ods_alloc::FreeCounts;
-use ods_base::{FileId, Image, Uic};
+use ods_base::{FileId, Uic};
 use ods_change::{Drafted, create, delete, enter, extend, remove, set_user, truncate, write};
 use ods_look::{list, look_into};
 use ods_request::{Answer, Entry, Query, Refusal, Request};
-use ods_space::{Draft, Layout};
+use ods_space::{Disk, Draft};
 use std::alloc::{AllocError, Global};
 
 /// Writes the answer of a query into this place. It changes no block.
 fn look_only(
     alloc: Global,
-    image: &Image,
-    layout: &Layout,
+    disk: &Disk<'_>,
     who: Uic,
     query: Query,
     answer: &mut Answer,
 ) -> Result<Drafted, Refusal>
-    requires { IsSoundBy image.now layout.now }
-    ensures { MatchResult result (λ d. IsStepOf image.now layout.now who (request_of query) answer.new (applied image.now d.draft) (with_places layout.now d.places.items))
-        (IsRefusalOf image.now layout.now who (request_of query)) }
+    requires { on IsSoundBy disk.now }
+    ensures { MatchResult result (λ d. IsDraftFor disk.now who (request_of query) answer.new d.draft d.places.items)
+        (on IsRefusalOf disk.now who (request_of query)) }
 {
-    match look_into(image, layout, who, query, answer) {
+    match look_into(disk, who, query, answer) {
         Ok(()) => Ok(Drafted::still(alloc, Draft::new(alloc))),
         Err(refusal) => Err(refusal),
     }
@@ -40,17 +41,16 @@ fn look_only(
 /// Writes the answer of a List into this place. It changes no block.
 fn list_only(
     alloc: Global,
-    image: &Image,
-    layout: &Layout,
+    disk: &Disk<'_>,
     who: Uic,
     dir: FileId,
     answer: &mut Answer,
 ) -> Result<Drafted, Refusal>
-    requires { IsSoundBy image.now layout.now }
-    ensures { MatchResult result (λ d. IsStepOf image.now layout.now who (Lines dir) answer.new (applied image.now d.draft) (with_places layout.now d.places.items))
-        (IsRefusalOf image.now layout.now who (Lines dir)) }
+    requires { on IsSoundBy disk.now }
+    ensures { MatchResult result (λ d. IsDraftFor disk.now who (Lines dir) answer.new d.draft d.places.items)
+        (on IsRefusalOf disk.now who (Lines dir)) }
 {
-    match list(alloc, image, layout, who, dir) {
+    match list(alloc, disk, who, dir) {
         Ok(lines) => {
             *answer = Answer::Names(lines);
             Ok(Drafted::still(alloc, Draft::new(alloc)))
@@ -87,18 +87,17 @@ fn put_answer(answer: &mut Answer, made: Made)
 /// What a request is answered that does not only look, and what it makes of the volume.
 fn change(
     alloc: Global,
-    image: &Image,
-    layout: &Layout,
+    disk: &Disk<'_>,
     counts: &FreeCounts,
     who: Uic,
     request: &Request,
 ) -> Result<(Made, Drafted), Refusal>
     requires asked { CanBeAsked request.now }
     requires changes { only_looks request.now ≡ false }
-    requires sound { IsSoundBy image.now layout.now }
-    requires counts { counts.now ≡ counts_of image.now layout.now }
-    ensures { MatchResult result (λ p. IsStepOf image.now layout.now who request.now (answer_of p.0) (applied image.now p.1.draft) (with_places layout.now p.1.places.items))
-        (IsRefusalOf image.now layout.now who request.now) }
+    requires sound { on IsSoundBy disk.now }
+    requires counts { counts.now ≡ seen counts_of disk.now }
+    ensures { MatchResult result (λ p. IsDraftFor disk.now who request.now (answer_of p.0) p.1.draft p.1.places.items)
+        (on IsRefusalOf disk.now who request.now) }
 {
     match request {
         Request::Create {
@@ -106,25 +105,23 @@ fn change(
             version,
             blocks,
             stamp,
-        } => match create(
-            alloc, image, layout, counts, who, *name, *version, *blocks, *stamp,
-        ) {
+        } => match create(alloc, disk, counts, who, *name, *version, *blocks, *stamp) {
             Ok((drafted, file)) => Ok((Made::Created(file), drafted)),
             Err(refusal) => Err(refusal),
         },
         Request::Extend { file, blocks } => {
-            match extend(alloc, image, layout, counts, who, *file, *blocks) {
+            match extend(alloc, disk, counts, who, *file, *blocks) {
                 Ok((drafted, count)) => Ok((Made::Extended(count), drafted)),
                 Err(refusal) => Err(refusal),
             }
         }
         Request::Truncate { file, blocks } => {
-            match truncate(alloc, image, layout, who, *file, *blocks) {
+            match truncate(alloc, disk, who, *file, *blocks) {
                 Ok(draft) => Ok((Made::Truncated(*blocks), Drafted::still(alloc, draft))),
                 Err(refusal) => Err(refusal),
             }
         }
-        Request::Delete { file } => match delete(alloc, image, layout, who, *file) {
+        Request::Delete { file } => match delete(alloc, disk, who, *file) {
             Ok(draft) => Ok((Made::Done, Drafted::still(alloc, draft))),
             Err(refusal) => Err(refusal),
         },
@@ -133,26 +130,24 @@ fn change(
             name,
             version,
             file,
-        } => match enter(
-            alloc, image, layout, counts, who, *dir, *name, *version, *file,
-        ) {
+        } => match enter(alloc, disk, counts, who, *dir, *name, *version, *file) {
             Ok((drafted, version)) => Ok((Made::Entered(version), drafted)),
             Err(refusal) => Err(refusal),
         },
         Request::Write { file, vbn, block } => {
-            match write(alloc, image, layout, who, *file, *vbn, block) {
+            match write(alloc, disk, who, *file, *vbn, block) {
                 Ok(draft) => Ok((Made::Done, Drafted::still(alloc, draft))),
                 Err(refusal) => Err(refusal),
             }
         }
         Request::SetUser { file, attributes } => {
-            match set_user(alloc, image, layout, who, *file, *attributes) {
+            match set_user(alloc, disk, who, *file, *attributes) {
                 Ok(draft) => Ok((Made::Done, Drafted::still(alloc, draft))),
                 Err(refusal) => Err(refusal),
             }
         }
         Request::Remove { dir, name, pick } => {
-            match remove(alloc, image, layout, who, *dir, *name, *pick) {
+            match remove(alloc, disk, who, *dir, *name, *pick) {
                 Ok((draft, file, version)) => {
                     let drafted = Drafted::still(alloc, draft);
                     Ok((Made::Removed(file, version), drafted))
@@ -168,26 +163,25 @@ fn change(
 /// Writes what a request is answered into this place, and gives what it makes of the volume.
 fn carry_out(
     alloc: Global,
-    image: &Image,
-    layout: &Layout,
+    disk: &Disk<'_>,
     counts: &FreeCounts,
     who: Uic,
     request: &Request,
     answer: &mut Answer,
 ) -> Result<Drafted, Refusal>
     requires asked { CanBeAsked request.now }
-    requires sound { IsSoundBy image.now layout.now }
-    requires counts { counts.now ≡ counts_of image.now layout.now }
-    ensures { MatchResult result (λ d. IsStepOf image.now layout.now who request.now answer.new (applied image.now d.draft) (with_places layout.now d.places.items))
-        (IsRefusalOf image.now layout.now who request.now) }
+    requires sound { on IsSoundBy disk.now }
+    requires counts { counts.now ≡ seen counts_of disk.now }
+    ensures { MatchResult result (λ d. IsDraftFor disk.now who request.now answer.new d.draft d.places.items)
+        (on IsRefusalOf disk.now who request.now) }
 {
     if let Some(query) = request.as_query() {
-        return look_only(alloc, image, layout, who, query, answer);
+        return look_only(alloc, disk, who, query, answer);
     }
     if let Request::List { dir } = request {
-        return list_only(alloc, image, layout, who, *dir, answer);
+        return list_only(alloc, disk, who, *dir, answer);
     }
-    match change(alloc, image, layout, counts, who, request) {
+    match change(alloc, disk, counts, who, request) {
         Ok((made, drafted)) => {
             put_answer(answer, made);
             Ok(drafted)
@@ -199,24 +193,24 @@ fn carry_out(
 /// The counts of the bitmaps once the draft of a request is applied; none where they stay. No memory is taken for a query.
 fn counts_after(
     counts: &FreeCounts,
-    image: &Image,
-    layout: &Layout,
+    disk: &Disk<'_>,
     request: &Request,
     draft: &Draft,
 ) -> Result<Option<FreeCounts>, AllocError>
-    requires sound { IsSoundBy image.now layout.now }
-    requires counts { counts.now ≡ counts_of image.now layout.now }
-    requires made { (who : Uic) × (a : Answer) × (M : VolumeLayout) × IsStepOf image.now layout.now who request.now a (applied image.now draft.now) M }
-    ensures ok { IfOk result (AreCountsAfter image.now (applied image.now draft.now) layout.now) }
+    requires sound { on IsSoundBy disk.now }
+    requires counts { counts.now ≡ seen counts_of disk.now }
+    requires made { (who : Uic) × (a : Answer) × (M : VolumeLayout) × on IsStepOf disk.now who request.now a (applied disk.now.image.now draft.now) M }
+    ensures ok { IfOk result (AreCountsAfter disk.now.image.now (applied disk.now.image.now draft.now) disk.now.layout.now) }
     ensures err { OnErr result (takes_memory request.now ≡ true) }
 {
     if let Some(_query) = request.as_query() {
         return Ok(None);
     }
-    counts.after(image, layout, draft)
+    counts.after(disk, draft)
 }
 
 impl Volume {
+    ghost use Rattle.ods_space.specs.Disks.{drafted};
     /// What a request would do, with all the memory that it takes: where it is given, the change itself takes none.
     pub fn prepare(
         &self,
@@ -243,26 +237,16 @@ impl Volume {
             return Err(Refusal::ListFull);
         }
         let alloc = *self.entries.allocator();
+        let disk = Disk {
+            image: &self.image,
+            layout: &self.layout,
+        };
         let mut answer = Answer::Done;
-        let drafted = match carry_out(
-            alloc,
-            &self.image,
-            &self.layout,
-            &self.counts,
-            who,
-            &request,
-            &mut answer,
-        ) {
+        let drafted = match carry_out(alloc, &disk, &self.counts, who, &request, &mut answer) {
             Ok(drafted) => drafted,
             Err(refusal) => return Err(refusal),
         };
-        let Ok(counts) = counts_after(
-            &self.counts,
-            &self.image,
-            &self.layout,
-            &request,
-            &drafted.draft,
-        ) else {
+        let Ok(counts) = counts_after(&self.counts, &disk, &request, &drafted.draft) else {
             return Err(Refusal::NoMemory);
         };
         let Ok(lines) = lines_of(&answer) else {

@@ -2,7 +2,7 @@
 ghost use Rattle.std.specs.Prelude.{◌≡◌, ◌≤◌, [], length, IfOk, IfErr};
 ghost use Rattle.ods_alloc.specs.Counts.{free_counts};
 ghost use Rattle.ods_space.specs.Free.{free_blocks, free_numbers};
-ghost use Rattle.ods_mount.specs.Faults.{IsSound};
+ghost use Rattle.ods_mount.specs.{Faults.IsSound, Sound.IsSoundBy};
 ghost use Rattle.ods_request.specs.Catalogue.{Catalogue};
 ghost use Rattle.ods_state.specs.Version.{IsVersionBy, IsPresent, IsLawful};
 
@@ -10,7 +10,7 @@ use ods_alloc::FreeCounts;
 use ods_base::{FixedImage, Image, NoMemory};
 use ods_mount::Mounted;
 use ods_request::Entry;
-use ods_space::Layout;
+use ods_space::{Disk, Layout};
 use std::alloc::Global;
 use std::marker::Model;
 
@@ -40,6 +40,7 @@ impl Model for Volume {
 }
 
 impl Volume {
+    ghost use Rattle.ods_space.specs.Disks.{on};
     /// The mounted image and an empty list, with room for as many entries as the limit, and what is free counted. All the memory that
     /// the list takes is taken here. After an error the mounted image comes back.
     pub fn new(alloc: Global, mounted: Mounted, limit: u32) -> Result<Volume, (Mounted, NoMemory)>
@@ -52,7 +53,7 @@ impl Volume {
             Ok(entries) => entries,
             Err(_) => return Err((mounted, NoMemory)),
         };
-        let counts = match FreeCounts::of(alloc, mounted.image(), mounted.layout()) {
+        let counts = match FreeCounts::of(alloc, &mounted.disk()) {
             Ok(counts) => counts,
             Err(_) => return Err((mounted, NoMemory)),
         };
@@ -113,6 +114,18 @@ impl Volume {
         &self.layout
     }
 
+    /// The image with its layout, as they are now.
+    pub fn disk(&self) -> Disk<'_>
+        ensures image { result.image.now ≡ self.now.image }
+        ensures layout { result.layout.now ≡ self.now.layout }
+        ensures sound { on IsSoundBy result }
+    {
+        Disk {
+            image: &self.image,
+            layout: &self.layout,
+        }
+    }
+
     /// The image as it was mounted.
     pub fn mounted(&self) -> &FixedImage
         ensures { result.now ≡ self.now.mounted }
@@ -148,6 +161,6 @@ impl Volume {
     pub fn number_count(&self) -> u32
         ensures { result ≡ length (free_numbers self.now.image self.now.layout) }
     {
-        ods_alloc::number_count(&self.image, &self.layout)
+        ods_alloc::number_count(&self.disk())
     }
 }

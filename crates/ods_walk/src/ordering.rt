@@ -4,55 +4,46 @@ ghost use Rattle.ods_mount.specs.{Faults.IsDirectoryFile, Sound.IsSoundBy};
 ghost use Rattle.ods_base.specs.Name.{title as title_of, type_text};
 ghost use Rattle.ods_paths.specs.{Order.listing_cmp, Lines.line};
 ghost use Rattle.ods_walk.specs.Listing.{IsListing, AreEntries, shown};
+ghost use Rattle.ods_space.specs.Disks.{on};
 
 use arrayvec::ArrayString;
-use ods_base::{Image, Listed, print_title, print_type};
+use ods_base::{Listed, print_title, print_type};
 use ods_directory::{DirBlocks, entries, mark_of};
 use ods_header::attributes;
 use ods_mount::FileBlocks;
 use ods_paths::{Shown, compare};
-use ods_space::{ChainFault, Layout, chain, first_header};
+use ods_space::{ChainFault, Disk, chain, first_header};
 use std::alloc::{AllocError, Global};
 use std::cmp::Ordering;
 
 /// The lines of a directory, in the order of a listing.
-pub fn listing(
-    alloc: Global,
-    image: &Image,
-    layout: &Layout,
-    number: u16,
-) -> Result<Vec<Listed>, AllocError>
-    requires sound { IsSoundBy image.now layout.now }
-    requires directory { IsDirectoryFile image.now layout.now number }
-    ensures { IfOk result (λ lines. IsListing image.now layout.now number lines.items) }
+pub fn listing(alloc: Global, disk: &Disk<'_>, number: u16) -> Result<Vec<Listed>, AllocError>
+    requires sound { on IsSoundBy disk.now }
+    requires directory { on IsDirectoryFile disk.now number }
+    ensures { IfOk result (λ lines. on IsListing disk.now number lines.items) }
 {
-    let entries = read_entries(alloc, image, layout, number)?;
+    let entries = read_entries(alloc, disk, number)?;
     in_order(alloc, &entries)
 }
 
 /// The entries of a directory, in the order of their keys.
-fn read_entries(
-    alloc: Global,
-    image: &Image,
-    layout: &Layout,
-    number: u16,
-) -> Result<Vec<Listed>, AllocError>
-    requires sound { IsSoundBy image.now layout.now }
-    requires directory { IsDirectoryFile image.now layout.now number }
-    ensures { IfOk result (λ lines. AreEntries image.now layout.now number lines.items) }
+fn read_entries(alloc: Global, disk: &Disk<'_>, number: u16) -> Result<Vec<Listed>, AllocError>
+    requires sound { on IsSoundBy disk.now }
+    requires directory { on IsDirectoryFile disk.now number }
+    ensures { IfOk result (λ lines. on AreEntries disk.now number lines.items) }
 {
     // An image has few blocks, and so has a chain.
-    let _ = image.len();
-    let Some(header) = first_header(image, layout, number) else {
+    let _ = disk.image.len();
+    let Some(header) = first_header(disk, number) else {
         unreachable!()
     };
-    let lbns = match chain(alloc, image, layout, number) {
+    let lbns = match chain(alloc, disk, number) {
         Ok(lbns) => lbns,
         Err(ChainFault::NoMemory) => return Err(AllocError),
         Err(ChainFault::BadChain) => unreachable!(),
         Err(ChainFault::OutsideVolume(_)) => unreachable!(),
     };
-    let blocks = FileBlocks::new(image, &lbns);
+    let blocks = FileBlocks::new(disk.image, &lbns);
     let mark = mark_of(&attributes(header), blocks.count());
     entries(alloc, &blocks, mark)
 }

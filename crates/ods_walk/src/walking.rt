@@ -3,45 +3,40 @@ ghost use Rattle.std.specs.Prelude.{◌≡◌, ◌++◌, ℕ, List, [], length, 
 ghost use Rattle.ods_base.specs.declared.listed.Listed.{Listed as Entry};
 ghost use Rattle.ods_mount.specs.{Faults.IsDirectoryFile, Sound.IsSoundBy};
 ghost use Rattle.ods_walk.specs.{Complete.AreLed, Listing.IsListing, Paths.IsWalk, Paths.IsWalkButFor, Steps.AreEntered, Steps.IsPast, Steps.IsStop, Steps.from_top, Steps.placed, Walk.NamesDirectory, Walk.IsWalkedInto};
+ghost use Rattle.ods_space.specs.Disks.{on};
 
 use crate::ordering::listing;
 use crate::tables::{Entered, Line, Walk};
-use ods_base::{Image, Listed};
+use ods_base::Listed;
 use ods_header::{file_sequence, is_directory};
-use ods_space::{Layout, first_header};
+use ods_space::{Disk, first_header};
 use std::alloc::{AllocError, Global};
 
 /// The type word of a directory, DIR.
 const DIRECTORY: u16 = 6_778;
 
 /// Goes through all lines below directory `start`. That one and the master directory count as entered.
-pub fn walk_from(
-    alloc: Global,
-    image: &Image,
-    layout: &Layout,
-    start: u16,
-) -> Result<Walk, AllocError>
-    requires sound { IsSoundBy image.now layout.now }
-    requires directory { IsDirectoryFile image.now layout.now start }
-    ensures walk { IfOk result (λ walk. IsWalk image.now layout.now start walk) }
-    ensures led { IfOk result (λ walk. AreLed image.now layout.now start walk.directories) }
+pub fn walk_from(alloc: Global, disk: &Disk<'_>, start: u16) -> Result<Walk, AllocError>
+    requires sound { on IsSoundBy disk.now }
+    requires directory { on IsDirectoryFile disk.now start }
+    ensures walk { IfOk result (λ walk. on IsWalk disk.now start walk) }
+    ensures led { IfOk result (λ walk. on AreLed disk.now start walk.directories) }
 {
-    walk_past(alloc, image, layout, start, &[])
+    walk_past(alloc, disk, start, &[])
 }
 
 /// Goes through all lines below directory `start`, and enters none of the closed directories. That one and the master directory count as
 /// entered.
 pub fn walk_past(
     alloc: Global,
-    image: &Image,
-    layout: &Layout,
+    disk: &Disk<'_>,
     start: u16,
     closed: &[u16],
 ) -> Result<Walk, AllocError>
-    requires sound { IsSoundBy image.now layout.now }
-    requires directory { IsDirectoryFile image.now layout.now start }
-    ensures walk { IfOk result (λ walk. IsWalkButFor image.now layout.now start closed.now walk) }
-    ensures led { IfOk result (λ walk. AreLed image.now layout.now start walk.directories) }
+    requires sound { on IsSoundBy disk.now }
+    requires directory { on IsDirectoryFile disk.now start }
+    ensures walk { IfOk result (λ walk. on IsWalkButFor disk.now start closed.now walk) }
+    ensures led { IfOk result (λ walk. on AreLed disk.now start walk.directories) }
 {
     let mut directories = Vec::new(alloc);
     let mut lines = Vec::new(alloc);
@@ -49,21 +44,15 @@ pub fn walk_past(
     let mut pile = Vec::new(alloc);
     is_entered[4] = true;
     is_entered[start as usize] = true;
-    put_lines(alloc, image, layout, start, 0, &mut pile)?;
+    put_lines(alloc, disk, start, 0, &mut pile)?;
     directories.push(Entered {
         number: start,
         from: None,
     })?;
-    'directories: while let Some(line) = next_directory(
-        image,
-        layout,
-        &is_entered,
-        &mut lines,
-        &mut pile,
-    )? {
+    'directories: while let Some(line) = next_directory(disk, &is_entered, &mut lines, &mut pile)? {
         let number = line.entry.file.number;
         is_entered[number as usize] = true;
-        put_lines(alloc, image, layout, number, directories.len(), &mut pile)?;
+        put_lines(alloc, disk, number, directories.len(), &mut pile)?;
         directories.push(Entered {
             number,
             from: Some((line.directory, line.entry.name)),
@@ -87,19 +76,18 @@ fn flags_of(alloc: Global, numbers: &[u16]) -> Result<Vec<bool>, AllocError>
 
 /// Passes the lines on top of the pile, up to one that is walked into, which is passed too and given.
 fn next_directory(
-    image: &Image,
-    layout: &Layout,
+    disk: &Disk<'_>,
     is_entered: &[bool],
     lines: &mut Vec<Line>,
     pile: &mut Vec<Line>,
 ) -> Result<Option<Line>, AllocError>
     requires { length is_entered.now ≡ 65536 }
-    ensures none { IfOk result (λ found. IfNone found (IsPast image.now layout.now is_entered.now pile.old.items lines.old.items lines.new.items)) }
-    ensures some { IfOk result (λ found. IfSome found (IsStop image.now layout.now is_entered.now pile.old.items lines.old.items pile.new.items lines.new.items)) }
+    ensures none { IfOk result (λ found. IfNone found (on IsPast disk.now is_entered.now pile.old.items lines.old.items lines.new.items)) }
+    ensures some { IfOk result (λ found. IfSome found (on IsStop disk.now is_entered.now pile.old.items lines.old.items pile.new.items lines.new.items)) }
 {
     'lines: while let Some(line) = pile.pop() {
         lines.push(line)?;
-        if is_walked_into(image, layout, is_entered, &line.entry) {
+        if is_walked_into(disk, is_entered, &line.entry) {
             return Ok(Some(line));
         }
     }
@@ -107,22 +95,22 @@ fn next_directory(
 }
 
 /// Whether an entry is walked into: it names a directory that is not entered yet.
-fn is_walked_into(image: &Image, layout: &Layout, is_entered: &[bool], entry: &Listed) -> bool
+fn is_walked_into(disk: &Disk<'_>, is_entered: &[bool], entry: &Listed) -> bool
     requires { length is_entered.now ≡ 65536 }
     ensures { (entered : List ℕ) → AreEntered is_entered.now entered
-        → MatchBool result (IsWalkedInto image.now layout.now entered entry.now) (¬ IsWalkedInto image.now layout.now entered entry.now) }
+        → MatchBool result (on IsWalkedInto disk.now entered entry.now) (¬ on IsWalkedInto disk.now entered entry.now) }
 {
-    !is_entered[entry.file.number as usize] && names_directory(image, layout, entry)
+    !is_entered[entry.file.number as usize] && names_directory(disk, entry)
 }
 
 /// Whether an entry names a directory: its type is DIR, and its file is there and a directory.
-pub fn names_directory(image: &Image, layout: &Layout, entry: &Listed) -> bool
-    ensures { MatchBool result (NamesDirectory image.now layout.now entry.now) (¬ NamesDirectory image.now layout.now entry.now) }
+pub fn names_directory(disk: &Disk<'_>, entry: &Listed) -> bool
+    ensures { MatchBool result (on NamesDirectory disk.now entry.now) (¬ on NamesDirectory disk.now entry.now) }
 {
     if entry.name.ext() != DIRECTORY {
         return false;
     }
-    let Some(header) = first_header(image, layout, entry.file.number) else {
+    let Some(header) = first_header(disk, entry.file.number) else {
         return false;
     };
     file_sequence(header) == entry.file.sequence && is_directory(entry.file.number, header)
@@ -131,18 +119,17 @@ pub fn names_directory(image: &Image, layout: &Layout, entry: &Listed) -> bool
 /// Puts the lines of a directory on the pile, the first one on top.
 fn put_lines(
     alloc: Global,
-    image: &Image,
-    layout: &Layout,
+    disk: &Disk<'_>,
     number: u16,
     place: usize,
     pile: &mut Vec<Line>,
 ) -> Result<(), AllocError>
-    requires sound { IsSoundBy image.now layout.now }
-    requires directory { IsDirectoryFile image.now layout.now number }
-    ensures { OnOk result ((entries : List Entry) × IsListing image.now layout.now number entries
+    requires sound { on IsSoundBy disk.now }
+    requires directory { on IsDirectoryFile disk.now number }
+    ensures { OnOk result ((entries : List Entry) × on IsListing disk.now number entries
         × (from_top pile.new.items ≡ map (placed place) entries ++ from_top pile.old.items)) }
 {
-    let mut entries = listing(alloc, image, layout, number)?;
+    let mut entries = listing(alloc, disk, number)?;
     'entries: while let Some(entry) = entries.pop() {
         pile.push(Line {
             directory: place,

@@ -1,4 +1,5 @@
 //! Chains of headers: the blocks of a file, and a chain into itself.
+ghost use Rattle.ods_space.specs.Disks.{on};
 ghost use Rattle.ods_space.specs.Files.{IsLayoutOf};
 
 use super::layouts::{layout_of, scattered};
@@ -6,7 +7,7 @@ use crate::persons::a_txt;
 use crate::volumes::{Variant, added, run, sample_of};
 use ods_alloc::runs_of_blocks;
 use ods_base::{Coded, Image};
-use ods_space::{ChainFault, Layout, block_count, chain, file_header, locate};
+use ods_space::{ChainFault, Disk, block_count, chain, file_header, locate};
 use std::alloc::Global;
 use std::process::Abort;
 use std::test::Fail;
@@ -23,30 +24,30 @@ fn looped(alloc: Global) -> Result<Image, Fail> {
 }
 
 /// File 6 has 103 blocks by its two headers, the second of which is header 8.
-fn has_103_blocks(rt: &impl Abort, image: &Image, layout: &Layout) -> Result<(), Fail>
-    requires { IsLayoutOf image.now layout.now }
+fn has_103_blocks(rt: &impl Abort, disk: &Disk<'_>) -> Result<(), Fail>
+    requires { on IsLayoutOf disk.now }
 {
-    assert!(rt; block_count(image, layout, 6) == Some(103));
-    assert!(rt; block_count(image, layout, 8).is_none());
-    let first = file_header(image, layout, 6).ok_or("no file")?;
+    assert!(rt; block_count(disk, 6) == Some(103));
+    assert!(rt; block_count(disk, 8).is_none());
+    let first = file_header(disk, 6).ok_or("no file")?;
     assert!(rt; first.next.number == 8);
-    assert!(rt; file_header(image, layout, 8).is_none());
+    assert!(rt; file_header(disk, 8).is_none());
     Ok(())
 }
 
 /// The blocks of its chain.
-fn has_chain(rt: &impl Abort, alloc: Global, image: &Image, layout: &Layout) -> Result<(), Fail>
-    requires { IsLayoutOf image.now layout.now }
+fn has_chain(rt: &impl Abort, alloc: Global, disk: &Disk<'_>) -> Result<(), Fail>
+    requires { on IsLayoutOf disk.now }
 {
-    let blocks = chain(alloc, image, layout, 6)?;
+    let blocks = chain(alloc, disk, 6)?;
     assert!(rt; blocks.len() == 103);
     assert!(rt; blocks.last().copied() == Some(226));
     Ok(())
 }
 
 /// Where its blocks are.
-fn has_places(rt: &impl Abort, image: &Image, layout: &Layout)
-    requires { IsLayoutOf image.now layout.now }
+fn has_places(rt: &impl Abort, disk: &Disk<'_>)
+    requires { on IsLayoutOf disk.now }
 {
     for (vbn, lbn) in [
         (0, None),
@@ -55,7 +56,7 @@ fn has_places(rt: &impl Abort, image: &Image, layout: &Layout)
         (103, Some(226)),
         (104, None),
     ] {
-        assert!(rt; locate(image, layout, 6, vbn) == lbn, "block {vbn}");
+        assert!(rt; locate(disk, 6, vbn) == lbn, "block {vbn}");
     }
 }
 
@@ -63,26 +64,35 @@ fn has_places(rt: &impl Abort, image: &Image, layout: &Layout)
 fn chain_of_scattered_file(rt: HostRuntime) -> Result<(), Fail> {
     let image = scattered(rt.alloc())?;
     let layout = layout_of(rt.alloc(), &image)?;
-    has_places(&rt, &image, &layout);
-    has_chain(&rt, rt.alloc(), &image, &layout)?;
-    has_103_blocks(&rt, &image, &layout)
+    let disk = Disk {
+        image: &image,
+        layout: &layout,
+    };
+    has_places(&rt, &disk);
+    has_chain(&rt, rt.alloc(), &disk)?;
+    has_103_blocks(&rt, &disk)
 }
 
 /// File 6 has no whole chain.
-fn has_no_chain(rt: &impl Abort, alloc: Global, image: &Image, layout: &Layout)
-    requires { IsLayoutOf image.now layout.now }
+fn has_no_chain(rt: &impl Abort, alloc: Global, disk: &Disk<'_>)
+    requires { on IsLayoutOf disk.now }
 {
-    let fault = chain(alloc, image, layout, 6).err();
+    let fault = chain(alloc, disk, 6).err();
     assert!(rt; fault == Some(ChainFault::BadChain));
     assert!(rt; ChainFault::BadChain.code() == 20);
-    assert!(rt; block_count(image, layout, 6).is_none());
-    assert!(rt; locate(image, layout, 6, 1).is_none());
+    assert!(rt; block_count(disk, 6).is_none());
+    assert!(rt; locate(disk, 6, 1).is_none());
 }
 
 #[test]
 fn looped_chain(rt: HostRuntime) -> Result<(), Fail> {
     let image = looped(rt.alloc())?;
-    has_no_chain(&rt, rt.alloc(), &image, &layout_of(rt.alloc(), &image)?);
+    let layout = layout_of(rt.alloc(), &image)?;
+    let disk = Disk {
+        image: &image,
+        layout: &layout,
+    };
+    has_no_chain(&rt, rt.alloc(), &disk);
     Ok(())
 }
 

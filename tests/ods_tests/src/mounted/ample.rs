@@ -111,7 +111,8 @@ fn directories_are_mounted(rt: HostRuntime) -> Result<(), Fail> {
 /// The directory of this number has its lines.
 fn is_listed(rt: &impl Abort, alloc: Global, volume: &Mounted, number: u16) -> Result<(), Fail> {
     let dir = directory_id(number);
-    let lines = list(alloc, volume.image(), volume.layout(), USER, dir)?;
+    let disk = volume.disk();
+    let lines = list(alloc, &disk, USER, dir)?;
     let wanted = directory_lines(alloc, number)?;
     assert!(rt; lines.names() == wanted.as_slice(), "directory {number}");
     Ok(())

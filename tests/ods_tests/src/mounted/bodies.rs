@@ -6,7 +6,7 @@ use ods_base::{Image, WriteFault};
 use ods_files::{CopyFault, FileBody, FileFault, Form};
 use ods_header::find_home;
 use ods_mount::mount;
-use ods_space::{ChainFault, Layout};
+use ods_space::{ChainFault, Disk, Layout};
 use std::alloc::Global;
 use std::io;
 use std::io::Write;
@@ -96,7 +96,8 @@ fn bytes_up_to_the_end(rt: HostRuntime) -> Result<(), Fail> {
         ([0; 32], letters, Some(1536)),
     ] {
         let volume = mounted(alloc, three_blocks(alloc, said, 7)?)?;
-        let body = FileBody::open(alloc, volume.image(), volume.layout(), 6)?;
+        let disk = volume.disk();
+        let body = FileBody::open(alloc, &disk, 6)?;
         let mut out = taking(alloc, 100, 10_000);
         let written = body.write_to(Form::Binary, &mut out);
         let read = body.read(alloc, Form::Binary)?;
@@ -124,7 +125,8 @@ fn bytes_up_to_the_end(rt: HostRuntime) -> Result<(), Fail> {
 fn writers_that_fail(rt: HostRuntime) -> Result<(), Fail> {
     let alloc = rt.alloc();
     let volume = mounted(alloc, three_blocks(alloc, attributes(1, 2, 3), 7)?)?;
-    let body = FileBody::open(alloc, volume.image(), volume.layout(), 6)?;
+    let disk = volume.disk();
+    let body = FileBody::open(alloc, &disk, 6)?;
     for in_all in 0..515 {
         let mut out = taking(alloc, 50, in_all);
         let fault = CopyFault::Write(WriteFault {
@@ -148,7 +150,8 @@ fn more_than_a_piece(rt: HostRuntime) -> Result<(), Fail> {
     }
     .image(alloc)?;
     let volume = mounted(alloc, image)?;
-    let body = FileBody::open(alloc, volume.image(), volume.layout(), 6)?;
+    let disk = volume.disk();
+    let body = FileBody::open(alloc, &disk, 6)?;
     let wanted = old_but(
         alloc,
         102_400,
@@ -169,14 +172,15 @@ fn more_than_a_piece(rt: HostRuntime) -> Result<(), Fail> {
 fn the_index_file(rt: HostRuntime) -> Result<(), Fail> {
     let alloc = rt.alloc();
     let volume = mounted(alloc, sample_of(40).image(alloc)?)?;
-    let body = FileBody::open(alloc, volume.image(), volume.layout(), 1)?;
+    let disk = volume.disk();
+    let body = FileBody::open(alloc, &disk, 1)?;
     let Some(bytes) = body.read(alloc, Form::Raw)? else {
         return Err("raw bytes".into());
     };
-    let lbns = volume.layout().index();
+    let lbns = disk.layout.index();
     assert!(rt; bytes.len() == 512 * lbns.len());
     for (k, lbn) in lbns.iter().enumerate() {
-        let block = volume.image().block(*lbn);
+        let block = disk.image.block(*lbn);
         assert!(rt; &bytes[512 * k..512 * k + 512] == block.bytes().as_slice());
     }
     Ok(())
@@ -192,12 +196,16 @@ fn of_a_refused_image(rt: HostRuntime) -> Result<(), Fail> {
     };
     let (_, home) = find_home(&image)?;
     let layout = Layout::read(alloc, &image, home)?;
-    let master = FileBody::open(alloc, &image, &layout, 4)?;
+    let disk = Disk {
+        image: &image,
+        layout: &layout,
+    };
+    let master = FileBody::open(alloc, &disk, 4)?;
     assert!(rt; master.size(Form::Binary).is_some());
-    let broken = FileBody::open(alloc, &image, &layout, 6).err();
+    let broken = FileBody::open(alloc, &disk, 6).err();
     assert!(rt; broken == Some(FileFault::Chain(ChainFault::BadChain)));
     for number in [0, 7, 8, 60_000] {
-        let none = FileBody::open(alloc, &image, &layout, number).err();
+        let none = FileBody::open(alloc, &disk, number).err();
         assert!(rt; none == Some(FileFault::NoSuchFile));
     }
     Ok(())

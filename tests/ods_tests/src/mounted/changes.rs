@@ -33,13 +33,14 @@ pub fn changed(alloc: Global, before: Mounted, draft: &Draft) -> Result<Mounted,
 
 /// The block of the contiguous file.
 fn its_block(volume: &Mounted) -> Result<Block, Fail> {
-    Ok(read(volume.image(), volume.layout(), USER, FIRST, 1)?)
+    let disk = volume.disk();
+    Ok(read(&disk, USER, FIRST, 1)?)
 }
 
 /// The draft of writing the letter A into it.
 fn written(alloc: Global, before: &Mounted) -> Result<Draft, Fail> {
-    let (image, layout) = (before.image(), before.layout());
-    Ok(write(alloc, image, layout, USER, FIRST, 1, &letter_a())?)
+    let disk = before.disk();
+    Ok(write(alloc, &disk, USER, FIRST, 1, &letter_a())?)
 }
 
 /// The block of the contiguous file is this one.
@@ -68,9 +69,9 @@ fn a_block_is_written(rt: HostRuntime) -> Result<(), Fail> {
 
 /// The draft of setting the other attributes of the contiguous file.
 fn with_attributes(alloc: Global, before: &Mounted) -> Result<Draft, Fail> {
-    let (image, layout) = (before.image(), before.layout());
+    let disk = before.disk();
     let attributes = other_attributes();
-    Ok(set_user(alloc, image, layout, USER, FIRST, attributes)?)
+    Ok(set_user(alloc, &disk, USER, FIRST, attributes)?)
 }
 
 /// The volume with the other attributes.
@@ -100,25 +101,25 @@ fn attributes_are_set(rt: HostRuntime) -> Result<(), Fail> {
 
 /// A user of the system writes a block of a file that the world may not touch: block 22 is changed.
 fn system_writes(rt: &impl Abort, alloc: Global, private: &Mounted) -> Result<(), Fail> {
-    let (image, layout) = (private.image(), private.layout());
+    let disk = private.disk();
     let block = letter_a();
-    let draft = write(alloc, image, layout, SYSTEM, FIRST, 1, &block)?;
-    assert!(rt; image.len() == 40 && *draft.block(image, 22) == block);
+    let draft = write(alloc, &disk, SYSTEM, FIRST, 1, &block)?;
+    assert!(rt; disk.image.len() == 40 && *draft.block(disk.image, 22) == block);
     Ok(())
 }
 
 /// That user sets its attributes: header 8 is changed.
 fn system_sets(rt: &impl Abort, alloc: Global, private: &Mounted) -> Result<(), Fail> {
-    let (image, layout) = (private.image(), private.layout());
-    let draft = set_user(alloc, image, layout, SYSTEM, FIRST, other_attributes())?;
-    assert!(rt; image.len() == 40 && draft.block(image, 8).byte(14) == 2);
+    let disk = private.disk();
+    let draft = set_user(alloc, &disk, SYSTEM, FIRST, other_attributes())?;
+    assert!(rt; disk.image.len() == 40 && draft.block(disk.image, 8).byte(14) == 2);
     Ok(())
 }
 
 /// And nobody else does.
 fn world_is_denied(rt: &impl Abort, alloc: Global, private: &Mounted) {
-    let (image, layout) = (private.image(), private.layout());
-    let refused = set_user(alloc, image, layout, WORLD, FIRST, other_attributes());
+    let disk = private.disk();
+    let refused = set_user(alloc, &disk, WORLD, FIRST, other_attributes());
     assert!(rt; refused.err() == Some(Refusal::Denied));
 }
 
@@ -138,8 +139,8 @@ fn without_bitmap(
     before: &Mounted,
     pick: Pick,
 ) -> Result<(Draft, FileId, u16), Fail> {
-    let (image, layout) = (before.image(), before.layout());
-    Ok(remove(alloc, image, layout, USER, MASTER, bitmap(), pick)?)
+    let disk = before.disk();
+    Ok(remove(alloc, &disk, USER, MASTER, bitmap(), pick)?)
 }
 
 /// The volume without that name, where the file and version that go are those.
@@ -155,27 +156,17 @@ fn after_remove(alloc: Global, pick: Pick) -> Result<Mounted, Fail> {
 #[test]
 fn a_name_is_removed(rt: HostRuntime) -> Result<(), Fail> {
     let after = after_remove(rt.alloc(), Pick::Highest)?;
-    let (image, layout) = (after.image(), after.layout());
-    let found = look_up(image, layout, USER, MASTER, bitmap(), Pick::Highest);
+    let disk = after.disk();
+    let found = look_up(&disk, USER, MASTER, bitmap(), Pick::Highest);
     assert!(rt; found.err() == Some(Refusal::NoSuchName));
     Ok(())
 }
 
 /// The draft of entering C.DAT in the master directory, and its version.
 fn entered(alloc: Global, before: &Mounted) -> Result<(Drafted, u16), Fail> {
-    let (image, layout) = (before.image(), before.layout());
-    let counts = FreeCounts::of(alloc, image, layout)?;
-    Ok(enter(
-        alloc,
-        image,
-        layout,
-        &counts,
-        USER,
-        MASTER,
-        c_dat(),
-        None,
-        FIRST,
-    )?)
+    let disk = before.disk();
+    let counts = FreeCounts::of(alloc, &disk)?;
+    Ok(enter(alloc, &disk, &counts, USER, MASTER, c_dat(), None, FIRST)?)
 }
 
 /// F.HIBK, F.EFBK and F.FFBY of the master directory, whose header is LBN 6.

@@ -16,9 +16,9 @@ use std::test::Fail;
 fn made(alloc: Global, name: Name, blocks: u32) -> Result<(Mounted, FileId), Fail> {
     let before = mounted(alloc, sample_of(40).image(alloc)?)?;
     let stamp = Stamp::parse(b"01JAN80120000").ok_or("a stamp")?;
-    let (image, layout) = (before.image(), before.layout());
-    let counts = FreeCounts::of(alloc, image, layout)?;
-    let (made, file) = create(alloc, image, layout, &counts, USER, name, 3, blocks, stamp)?;
+    let disk = before.disk();
+    let counts = FreeCounts::of(alloc, &disk)?;
+    let (made, file) = create(alloc, &disk, &counts, USER, name, 3, blocks, stamp)?;
     let (mut image, _) = before.into_parts();
     made.draft.apply(&mut image);
     Ok((mounted(alloc, image)?, file))
@@ -47,14 +47,15 @@ fn has_header(rt: &impl Abort, image: &Image) -> Result<(), Fail> {
 
 /// File 6,1 is shown as a new file of two blocks, and its second block is zeros.
 fn is_shown(rt: &impl Abort, after: &Mounted) -> Result<(), Fail> {
-    let shown = stat(after.image(), after.layout(), FIRST)?;
+    let disk = after.disk();
+    let shown = stat(&disk, FIRST)?;
     assert!(rt; shown.owner == USER && shown.protection == PROTECTION);
     let kind = Kind::Plain {
         blocks: 2,
         attributes: [0; 32],
     };
     assert!(rt; shown.kind == kind);
-    let second = read(after.image(), after.layout(), USER, FIRST, 2)?;
+    let second = read(&disk, USER, FIRST, 2)?;
     assert!(rt; second == Block::zeros());
     Ok(())
 }
@@ -80,32 +81,23 @@ fn attribute_words(header: &Block) -> [u16; 7] {
 fn a_directory_is_made(rt: HostRuntime) -> Result<(), Fail> {
     let sub_dir = Name::new([31_242, 0, 0], DIR);
     let (after, file) = made(rt.alloc(), sub_dir, 1)?;
-    let shown = stat(after.image(), after.layout(), file)?;
+    let disk = after.disk();
+    let shown = stat(&disk, file)?;
     assert!(rt; shown.kind == Kind::Directory { names: 0 });
     // Records of 16 bytes, one block, and the end mark at its beginning.
-    let words = attribute_words(block_of(after.image(), 8)?);
+    let words = attribute_words(block_of(disk.image, 8)?);
     assert!(rt; words == [1, 16, 0, 1, 0, 1, 0]);
     Ok(())
 }
 
 /// What a Create of so many blocks is answered.
 fn answered(alloc: Global, before: &Mounted, blocks: u32, stamp: Stamp) -> Result<FileId, Refusal> {
-    let (image, layout) = (before.image(), before.layout());
-    let counts = match FreeCounts::of(alloc, image, layout) {
+    let disk = before.disk();
+    let counts = match FreeCounts::of(alloc, &disk) {
         Ok(counts) => counts,
         Err(_) => return Err(Refusal::NoMemory),
     };
-    match create(
-        alloc,
-        image,
-        layout,
-        &counts,
-        USER,
-        a_txt(),
-        1,
-        blocks,
-        stamp,
-    ) {
+    match create(alloc, &disk, &counts, USER, a_txt(), 1, blocks, stamp) {
         Ok(made) => Ok(made.1),
         Err(refusal) => Err(refusal),
     }

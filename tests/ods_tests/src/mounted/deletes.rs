@@ -16,7 +16,8 @@ use std::test::Fail;
 
 /// The draft of a Delete by a user of the system.
 fn deleted(alloc: Global, before: &Mounted, file: FileId) -> Result<Draft, Refusal> {
-    delete(alloc, before.image(), before.layout(), USER, file)
+    let disk = before.disk();
+    delete(alloc, &disk, USER, file)
 }
 
 /// The sample volume with C.DAT, file 6,1: LBN 22 by its first header, LBN 24 by header 7.
@@ -51,13 +52,15 @@ fn without_first(alloc: Global, image: Image) -> Result<Mounted, Fail> {
 
 /// So many blocks and numbers are free.
 fn has_free(rt: &impl Abort, volume: &Mounted, blocks: u32, numbers: u32) {
-    assert!(rt; free_count(volume.image(), volume.layout()) == blocks);
-    assert!(rt; number_count(volume.image(), volume.layout()) == numbers);
+    let disk = volume.disk();
+    assert!(rt; free_count(&disk) == blocks);
+    assert!(rt; number_count(&disk) == numbers);
 }
 
 /// File 6,1 is not there.
 fn is_gone(rt: &impl Abort, volume: &Mounted) {
-    let left = stat(volume.image(), volume.layout(), FIRST);
+    let disk = volume.disk();
+    let left = stat(&disk, FIRST);
     assert!(rt; left.err() == Some(Refusal::NoSuchFile));
 }
 
@@ -100,7 +103,8 @@ fn refuses(rt: &impl Abort, alloc: Global, private: &Mounted) {
     for (file, refusal) in [(MASTER, Refusal::Reserved), (SECOND, Refusal::NoSuchFile)] {
         assert!(rt; deleted(alloc, private, file).err() == Some(refusal));
     }
-    let refused = delete(alloc, private.image(), private.layout(), WORLD, FIRST);
+    let disk = private.disk();
+    let refused = delete(alloc, &disk, WORLD, FIRST);
     assert!(rt; refused.err() == Some(Refusal::Denied));
 }
 

@@ -45,7 +45,8 @@ fn bytes_stand_in_blocks_with_zeros_behind(rt: HostRuntime) -> Result<(), Fail> 
     let (after, put) = put_file(filing(rt.alloc())?, &file);
     assert!(rt; put? == FIRST);
     let after = after.into_mounted();
-    let shown = stat(after.image(), after.layout(), FIRST)?;
+    let disk = after.disk();
+    let shown = stat(&disk, FIRST)?;
     let kind = Kind::Plain {
         blocks: 2,
         attributes: file.attributes,
@@ -55,19 +56,9 @@ fn bytes_stand_in_blocks_with_zeros_behind(rt: HostRuntime) -> Result<(), Fail> 
     first.set_bytes(0, &bytes[..512]);
     let mut second = Block::zeros();
     second.set_bytes(0, &bytes[512..]);
-    assert!(rt;
-        same_block(
-            &read(after.image(), after.layout(), USER, FIRST, 1)?,
-            &first
-        )
-    );
-    assert!(rt;
-        same_block(
-            &read(after.image(), after.layout(), USER, FIRST, 2)?,
-            &second
-        )
-    );
-    assert!(rt; check_image(rt.alloc(), after.image()).is_ok());
+    assert!(rt; same_block(&read(&disk, USER, FIRST, 1)?, &first));
+    assert!(rt; same_block(&read(&disk, USER, FIRST, 2)?, &second));
+    assert!(rt; check_image(rt.alloc(), disk.image).is_ok());
     Ok(())
 }
 
@@ -76,7 +67,8 @@ fn no_bytes_take_no_block(rt: HostRuntime) -> Result<(), Fail> {
     let (after, put) = put_file(filing(rt.alloc())?, &file_of(&[])?);
     assert!(rt; put? == FIRST);
     let after = after.into_mounted();
-    assert!(rt; read(after.image(), after.layout(), USER, FIRST, 1) == Err(Refusal::NoSuchBlock));
+    let disk = after.disk();
+    assert!(rt; read(&disk, USER, FIRST, 1) == Err(Refusal::NoSuchBlock));
     Ok(())
 }
 

@@ -2,6 +2,7 @@
 use crate::persons::a_txt;
 use crate::volumes::{FileHeader, Variant, added, directory_attributes, run, sample_of};
 use ods_check::{check_all, findings};
+use ods_space::Disk;
 use std::alloc::Global;
 use std::process::Abort;
 use std::test::Fail;
@@ -19,7 +20,11 @@ fn finds(
     let Some(layout) = &checked.layout else {
         return Err("it has no layout".into());
     };
-    let found = findings(alloc, &image, layout)?;
+    let disk = Disk {
+        image: &image,
+        layout,
+    };
+    let found = findings(alloc, &disk)?;
     assert!(rt; found.len() == wanted.len(), "{found:?}");
     for i in 0..wanted.len() {
         let text = format!(in alloc; "{}", found[i])?;

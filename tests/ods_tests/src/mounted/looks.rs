@@ -25,7 +25,8 @@ fn contiguous_mounted(alloc: Global, protection: u16) -> Result<Mounted, Fail> {
 
 /// The answer of a query on a mounted volume.
 fn ask(mounted: &Mounted, who: Uic, query: Query) -> Result<Answer, Refusal> {
-    look(mounted.image(), mounted.layout(), who, query)
+    let disk = mounted.disk();
+    look(&disk, who, query)
 }
 
 /// The answer of a Read by somebody of the world.
@@ -70,7 +71,8 @@ fn names(rt: HostRuntime) -> Result<(), Fail> {
 
 /// What a List by somebody of the world is answered.
 fn lines_of(alloc: Global, volume: &Mounted, dir: FileId) -> Result<Listing, Refusal> {
-    list(alloc, volume.image(), volume.layout(), WORLD, dir)
+    let disk = volume.disk();
+    list(alloc, &disk, WORLD, dir)
 }
 
 #[test]
@@ -85,7 +87,8 @@ fn lists(rt: HostRuntime) -> Result<(), Fail> {
 
 /// A file has this kind.
 fn has_kind(rt: &impl Abort, volume: &Mounted, file: FileId, kind: Kind) -> Result<(), Fail> {
-    let shown = stat(volume.image(), volume.layout(), file)?;
+    let disk = volume.disk();
+    let shown = stat(&disk, file)?;
     assert!(rt; shown.kind == kind, "{file:?} is {shown:?}");
     Ok(())
 }
@@ -100,9 +103,10 @@ fn plain(blocks: u32) -> Kind {
 
 /// The protection of the contiguous file is shown, and all of INDEXF.SYS.
 fn is_private(rt: &impl Abort, volume: &Mounted) -> Result<(), Fail> {
-    let shown = stat(volume.image(), volume.layout(), FIRST)?;
+    let disk = volume.disk();
+    let shown = stat(&disk, FIRST)?;
     assert!(rt; shown.protection == WORLD_DENIED);
-    let index = stat(volume.image(), volume.layout(), reserved_id(1))?;
+    let index = stat(&disk, reserved_id(1))?;
     assert!(rt; index == index_stat());
     Ok(())
 }

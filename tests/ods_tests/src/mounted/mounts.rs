@@ -16,8 +16,8 @@ use std::thread::Threads;
 
 /// The blocks and the numbers that are free.
 pub fn free(mounted: &Mounted) -> (u32, u32) {
-    let (image, layout) = (mounted.image(), mounted.layout());
-    (free_count(image, layout), number_count(image, layout))
+    let disk = mounted.disk();
+    (free_count(&disk), number_count(&disk))
 }
 
 /// The blocks and the numbers that are free, where the image is sound.

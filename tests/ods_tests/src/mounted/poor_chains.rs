@@ -7,7 +7,7 @@ use ods_alloc::{extend_chain, free_count, give_back, number_count};
 use ods_base::Image;
 use ods_header::{Run, read_header};
 use ods_mount::{MountFault, Mounted, mount};
-use ods_space::{Draft, Layout};
+use ods_space::{Disk, Draft};
 use std::alloc::Global;
 use std::process::Abort;
 use std::test::Fail;
@@ -49,10 +49,10 @@ fn drafted(image: &Image, draft: &Draft) -> Result<Image, Fail> {
     Ok(new)
 }
 
-/// So many blocks and numbers are free in the image.
-fn has_free(rt: &impl Abort, image: &Image, layout: &Layout, blocks: u32, numbers: u32) {
-    assert!(rt; free_count(image, layout) == blocks, "{blocks} blocks");
-    assert!(rt; number_count(image, layout) == numbers, "{numbers} numbers");
+/// So many blocks and numbers are free on the disk.
+fn has_free(rt: &impl Abort, disk: &Disk<'_>, blocks: u32, numbers: u32) {
+    assert!(rt; free_count(disk) == blocks, "{blocks} blocks");
+    assert!(rt; number_count(disk) == numbers, "{numbers} numbers");
 }
 
 /// A header of the image, in this block, maps these runs.
@@ -77,32 +77,19 @@ fn extends(
     for k in 0..blocks {
         lbns.push(held + k)?;
     }
-    let (image, layout) = (it.image(), it.layout());
+    let disk = it.disk();
     let mut draft = Draft::new(alloc);
-    let done = extend_chain(
-        alloc,
-        image,
-        layout,
-        6,
-        lbns.as_slice(),
-        numbers,
-        &mut draft,
-    );
+    let done = extend_chain(alloc, &disk, 6, lbns.as_slice(), numbers, &mut draft);
     if done.is_err() {
         refusing.meets(rt);
-        assert!(rt; drafted(image, &draft)? == *image, "the draft changed");
-        let again = extend_chain(
-            alloc,
-            image,
-            layout,
-            6,
-            lbns.as_slice(),
-            numbers,
-            &mut draft,
+        assert!(rt;
+            drafted(disk.image, &draft)? == *disk.image,
+            "the draft changed"
         );
+        let again = extend_chain(alloc, &disk, 6, lbns.as_slice(), numbers, &mut draft);
         assert!(rt; again.is_ok(), "refused twice");
     }
-    drafted(image, &draft)
+    drafted(disk.image, &draft)
 }
 
 /// A file without a block gets 300 blocks: a pointer counts 256 at most.
@@ -112,7 +99,11 @@ fn refused_memory_where_a_chain_grows(rt: HostRuntime) -> Result<(), Fail> {
     let it = with_chain(rt.alloc(), &[], None)?;
     let image = extends(&rt, rt.alloc(), &it, 300, &[], &mut refusing)?;
     maps(&rt, &image, 6, &[run(22, 256), run(278, 44)]);
-    has_free(&rt, &image, it.layout(), 190, 10);
+    let disk = Disk {
+        image: &image,
+        layout: it.layout(),
+    };
+    has_free(&rt, &disk, 190, 10);
     sound(rt.alloc(), image)?;
     ends(&rt, rt.alloc());
     Ok(())
@@ -135,7 +126,11 @@ fn refused_memory_where_a_chain_gets_a_header(rt: HostRuntime) -> Result<(), Fai
     let image = extends(&rt, rt.alloc(), &it, 2, &[7], &mut refusing)?;
     maps(&rt, &image, 6, &apart());
     maps(&rt, &image, 7, &[run(226, 2)]);
-    has_free(&rt, &image, it.layout(), 386, 9);
+    let disk = Disk {
+        image: &image,
+        layout: it.layout(),
+    };
+    has_free(&rt, &disk, 386, 9);
     sound(rt.alloc(), image)?;
     ends(&rt, rt.alloc());
     Ok(())
@@ -150,18 +145,25 @@ fn refused_memory_where_a_chain_is_given_back(rt: HostRuntime) -> Result<(), Fai
     for k in 0..103 {
         lbns.push(22 + 2 * k)?;
     }
-    let (image, layout) = (it.image(), it.layout());
-    has_free(&rt, image, layout, 387, 9);
+    let disk = it.disk();
+    has_free(&rt, &disk, 387, 9);
     let mut draft = Draft::new(rt.alloc());
-    let done = give_back(image, layout, lbns.as_slice(), &[6, 7], &mut draft);
+    let done = give_back(&disk, lbns.as_slice(), &[6, 7], &mut draft);
     if done.is_err() {
         refusing.meets(&rt);
-        assert!(rt; drafted(image, &draft)? == *image, "the draft changed");
-        let again = give_back(image, layout, lbns.as_slice(), &[6, 7], &mut draft);
+        assert!(rt;
+            drafted(disk.image, &draft)? == *disk.image,
+            "the draft changed"
+        );
+        let again = give_back(&disk, lbns.as_slice(), &[6, 7], &mut draft);
         assert!(rt; again.is_ok(), "refused twice");
     }
-    let image = drafted(image, &draft)?;
-    has_free(&rt, &image, layout, 490, 11);
+    let image = drafted(disk.image, &draft)?;
+    let disk = Disk {
+        image: &image,
+        layout: disk.layout,
+    };
+    has_free(&rt, &disk, 490, 11);
     for number in [6, 7] {
         let block = image.block(number as u32 + 2);
         assert!(rt;

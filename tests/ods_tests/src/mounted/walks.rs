@@ -28,7 +28,8 @@ fn is_walk(walk: &Walk, wanted: &[(usize, &str)]) -> bool {
 
 /// The walk over a mounted volume from this directory on.
 fn walk_of(alloc: Global, volume: &Mounted, start: u16) -> Result<Walk, Fail> {
-    Ok(walk_from(alloc, volume.image(), volume.layout(), start)?)
+    let disk = volume.disk();
+    Ok(walk_from(alloc, &disk, start)?)
 }
 
 /// The sample has the master directory alone, which names itself: it is listed, and not entered again. Digits come before letters.
@@ -237,7 +238,8 @@ fn an_ordinary_directory(rt: HostRuntime) -> Result<(), Fail> {
         entry(3, 3, A, B, 2),
     ];
     let volume = mounted(alloc, with_directories(alloc, &[], &below, &[])?)?;
-    let lines = listing(alloc, volume.image(), volume.layout(), 6)?;
+    let disk = volume.disk();
+    let lines = listing(alloc, &disk, 6)?;
     let wanted = ["A.B;2", "A.B;1", "A.DAT;1", "AB.A;1"];
     assert!(rt; lines.len() == 4);
     assert!(rt;

@@ -34,7 +34,8 @@ fn plain_lists(rt: &impl Abort, alloc: Global, image: &Image, wanted: Listing) -
 /// A sound image lists these lines.
 fn image_lists(rt: &impl Abort, alloc: Global, image: Image, wanted: &Listing) -> Result<(), Fail> {
     let mounted = mount(alloc, image).ok().ok_or("not sound")?;
-    let lines = list(alloc, mounted.image(), mounted.layout(), USER, MASTER)?;
+    let disk = mounted.disk();
+    let lines = list(alloc, &disk, USER, MASTER)?;
     assert!(rt; lines == *wanted, "by the image");
     Ok(())
 }

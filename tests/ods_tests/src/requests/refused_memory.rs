@@ -33,8 +33,8 @@ fn refused_memory_hands_the_image_back(rt: HostRuntime) -> Result<(), Fail> {
     let same = image.copy()?;
     match mount(rt.alloc(), image) {
         Ok(mounted) => {
-            let free = free_count(mounted.image(), mounted.layout());
-            assert!(rt; same_image(mounted.image(), &same) && free == 490);
+            let disk = mounted.disk();
+            assert!(rt; same_image(disk.image, &same) && free_count(&disk) == 490);
         }
         Err((back, fault)) => {
             assert!(rt; fault == MountFault::NoMemory, "another fault");

@@ -4,7 +4,7 @@ use Rattle.ods_space.specs.Layout.{header_at}
 use Rattle.ods_space.specs.Draft.{applied}
 use Rattle.ods_alloc.proofs.chain.new_sequence.Goals as goal
 
-value : (c : goal.After-file_sequence) → c.file_sequence.result ≡ sequence_of (header_at (applied c.args.image.now c.args.draft.now) c.args.layout.now c.args.number)
+value : (c : goal.After-file_sequence) → c.file_sequence.result ≡ sequence_of (header_at (applied c.args.disk.now.image.now c.args.draft.now) c.args.disk.now.layout.now c.args.number)
 value c = c.file_sequence.ensures ∙ ap sequence_of c.in-Some.ensures.some
 
 pub overflow_add-result : goal.overflow_add-result

@@ -15,8 +15,8 @@ use Rattle.ods_alloc.proofs.chain.write_extensions.Goals.{in-Some+in_ok-set, in_
 
 pub loop-i-init : goal.loop-i-init
 loop-i-init c = λ f e.
-    let I = c.args.image.now in
-    none_made (applied I c.args.old.now) (applied I c.args.draft.now) c.args.layout.now f (c.args.segment + 1) c.args.numbers.now c.args.runs.now
+    let I = c.args.disk.now.image.now in
+    none_made (applied I c.args.old.now) (applied I c.args.draft.now) c.args.disk.now.layout.now f (c.args.segment + 1) c.args.numbers.now c.args.runs.now
 
 pub extension_block-block-requires-clause-few : goal.extension_block-block-requires-clause-few
 extension_block-block-requires-clause-few c = omega (arith, ap length c.piece-pointers.ensures, length-take 102 (drop (102 * c.loop-i.i) c.args.runs.now))
@@ -29,8 +29,8 @@ extension_block-block-requires-clause-runs c =
 
 pub loop-i-preserved : goal.loop-i-preserved
 loop-i-preserved c = λ f e.
-    let I = c.args.image.now in
-    let L = c.args.layout.now in
+    let I = c.args.disk.now.image.now in
+    let L = c.args.disk.now.layout.now in
     let B = applied I c.args.old.now in
     let k = c.loop-i.i in
     let numbers = c.args.numbers.now in
@@ -55,7 +55,7 @@ loop-i-preserved c = λ f e.
 
 pub returns : goal.returns
 returns c = λ f e.
-    let I = c.args.image.now in
-    let P : ℕ → Type 0 = λ k. MakesHeaders (applied I c.args.old.now) (applied I c.args.draft.now) c.args.layout.now f (c.args.segment + 1) c.args.numbers.now c.args.runs.now k (applied I c.loop-i.draft) in
+    let I = c.args.disk.now.image.now in
+    let P : ℕ → Type 0 = λ k. MakesHeaders (applied I c.args.old.now) (applied I c.args.draft.now) c.args.disk.now.layout.now f (c.args.segment + 1) c.args.numbers.now c.args.runs.now k (applied I c.loop-i.draft) in
     let all : c.loop-i.i ≡ length c.args.numbers.now = omega (arith, c.loop-i.auto.i-end, c.loop-i-test.false) in
     subst P all (c.loop-i.invariant f e)

@@ -5,4 +5,4 @@ use Rattle.ods_alloc.specs.Extension.{MakesHeaders}
 use Rattle.ods_alloc.proofs.chain.write_extensions.Given as goal
 
 abbrev pub invariant-loop-i : goal.invariant-loop-i
-invariant-loop-i l = (f : List ℕ) → header_of f ≡ l.first → MakesHeaders (applied l.image l.old) (applied l.image l.initial.draft) l.layout f (l.segment + 1) l.numbers l.runs l.i (applied l.image l.draft)
+invariant-loop-i l = (f : List ℕ) → header_of f ≡ l.first → MakesHeaders (applied l.fn.disk.image.now l.old) (applied l.fn.disk.image.now l.initial.draft) l.fn.disk.layout.now f (l.segment + 1) l.numbers l.runs l.i (applied l.fn.disk.image.now l.draft)

@@ -9,8 +9,8 @@ use Rattle.ods_alloc.proofs.counting.count_blocks.Goals as goal
 
 pub loop-k-preserved : goal.loop-k-preserved
 loop-k-preserved c =
-    let I = c.args.image.now in
-    let L = c.args.layout.now in
+    let I = c.args.disk.now.image.now in
+    let L = c.args.disk.now.layout.now in
     let k = c.loop-k.k in
     let few : c.few_of-few.result ≡ length I - 4096 * k = omega (arith, c.few_of-few.ensures, c.len-len.ensures.value) in
     let count = c.bits_at.ensures ∙ ap (λ n. low_bits_set n (block_at I (slice_index c.bitmap-bitmap.result.now (k + 1)))) few
@@ -23,9 +23,9 @@ loop-k-preserved c =
 pub returns-clause-counts : goal.returns-clause-counts
 unfolding free_counts
 returns-clause-counts c =
-    let all : c.loop-k.k ≡ length c.args.layout.now.bitmap - 1 = omega (arith, c.loop-k.auto.k-end, c.loop-k-test.false, c.saturating_sub-k-end.ensures, ap length c.bitmap-bitmap.ensures) in
-    c.loop-k.invariant ∙ ap (λ n. map (free_in c.args.image.now c.args.layout.now) (range_with_len 0 n)) all
+    let all : c.loop-k.k ≡ length c.args.disk.now.layout.now.bitmap - 1 = omega (arith, c.loop-k.auto.k-end, c.loop-k-test.false, c.saturating_sub-k-end.ensures, ap length c.bitmap-bitmap.ensures) in
+    c.loop-k.invariant ∙ ap (λ n. map (free_in c.args.disk.now.image.now c.args.disk.now.layout.now) (range_with_len 0 n)) all
 
 pub returns-clause-few : goal.returns-clause-few
 returns-clause-few c =
-    subst (λ xs. sum xs ≤ 2 ^ 20) (sym (returns-clause-counts c)) (omega (arith, free_few c.args.image.now c.args.layout.now, c.len-len.ensures.image.size))
+    subst (λ xs. sum xs ≤ 2 ^ 20) (sym (returns-clause-counts c)) (omega (arith, free_few c.args.disk.now.image.now c.args.disk.now.layout.now, c.len-len.ensures.image.size))

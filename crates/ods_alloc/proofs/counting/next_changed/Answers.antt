@@ -6,8 +6,8 @@ use Rattle.ods_alloc.proofs.counting.next_changed.Goals as goal
 
 pub returns-then-lbn-end : goal.returns-then-lbn-end
 returns-then-lbn-end c =
-    let I = c.args.image.now in
-    let L = c.args.layout.now in
+    let I = c.args.disk.now.image.now in
+    let L = c.args.disk.now.layout.now in
     let m = c.args.bitmap in
     let k = c.loop-k.k in
     let s = c.stretch-many.ensures in
@@ -32,7 +32,7 @@ returns-then-lbn-end c =
 
 pub loop-k-preserved : goal.loop-k-preserved
 loop-k-preserved c =
-    let I = c.args.image.now in
+    let I = c.args.disk.now.image.now in
     let s = c.stretch-many.ensures in
     let next = c.next_change-lbn.ensures in
     let first = c.place_in-first.result in
@@ -42,7 +42,7 @@ loop-k-preserved c =
       above = let from = c.loop-k.invariant.above in omega arith;
       within = omega (arith, whole, c.size_of-size.ensures.value);
       kept =
-          kept_further I c.args.draft.now c.args.layout.now c.args.bitmap c.args.from c.loop-k.k c.stretch-many.result first c.next_change-lbn.result c.stretch-many.result c.loop-k.invariant.kept s c.place_in-first.ensures.value
+          kept_further I c.args.draft.now c.args.disk.now.layout.now c.args.bitmap c.args.from c.loop-k.k c.stretch-many.result first c.next_change-lbn.result c.stretch-many.result c.loop-k.invariant.kept s c.place_in-first.ensures.value
           next.passed (omega arith)
           (λ j low. elim (cases_lt (first + j) (length I)) [
             | inl inside ↦ inl (omega (arith, low, inside, end, c.max-end.ensures, c.min.ensures, c.len-len.ensures.value))

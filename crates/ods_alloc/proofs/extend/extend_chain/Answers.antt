@@ -9,28 +9,28 @@ use Rattle.ods_alloc.proofs.Chained.{first_found, last_found, last_walked}
 use Rattle.ods_alloc.proofs.extend.extend_chain.Goals as goal
 
 pub last_header-end-requires-clause-places : goal.last_header-end-requires-clause-places
-last_header-end-requires-clause-places g c = has_places c.args.image.now c.args.draft.now c.args.layout.now c.requires.0 c.requires.1.0
+last_header-end-requires-clause-places g c = has_places c.args.disk.now.image.now c.args.draft.now c.args.disk.now.layout.now c.requires.0 c.requires.1.0
 
 pub header_block-first-requires : goal.header_block-first-requires
 header_block-first-requires g c = record {
-  places = has_places c.args.image.now c.args.draft.now c.args.layout.now c.requires.0 c.requires.1.0;
-  valid = first_found (applied c.args.image.now c.args.draft.now) c.args.layout.now c.args.number g.chain.0 g.chain.1 c.args.blocks.now c.args.numbers.now c.requires.1.0 c.requires.1.1.0 c.requires.1.1.1;
+  places = has_places c.args.disk.now.image.now c.args.draft.now c.args.disk.now.layout.now c.requires.0 c.requires.1.0;
+  valid = first_found (applied c.args.disk.now.image.now c.args.draft.now) c.args.disk.now.layout.now c.args.number g.chain.0 g.chain.1 c.args.blocks.now c.args.numbers.now c.requires.1.0 c.requires.1.1.0 c.requires.1.1.1;
 }
 
 pub header_block-last-requires : goal.header_block-last-requires
 header_block-last-requires g c =
-    let I = applied c.args.image.now c.args.draft.now in
-    let end : c.last_header-end.result ≡ last_of c.args.number g.chain.0 = last_walked I c.args.layout.now c.args.number g.chain.0 g.chain.1 c.args.blocks.now c.args.numbers.now c.last_header-end.result
+    let I = applied c.args.disk.now.image.now c.args.draft.now in
+    let end : c.last_header-end.result ≡ last_of c.args.number g.chain.0 = last_walked I c.args.disk.now.layout.now c.args.number g.chain.0 g.chain.1 c.args.blocks.now c.args.numbers.now c.last_header-end.result
     c.requires.1.0 c.requires.1.1.0 c.requires.1.1.1 c.last_header-end.ensures in
     record {
-      places = has_places c.args.image.now c.args.draft.now c.args.layout.now c.requires.0 c.requires.1.0;
-      valid = last_found I c.args.layout.now c.args.number g.chain.0 g.chain.1 c.args.blocks.now c.args.numbers.now c.last_header-end.result c.requires.1.0 c.requires.1.1.0 c.requires.1.1.1 end;
+      places = has_places c.args.disk.now.image.now c.args.draft.now c.args.disk.now.layout.now c.requires.0 c.requires.1.0;
+      valid = last_found I c.args.disk.now.layout.now c.args.number g.chain.0 g.chain.1 c.args.blocks.now c.args.numbers.now c.last_header-end.result c.requires.1.0 c.requires.1.1.0 c.requires.1.1.1 end;
     }
 
 pub extend_from-requires : goal.extend_from-requires
 extend_from-requires g c =
-    let I = c.args.image.now in
-    let L = c.args.layout.now in
+    let I = c.args.disk.now.image.now in
+    let L = c.args.disk.now.layout.now in
     let n = c.args.number in
     let same = sym c.in_ok-changed.ensures in
     let Laid : Changes → Type 0 = λ d. IsLayoutOf (applied I d) L in
@@ -62,6 +62,6 @@ extend_from-requires g c =
 
 pub returns-clause-ok : goal.returns-clause-ok
 returns-clause-ok g c =
-    let I = c.args.image.now in
-    let P : Changes → Type 0 = λ d. Extends (applied I d) c.args.layout.now c.args.number g.chain.0 g.chain.1 c.args.blocks.now c.args.numbers.now (applied I c.in_ok-draft.field-0) in
+    let I = c.args.disk.now.image.now in
+    let P : Changes → Type 0 = λ d. Extends (applied I d) c.args.disk.now.layout.now c.args.number g.chain.0 g.chain.1 c.args.blocks.now c.args.numbers.now (applied I c.in_ok-draft.field-0) in
     subst P c.in_ok-changed.ensures c.in_ok-draft.ensures

@@ -13,42 +13,42 @@ use Rattle.ods_alloc.proofs.Extending.{extends}
 use Rattle.ods_alloc.proofs.extend.extend_from.Goals as goal
 
 pub write_headers-requires-clause-places : goal.write_headers-requires-clause-places
-write_headers-requires-clause-places g c = has_places c.args.image.now c.args.draft c.args.layout.now c.requires.0 c.requires.1.0
+write_headers-requires-clause-places g c = has_places c.args.disk.now.image.now c.args.draft c.args.disk.now.layout.now c.requires.0 c.requires.1.0
 
 pub mark_numbers-requires : goal.mark_numbers-requires
-mark_numbers-requires g c = record { places = has_places c.args.image.now c.args.draft c.args.layout.now c.requires.0 c.requires.1.0 }
+mark_numbers-requires g c = record { places = has_places c.args.disk.now.image.now c.args.draft c.args.disk.now.layout.now c.requires.0 c.requires.1.0 }
 
 pub mark_numbers-requires-2 : goal.mark_numbers-requires-2
-mark_numbers-requires-2 g c = record { places = has_places c.args.image.now c.args.draft c.args.layout.now c.requires.0 c.requires.1.0 }
+mark_numbers-requires-2 g c = record { places = has_places c.args.disk.now.image.now c.args.draft c.args.disk.now.layout.now c.requires.0 c.requires.1.0 }
 
 pub mark_blocks-requires : goal.mark_blocks-requires
-mark_blocks-requires g c = record { places = has_places c.args.image.now c.args.draft c.args.layout.now c.requires.0 c.requires.1.0 }
+mark_blocks-requires g c = record { places = has_places c.args.disk.now.image.now c.args.draft c.args.disk.now.layout.now c.requires.0 c.requires.1.0 }
 
 pub write_headers-requires-clause-first : goal.write_headers-requires-clause-first
-write_headers-requires-clause-first g c = (ends_found (applied c.args.image.now c.args.draft) c.args.layout.now c.args.number g.chain.0 g.chain.1 c.args.blocks.now c.args.numbers.now c.args.ends.now c.requires.1.0 c.requires.1.1.0 c.requires.1.1.1.0 c.requires.1.1.1.1.0).first
+write_headers-requires-clause-first g c = (ends_found (applied c.args.disk.now.image.now c.args.draft) c.args.disk.now.layout.now c.args.number g.chain.0 g.chain.1 c.args.blocks.now c.args.numbers.now c.args.ends.now c.requires.1.0 c.requires.1.1.0 c.requires.1.1.1.0 c.requires.1.1.1.1.0).first
 
 pub write_headers-requires-clause-last : goal.write_headers-requires-clause-last
-write_headers-requires-clause-last g c = (ends_found (applied c.args.image.now c.args.draft) c.args.layout.now c.args.number g.chain.0 g.chain.1 c.args.blocks.now c.args.numbers.now c.args.ends.now c.requires.1.0 c.requires.1.1.0 c.requires.1.1.1.0 c.requires.1.1.1.1.0).last
+write_headers-requires-clause-last g c = (ends_found (applied c.args.disk.now.image.now c.args.draft) c.args.disk.now.layout.now c.args.number g.chain.0 g.chain.1 c.args.blocks.now c.args.numbers.now c.args.ends.now c.requires.1.0 c.requires.1.1.0 c.requires.1.1.1.0 c.requires.1.1.1.1.0).last
 
 pub write_headers-requires-clause-apart : goal.write_headers-requires-clause-apart
-write_headers-requires-clause-apart g c = (ends_found (applied c.args.image.now c.args.draft) c.args.layout.now c.args.number g.chain.0 g.chain.1 c.args.blocks.now c.args.numbers.now c.args.ends.now c.requires.1.0 c.requires.1.1.0 c.requires.1.1.1.0 c.requires.1.1.1.1.0).new
+write_headers-requires-clause-apart g c = (ends_found (applied c.args.disk.now.image.now c.args.draft) c.args.disk.now.layout.now c.args.number g.chain.0 g.chain.1 c.args.blocks.now c.args.numbers.now c.args.ends.now c.requires.1.0 c.requires.1.1.0 c.requires.1.1.1.0 c.requires.1.1.1.1.0).new
 
 pub write_headers-requires-clause-segments : goal.write_headers-requires-clause-segments
-write_headers-requires-clause-segments g c = omega (arith, (ends_found (applied c.args.image.now c.args.draft) c.args.layout.now c.args.number g.chain.0 g.chain.1 c.args.blocks.now c.args.numbers.now c.args.ends.now c.requires.1.0 c.requires.1.1.0 c.requires.1.1.1.0 c.requires.1.1.1.1.0).segment, c.requires.1.1.1.0.segments)
+write_headers-requires-clause-segments g c = omega (arith, (ends_found (applied c.args.disk.now.image.now c.args.draft) c.args.disk.now.layout.now c.args.number g.chain.0 g.chain.1 c.args.blocks.now c.args.numbers.now c.args.ends.now c.requires.1.0 c.requires.1.1.0 c.requires.1.1.1.0 c.requires.1.1.1.1.0).segment, c.requires.1.1.1.0.segments)
 
 pub write_headers-requires-clause-runs : goal.write_headers-requires-clause-runs
 write_headers-requires-clause-runs g c =
     let P : List Run → Type 0 = λ rs. All IsRun rs in
     subst P (sym c.requires.1.1.1.1.1) (cut_runs c.args.blocks.now (λ k d below.
     let inside = c.requires.1.1.1.0.inside k d below in
-    let size = length-applied c.args.image.now c.args.draft in
+    let size = length-applied c.args.disk.now.image.now c.args.draft in
     omega (arith, inside, size, c.len.ensures.image.size)))
 
 pub returns : goal.returns
 returns g c =
-    let image = c.args.image.now in
+    let image = c.args.disk.now.image.now in
     let I = applied image c.args.draft in
-    let L = c.args.layout.now in
+    let L = c.args.disk.now.layout.now in
     let n = c.args.number in
     let P : ℕ → Type 0 = λ x. WritesHeaders I L n x c.args.numbers.now c.args.runs.now (applied image c.write_headers.new.draft) in
     extends I (with_in_use I L.home n) (applied image c.write_headers.new.draft) (applied image c.mark_numbers.new.draft) (applied image c.mark_numbers-2.new.draft) (applied image c.mark_blocks.new.draft) L n g.chain.0 g.chain.1 c.args.blocks.now c.args.numbers.now c.args.runs.now

@@ -10,14 +10,14 @@ use Rattle.ods_alloc.proofs.give.delete_headers.Goals.{in-Some+in_ok-set, in_def
 
 pub loop-number-init : goal.loop-number-init
 loop-number-init c =
-    let I = c.args.image.now in
-    let P : Changes → Type 0 = λ d. Deletes (applied I c.args.old.now) c.args.layout.now [] (applied I d) in
-    subst P (sym c.requires.same) (none_deleted (applied I c.args.old.now) c.args.layout.now)
+    let I = c.args.disk.now.image.now in
+    let P : Changes → Type 0 = λ d. Deletes (applied I c.args.old.now) c.args.disk.now.layout.now [] (applied I d) in
+    subst P (sym c.requires.same) (none_deleted (applied I c.args.old.now) c.args.disk.now.layout.now)
 
 pub loop-number-preserved : goal.loop-number-preserved
 loop-number-preserved c =
-    let I = c.args.image.now in
-    let L = c.args.layout.now in
+    let I = c.args.disk.now.image.now in
+    let L = c.args.disk.now.layout.now in
     let old = c.args.old.now in
     let k = c.loop-number.number-index in
     let numbers = c.args.numbers.now in
@@ -35,6 +35,6 @@ loop-number-preserved c =
 
 pub returns : goal.returns
 returns c =
-    let I = c.args.image.now in
-    let P : List ℕ → Type 0 = λ xs. Deletes (applied I c.args.old.now) c.args.layout.now xs (applied I c.loop-number.draft) in
+    let I = c.args.disk.now.image.now in
+    let P : List ℕ → Type 0 = λ xs. Deletes (applied I c.args.old.now) c.args.disk.now.layout.now xs (applied I c.loop-number.draft) in
     subst P (take_all c.loop-number.number-index c.args.numbers.now c.loop-number-test.false) c.loop-number.invariant

@@ -14,14 +14,14 @@ use Rattle.ods_alloc.proofs.headers.write_headers.Goals as goal
 use Rattle.ods_alloc.proofs.headers.write_headers.Goals.{After-grown_last-grown}
 
 -- behind the last header, as it is written, the new ones are made
-made_behind : (c : After-grown_last-grown) → let B = applied c.args.image.now c.args.draft.now in let L = c.args.layout.now in let z = c.args.ends.now.number in
+made_behind : (c : After-grown_last-grown) → let B = applied c.args.disk.now.image.now c.args.draft.now in let L = c.args.disk.now.layout.now in let z = c.args.ends.now.number in
     (e : Changes) → ((K : List (List ℕ)) → applied K e ≡ applied K ((c.in-Some.lbn, c.grown_last-grown.result) ∷ c.args.draft.now))
     → (rest : List Run) (segment : ℕ) (J : List (List ℕ)) → rest ≡ drop (room_of (header_at B L z) / 2) c.args.runs.now → segment ≡ segment_of (header_at B L z)
-    → MakesHeaders B (applied c.args.image.now e) L (header_at B L c.args.number) (segment + 1) c.args.numbers.now rest (length c.args.numbers.now) J
+    → MakesHeaders B (applied c.args.disk.now.image.now e) L (header_at B L c.args.number) (segment + 1) c.args.numbers.now rest (length c.args.numbers.now) J
     → WritesHeaders B L c.args.number z c.args.numbers.now c.args.runs.now J
 made_behind c = λ e set rest segment J.
-    let I = c.args.image.now in
-    let L = c.args.layout.now in
+    let I = c.args.disk.now.image.now in
+    let L = c.args.disk.now.layout.now in
     let B = applied I c.args.draft.now in
     let z = c.args.ends.now.number in
     let numbers = c.args.numbers.now in
@@ -38,8 +38,8 @@ made_behind c = λ e set rest segment J.
 
 pub returns-then-is_empty : goal.returns-then-is_empty
 returns-then-is_empty c =
-    let I = c.args.image.now in
-    let L = c.args.layout.now in
+    let I = c.args.disk.now.image.now in
+    let L = c.args.disk.now.layout.now in
     let B = applied I c.args.draft.now in
     let h = header_at B L c.args.ends.now.number in
     let J = applied I c.renew.new.self in
@@ -59,8 +59,8 @@ write_extensions-requires-clause-runs c =
 
 pub returns : goal.returns
 returns c =
-    let I = c.args.image.now in
-    let L = c.args.layout.now in
+    let I = c.args.disk.now.image.now in
+    let L = c.args.disk.now.layout.now in
     let B = applied I c.args.draft.now in
     let first : header_of (header_at B L c.args.number) ≡ c.in-Ok.first = ap header_of (sym c.requires.first.is) ∙ sym c.in-Ok.ensures.ok.1 in
     let P : Changes → Type 0 = λ d. MakesHeaders (applied I d) (applied I c.renew-2.new.self) L (header_at B L c.args.number) (c.segment.result + 1) c.args.numbers.now c.piece-rest.result.now (length c.args.numbers.now) (applied I c.write_extensions.new.draft) in

@@ -15,8 +15,8 @@ use Rattle.ods_alloc.proofs.index.grow_index.Goals as goal
 
 pub returns-clause-appends : goal.returns-clause-appends
 returns-clause-appends c =
-    let I : List (List ℕ) = c.args.image.now in
-    let L : VolumeLayout = c.args.layout.now in
+    let I : List (List ℕ) = c.args.disk.now.image.now in
+    let L : VolumeLayout = c.args.disk.now.layout.now in
     let d = c.zero_runs.new.draft in
     let Z : List (List ℕ) = applied I d in
     let H : List (List ℕ) = applied I c.set.new.self in

@@ -4,11 +4,11 @@ use Rattle.ods_alloc.proofs.Walking.{way_begins, way_valid, way_ends, way_leads}
 use Rattle.ods_alloc.proofs.last.last_header.Goals as goal
 
 pub loop-k-init : goal.loop-k-init
-loop-k-init c = λ C others all same chain. way_begins C c.args.layout.now c.args.number others all c.requires.file chain
+loop-k-init c = λ C others all same chain. way_begins C c.args.disk.now.layout.now c.args.number others all c.requires.file chain
 
 pub returns-then-next-eq0 : goal.returns-then-next-eq0
 returns-then-next-eq0 c = λ C others all same few chain.
-    let L = c.args.layout.now in
+    let L = c.args.disk.now.layout.now in
     let way = c.loop-k.invariant C others all same chain in
     let V : List ℕ → Type 0 = λ b. IsValidHeader b c.loop-k.last in
     let is = c.next_of-next.ensures (subst V (same c.loop-k.last) (way_valid C L c.args.number others all _ c.loop-k.last way)) ∙ ap next_number_of (sym (same c.loop-k.last)) in
@@ -16,7 +16,7 @@ returns-then-next-eq0 c = λ C others all same few chain.
 
 pub loop-k-preserved : goal.loop-k-preserved
 loop-k-preserved c = λ C others all same chain.
-    let L = c.args.layout.now in
+    let L = c.args.disk.now.layout.now in
     let way = c.loop-k.invariant C others all same chain in
     let V : List ℕ → Type 0 = λ b. IsValidHeader b c.loop-k.last in
     let is = c.next_of-next.ensures (subst V (same c.loop-k.last) (way_valid C L c.args.number others all _ c.loop-k.last way)) ∙ ap next_number_of (sym (same c.loop-k.last)) in

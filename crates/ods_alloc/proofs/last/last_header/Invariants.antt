@@ -6,4 +6,4 @@ use Rattle.ods_alloc.proofs.Walking.{IsOnTheWay}
 use Rattle.ods_alloc.proofs.last.last_header.Given as goal
 
 abbrev pub invariant-loop-k : goal.invariant-loop-k
-invariant-loop-k l = (C : List (List ℕ)) (others all : List ℕ) → ((m : ℕ) → header_at C l.layout m ≡ header_at (applied l.image l.draft) l.layout m) → IsChain C l.layout l.number others all → IsOnTheWay C l.layout l.number others all l._k l.last
+invariant-loop-k l = (C : List (List ℕ)) (others all : List ℕ) → ((m : ℕ) → header_at C l.fn.disk.layout.now m ≡ header_at (applied l.fn.disk.image.now l.draft) l.fn.disk.layout.now m) → IsChain C l.fn.disk.layout.now l.number others all → IsOnTheWay C l.fn.disk.layout.now l.number others all l._k l.last

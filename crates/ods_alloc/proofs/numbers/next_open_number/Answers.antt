@@ -10,8 +10,8 @@ use Rattle.ods_alloc.proofs.numbers.next_open_number.Goals as goal
 
 pub loop-at-init : goal.loop-at-init
 loop-at-init c =
-    let I = c.args.image.now in
-    let L = c.args.layout.now in
+    let I = c.args.disk.now.image.now in
+    let L = c.args.disk.now.layout.now in
     let at = c.skip_used-at.result in
     let P : Home → Type 0 = λ h. NonePasses (is_clear I h) c.max.result at in (
       omega (arith, c.skip_used-at.ensures.above, c.max.ensures),
@@ -21,8 +21,8 @@ loop-at-init c =
 
 pub loop-at-preserved : goal.loop-at-preserved
 loop-at-preserved c =
-    let I = c.args.image.now in
-    let L = c.args.layout.now in
+    let I = c.args.disk.now.image.now in
+    let L = c.args.disk.now.layout.now in
     let at = c.loop-at.at in
     let next = c.skip_used-at-in-loop-at.result in
     let above_at = c.skip_used-at-in-loop-at.ensures.above in
@@ -36,14 +36,14 @@ loop-at-preserved c =
 pub returns-clause-none : goal.returns-clause-none
 returns-clause-none c = λ k above. elim (cases_lt k c.loop-at.at) [
   | inl earlier ↦ c.loop-at.invariant.2 k above earlier
-  | inr later ↦ not_open_high c.args.image.now c.args.layout.now c.args.most k (omega (arith, c.loop-at-test.false))
+  | inr later ↦ not_open_high c.args.disk.now.image.now c.args.disk.now.layout.now c.args.most k (omega (arith, c.loop-at-test.false))
 ]
 
 pub skip_used-at-requires-clause-counts : goal.skip_used-at-requires-clause-counts
-skip_used-at-requires-clause-counts c = subst (λ h. ShowsNone c.args.counts.now (clear_in c.args.image.now h)) (sym c.home-home.ensures) c.requires.counts
+skip_used-at-requires-clause-counts c = subst (λ h. ShowsNone c.args.counts.now (clear_in c.args.disk.now.image.now h)) (sym c.home-home.ensures) c.requires.counts
 
 pub skip_used-at-requires-in-loop-at-clause-counts : goal.skip_used-at-requires-in-loop-at-clause-counts
-skip_used-at-requires-in-loop-at-clause-counts c = subst (λ h. ShowsNone c.args.counts.now (clear_in c.args.image.now h)) (sym c.home-home.ensures) c.requires.counts
+skip_used-at-requires-in-loop-at-clause-counts c = subst (λ h. ShowsNone c.args.counts.now (clear_in c.args.disk.now.image.now h)) (sym c.home-home.ensures) c.requires.counts
 
 pub returns-then-is_number_open-clause-some : goal.returns-then-is_number_open-clause-some
 returns-then-is_number_open-clause-some c = record { above = c.loop-at.invariant.1; passes = sym c.is_number_open.ensures ∙ c.if-is_number_open.true; least = c.loop-at.invariant.2 }

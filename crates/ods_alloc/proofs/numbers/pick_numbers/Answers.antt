@@ -8,11 +8,11 @@ use Rattle.ods_alloc.proofs.numbers.pick_numbers.Goals as goal
 pub returns-clause-ok : goal.returns-clause-ok
 unfolding free_numbers
 returns-clause-ok c =
-    let found : ℕ → List ℕ = λ m. filter (is_open_number c.args.image.now c.args.layout.now m) (range_with_len 1 m) in
+    let found : ℕ → List ℕ = λ m. filter (is_open_number c.args.disk.now.image.now c.args.disk.now.layout.now m) (range_with_len 1 m) in
     subst (λ m. IfOk c.pick_up_to.result (λ numbers. (numbers.items ≡ take c.args.count (found m)) × (c.args.count ≤ length (found m)))) c.last_number.ensures c.pick_up_to.ensures.ok
 
 pub returns-clause-err : goal.returns-clause-err
 unfolding free_numbers
 returns-clause-err c =
-    let found : ℕ → List ℕ = λ m. filter (is_open_number c.args.image.now c.args.layout.now m) (range_with_len 1 m) in
+    let found : ℕ → List ℕ = λ m. filter (is_open_number c.args.disk.now.image.now c.args.disk.now.layout.now m) (range_with_len 1 m) in
     subst (λ m. IfErr c.pick_up_to.result (IsShort HeadersFull (length (found m)) c.args.count)) c.last_number.ensures c.pick_up_to.ensures.err

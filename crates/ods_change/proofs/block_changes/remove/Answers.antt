@@ -15,12 +15,12 @@ use Rattle.ods_change.proofs.block_changes.remove.Goals as goal
 
 pub returns-in-Err : goal.returns-in-Err
 returns-in-Err c =
-    refused_by_fault c.args.image.now c.args.layout.now c.args.who (Remove c.args.dir c.args.name c.args.pick) c.in-Err.refusal
+    refused_by_fault c.args.disk.now.image.now c.args.disk.now.layout.now c.args.who (Remove c.args.dir c.args.name c.args.pick) c.in-Err.refusal
     (λ C shown. fault_remove C c.args.who c.args.dir c.args.name c.args.pick ∙ c.in-Err.ensures.err C (name_check c.args.name c.args.pick) shown)
 
 pub returns-in-Err-remove : goal.returns-in-Err-remove
 returns-in-Err-remove c =
-    refused_by_fault c.args.image.now c.args.layout.now c.args.who (Remove c.args.dir c.args.name c.args.pick) refusal.NoSuchName (λ C shown.
+    refused_by_fault c.args.disk.now.image.now c.args.disk.now.layout.now c.args.who (Remove c.args.dir c.args.name c.args.pick) refusal.NoSuchName (λ C shown.
     fault_remove C c.args.who c.args.dir c.args.name c.args.pick
     ∙ not_found c.in-Ok.ensures.ok shown c.args.name c.words.ensures.name.three c.args.pick c.in-Err-remove.field-0 c.in-Err-remove.ensures.err)
 
@@ -32,8 +32,8 @@ with_entry-lbn-requires-clause-whole c = let place = c.in-Ok-remove.ensures.posi
 
 pub returns-in-Ok-one_block : goal.returns-in-Ok-one_block
 returns-in-Ok-one_block c =
-    let I = c.args.image.now in
-    let L = c.args.layout.now in
+    let I = c.args.disk.now.image.now in
+    let L = c.args.disk.now.layout.now in
     let entry = c.in-Ok-remove.entry in
     let removed = c.in-Ok-remove.ensures in
     let place = removed.position in
@@ -46,5 +46,5 @@ returns-in-Ok-one_block c =
 pub returns-in-Err-one_block : goal.returns-in-Err-one_block
 returns-in-Err-one_block c =
     let entry = c.in-Ok-remove.entry in
-    refused_for_memory c.args.image.now c.args.layout.now c.args.who (Remove c.args.dir c.args.name c.args.pick) refl (λ C shown.
+    refused_for_memory c.args.disk.now.image.now c.args.disk.now.layout.now c.args.who (Remove c.args.dir c.args.name c.args.pick) refl (λ C shown.
     (remove_answered c.requires c.in-Ok.ensures.ok c.args.name c.words.ensures.name.three c.args.pick entry.0 entry.1 c.in-Ok-remove.ensures.found C shown).0)

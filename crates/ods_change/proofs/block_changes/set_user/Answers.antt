@@ -14,16 +14,16 @@ use Rattle.ods_change.proofs.block_changes.set_user.Goals as goal
 
 pub returns-in-Err : goal.returns-in-Err
 returns-in-Err c =
-    refused_by_fault c.args.image.now c.args.layout.now c.args.who (SetUser c.args.file c.args.attributes) c.in-Err.refusal
+    refused_by_fault c.args.disk.now.image.now c.args.disk.now.layout.now c.args.who (SetUser c.args.file c.args.attributes) c.in-Err.refusal
     (λ C shown. fault_set_user C c.args.who c.args.file c.args.attributes ∙ c.in-Err.ensures.err C (λ f. []) shown)
 
 pub unwrap-lbn-requires : goal.unwrap-lbn-requires
-unwrap-lbn-requires c = ap is_some c.place.ensures ∙ has_place c.args.image.now c.args.layout.now c.args.file.number c.in-Ok.ensures.ok.0.file.0
+unwrap-lbn-requires c = ap is_some c.place.ensures ∙ has_place c.args.disk.now.image.now c.args.disk.now.layout.now c.args.file.number c.in-Ok.ensures.ok.0.file.0
 
 pub returns-in-Ok-one_block : goal.returns-in-Ok-one_block
 returns-in-Ok-one_block c =
-    let I = c.args.image.now in
-    let L = c.args.layout.now in
+    let I = c.args.disk.now.image.now in
+    let L = c.args.disk.now.layout.now in
     let x = c.unwrap-lbn.result in
     let new = c.args.attributes in
     let b = c.with_attributes-header.result in
@@ -38,5 +38,5 @@ returns-in-Ok-one_block c =
 
 pub returns-in-Err-one_block : goal.returns-in-Err-one_block
 returns-in-Err-one_block c =
-    refused_for_memory c.args.image.now c.args.layout.now c.args.who (SetUser c.args.file c.args.attributes) refl
+    refused_for_memory c.args.disk.now.image.now c.args.disk.now.layout.now c.args.who (SetUser c.args.file c.args.attributes) refl
     (λ C shown. fault_set_user C c.args.who c.args.file c.args.attributes ∙ (c.in-Ok.ensures.ok.0.passes C shown).left (λ f. []))

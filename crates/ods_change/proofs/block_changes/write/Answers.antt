@@ -11,13 +11,13 @@ use Rattle.ods_change.proofs.block_changes.write.Goals as goal
 
 pub returns-in-Err : goal.returns-in-Err
 returns-in-Err c =
-    refused_by_fault c.args.image.now c.args.layout.now c.args.who (WriteRequest c.args.file c.args.vbn c.args.block.now) c.in-Err.refusal
+    refused_by_fault c.args.disk.now.image.now c.args.disk.now.layout.now c.args.who (WriteRequest c.args.file c.args.vbn c.args.block.now) c.in-Err.refusal
     (λ C shown. fault_write C c.args.who c.args.file c.args.vbn c.args.block.now ∙ c.in-Err.ensures.err C shown)
 
 pub returns-in-Ok-one_block : goal.returns-in-Ok-one_block
 returns-in-Ok-one_block c =
-    let I = c.args.image.now in
-    let L = c.args.layout.now in
+    let I = c.args.disk.now.image.now in
+    let L = c.args.disk.now.layout.now in
     let x = c.in-Ok.lbn in
     let b = c.args.block.now in
     let found = c.in-Ok.ensures.ok in
@@ -27,5 +27,5 @@ returns-in-Ok-one_block c =
 
 pub returns-in-Err-one_block : goal.returns-in-Err-one_block
 returns-in-Err-one_block c =
-    refused_for_memory c.args.image.now c.args.layout.now c.args.who (WriteRequest c.args.file c.args.vbn c.args.block.now) refl
+    refused_for_memory c.args.disk.now.image.now c.args.disk.now.layout.now c.args.who (WriteRequest c.args.file c.args.vbn c.args.block.now) refl
     (λ C shown. fault_write C c.args.who c.args.file c.args.vbn c.args.block.now ∙ c.in-Ok.ensures.ok.fine C shown)

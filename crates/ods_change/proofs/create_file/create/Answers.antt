@@ -28,17 +28,17 @@ use Rattle.ods_change.proofs.create_file.create.Goals.{After-as_slice-numbers, A
 
 pub returns-then-count-gt65535 : goal.returns-then-count-gt65535
 returns-then-count-gt65535 c =
-    refused_by_fault c.args.image.now c.args.layout.now c.args.who (Create c.args.name c.args.version c.args.count c.args.stamp) refusal.BadCount
-    (λ C shown. too_many c.args.image.now c.args.layout.now c.args.who c.args.name c.args.version c.args.count c.args.stamp c.if-count-gt65535.true C)
+    refused_by_fault c.args.disk.now.image.now c.args.disk.now.layout.now c.args.who (Create c.args.name c.args.version c.args.count c.args.stamp) refusal.BadCount
+    (λ C shown. too_many c.args.disk.now.image.now c.args.disk.now.layout.now c.args.who c.args.name c.args.version c.args.count c.args.stamp c.if-count-gt65535.true C)
 
 pub returns-in-Err : goal.returns-in-Err
 returns-in-Err c = elim c.in-Err.ensures.err [
   | inl e ↦
-      subst (IsRefusalOf c.args.image.now c.args.layout.now c.args.who (Create c.args.name c.args.version c.args.count c.args.stamp)) (sym e)
-      (refused_for_memory c.args.image.now c.args.layout.now c.args.who (Create c.args.name c.args.version c.args.count c.args.stamp) refl
-      (λ C shown. no_fault c.args.image.now c.args.layout.now c.args.who c.args.name c.args.version c.args.count c.args.stamp c.if-count-gt65535.false C))
+      subst (IsRefusalOf c.args.disk.now.image.now c.args.disk.now.layout.now c.args.who (Create c.args.name c.args.version c.args.count c.args.stamp)) (sym e)
+      (refused_for_memory c.args.disk.now.image.now c.args.disk.now.layout.now c.args.who (Create c.args.name c.args.version c.args.count c.args.stamp) refl
+      (λ C shown. no_fault c.args.disk.now.image.now c.args.disk.now.layout.now c.args.who c.args.name c.args.version c.args.count c.args.stamp c.if-count-gt65535.false C))
   | inr lack ↦
-      refused_for_lack c.args.image.now c.args.layout.now c.args.who c.args.name c.args.version c.args.count c.args.stamp c.in-Err.refusal c.if-count-gt65535.false
+      refused_for_lack c.args.disk.now.image.now c.args.disk.now.layout.now c.args.who c.args.name c.args.version c.args.count c.args.stamp c.in-Err.refusal c.if-count-gt65535.false
       (lack [] refl refl)
 ]
 
@@ -47,19 +47,19 @@ module _ (c : After-as_slice-numbers) where
   abbrev ns : List ℕ
   ns = c.as_slice-numbers.result.now
 
-  enough : lack_of c.args.image.now c.args.layout.now [] c.args.count ≡ None
+  enough : lack_of c.args.disk.now.image.now c.args.disk.now.layout.now [] c.args.count ≡ None
   enough = (c.in-Ok.ensures.ok [] refl refl).3
 
-  numbers_are : ns ≡ taken_numbers c.args.image.now c.args.layout.now [] c.args.count
+  numbers_are : ns ≡ taken_numbers c.args.disk.now.image.now c.args.disk.now.layout.now [] c.args.count
   numbers_are = c.as_slice-numbers.ensures.value ∙ (c.in-Ok.ensures.ok [] refl refl).1
 
   some : 1 ≤ length ns
-  some = numbers_there c.args.image.now c.args.layout.now c.args.count enough ns numbers_are
+  some = numbers_there c.args.disk.now.image.now c.args.disk.now.layout.now c.args.count enough ns numbers_are
 
-  first_open : IsOpenNumber c.args.image.now c.args.layout.now (greatest_number c.args.layout.now.home) (get_or ns 0 0)
-  first_open = first_is_open c.args.image.now c.args.layout.now c.args.count enough ns numbers_are
+  first_open : IsOpenNumber c.args.disk.now.image.now c.args.disk.now.layout.now (greatest_number c.args.disk.now.layout.now.home) (get_or ns 0 0)
+  first_open = first_is_open c.args.disk.now.image.now c.args.disk.now.layout.now c.args.count enough ns numbers_are
 
-  word : (id : FileId) → id ≡ new_id c.args.image.now c.args.layout.now (get_or ns 0 0) → id.number ≤ 65535
+  word : (id : FileId) → id ≡ new_id c.args.disk.now.image.now c.args.disk.now.layout.now (get_or ns 0 0) → id.number ≤ 65535
   word id is = omega (arith, ap (λ (f : FileId). f.number) is, c.type_inv.numbers 0)
 
 pub bounds-numbers-0 : goal.bounds-numbers-0
@@ -84,10 +84,10 @@ begin-requires-clause-can c =
 -- the file that is made of what is taken, on the volume with which the request goes on
 module _ (c : After-layout_then-then) where
   abbrev I : List (List ℕ)
-  I = c.args.image.now
+  I = c.args.disk.now.image.now
 
   abbrev L : VolumeLayout
-  L = c.args.layout.now
+  L = c.args.disk.now.layout.now
 
   abbrev K : List (List ℕ)
   K = applied I c.in-Ok-begin.begun.draft
@@ -207,14 +207,14 @@ new_file-requires-clause-header c =
     new_first (K at) (M at) (n at) c.args.who (M at).home.protection (new_id (K at) (M at) (n at)) c.args.name c.args.version c.args.count c.args.stamp c.new_header-header.result refl (header_is at)
 
 pub returns-in-Ok-new_file : goal.returns-in-Ok-new_file
-returns-in-Ok-new_file c = made (goal.at.returns-in-Ok-new_file c).After-layout_then-then (word (goal.at.returns-in-Ok-new_file c).After-as_slice-numbers c.new_id-file.result c.new_id-file.ensures) (applied c.args.image.now c.in-Ok-new_file.draft) c.in-Ok-new_file.ensures
+returns-in-Ok-new_file c = made (goal.at.returns-in-Ok-new_file c).After-layout_then-then (word (goal.at.returns-in-Ok-new_file c).After-as_slice-numbers c.new_id-file.result c.new_id-file.ensures) (applied c.args.disk.now.image.now c.in-Ok-new_file.draft) c.in-Ok-new_file.ensures
 
 pub returns-in-Err-begin : goal.returns-in-Err-begin
 returns-in-Err-begin c =
-    refused_for_memory c.args.image.now c.args.layout.now c.args.who (Create c.args.name c.args.version c.args.count c.args.stamp) refl
-    (λ C shown. no_fault c.args.image.now c.args.layout.now c.args.who c.args.name c.args.version c.args.count c.args.stamp c.if-count-gt65535.false C)
+    refused_for_memory c.args.disk.now.image.now c.args.disk.now.layout.now c.args.who (Create c.args.name c.args.version c.args.count c.args.stamp) refl
+    (λ C shown. no_fault c.args.disk.now.image.now c.args.disk.now.layout.now c.args.who c.args.name c.args.version c.args.count c.args.stamp c.if-count-gt65535.false C)
 
 pub returns-in-Err-new_file : goal.returns-in-Err-new_file
 returns-in-Err-new_file c =
-    refused_for_memory c.args.image.now c.args.layout.now c.args.who (Create c.args.name c.args.version c.args.count c.args.stamp) refl
-    (λ C shown. no_fault c.args.image.now c.args.layout.now c.args.who c.args.name c.args.version c.args.count c.args.stamp c.if-count-gt65535.false C)
+    refused_for_memory c.args.disk.now.image.now c.args.disk.now.layout.now c.args.who (Create c.args.name c.args.version c.args.count c.args.stamp) refl
+    (λ C shown. no_fault c.args.disk.now.image.now c.args.disk.now.layout.now c.args.who c.args.name c.args.version c.args.count c.args.stamp c.if-count-gt65535.false C)

@@ -20,26 +20,26 @@ use Rattle.ods_change.proofs.create_file.new_file.Goals as goal
 use Rattle.ods_change.proofs.create_file.new_file.Goals.{In_ok-set}
 
 pub unwrap-first-requires : goal.unwrap-first-requires
-unwrap-first-requires c = ap is_some c.place.ensures ∙ first_place (applied c.args.image.now c.args.draft) c.args.layout.now c.args.number (length c.args.blocks.now) c.args.others.now c.requires.taking
+unwrap-first-requires c = ap is_some c.place.ensures ∙ first_place (applied c.args.disk.now.image.now c.args.draft) c.args.disk.now.layout.now c.args.number (length c.args.blocks.now) c.args.others.now c.requires.taking
 
 module _ (c : In_ok-set) where
   abbrev I : List (List ℕ)
-  I = applied c.args.image.now c.args.draft
+  I = applied c.args.disk.now.image.now c.args.draft
 
   abbrev L : VolumeLayout
-  L = c.args.layout.now
+  L = c.args.disk.now.layout.now
 
   abbrev count : ℕ
   count = length c.args.blocks.now
 
   abbrev K : List (List ℕ)
-  K = applied c.args.image.now c.set.new.self
+  K = applied c.args.disk.now.image.now c.set.new.self
 
   abbrev Z : List (List ℕ)
-  Z = applied c.args.image.now c.zero_runs.new.draft
+  Z = applied c.args.disk.now.image.now c.zero_runs.new.draft
 
   zeroed : IsZeroed I (taken_blocks I L count) Z
-  zeroed = subst (λ bs. IsZeroed I bs Z) (ap (flat_map run_blocks) c.requires.runs ∙ cut_blocks c.args.blocks.now ∙ c.requires.lowest) (c.in_ok-zero_runs.ensures c.args.image.now)
+  zeroed = subst (λ bs. IsZeroed I bs Z) (ap (flat_map run_blocks) c.requires.runs ∙ cut_blocks c.args.blocks.now ∙ c.requires.lowest) (c.in_ok-zero_runs.ensures c.args.disk.now.image.now)
 
   written : IsWritten I Z K L c.args.number c.unwrap-first.result count c.args.header
   written = record {
@@ -47,7 +47,7 @@ module _ (c : In_ok-set) where
     place = sym c.place.ensures ∙ c.unwrap-first.ensures;
     long = zeroed.long;
     elsewhere = zeroed.elsewhere;
-    is = ap (applied c.args.image.now) c.in_ok-set.ensures.ok ∙ applied_over c.args.image.now c.zero_runs.new.draft c.unwrap-first.result c.args.header;
+    is = ap (applied c.args.disk.now.image.now) c.in_ok-set.ensures.ok ∙ applied_over c.args.disk.now.image.now c.zero_runs.new.draft c.unwrap-first.result c.args.header;
   }
 
   ready : IsReady I K L c.args.number [] count
@@ -55,9 +55,9 @@ module _ (c : In_ok-set) where
 
 pub extend_from-requires : goal.extend_from-requires
 extend_from-requires c =
-    let I : List (List ℕ) = applied c.args.image.now c.args.draft in
-    let L : VolumeLayout = c.args.layout.now in
-    let K : List (List ℕ) = applied c.args.image.now c.set.new.self in
+    let I : List (List ℕ) = applied c.args.disk.now.image.now c.args.draft in
+    let L : VolumeLayout = c.args.disk.now.layout.now in
+    let K : List (List ℕ) = applied c.args.disk.now.image.now c.set.new.self in
     let n : ℕ = c.args.number in
     let count : ℕ = length c.args.blocks.now in
     let at = ready (goal.at.extend_from-requires c).In_ok-set in
@@ -75,9 +75,9 @@ extend_from-requires c =
 
 pub returns : goal.returns
 returns c =
-    let I : List (List ℕ) = applied c.args.image.now c.args.draft in
-    let L : VolumeLayout = c.args.layout.now in
-    let K : List (List ℕ) = applied c.args.image.now c.set.new.self in
+    let I : List (List ℕ) = applied c.args.disk.now.image.now c.args.draft in
+    let L : VolumeLayout = c.args.disk.now.layout.now in
+    let K : List (List ℕ) = applied c.args.disk.now.image.now c.set.new.self in
     let n : ℕ = c.args.number in
     let at = (goal.at.returns c).In_ok-set in
     record {
@@ -85,5 +85,5 @@ returns c =
       is_ready = ready at;
       first = header_written (written at);
       zeroed = λ y own. taken_written (written at) y own ∙ (zeroed at).zero y own (taken_inside I L (length c.args.blocks.now) y own);
-      extended = subst (λ bs. Extends K L n [] [] bs c.args.others.now (applied c.args.image.now c.in_ok-grown.grown)) c.requires.lowest c.in_ok-grown.ensures;
+      extended = subst (λ bs. Extends K L n [] [] bs c.args.others.now (applied c.args.disk.now.image.now c.in_ok-grown.grown)) c.requires.lowest c.in_ok-grown.ensures;
     }

@@ -9,8 +9,8 @@ use Rattle.ods_change.proofs.delete_file.delete_headers.Goals.{in-Some-place+in_
 
 pub loop-at-init : goal.loop-at-init
 loop-at-init c =
-    let I = c.args.image.now in
-    let L = c.args.layout.now in (
+    let I = c.args.disk.now.image.now in
+    let L = c.args.disk.now.layout.now in (
       none_noted c.args.lbns.items c.args.headers c.new-numbers.result.items c.new-numbers.ensures.items,
       c.requires.read,
       subst (λ d. Deletes (applied I []) L c.new-numbers.result.items (applied I d)) (sym c.requires.new)
@@ -19,8 +19,8 @@ loop-at-init c =
 
 pub loop-at-preserved : goal.loop-at-preserved
 loop-at-preserved c =
-    let I = c.args.image.now in
-    let L = c.args.layout.now in
+    let I = c.args.disk.now.image.now in
+    let L = c.args.disk.now.layout.now in
     let before = c.loop-at.invariant in
     let next = c.in-Some.ensures.some.0 in
     let x = c.in-Some.at in
@@ -42,5 +42,5 @@ returns-clause-held c = all_noted c.args.lbns.items c.args.headers c.loop-at.hea
 
 pub returns-clause-deleted : goal.returns-clause-deleted
 returns-clause-deleted c =
-    let I = c.args.image.now in
-    subst (λ J. Deletes J c.args.layout.now c.loop-at.numbers.items (applied I c.loop-at.draft)) (sym (applied_none I)) c.loop-at.invariant.2
+    let I = c.args.disk.now.image.now in
+    subst (λ J. Deletes J c.args.disk.now.layout.now c.loop-at.numbers.items (applied I c.loop-at.draft)) (sym (applied_none I)) c.loop-at.invariant.2

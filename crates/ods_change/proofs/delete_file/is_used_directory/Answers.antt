@@ -16,7 +16,7 @@ use Rattle.ods_change.proofs.delete_file.is_used_directory.Goals as goal
 pub returns-then-not-is_directory : goal.returns-then-not-is_directory
 returns-then-not-is_directory c = λ held is.
     let kind : is_directory_header c.args.number c.args.first.now ≡ false = sym c.is_directory.ensures ∙ c.if-not-is_directory.true in
-    sym (ap (λ b. not (len (names_of b) == 0)) (plain_body c.args.number c.args.first.now (contents_of c.args.image.now held) (omega (arith, c.requires.above)) kind)
+    sym (ap (λ b. not (len (names_of b) == 0)) (plain_body c.args.number c.args.first.now (contents_of c.args.disk.now.image.now held) (omega (arith, c.requires.above)) kind)
     ∙ ap (λ k. not (k == 0)) (len-empty (slice_cmp nat_cmp) FileId))
 
 pub returns : goal.returns
@@ -24,4 +24,4 @@ returns c = λ held is.
     let any : Body → Bool = λ b. not (len (names_of b) == 0) in
     let seen = c.of-directory.ensures in
     c.has_names.ensures ∙ sym (ap any (open_body seen))
-    ∙ (λ i. any (body_of c.args.number (sym c.requires.header i) (contents_of c.args.image.now (blocks_are_one seen.held is i))))
+    ∙ (λ i. any (body_of c.args.number (sym c.requires.header i) (contents_of c.args.disk.now.image.now (blocks_are_one seen.held is i))))

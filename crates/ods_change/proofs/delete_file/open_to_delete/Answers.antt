@@ -10,7 +10,7 @@ use Rattle.ods_change.proofs.delete_file.open_to_delete.Goals as goal
 
 pub returns-in_default-clause-err : goal.returns-in_default-clause-err
 returns-in_default-clause-err c = λ C shown.
-    fault_delete C c.args.who c.args.file ∙ no_such_file c.args.image.now c.args.layout.now C shown c.args.file c.in_default.ensures.none (delete_checks c.args.file c.args.who)
+    fault_delete C c.args.who c.args.file ∙ no_such_file c.args.disk.now.image.now c.args.disk.now.layout.now C shown c.args.file c.in_default.ensures.none (delete_checks c.args.file c.args.who)
 
 pub returns-then-file-le5-clause-err : goal.returns-then-file-le5-clause-err
 returns-then-file-le5-clause-err c = λ C shown.

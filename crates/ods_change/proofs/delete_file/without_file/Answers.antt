@@ -10,22 +10,22 @@ pub from-headers-requires-clause-chain : goal.from-headers-requires-clause-chain
 from-headers-requires-clause-chain c = let whole = c.requires.sound.chains c.args.number c.requires.file in (whole.1.others, whole.0, whole.1.whole.chain)
 
 pub delete_headers-requires-clause-places : goal.delete_headers-requires-clause-places
-delete_headers-requires-clause-places c = well_placed c.args.image.now c.args.layout.now c.requires.sound
+delete_headers-requires-clause-places c = well_placed c.args.disk.now.image.now c.args.disk.now.layout.now c.requires.sound
 
 pub delete_headers-requires-clause-read : goal.delete_headers-requires-clause-read
 delete_headers-requires-clause-read c =
     let whole = c.requires.sound.chains c.args.number c.requires.file in
-    chain_read c.args.image.now c.args.layout.now c.args.number c.from-headers.result whole.1.others whole.0 c.len.ensures.image c.requires.sound.layout whole.1.whole.chain c.from-headers.ensures
+    chain_read c.args.disk.now.image.now c.args.disk.now.layout.now c.args.number c.from-headers.result whole.1.others whole.0 c.len.ensures.image c.requires.sound.layout whole.1.whole.chain c.from-headers.ensures
 
 pub mark_free-requires : goal.mark_free-requires
 mark_free-requires c =
-    let I = c.args.image.now in
-    record { places = places_in I c.args.layout.now c.requires.sound.layout (well_placed I c.args.layout.now c.requires.sound) }
+    let I = c.args.disk.now.image.now in
+    record { places = places_in I c.args.disk.now.layout.now c.requires.sound.layout (well_placed I c.args.disk.now.layout.now c.requires.sound) }
 
 pub returns : goal.returns
 returns c = λ others all whole.
-    let I = c.args.image.now in
-    let L = c.args.layout.now in
+    let I = c.args.disk.now.image.now in
+    let L = c.args.disk.now.layout.now in
     let own = chain_noted I L c.args.number c.from-headers.result c.in_ok-held.held.lbns.items c.in_ok-held.held.numbers.items c.len.ensures.image c.requires.sound.layout c.from-headers.ensures
     (c.in_ok-held.ensures.held.0 ∙ ap (λ l. l ++ named_by c.from-headers.result) c.new.ensures.items) c.in_ok-held.ensures.held.1 others all whole.chain in
     given_along I (applied I c.delete_headers.new.draft) (applied I c.in_ok-given.given) L _ c.deref.result.now c.deref-2.result.now all (c.args.number ∷ others) (well_placed I L c.requires.sound)

@@ -15,7 +15,7 @@ pub locate_whole-requires-clause-whole : goal.locate_whole-requires-clause-whole
 locate_whole-requires-clause-whole c = (c.requires.directory.lbns, c.requires.directory.held)
 
 pub locate_whole-requires-clause-other : goal.locate_whole-requires-clause-other
-locate_whole-requires-clause-other c = is_apart c.args.number (header_at c.args.image.now c.args.layout.now c.args.number) c.requires.directory.kind 1 (omega arith) (λ e. absurd (omega arith))
+locate_whole-requires-clause-other c = is_apart c.args.number (header_at c.args.disk.now.image.now c.args.disk.now.layout.now c.args.number) c.requires.directory.kind 1 (omega arith) (λ e. absurd (omega arith))
 
 pub unwrap-lbn-requires : goal.unwrap-lbn-requires
 unwrap-lbn-requires c =
@@ -27,6 +27,6 @@ pub block-requires : goal.block-requires
 block-requires c =
     let is = c.requires.directory in
     let within = subst (λ bs. c.args.at / 512 < length bs) is.contents c.requires.within in
-    subst (λ x. x < length c.args.image.now)
+    subst (λ x. x < length c.args.disk.now.image.now)
     (sym (located_is is.held (c.args.at / 512) within c.locate_whole.result c.unwrap-lbn.result c.unwrap-lbn.ensures c.locate_whole.ensures.found))
     (located_inside is.held (c.args.at / 512) within)

@@ -41,10 +41,10 @@ begin-requires-clause-can c =
 -- the directory, on the volume with which the request goes on
 module _ (c : After-layout_then-then) where
   abbrev I : List (List ℕ)
-  I = c.args.entry.now.image.now
+  I = c.args.entry.now.disk.image.now
 
   abbrev L : VolumeLayout
-  L = c.args.entry.now.layout.now
+  L = c.args.entry.now.disk.layout.now
 
   abbrev K : List (List ℕ)
   K = applied I c.in-Ok-begin.begun.draft
@@ -118,12 +118,12 @@ with_block-requires-clause-runs c = c.deref-4.ensures.value ∙ c.in-Ok.ensures.
 
 pub returns-in-Ok-with_block : goal.returns-in-Ok-with_block
 returns-in-Ok-with_block c = λ who name given file e.
-    entered (goal.at.returns-in-Ok-with_block c).After-layout_then-then e (applied c.args.entry.now.image.now c.in-Ok-with_block.draft) c.in-Ok-with_block.ensures
+    entered (goal.at.returns-in-Ok-with_block c).After-layout_then-then e (applied c.args.entry.now.disk.image.now c.in-Ok-with_block.draft) c.in-Ok-with_block.ensures
 
 pub returns-in-Err-begin : goal.returns-in-Err-begin
 returns-in-Err-begin c = λ who name given file e.
-    refused_for_memory c.args.entry.now.image.now c.args.entry.now.layout.now who (Enter c.args.entry.now.dir name given file) refl (λ C shown. (e.answered C shown).0)
+    refused_for_memory c.args.entry.now.disk.image.now c.args.entry.now.disk.layout.now who (Enter c.args.entry.now.dir name given file) refl (λ C shown. (e.answered C shown).0)
 
 pub returns-in-Err-with_block : goal.returns-in-Err-with_block
 returns-in-Err-with_block c = λ who name given file e.
-    refused_for_memory c.args.entry.now.image.now c.args.entry.now.layout.now who (Enter c.args.entry.now.dir name given file) refl (λ C shown. (e.answered C shown).0)
+    refused_for_memory c.args.entry.now.disk.image.now c.args.entry.now.disk.layout.now who (Enter c.args.entry.now.dir name given file) refl (λ C shown. (e.answered C shown).0)

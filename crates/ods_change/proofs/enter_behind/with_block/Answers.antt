@@ -18,23 +18,23 @@ bounds-blocks-0 c =
     let e = c.requires.entry.4 in
     let headers : List ℕ = c.args.dir.number ∷ e.own.is.held.others in
     let got = c.requires.taken headers e.own.is.lbns (has_headers e.own.is.held) in
-    let one : length c.args.blocks.now ≡ 1 = ap length got.0 ∙ one_taken (applied c.args.image.now c.args.draft) c.args.layout.now headers got.2 in
+    let one : length c.args.blocks.now ≡ 1 = ap length got.0 ∙ one_taken (applied c.args.disk.now.image.now c.args.draft) c.args.disk.now.layout.now headers got.2 in
     omega (arith, one)
 
 -- what stands in the draft before the chain grows
 module _ (c : In_ok-set-2) where
   abbrev I : List (List ℕ)
-  I = applied c.args.image.now c.args.draft
+  I = applied c.args.disk.now.image.now c.args.draft
 
   abbrev L : VolumeLayout
-  L = c.args.layout.now
+  L = c.args.disk.now.layout.now
 
   abbrev x : ℕ
   x = get_or c.args.blocks.now 0 0
 
-  drafted : slice_set (slice_set I x (with_bytes zeros 0 c.args.entry.now.bytes)) c.unwrap-first.result c.marked_header-header.result ≡ applied c.args.image.now c.set-2.new.self
+  drafted : slice_set (slice_set I x (with_bytes zeros 0 c.args.entry.now.bytes)) c.unwrap-first.result c.marked_header-header.result ≡ applied c.args.disk.now.image.now c.set-2.new.self
   drafted =
-      ready_is c.args.image.now x c.unwrap-first.result _ c.set_bytes.new.self c.marked_header-header.result c.args.draft c.set-2.new.self
+      ready_is c.args.disk.now.image.now x c.unwrap-first.result _ c.set_bytes.new.self c.marked_header-header.result c.args.draft c.set-2.new.self
       (c.set_bytes.ensures.changed ∙ ap (λ z. with_bytes z 0 c.args.entry.now.bytes) c.zeros-block.ensures.value)
       (c.in_ok-set-2.ensures.ok ∙ ap (λ d. (c.unwrap-first.result, c.marked_header-header.result) ∷ d) c.in_ok-set.ensures.ok)
 
@@ -63,7 +63,7 @@ extend_from-requires c =
           ready.2,
           (
             ready.3,
-            (ends_asked (I s) (applied c.args.image.now c.set-2.new.self) (L s) c.args.dir.number headers e.own.is.lbns c.marked_header-header.result c.args.end.now c.ends_with.result has c.requires.end before.0 there ends.first ends.number ends.one ends.other, c.requires.runs),
+            (ends_asked (I s) (applied c.args.disk.now.image.now c.set-2.new.self) (L s) c.args.dir.number headers e.own.is.lbns c.marked_header-header.result c.args.end.now c.ends_with.result has c.requires.end before.0 there ends.first ends.number ends.one ends.other, c.requires.runs),
           ),
         ),
       ),

@@ -10,7 +10,7 @@ use Rattle.ods_change.proofs.StillLayout.{step_still}
 use Rattle.ods_change.proofs.enter_name.enter.Goals as goal
 
 pub returns-in-Err : goal.returns-in-Err
-returns-in-Err c = refused_by_fault c.args.image.now c.args.layout.now c.args.who (Enter c.args.dir c.args.name c.args.version c.args.file) c.in-Err.refusal c.in-Err.ensures
+returns-in-Err c = refused_by_fault c.args.disk.now.image.now c.args.disk.now.layout.now c.args.who (Enter c.args.dir c.args.name c.args.version c.args.file) c.in-Err.refusal c.in-Err.ensures
 
 pub returns-in-Ok-enter_behind : goal.returns-in-Ok-enter_behind
 returns-in-Ok-enter_behind c =

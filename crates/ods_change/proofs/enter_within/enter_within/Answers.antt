@@ -28,8 +28,8 @@ with_entry-lbn-requires-clause-whole c =
 
 pub returns-in-Ok : goal.returns-in-Ok
 returns-in-Ok c = λ who name given file e.
-    let I = c.args.entry.now.image.now in
-    let L = c.args.entry.now.layout.now in
+    let I = c.args.entry.now.disk.image.now in
+    let L = c.args.entry.now.disk.layout.now in
     let x : ℕ = c.with_entry-lbn.result.0 in
     let b : List ℕ = c.with_entry-lbn.result.1 in
     subst (λ J. IsStepOf I L who (Enter c.args.entry.now.dir name given file) (Entered c.args.entry.now.version) J L)
@@ -37,7 +37,7 @@ returns-in-Ok c = λ who name given file e.
     (enter_kept c.requires.sound e c.requires.within c.with_entry-lbn.ensures.held c.if-entry.true)
 
 pub returns-in-Err : goal.returns-in-Err
-returns-in-Err c = λ who name given file e. refused_for_memory c.args.entry.now.image.now c.args.entry.now.layout.now who (Enter c.args.entry.now.dir name given file) refl (λ C shown. (e.answered C shown).0)
+returns-in-Err c = λ who name given file e. refused_for_memory c.args.entry.now.disk.image.now c.args.entry.now.disk.layout.now who (Enter c.args.entry.now.dir name given file) refl (λ C shown. (e.answered C shown).0)
 
 pub marked_header-header-requires : goal.marked_header-header-requires
 marked_header-header-requires c =
@@ -47,12 +47,12 @@ marked_header-header-requires c =
     omega (arith, inside.end, few)
 
 pub unwrap-first-requires : goal.unwrap-first-requires
-unwrap-first-requires c = ap is_some c.place.ensures ∙ has_place c.args.entry.now.image.now c.args.entry.now.layout.now c.args.entry.now.dir.number c.requires.entry.4.own.file.0
+unwrap-first-requires c = ap is_some c.place.ensures ∙ has_place c.args.entry.now.disk.image.now c.args.entry.now.disk.layout.now c.args.entry.now.dir.number c.requires.entry.4.own.file.0
 
 pub returns-in-Ok-two_blocks : goal.returns-in-Ok-two_blocks
 returns-in-Ok-two_blocks c = λ who name given file e.
-    let I = c.args.entry.now.image.now in
-    let L = c.args.entry.now.layout.now in
+    let I = c.args.entry.now.disk.image.now in
+    let L = c.args.entry.now.disk.layout.now in
     let entry = c.args.entry.now in
     let x : ℕ = c.with_entry-lbn.result.0 in
     let b : List ℕ = c.with_entry-lbn.result.1 in
@@ -72,4 +72,4 @@ returns-in-Ok-two_blocks c = λ who name given file e.
     c.if-entry.false)
 
 pub returns-in-Err-two_blocks : goal.returns-in-Err-two_blocks
-returns-in-Err-two_blocks c = λ who name given file e. refused_for_memory c.args.entry.now.image.now c.args.entry.now.layout.now who (Enter c.args.entry.now.dir name given file) refl (λ C shown. (e.answered C shown).0)
+returns-in-Err-two_blocks c = λ who name given file e. refused_for_memory c.args.entry.now.disk.image.now c.args.entry.now.disk.layout.now who (Enter c.args.entry.now.dir name given file) refl (λ C shown. (e.answered C shown).0)

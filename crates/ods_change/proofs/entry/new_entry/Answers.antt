@@ -15,7 +15,7 @@ pub returns-in_default : goal.returns-in_default
 returns-in_default c = λ C shown.
     fault_enter C c.args.who c.args.dir c.args.name c.args.version c.args.file
     ∙ no_file_there (map.get C.files c.args.dir) (map.get C.files c.args.file) (directory_checks c.args.who right.Write (entering c.args.name c.args.version))
-    (no_such_id c.args.image.now c.args.layout.now C shown c.args.file c.in_default.ensures.none)
+    (no_such_id c.args.disk.now.image.now c.args.disk.now.layout.now C shown c.args.file c.in_default.ensures.none)
 
 pub returns-in-Err : goal.returns-in-Err
 returns-in-Err c = λ C shown.

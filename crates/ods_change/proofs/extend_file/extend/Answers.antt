@@ -18,7 +18,7 @@ use Rattle.ods_change.proofs.extend_file.extend.Goals as goal
 use Rattle.ods_change.proofs.extend_file.extend.Goals.{After-layout_then-then, After-of-end}
 
 pub returns-in-Err : goal.returns-in-Err
-returns-in-Err c = refused_by_fault c.args.image.now c.args.layout.now c.args.who (Extend c.args.file c.args.count) c.in-Err.refusal c.in-Err.ensures.err
+returns-in-Err c = refused_by_fault c.args.disk.now.image.now c.args.disk.now.layout.now c.args.who (Extend c.args.file c.args.count) c.in-Err.refusal c.in-Err.ensures.err
 
 pub of-end-requires-clause-whole : goal.of-end-requires-clause-whole
 of-end-requires-clause-whole c = let o = c.in-Ok.ensures.ok.0 in (_, o.lbns, has c.requires.sound o)
@@ -26,7 +26,7 @@ of-end-requires-clause-whole c = let o = c.in-Ok.ensures.ok.0 in (_, o.lbns, has
 -- how the chain of the file ends
 ends : (c : After-of-end) → let o = c.in-Ok.ensures.ok.0 in
     (length (c.args.file.number ∷ o.held.others) ≡ c.of-end.result.headers) × (c.of-end.result.blocks ≡ length o.lbns)
-    × (room_in c.args.image.now c.args.layout.now (c.args.file.number ∷ o.held.others) ≡ c.of-end.result.room)
+    × (room_in c.args.disk.now.image.now c.args.disk.now.layout.now (c.args.file.number ∷ o.held.others) ≡ c.of-end.result.room)
 ends c =
     let o = c.in-Ok.ensures.ok.0 in
     let end = c.of-end.ensures.end (c.args.file.number ∷ o.held.others) o.lbns (has c.requires.sound o) in
@@ -34,8 +34,8 @@ ends c =
 
 pub returns-in-Err-take : goal.returns-in-Err-take
 returns-in-Err-take c =
-    let I = c.args.image.now in
-    let L = c.args.layout.now in
+    let I = c.args.disk.now.image.now in
+    let L = c.args.disk.now.layout.now in
     let r = Extend c.args.file c.args.count in
     let o = c.in-Ok.ensures.ok.0 in
     let end = ends (goal.at.returns-in-Err-take c).After-of-end in
@@ -53,10 +53,10 @@ returns-in-Err-take c =
 -- the file that grows, on the volume with which the request goes on
 module _ (c : After-layout_then-then) where
   abbrev I : List (List ℕ)
-  I = c.args.image.now
+  I = c.args.disk.now.image.now
 
   abbrev L : VolumeLayout
-  L = c.args.layout.now
+  L = c.args.disk.now.layout.now
 
   abbrev K : List (List ℕ)
   K = applied I c.in-Ok-begin.begun.draft
@@ -149,10 +149,10 @@ grown-requires-clause-wanted c =
 pub returns-in-Ok-grown : goal.returns-in-Ok-grown
 returns-in-Ok-grown c =
     let at = (goal.at.returns-in-Ok-grown c).After-layout_then-then in
-    made at (applied c.args.image.now c.in-Ok-grown.draft) (c.in-Ok-grown.ensures (headers at) (o at).lbns c.args.count (wanted at))
+    made at (applied c.args.disk.now.image.now c.in-Ok-grown.draft) (c.in-Ok-grown.ensures (headers at) (o at).lbns c.args.count (wanted at))
 
 pub returns-in-Err-begin : goal.returns-in-Err-begin
-returns-in-Err-begin c = refused_for_memory c.args.image.now c.args.layout.now c.args.who (Extend c.args.file c.args.count) refl c.in-Ok.ensures.ok.0.fine
+returns-in-Err-begin c = refused_for_memory c.args.disk.now.image.now c.args.disk.now.layout.now c.args.who (Extend c.args.file c.args.count) refl c.in-Ok.ensures.ok.0.fine
 
 pub returns-in-Err-grown : goal.returns-in-Err-grown
-returns-in-Err-grown c = refused_for_memory c.args.image.now c.args.layout.now c.args.who (Extend c.args.file c.args.count) refl c.in-Ok.ensures.ok.0.fine
+returns-in-Err-grown c = refused_for_memory c.args.disk.now.image.now c.args.disk.now.layout.now c.args.who (Extend c.args.file c.args.count) refl c.in-Ok.ensures.ok.0.fine

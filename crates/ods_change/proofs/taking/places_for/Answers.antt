@@ -7,13 +7,13 @@ use Rattle.ods_change.proofs.taking.places_for.Goals as goal
 use Rattle.ods_change.proofs.taking.places_for.Goals.{After-as_slice}
 
 -- the blocks are those behind the file's own
-are_behind : (c : After-as_slice) → c.in-Ok-copy_of.places.items ≡ take (index_growth c.args.layout.now c.args.numbers.now) (drop c.args.count (free_blocks c.args.image.now c.args.layout.now))
+are_behind : (c : After-as_slice) → c.in-Ok-copy_of.places.items ≡ take (index_growth c.args.disk.now.layout.now c.args.numbers.now) (drop c.args.count (free_blocks c.args.disk.now.image.now c.args.disk.now.layout.now))
 are_behind c =
-    let F = free_blocks c.args.image.now c.args.layout.now in
+    let F = free_blocks c.args.disk.now.image.now c.args.disk.now.layout.now in
     picked_behind F c.in-Ok.all.items c.in-Ok-copy_of.places.items c.args.count c.index_growth-growth.result c.in-Ok.ensures.ok.0 c.in-Ok.ensures.ok.1 ((c.in-Ok-copy_of.ensures ∙ ap (λ l. take (length l - c.args.count) (drop c.args.count l)) c.deref.ensures.value))
     ∙ ap (λ g. take g (drop c.args.count F)) c.index_growth-growth.ensures.growth
 
-runs_are : (c : After-as_slice) → length c.as_slice.result.now ≡ length (cut (take (index_growth c.args.layout.now c.args.numbers.now) (drop c.args.count (free_blocks c.args.image.now c.args.layout.now))))
+runs_are : (c : After-as_slice) → length c.as_slice.result.now ≡ length (cut (take (index_growth c.args.disk.now.layout.now c.args.numbers.now) (drop c.args.count (free_blocks c.args.disk.now.image.now c.args.disk.now.layout.now))))
 runs_are c = ap length (c.as_slice.ensures.value ∙ c.in-Ok-runs_of_blocks.ensures.cut ∙ ap cut (c.deref-2.ensures.value ∙ are_behind c))
 
 pub returns-then-room-as_slice-clause-err : goal.returns-then-room-as_slice-clause-err
@@ -34,8 +34,8 @@ returns-clause-ok c =
 
 pub returns-then-growth-eq0-clause-ok : goal.returns-then-growth-eq0-clause-ok
 returns-then-growth-eq0-clause-ok c =
-    let F = free_blocks c.args.image.now c.args.layout.now in
-    let none : index_growth c.args.layout.now c.args.numbers.now ≡ 0 = sym c.index_growth-growth.ensures.growth ∙ c.if-growth-eq0.true in
+    let F = free_blocks c.args.disk.now.image.now c.args.disk.now.layout.now in
+    let none : index_growth c.args.disk.now.layout.now c.args.numbers.now ≡ 0 = sym c.index_growth-growth.ensures.growth ∙ c.if-growth-eq0.true in
     record {
       are = c.new.ensures.items ∙ sym (ap (λ k. take k (drop c.args.count F)) none);
       enough = omega (arith, c.requires.enough, none);

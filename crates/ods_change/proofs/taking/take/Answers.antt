@@ -10,8 +10,8 @@ use Rattle.ods_change.proofs.taking.take.Goals.{After-headers_wanted-needed}
 
 pub returns-in-Err-clause-err : goal.returns-in-Err-clause-err
 returns-in-Err-clause-err c =
-    let I = c.args.image.now in
-    let L = c.args.layout.now in
+    let I = c.args.disk.now.image.now in
+    let L = c.args.disk.now.layout.now in
     elim (short_blocks c.in-Err.fault (length (free_blocks I L)) c.args.count c.in-Err.ensures.err) [
       | inl none ↦ inl (c.refusal_for.ensures ∙ none)
       | inr few ↦ inr (λ hs count room. lacks_blocks I L hs c.args.count few.1 ∙ ap Some (sym (c.refusal_for.ensures ∙ few.0)))
@@ -22,23 +22,23 @@ headers_wanted-needed-requires c =
     let runs = ap length (c.as_slice.ensures.value ∙ c.in-Ok-runs_of_blocks.ensures.cut) in
     let few = cut_few c.deref.result.now in
     let got = c.in-Ok.ensures.ok in
-    let long = ap length (c.deref.ensures.value ∙ got.0) ∙ length-take-le c.args.count (free_blocks c.args.image.now c.args.layout.now) got.1 in
+    let long = ap length (c.deref.ensures.value ∙ got.0) ∙ length-take-le c.args.count (free_blocks c.args.disk.now.image.now c.args.disk.now.layout.now) got.1 in
     let most = c.ranges.count.fits in
     omega (arith, runs, few, long, most)
 
 -- how many numbers are asked for
-needed_is : (c : After-headers_wanted-needed) → (hs : List ℕ) → length hs ≡ c.args.headers → room_in c.args.image.now c.args.layout.now hs ≡ c.args.room
-    → c.headers_wanted-needed.result ≡ taken_count c.args.image.now c.args.layout.now hs c.args.count
+needed_is : (c : After-headers_wanted-needed) → (hs : List ℕ) → length hs ≡ c.args.headers → room_in c.args.disk.now.image.now c.args.disk.now.layout.now hs ≡ c.args.room
+    → c.headers_wanted-needed.result ≡ taken_count c.args.disk.now.image.now c.args.disk.now.layout.now hs c.args.count
 needed_is c hs count room =
-    let I = c.args.image.now in
-    let L = c.args.layout.now in
+    let I = c.args.disk.now.image.now in
+    let L = c.args.disk.now.layout.now in
     wanted_is I L hs c.args.room c.args.count c.headers_wanted-needed.result c.deref.result.now c.as_slice.result.now room (c.deref.ensures.value ∙ c.in-Ok.ensures.ok.0)
     (c.as_slice.ensures.value ∙ c.in-Ok-runs_of_blocks.ensures.cut) (c.headers_wanted-needed.ensures.wanted hs count (new_room I L hs c.args.headers c.args.room count room))
 
 pub returns-in-Err-pick_open_numbers-clause-err : goal.returns-in-Err-pick_open_numbers-clause-err
 returns-in-Err-pick_open_numbers-clause-err c =
-    let I = c.args.image.now in
-    let L = c.args.layout.now in
+    let I = c.args.disk.now.image.now in
+    let L = c.args.disk.now.layout.now in
     elim (short_numbers c.in-Err-pick_open_numbers.fault (length (open_numbers I L)) c.headers_wanted-needed.result c.in-Err-pick_open_numbers.ensures.err) [
       | inl none ↦ inl (c.refusal_for-in-Err-pick_open_numbers.ensures ∙ none)
       | inr few ↦ inr (λ hs count room.
@@ -47,14 +47,14 @@ returns-in-Err-pick_open_numbers-clause-err c =
     ]
 
 -- the blocks that INDEXF.SYS gets, for the numbers that are taken
-numbers_are : (c : After-headers_wanted-needed) → (numbers given : List ℕ) → numbers ≡ take c.headers_wanted-needed.result (open_numbers c.args.image.now c.args.layout.now) → given ≡ numbers
-    → (hs : List ℕ) → length hs ≡ c.args.headers → room_in c.args.image.now c.args.layout.now hs ≡ c.args.room → given ≡ taken_numbers c.args.image.now c.args.layout.now hs c.args.count
-numbers_are c numbers given picked is hs count room = is ∙ picked ∙ ap (λ n. take n (open_numbers c.args.image.now c.args.layout.now)) (needed_is c hs count room)
+numbers_are : (c : After-headers_wanted-needed) → (numbers given : List ℕ) → numbers ≡ take c.headers_wanted-needed.result (open_numbers c.args.disk.now.image.now c.args.disk.now.layout.now) → given ≡ numbers
+    → (hs : List ℕ) → length hs ≡ c.args.headers → room_in c.args.disk.now.image.now c.args.disk.now.layout.now hs ≡ c.args.room → given ≡ taken_numbers c.args.disk.now.image.now c.args.disk.now.layout.now hs c.args.count
+numbers_are c numbers given picked is hs count room = is ∙ picked ∙ ap (λ n. take n (open_numbers c.args.disk.now.image.now c.args.disk.now.layout.now)) (needed_is c hs count room)
 
 pub returns-in-Err-places_for-clause-err : goal.returns-in-Err-places_for-clause-err
 returns-in-Err-places_for-clause-err c =
-    let I = c.args.image.now in
-    let L = c.args.layout.now in
+    let I = c.args.disk.now.image.now in
+    let L = c.args.disk.now.layout.now in
     let at = (goal.at.returns-in-Err-places_for-clause-err c).After-headers_wanted-needed in
     elim c.in-Err-places_for.ensures.err [
       | inl none ↦ inl none
@@ -66,8 +66,8 @@ returns-in-Err-places_for-clause-err c =
 
 pub returns-then-headers-needed-gt256-clause-err : goal.returns-then-headers-needed-gt256-clause-err
 returns-then-headers-needed-gt256-clause-err c = inr (λ hs count room.
-    let I = c.args.image.now in
-    let L = c.args.layout.now in
+    let I = c.args.disk.now.image.now in
+    let L = c.args.disk.now.layout.now in
     let at = (goal.at.returns-then-headers-needed-gt256-clause-err c).After-headers_wanted-needed in
     let needed = needed_is at hs count room in
     let many = c.if-headers-needed-gt256.true in
@@ -77,8 +77,8 @@ returns-then-headers-needed-gt256-clause-err c = inr (λ hs count room.
 
 pub returns-clause-ok : goal.returns-clause-ok
 returns-clause-ok c = λ hs count room.
-    let I = c.args.image.now in
-    let L = c.args.layout.now in
+    let I = c.args.disk.now.image.now in
+    let L = c.args.disk.now.layout.now in
     let at = (goal.at.returns-clause-ok c).After-headers_wanted-needed in
     let needed = needed_is at hs count room in
     let few = c.if-headers-needed-gt256.false in

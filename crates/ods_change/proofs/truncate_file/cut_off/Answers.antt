@@ -16,7 +16,7 @@ pub cut_place-last-requires-clause-chain : goal.cut_place-last-requires-clause-c
 cut_place-last-requires-clause-chain c = let whole = c.requires.sound.chains c.args.number c.requires.file in (whole.1.others, whole.0, whole.1.whole.chain, c.requires.enough whole.0 whole.1)
 
 pub delete_headers-requires-clause-places : goal.delete_headers-requires-clause-places
-delete_headers-requires-clause-places c = well_placed c.args.image.now c.args.layout.now c.requires.sound
+delete_headers-requires-clause-places c = well_placed c.args.disk.now.image.now c.args.disk.now.layout.now c.requires.sound
 
 pub delete_headers-requires-clause-read : goal.delete_headers-requires-clause-read
 delete_headers-requires-clause-read c =
@@ -26,17 +26,17 @@ delete_headers-requires-clause-read c =
 pub unwrap-lbn-requires : goal.unwrap-lbn-requires
 unwrap-lbn-requires c =
     let own = c.requires.sound.chains c.args.number c.requires.file in
-    ap is_some c.place.ensures ∙ valid_has_place c.args.image.now c.args.layout.now c.cut_place-last.result.number (last_valid c.requires.sound c.requires.above c.len.ensures.image own.1.whole c.cut_place-last.ensures)
+    ap is_some c.place.ensures ∙ valid_has_place c.args.disk.now.image.now c.args.disk.now.layout.now c.cut_place-last.result.number (last_valid c.requires.sound c.requires.above c.len.ensures.image own.1.whole c.cut_place-last.ensures)
 
 pub mark_free-requires : goal.mark_free-requires
 mark_free-requires c =
-    let I = c.args.image.now in
-    record { places = places_in I c.args.layout.now c.requires.sound.layout (well_placed I c.args.layout.now c.requires.sound) }
+    let I = c.args.disk.now.image.now in
+    record { places = places_in I c.args.disk.now.layout.now c.requires.sound.layout (well_placed I c.args.disk.now.layout.now c.requires.sound) }
 
 pub returns : goal.returns
 returns c = λ others blocks whole.
-    let I = c.args.image.now in
-    let L = c.args.layout.now in
+    let I = c.args.disk.now.image.now in
+    let L = c.args.disk.now.layout.now in
     let S = c.requires.sound in
     let P = c.cut_place-last.ensures in
     let image = c.len.ensures.image in

@@ -4,7 +4,7 @@ use Rattle.ods_change.proofs.ChainCuts.{AreShort}
 use Rattle.ods_change.proofs.truncate_file.cut_place.Given as goal
 
 abbrev pub invariant-loop-at : goal.invariant-loop-at
-invariant-loop-at l = AreShort (headers_of l.image l.layout l.number) l.headers l.count l.left
+invariant-loop-at l = AreShort (headers_of l.fn.disk.image.now l.fn.disk.layout.now l.number) l.headers l.count l.left
 
 abbrev pub decreases-loop-at : goal.decreases-loop-at
 decreases-loop-at l = length l.headers

@@ -14,7 +14,7 @@ use Rattle.ods_change.proofs.truncate_file.open_to_truncate.Goals.{After-has_few
 pub returns-in_default-clause-err : goal.returns-in_default-clause-err
 returns-in_default-clause-err c = λ C shown.
     fault_truncate C c.args.who c.args.file c.args.count
-    ∙ no_such_file c.args.image.now c.args.layout.now C shown c.args.file c.in_default.ensures.none (truncate_rows c.args.file c.args.count c.args.who)
+    ∙ no_such_file c.args.disk.now.image.now c.args.disk.now.layout.now C shown c.args.file c.in_default.ensures.none (truncate_rows c.args.file c.args.count c.args.who)
 
 pub returns-then-file-le5-clause-err : goal.returns-then-file-le5-clause-err
 returns-then-file-le5-clause-err c = λ C shown.
@@ -33,7 +33,7 @@ returns-then-is_directory-clause-err c = λ C shown.
     (holds _ (kind_seen c.args.file known.1 whole c.is_directory.result true c.is_directory.ensures c.if-is_directory.true)))
 
 -- the header says that the file is plain
-plain : (c : After-has_fewer) → is_directory_header c.args.file.number (header_at c.args.image.now c.args.layout.now c.args.file.number) ≡ false
+plain : (c : After-has_fewer) → is_directory_header c.args.file.number (header_at c.args.disk.now.image.now c.args.disk.now.layout.now c.args.file.number) ≡ false
 plain c = ap (is_directory_header c.args.file.number) (sym c.in-Some.ensures.some.1) ∙ sym c.is_directory.ensures ∙ c.if-is_directory.false
 
 pub returns-then-has_fewer-clause-err : goal.returns-then-has_fewer-clause-err
@@ -44,7 +44,7 @@ returns-then-has_fewer-clause-err c = λ C shown.
     ∙ checked shown c.args.file known.0 whole (truncate_rows c.args.file c.args.count c.args.who) (Some refusal.BadCount)
     (passes _ (lt-leb c.args.file.number 5 c.if-file-le5.false)
     (passes _ (kind_seen c.args.file known.1 whole c.is_directory.result false c.is_directory.ensures c.if-is_directory.false)
-    (holds _ (fewer_seen c.args.image.now c.args.layout.now c.args.file whole.0 c.args.count c.has_fewer.result true c.if-file-le5.false (plain (goal.at.returns-then-has_fewer-clause-err c).After-has_fewer) (c.has_fewer.ensures whole.0 whole.1) c.if-has_fewer.true))))
+    (holds _ (fewer_seen c.args.disk.now.image.now c.args.disk.now.layout.now c.args.file whole.0 c.args.count c.has_fewer.result true c.if-file-le5.false (plain (goal.at.returns-then-has_fewer-clause-err c).After-has_fewer) (c.has_fewer.ensures whole.0 whole.1) c.if-has_fewer.true))))
 
 pub returns-then-not-may_extend-clause-err : goal.returns-then-not-may_extend-clause-err
 returns-then-not-may_extend-clause-err c = λ C shown.
@@ -54,7 +54,7 @@ returns-then-not-may_extend-clause-err c = λ C shown.
     ∙ checked shown c.args.file known.0 whole (truncate_rows c.args.file c.args.count c.args.who) (Some refusal.Denied)
     (passes _ (lt-leb c.args.file.number 5 c.if-file-le5.false)
     (passes _ (kind_seen c.args.file known.1 whole c.is_directory.result false c.is_directory.ensures c.if-is_directory.false)
-    (passes _ (fewer_seen c.args.image.now c.args.layout.now c.args.file whole.0 c.args.count c.has_fewer.result false c.if-file-le5.false (plain (goal.at.returns-then-not-may_extend-clause-err c).After-has_fewer) (c.has_fewer.ensures whole.0 whole.1) c.if-has_fewer.false)
+    (passes _ (fewer_seen c.args.disk.now.image.now c.args.disk.now.layout.now c.args.file whole.0 c.args.count c.has_fewer.result false c.if-file-le5.false (plain (goal.at.returns-then-not-may_extend-clause-err c).After-has_fewer) (c.has_fewer.ensures whole.0 whole.1) c.if-has_fewer.false)
     (holds _ (right_seen c.args.file known.1 whole c.args.who right.Extend c.may_extend.result false c.may_extend.ensures c.if-not-may_extend.true)))))
 
 pub returns-clause-ok : goal.returns-clause-ok
@@ -77,7 +77,7 @@ returns-clause-ok c =
             ∙ checked shown id known.0 whole (truncate_rows id c.args.count c.args.who) None
             (passes _ (lt-leb id.number 5 c.if-file-le5.false)
             (passes _ (kind_seen id known.1 whole c.is_directory.result false c.is_directory.ensures c.if-is_directory.false)
-            (passes _ (fewer_seen c.args.image.now c.args.layout.now id whole.0 c.args.count c.has_fewer.result false c.if-file-le5.false kind fewer c.if-has_fewer.false)
+            (passes _ (fewer_seen c.args.disk.now.image.now c.args.disk.now.layout.now id whole.0 c.args.count c.has_fewer.result false c.if-file-le5.false kind fewer c.if-has_fewer.false)
             (passes _ (right_seen id known.1 whole c.args.who right.Extend c.may_extend.result true c.may_extend.ensures c.if-not-may_extend.false) refl))));
       },
       known.1,

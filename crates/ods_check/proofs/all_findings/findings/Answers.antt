@@ -6,7 +6,7 @@ use Rattle.ods_check.proofs.all_findings.findings.Goals as goal
 
 pub returns-clause-each : goal.returns-clause-each
 returns-clause-each c =
-    let P = IsFound c.args.image.now c.args.layout.now in
+    let P = IsFound c.args.disk.now.image.now c.args.disk.now.layout.now in
     let start = c.new-found.result.items in
     let a = c.push_bad_headers.new.findings.items in
     let r = c.push_lost_headers.new.findings.items in
@@ -20,8 +20,8 @@ returns-clause-each c =
 
 pub returns-clause-all : goal.returns-clause-all
 returns-clause-all c =
-    let I = c.args.image.now in
-    let L = c.args.layout.now in
+    let I = c.args.disk.now.image.now in
+    let L = c.args.disk.now.layout.now in
     let P = IsFound I L in
     let a = c.push_bad_headers.new.findings.items in
     let r = c.push_lost_headers.new.findings.items in

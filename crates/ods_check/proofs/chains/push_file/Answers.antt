@@ -11,18 +11,18 @@ use Rattle.ods_check.proofs.FileFaults.{no_file, bad_file, whole_file, chain_tru
 use Rattle.ods_check.proofs.chains.push_file.Goals as goal
 
 pub returns-in_default-clause-adds : goal.returns-in_default-clause-adds
-returns-in_default-clause-adds c = adds_none (IsLineOf c.args.image.now c.args.layout.now) c.args.faults.now.items
+returns-in_default-clause-adds c = adds_none (IsLineOf c.args.disk.now.image.now c.args.disk.now.layout.now) c.args.faults.now.items
 
 pub returns-in_default-clause-file : goal.returns-in_default-clause-file
-returns-in_default-clause-file c = no_file c.args.image.now c.args.layout.now c.args.number c.args.faults.now.items c.in_default.ensures.none
+returns-in_default-clause-file c = no_file c.args.disk.now.image.now c.args.disk.now.layout.now c.args.number c.args.faults.now.items c.in_default.ensures.none
 
 pub push_sharing-requires-clause-file : goal.push_sharing-requires-clause-file
 push_sharing-requires-clause-file c = c.in-Some.ensures.some.0
 
 pub returns-in-Err-clause-adds : goal.returns-in-Err-clause-adds
 returns-in-Err-clause-adds c =
-    let I = c.args.image.now in
-    let L = c.args.layout.now in
+    let I = c.args.disk.now.image.now in
+    let L = c.args.disk.now.layout.now in
     let P = IsLineOf I L in
     let mid = c.push_sharing.new.faults.items in
     adds_more P c.args.faults.now.items mid c.push.new.self.items c.in_ok-push_sharing.ensures.adds
@@ -31,8 +31,8 @@ returns-in-Err-clause-adds c =
 
 pub returns-in-Err-clause-file : goal.returns-in-Err-clause-file
 returns-in-Err-clause-file c =
-    let I = c.args.image.now in
-    let L = c.args.layout.now in
+    let I = c.args.disk.now.image.now in
+    let L = c.args.disk.now.layout.now in
     let P = IsLineOf I L in
     let n = c.args.number in
     let mid = c.push_sharing.new.faults.items in
@@ -44,16 +44,16 @@ returns-in-Err-clause-file c =
     (subst (λ (f : MountFault). Tells end f) c.chain_fault.ensures told)
 
 pub push_whole-requires-clause-whole : goal.push_whole-requires-clause-whole
-push_whole-requires-clause-whole c = subst (HasBlocks c.args.image.now c.args.layout.now c.args.number) (sym c.deref.ensures.value) c.in-Ok.ensures.ok
+push_whole-requires-clause-whole c = subst (HasBlocks c.args.disk.now.image.now c.args.disk.now.layout.now c.args.number) (sym c.deref.ensures.value) c.in-Ok.ensures.ok
 
 pub returns-in_ok-push_whole-in-Ok-clause-adds : goal.returns-in_ok-push_whole-in-Ok-clause-adds
 returns-in_ok-push_whole-in-Ok-clause-adds c =
-    adds_more (IsLineOf c.args.image.now c.args.layout.now) c.args.faults.now.items c.push_sharing.new.faults.items c.push_whole.new.faults.items c.in_ok-push_sharing.ensures.adds c.in_ok-push_whole-in-Ok.ensures.adds
+    adds_more (IsLineOf c.args.disk.now.image.now c.args.disk.now.layout.now) c.args.faults.now.items c.push_sharing.new.faults.items c.push_whole.new.faults.items c.in_ok-push_sharing.ensures.adds c.in_ok-push_whole-in-Ok.ensures.adds
 
 pub returns-in_ok-push_whole-in-Ok-clause-file : goal.returns-in_ok-push_whole-in-Ok-clause-file
 returns-in_ok-push_whole-in-Ok-clause-file c =
-    let I = c.args.image.now in
-    let L = c.args.layout.now in
+    let I = c.args.disk.now.image.now in
+    let L = c.args.disk.now.layout.now in
     let n = c.args.number in
     let mid = c.push_sharing.new.faults.items in
     let end = c.push_whole.new.faults.items in

@@ -9,14 +9,14 @@ use Rattle.ods_check.proofs.chains.push_files.Goals as goal
 
 pub loop-number-init : goal.loop-number-init
 loop-number-init c = record {
-  adds = adds_none (IsLineOf c.args.image.now c.args.layout.now) c.args.faults.now.items;
+  adds = adds_none (IsLineOf c.args.disk.now.image.now c.args.disk.now.layout.now) c.args.faults.now.items;
   files = λ n low. absurd (omega arith);
 }
 
 pub loop-number-preserved : goal.loop-number-preserved
 loop-number-preserved c =
-    let I = c.args.image.now in
-    let L = c.args.layout.now in
+    let I = c.args.disk.now.image.now in
+    let L = c.args.disk.now.layout.now in
     let old = c.loop-number.faults.items in
     let new = c.push_file.new.faults.items in
     let added = c.in_ok-push_file.ensures.adds in
@@ -32,8 +32,8 @@ loop-number-preserved c =
 
 pub returns-clause-files : goal.returns-clause-files
 returns-clause-files c n =
-    let I = c.args.image.now in
-    let L = c.args.layout.now in
+    let I = c.args.disk.now.image.now in
+    let L = c.args.disk.now.layout.now in
     elim (cases_lt n c.loop-number.number) [
       | inl less ↦ c.loop-number.invariant.files n less
       | inr more ↦ no_file I L n c.loop-number.faults.items (λ file.

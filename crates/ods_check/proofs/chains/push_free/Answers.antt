@@ -12,14 +12,14 @@ use Rattle.ods_check.proofs.chains.push_free.Goals as goal
 
 pub loop-i-init : goal.loop-i-init
 loop-i-init c = record {
-  adds = adds_none (IsLineOf c.args.image.now c.args.layout.now) c.args.faults.now.items;
+  adds = adds_none (IsLineOf c.args.disk.now.image.now c.args.disk.now.layout.now) c.args.faults.now.items;
   told = λ j b low. absurd (omega arith);
 }
 
 pub loop-i-preserved : goal.loop-i-preserved
 loop-i-preserved c =
-    let I = c.args.image.now in
-    let L = c.args.layout.now in
+    let I = c.args.disk.now.image.now in
+    let L = c.args.disk.now.layout.now in
     let n = c.args.number in
     let P = IsLineOf I L in
     let old = c.loop-i.faults.items in
@@ -43,5 +43,5 @@ returns-clause-adds c = c.loop-i.invariant.adds
 
 pub returns-clause-free : goal.returns-clause-free
 returns-clause-free c b t =
-    let at = held_at c.args.image.now c.args.layout.now c.args.number c.args.lbns.now t.0 b c.requires t.1 in
-    each_of (λ j x. IsTrue (is_free_block c.args.image.now c.args.layout.now x) → Contains c.loop-i.faults.items (Plain (MarkedFree c.args.number x))) c.args.lbns.now c.loop-i.i (let end = c.loop-i-test.false in omega arith) c.loop-i.invariant.told at.0 b at.2 t.2
+    let at = held_at c.args.disk.now.image.now c.args.disk.now.layout.now c.args.number c.args.lbns.now t.0 b c.requires t.1 in
+    each_of (λ j x. IsTrue (is_free_block c.args.disk.now.image.now c.args.disk.now.layout.now x) → Contains c.loop-i.faults.items (Plain (MarkedFree c.args.number x))) c.args.lbns.now c.loop-i.i (let end = c.loop-i-test.false in omega arith) c.loop-i.invariant.told at.0 b at.2 t.2

@@ -13,14 +13,14 @@ use Rattle.ods_check.proofs.chains.push_places.Goals as goal
 
 pub loop-i-init : goal.loop-i-init
 loop-i-init c = record {
-  adds = adds_none (IsLineOf c.args.image.now c.args.layout.now) c.args.faults.now.items;
+  adds = adds_none (IsLineOf c.args.disk.now.image.now c.args.disk.now.layout.now) c.args.faults.now.items;
   told = λ j b low. absurd (omega arith);
 }
 
 pub loop-i-preserved : goal.loop-i-preserved
 loop-i-preserved c =
-    let I = c.args.image.now in
-    let L = c.args.layout.now in
+    let I = c.args.disk.now.image.now in
+    let L = c.args.disk.now.layout.now in
     let n = c.args.number in
     let i = c.loop-i.i in
     let P = IsLineOf I L in
@@ -42,7 +42,7 @@ loop-i-preserved c =
 pub overflow_cast-i : goal.overflow_cast-i
 overflow_cast-i c =
     let has = c.requires.whole in
-    let small = chain_size c.args.image.now c.args.layout.now.home (index_for c.args.layout.now c.args.number) c.args.number has.others c.args.lbns.now c.len.ensures.image has.whole.chain in
+    let small = chain_size c.args.disk.now.image.now c.args.disk.now.layout.now.home (index_for c.args.disk.now.layout.now c.args.number) c.args.number has.others c.args.lbns.now c.len.ensures.image has.whole.chain in
     let low = c.loop-i-test.true in
     omega arith
 
@@ -51,8 +51,8 @@ returns-clause-adds c = c.loop-i.invariant.adds
 
 pub returns-clause-places : goal.returns-clause-places
 returns-clause-places c k t =
-    let I = c.args.image.now in
-    let L = c.args.layout.now in
+    let I = c.args.disk.now.image.now in
+    let L = c.args.disk.now.layout.now in
     let n = c.args.number in
     let at = held_at I L n c.args.lbns.now t.1 k c.requires.whole t.2 in
     each_of (λ j x. IsLoose c.args.home_lbn n j x → Contains c.loop-i.faults.items (Index (HeldPlace x n))) c.args.lbns.now c.loop-i.i (let end = c.loop-i-test.false in omega arith) c.loop-i.invariant.told at.0 k at.2

@@ -12,13 +12,13 @@ pub is_past-requires : goal.is_past-requires
 is_past-requires c =
     let t = c.in-Some-block_count.ensures.count in
     let is = t.2 in
-    let small = chain_size c.args.image.now c.args.layout.now.home (index_for c.args.layout.now c.args.number) c.args.number t.1.others t.0 c.len.ensures.image t.1.whole.chain in
+    let small = chain_size c.args.disk.now.image.now c.args.disk.now.layout.now.home (index_for c.args.disk.now.layout.now c.args.number) c.args.number t.1.others t.0 c.len.ensures.image t.1.whole.chain in
     omega arith
 
 pub returns-in-Some-block_count : goal.returns-in-Some-block_count
 returns-in-Some-block_count c =
-    let I = c.args.image.now in
-    let L = c.args.layout.now in
+    let I = c.args.disk.now.image.now in
+    let L = c.args.disk.now.layout.now in
     let n = c.args.number in
     let t = c.in-Some-block_count.ensures.count in
     let count = c.in-Some-block_count.count in

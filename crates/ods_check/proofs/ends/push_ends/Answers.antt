@@ -7,8 +7,8 @@ use Rattle.ods_check.proofs.ends.push_ends.Goals as goal
 
 pub loop-number-preserved : goal.loop-number-preserved
 loop-number-preserved c =
-    let I = c.args.image.now in
-    let L = c.args.layout.now in
+    let I = c.args.disk.now.image.now in
+    let L = c.args.disk.now.layout.now in
     sweeps_at (IsFound I L) (IsEndPast I L) (λ n. EndPast (id_at I L n)) c.args.findings.now.items c.loop-number.findings.items c.push_if.new.list.items c.loop-number.number (EndPast c.id_of-file.result)
     (ap EndPast c.id_of-file.ensures) c.ends_past-past.result c.ends_past-past.ensures (λ h. (h, refl)) c.in_ok-push_if.ensures c.loop-number.invariant
 
@@ -16,5 +16,5 @@ pub returns-clause-all : goal.returns-clause-all
 returns-clause-all c n h =
     let end = c.loop-number-test.false in
     let last = ap (λ h. h.max_files) c.home.ensures in
-    let small = file_small c.args.image.now c.args.layout.now n h.has.file in
+    let small = file_small c.args.disk.now.image.now c.args.disk.now.layout.now n h.has.file in
     c.loop-number.invariant.told n (omega arith) h

@@ -10,7 +10,7 @@ use Rattle.ods_check.proofs.faults.push_all.Goals as goal
 
 pub returns-clause-adds : goal.returns-clause-adds
 returns-clause-adds c =
-    let P = IsLineOf c.args.image.now c.args.layout.now in
+    let P = IsLineOf c.args.disk.now.image.now c.args.disk.now.layout.now in
     let start = c.args.faults.now.items in
     let system = adds_more P start c.push_index.new.faults.items c.push_system.new.faults.items c.in_ok-push_index.ensures.adds c.in_ok-push_system.ensures.adds in
     let formats = adds_more P start c.push_system.new.faults.items c.push_formats.new.faults.items system c.in_ok-push_formats.ensures.adds in
@@ -19,12 +19,12 @@ returns-clause-adds c =
 
 pub returns-clause-all : goal.returns-clause-all
 returns-clause-all c =
-    let P = IsLineOf c.args.image.now c.args.layout.now in
+    let P = IsLineOf c.args.disk.now.image.now c.args.disk.now.layout.now in
     let first = c.push_index.new.faults.items in
     let middle = c.push_system.new.faults.items in
     let formats = c.push_formats.new.faults.items in
-    let I = c.args.image.now in
-    let L = c.args.layout.now in
+    let I = c.args.disk.now.image.now in
+    let L = c.args.disk.now.layout.now in
     let files = c.push_files.new.faults.items in
     let end = c.push_shared.new.faults.items in
     let shared = c.in_ok-push_shared.ensures.adds in

@@ -7,16 +7,16 @@ use Rattle.ods_check.proofs.headers.push_bad_headers.Goals as goal
 
 pub loop-number-preserved : goal.loop-number-preserved
 loop-number-preserved c =
-    let I = c.args.image.now in
-    let L = c.args.layout.now in
+    let I = c.args.disk.now.image.now in
+    let L = c.args.disk.now.layout.now in
     let adds = c.in_ok-push_bad_header.ensures.adds in
     sweeps_more (IsFound I L) (TellsHeader I L) c.args.findings.now.items c.loop-number.findings.items c.push_bad_header.new.findings.items c.loop-number.number
     (λ n. told_header_still I L n c.loop-number.findings.items c.push_bad_header.new.findings.items adds) c.loop-number.invariant adds c.in_ok-push_bad_header.ensures.told
 
 pub returns-clause-all : goal.returns-clause-all
 returns-clause-all c n small used =
-    let I = c.args.image.now in
-    let L = c.args.layout.now in
+    let I = c.args.disk.now.image.now in
+    let L = c.args.disk.now.layout.now in
     let within = number_in_bitmap I L.home n used in
     let P : ℕ → Type 0 = λ x. n ≤ 4096 * x in
     let low : n ≤ 4096 * c.home.result.index_bitmap_size = subst P (ap (λ h. h.index_bitmap_size) (sym c.home.ensures)) within in

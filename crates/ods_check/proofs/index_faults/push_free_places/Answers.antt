@@ -11,8 +11,8 @@ use Rattle.ods_check.proofs.index_faults.push_free_places.Goals as goal
 
 pub loop-lbn-preserved : goal.loop-lbn-preserved
 loop-lbn-preserved c =
-    let I = c.args.image.now in
-    let L = c.args.layout.now in
+    let I = c.args.disk.now.image.now in
+    let L = c.args.disk.now.layout.now in
     let T : ℕ → Type 0 = λ k. IsHomePlace k × IsTrue (is_free_block I L k) in
     let k = c.loop-lbn.lbn in
     sweeps_at (IsLineOf I L) T (λ n. Index (FreePlace n)) c.args.faults.now.items c.loop-lbn.faults.items c.push_if.new.list.items k (Index (FreePlace k)) refl c.is_free_place-free.result c.is_free_place-free.ensures
@@ -24,7 +24,7 @@ returns-clause-adds c = c.loop-lbn.invariant.adds
 pub returns-clause-free : goal.returns-clause-free
 returns-clause-free c k t =
     let place = t.0 in
-    let e = same_place c.args.image.now place.0 c.args.home_lbn place.1 c.requires in
+    let e = same_place c.args.disk.now.image.now place.0 c.args.home_lbn place.1 c.requires in
     let low = place.3 in
     let end = c.loop-lbn-test.false in
     c.loop-lbn.invariant.told k (omega arith) (place.2, t.1)

@@ -10,8 +10,8 @@ use Rattle.ods_check.proofs.index_faults.push_index.Goals as goal
 
 pub returns-clause-adds : goal.returns-clause-adds
 returns-clause-adds c =
-    let I = c.args.image.now in
-    let L = c.args.layout.now in
+    let I = c.args.disk.now.image.now in
+    let L = c.args.disk.now.layout.now in
     let P = IsLineOf I L in
     let start = c.args.faults.now.items in
     let one = c.push_if.new.list.items in
@@ -28,8 +28,8 @@ returns-clause-adds c =
 
 pub returns-clause-index : goal.returns-clause-index
 returns-clause-index c =
-    let I = c.args.image.now in
-    let L = c.args.layout.now in
+    let I = c.args.disk.now.image.now in
+    let L = c.args.disk.now.layout.now in
     let home = c.args.home_lbn in
     let P = IsLineOf I L in
     let start = c.args.faults.now.items in

@@ -17,7 +17,7 @@ pub returns-clause-adds : goal.returns-clause-adds
 returns-clause-adds c =
     let at = c.in-Some.at in
     let first = c.in-Some.ensures.some in
-    adds_one (IsLineOf c.args.image.now c.args.layout.now) _ _ (Index (Misplaced (at + 3))) c.in_ok-push.ensures.items (at, refl, first.0, first.1)
+    adds_one (IsLineOf c.args.disk.now.image.now c.args.disk.now.layout.now) _ _ (Index (Misplaced (at + 3))) c.in_ok-push.ensures.items (at, refl, first.0, first.1)
 
 pub returns-clause-some : goal.returns-clause-some
 returns-clause-some c i h = (c.in-Some.at + 3, told_one _ _ (Index (Misplaced (c.in-Some.at + 3))) c.in_ok-push.ensures.items)

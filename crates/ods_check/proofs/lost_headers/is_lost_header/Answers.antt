@@ -16,8 +16,8 @@ returns-then-not-in_use c h = elim c.then-not-in_use.branch [
 
 pub returns-then-is_valid_header : goal.returns-then-is_valid_header
 returns-then-is_valid_header c =
-    let I = c.args.image.now in
-    let L = c.args.layout.now in
+    let I = c.args.disk.now.image.now in
+    let L = c.args.disk.now.layout.now in
     let n = c.args.number in
     let same = c.in-Some.ensures.some in
     let segment : c.segment.result ≡ segment_of (header_at I L n) = c.segment.ensures ∙ ap segment_of same in

@@ -5,7 +5,7 @@ use Rattle.ods_check.proofs.lost_headers.note_chain.Given as goal
 
 abbrev pub invariant-loop-header : goal.invariant-loop-header
 invariant-loop-header l = record {
-  reaching : IsReaching (numbers_of (headers_of l.image l.layout l.number)) l.initial.reached l.reached l.headers;
+  reaching : IsReaching (numbers_of (headers_of l.fn.disk.image.now l.fn.disk.layout.now l.number)) l.initial.reached l.reached l.headers;
   room : length l.reached ≡ length l.initial.reached;
 }
 

@@ -6,7 +6,7 @@ use Rattle.ods_check.proofs.lost_headers.reached_headers.Goals as goal
 
 pub loop-number-init : goal.loop-number-init
 loop-number-init c = record {
-  files = files_none (HasAsHeader c.args.image.now c.args.layout.now) c.in_ok-reached.reached c.in_ok-reached.ensures.empty;
+  files = files_none (HasAsHeader c.args.disk.now.image.now c.args.disk.now.layout.now) c.in_ok-reached.reached c.in_ok-reached.ensures.empty;
   room = c.in_ok-reached.ensures.room;
 }
 
@@ -14,7 +14,7 @@ pub loop-number-preserved : goal.loop-number-preserved
 loop-number-preserved c =
     let P : ℕ → Type 0 = λ l. 65536 ≤ 64 * l in
     record {
-      files = files_more (HasAsHeader c.args.image.now c.args.layout.now) c.loop-number.number c.loop-number.reached c.note_headers.new.reached c.loop-number.invariant.files c.note_headers.ensures.with;
+      files = files_more (HasAsHeader c.args.disk.now.image.now c.args.disk.now.layout.now) c.loop-number.number c.loop-number.reached c.note_headers.new.reached c.loop-number.invariant.files c.note_headers.ensures.with;
       room = subst P (sym c.note_headers.ensures.room) c.loop-number.invariant.room;
     }
 
@@ -22,5 +22,5 @@ pub returns : goal.returns
 returns c =
     let end = c.loop-number-test.false in
     let last = ap (λ h. h.max_files) c.home.ensures in
-    files_all (HasAsHeader c.args.image.now c.args.layout.now) c.loop-number.number c.loop-number.reached
-    (λ m b h. let small = file_small c.args.image.now c.args.layout.now m h.1.file in omega arith) c.loop-number.invariant.files
+    files_all (HasAsHeader c.args.disk.now.image.now c.args.disk.now.layout.now) c.loop-number.number c.loop-number.reached
+    (λ m b h. let small = file_small c.args.disk.now.image.now c.args.disk.now.layout.now m h.1.file in omega arith) c.loop-number.invariant.files

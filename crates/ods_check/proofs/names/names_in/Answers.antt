@@ -13,14 +13,14 @@ use Rattle.ods_check.proofs.names.names_in.Goals.{After-mark_of-mark}
 pub new-blocks-requires-clause-few : goal.new-blocks-requires-clause-few
 new-blocks-requires-clause-few c =
     let has = c.requires.whole in
-    let small = chain_size c.args.image.now c.args.layout.now.home (index_for c.args.layout.now c.args.number) c.args.number has.others c.args.lbns.now c.len.ensures.image has.whole.chain in
+    let small = chain_size c.args.disk.now.image.now c.args.disk.now.layout.now.home (index_for c.args.disk.now.layout.now c.args.number) c.args.number has.others c.args.lbns.now c.len.ensures.image has.whole.chain in
     omega arith
 
 -- what holds at the end of the check holds of the file
 found : (c : After-mark_of-mark) (P : List (List ℕ) → ℕ → Type 0) → P (map (block_at c.new-blocks.result.image.now) c.new-blocks.result.lbns.now) c.mark_of-mark.result
-    → P (contents_of c.args.image.now c.args.lbns.now) (mark_at c.args.image.now c.args.layout.now c.args.number c.args.lbns.now)
+    → P (contents_of c.args.disk.now.image.now c.args.lbns.now) (mark_at c.args.disk.now.image.now c.args.disk.now.layout.now c.args.number c.args.lbns.now)
 found c P =
-    moved P c.args.image.now _ c.args.lbns.now _ _ c.args.attributes.now c.mark_of-mark.result c.count.result c.new-blocks.ensures.0 c.new-blocks.ensures.1 c.requires.attributes c.count.ensures c.mark_of-mark.ensures
+    moved P c.args.disk.now.image.now _ c.args.lbns.now _ _ c.args.attributes.now c.mark_of-mark.result c.count.result c.new-blocks.ensures.0 c.new-blocks.ensures.1 c.requires.attributes c.count.ensures c.mark_of-mark.ensures
 
 pub returns-in_ok-lines-in-Ok-Good : goal.returns-in_ok-lines-in-Ok-Good
 returns-in_ok-lines-in-Ok-Good c =
@@ -28,16 +28,16 @@ returns-in_ok-lines-in-Ok-Good c =
     let lines = c.in_ok-lines-in-Ok-Good.lines.items in
     let good = found all IsDirectory (c.in-Ok-Good.ensures.good (ap Ok c.in-Ok-Good.field-0-is)) in
     let is = found all (λ bs m. lines ≡ lines_of (names_of bs m)) c.in_ok-lines-in-Ok-Good.ensures in
-    names_are c.args.image.now c.args.layout.now c.args.number c.args.lbns.now lines c.requires.whole c.requires.directory good is
+    names_are c.args.disk.now.image.now c.args.disk.now.layout.now c.args.number c.args.lbns.now lines c.requires.whole c.requires.directory good is
 
 pub returns-in-Ok-BadEntry : goal.returns-in-Ok-BadEntry
 returns-in-Ok-BadEntry c =
     let all = (goal.at.returns-in-Ok-BadEntry c).After-mark_of-mark in
     let bad = found all (λ bs m. HasBadEntry (used_entries bs m)) (c.in-Ok-BadEntry.ensures.bad (ap Ok c.in-Ok-BadEntry.field-0-is)) in
-    none_are c.args.image.now c.args.layout.now c.args.number _ c.new.ensures.items (no_names c.args.image.now c.args.layout.now c.args.number c.args.lbns.now c.requires.whole (inl bad))
+    none_are c.args.disk.now.image.now c.args.disk.now.layout.now c.args.number _ c.new.ensures.items (no_names c.args.disk.now.image.now c.args.disk.now.layout.now c.args.number c.args.lbns.now c.requires.whole (inl bad))
 
 pub returns-in-Ok-Twice : goal.returns-in-Ok-Twice
 returns-in-Ok-Twice c =
     let all = (goal.at.returns-in-Ok-Twice c).After-mark_of-mark in
     let twice = found all (λ bs m. HasTwins (used_entries bs m)) (c.in-Ok-Twice.ensures.twice (ap Ok c.in-Ok-Twice.field-0-is)) in
-    none_are c.args.image.now c.args.layout.now c.args.number _ c.new-in-Ok-Twice.ensures.items (no_names c.args.image.now c.args.layout.now c.args.number c.args.lbns.now c.requires.whole (inr twice))
+    none_are c.args.disk.now.image.now c.args.disk.now.layout.now c.args.number _ c.new-in-Ok-Twice.ensures.items (no_names c.args.disk.now.image.now c.args.disk.now.layout.now c.args.number c.args.lbns.now c.requires.whole (inr twice))

@@ -9,8 +9,8 @@ use Rattle.ods_check.proofs.naming.push_lines.Goals as goal
 
 pub loop-i-preserved : goal.loop-i-preserved
 loop-i-preserved c =
-    let I = c.args.image.now in
-    let L = c.args.layout.now in
+    let I = c.args.disk.now.image.now in
+    let L = c.args.disk.now.layout.now in
     let d = c.args.directory in
     let lines = c.args.lines.now in
     let i = c.loop-i.i in
@@ -34,5 +34,5 @@ returns-clause-names c i line at =
 pub returns-clause-named : goal.returns-clause-named
 returns-clause-named c =
     let end = c.loop-i-test.false in
-    grown_all (NamesAt c.args.image.now c.args.layout.now c.args.lines.now) c.args.named.now c.loop-i.i c.loop-i.named
+    grown_all (NamesAt c.args.disk.now.image.now c.args.disk.now.layout.now c.args.lines.now) c.args.named.now c.loop-i.i c.loop-i.named
     (λ m b h. let low = slice_get_within c.args.lines.now m h.0 h.1 in omega arith) c.loop-i.invariant.named

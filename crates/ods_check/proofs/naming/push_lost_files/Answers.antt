@@ -6,7 +6,7 @@ use Rattle.ods_check.proofs.naming.push_lost_files.Goals as goal
 
 pub loop-number-preserved : goal.loop-number-preserved
 loop-number-preserved c =
-    let I = c.args.image.now in
-    let L = c.args.layout.now in
+    let I = c.args.disk.now.image.now in
+    let L = c.args.disk.now.layout.now in
     sweeps_at (IsFound I L) (IsLostFile I L) (λ n. LostFile (id_at I L n)) c.args.findings.now.items c.loop-number.findings.items c.push_if.new.list.items c.loop-number.number (LostFile c.id_of-file.result)
     (ap LostFile c.id_of-file.ensures) c.is_lost-lost.result c.is_lost-lost.ensures (λ h. (h, refl)) c.in_ok-push_if.ensures c.loop-number.invariant

@@ -9,8 +9,8 @@ use Rattle.ods_check.proofs.naming.push_names.Goals as goal
 
 pub returns-clause-names : goal.returns-clause-names
 returns-clause-names c line none =
-    let I = c.args.image.now in
-    let L = c.args.layout.now in
+    let I = c.args.disk.now.image.now in
+    let L = c.args.disk.now.layout.now in
     let d = c.args.directory in
     let found = c.push_lines.new.findings.items in
     let lines = c.in_ok-lines.lines.items in
@@ -20,8 +20,8 @@ returns-clause-names c line none =
 
 pub returns-clause-named : goal.returns-clause-named
 returns-clause-named c =
-    let I = c.args.image.now in
-    let L = c.args.layout.now in
+    let I = c.args.disk.now.image.now in
+    let L = c.args.disk.now.layout.now in
     let lines = c.in_ok-lines.lines.items in
     let P : List Listed → Type 0 = λ ls. IsSetOf (λ n. (has c.args.named.now n ≡ true) ⊎ ((k : ℕ) × NamesAt I L ls k n)) c.push_lines.new.named in
     names_noted I L c.args.directory lines c.in_ok-lines.ensures c.args.named.now c.push_lines.new.named (subst P c.deref.ensures.value c.in_ok-push_lines.ensures.named)

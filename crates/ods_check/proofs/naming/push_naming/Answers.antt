@@ -10,8 +10,8 @@ use Rattle.ods_check.proofs.naming.push_naming.Goals as goal
 
 pub loop-number-init : goal.loop-number-init
 loop-number-init c =
-    let I = c.args.image.now in
-    let L = c.args.layout.now in
+    let I = c.args.disk.now.image.now in
+    let L = c.args.disk.now.layout.now in
     record {
       told = sweeps_none (IsFound I L) (TellsNames I L) c.args.findings.now.items;
       files = files_none (NamesFile I L) c.in_ok-named.named c.in_ok-named.ensures.empty;
@@ -20,8 +20,8 @@ loop-number-init c =
 
 pub loop-number-preserved : goal.loop-number-preserved
 loop-number-preserved c =
-    let I = c.args.image.now in
-    let L = c.args.layout.now in
+    let I = c.args.disk.now.image.now in
+    let L = c.args.disk.now.layout.now in
     let mid = c.loop-number.findings.items in
     let new = c.push_names.new.findings.items in
     let told = c.in_ok-push_names.ensures in
@@ -34,20 +34,20 @@ loop-number-preserved c =
 
 pub push_lost_files-requires : goal.push_lost_files-requires
 push_lost_files-requires c =
-    let I = c.args.image.now in
-    let L = c.args.layout.now in
+    let I = c.args.disk.now.image.now in
+    let L = c.args.disk.now.layout.now in
     let end = c.loop-number-test.false in
     let last = ap (λ h. h.max_files) c.home.ensures in
     files_all (NamesFile I L) c.loop-number.number c.loop-number.named (λ d b h. let small = file_small I L d h.1.has.file in omega arith) c.loop-number.invariant.files
 
 pub returns-clause-adds : goal.returns-clause-adds
 returns-clause-adds c =
-    adds_more (IsFound c.args.image.now c.args.layout.now) c.args.findings.now.items c.loop-number.findings.items c.push_lost_files.new.findings.items c.loop-number.invariant.told.adds c.in_ok-push_lost_files.ensures.adds
+    adds_more (IsFound c.args.disk.now.image.now c.args.disk.now.layout.now) c.args.findings.now.items c.loop-number.findings.items c.push_lost_files.new.findings.items c.loop-number.invariant.told.adds c.in_ok-push_lost_files.ensures.adds
 
 pub returns-clause-names : goal.returns-clause-names
 returns-clause-names c d line none =
-    let I = c.args.image.now in
-    let L = c.args.layout.now in
+    let I = c.args.disk.now.image.now in
+    let L = c.args.disk.now.layout.now in
     let end = c.loop-number-test.false in
     let last = ap (λ h. h.max_files) c.home.ensures in
     let small = file_small I L d none.0.has.file in

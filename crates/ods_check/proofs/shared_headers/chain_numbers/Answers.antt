@@ -18,12 +18,12 @@ pub returns-clause-headers : goal.returns-clause-headers
 returns-clause-headers c =
     let chain = c.requires.chain in
     let xs = c.loop-header.numbers.items in
-    let is : xs ≡ numbers_of (headers_of c.args.image.now c.args.layout.now c.args.number) = sym (c.loop-header.invariant.parts ∙ ap (λ hs. xs ++ numbers_of hs) c.in_default.ensures.none ∙ append-nil xs) in
-    chain_headers_are c.args.image.now c.args.layout.now c.args.number chain.0 chain.1 xs c.len.ensures.image c.requires.layout chain.2 is
+    let is : xs ≡ numbers_of (headers_of c.args.disk.now.image.now c.args.disk.now.layout.now c.args.number) = sym (c.loop-header.invariant.parts ∙ ap (λ hs. xs ++ numbers_of hs) c.in_default.ensures.none ∙ append-nil xs) in
+    chain_headers_are c.args.disk.now.image.now c.args.disk.now.layout.now c.args.number chain.0 chain.1 xs c.len.ensures.image c.requires.layout chain.2 is
 
 pub returns-clause-distinct : goal.returns-clause-distinct
 returns-clause-distinct c =
     let chain = c.requires.chain in
     let xs = c.loop-header.numbers.items in
-    let is : xs ≡ numbers_of (headers_of c.args.image.now c.args.layout.now c.args.number) = sym (c.loop-header.invariant.parts ∙ ap (λ hs. xs ++ numbers_of hs) c.in_default.ensures.none ∙ append-nil xs) in
-    chain_headers_once c.args.image.now c.args.layout.now c.args.number chain.0 chain.1 xs c.len.ensures.image c.requires.layout chain.2 is
+    let is : xs ≡ numbers_of (headers_of c.args.disk.now.image.now c.args.disk.now.layout.now c.args.number) = sym (c.loop-header.invariant.parts ∙ ap (λ hs. xs ++ numbers_of hs) c.in_default.ensures.none ∙ append-nil xs) in
+    chain_headers_once c.args.disk.now.image.now c.args.disk.now.layout.now c.args.number chain.0 chain.1 xs c.len.ensures.image c.requires.layout chain.2 is

@@ -5,7 +5,7 @@ use Rattle.ods_check.proofs.shared_headers.chain_numbers.Given as goal
 
 abbrev pub invariant-loop-header : goal.invariant-loop-header
 invariant-loop-header l = record {
-  parts : numbers_of (headers_of l.image l.layout l.number) ≡ l.numbers.items ++ numbers_of l.headers;
+  parts : numbers_of (headers_of l.fn.disk.image.now l.fn.disk.layout.now l.number) ≡ l.numbers.items ++ numbers_of l.headers;
   small : All (λ x. x < 65536) l.numbers.items;
 }
 

@@ -6,8 +6,8 @@ use Rattle.ods_check.proofs.shared_headers.header_numbers.Goals as goal
 
 pub returns-in-Err-BadChain-clause-headers : goal.returns-in-Err-BadChain-clause-headers
 returns-in-Err-BadChain-clause-headers c =
-    let P : ChainFault → Type 0 = λ f. IsChainFault c.args.image.now c.args.layout.now c.args.number f in
-    no_headers c.args.image.now c.args.layout.now c.args.number c.new.result.items c.new.ensures.items (subst P c.in-Err-BadChain.field-0-is c.in-Err-BadChain.ensures.err)
+    let P : ChainFault → Type 0 = λ f. IsChainFault c.args.disk.now.image.now c.args.disk.now.layout.now c.args.number f in
+    no_headers c.args.disk.now.image.now c.args.disk.now.layout.now c.args.number c.new.result.items c.new.ensures.items (subst P c.in-Err-BadChain.field-0-is c.in-Err-BadChain.ensures.err)
 
 pub returns-in-Err-BadChain-clause-distinct : goal.returns-in-Err-BadChain-clause-distinct
 returns-in-Err-BadChain-clause-distinct c = none_distinct c.new.result.items c.new.ensures.items

@@ -8,8 +8,8 @@ use Rattle.ods_check.proofs.shared_headers.note_headers.Goals as goal
 
 pub returns-clause-once : goal.returns-clause-once
 returns-clause-once c =
-    let I = c.args.image.now in
-    let L = c.args.layout.now in
+    let I = c.args.disk.now.image.now in
+    let L = c.args.disk.now.layout.now in
     let n = c.args.number in
     let xs = c.in_ok-headers.headers.items in
     let old = c.args.once.now in
@@ -19,8 +19,8 @@ returns-clause-once c =
 
 pub returns-clause-twice : goal.returns-clause-twice
 returns-clause-twice c =
-    let I = c.args.image.now in
-    let L = c.args.layout.now in
+    let I = c.args.disk.now.image.now in
+    let L = c.args.disk.now.layout.now in
     let n = c.args.number in
     let xs = c.in_ok-headers.headers.items in
     let once = c.args.once.now in

@@ -7,8 +7,8 @@ use Rattle.ods_check.proofs.shared_headers.shared_headers.Goals as goal
 
 pub loop-number-init : goal.loop-number-init
 loop-number-init c = record {
-  files = files_none (HasAsHeader c.args.image.now c.args.layout.now) c.in_ok-once.once c.in_ok-once.ensures.empty;
-  two = set_none (IsOfTwo c.args.image.now c.args.layout.now 0) c.in_ok-twice.twice c.in_ok-twice.ensures.empty (no_two c.args.image.now c.args.layout.now);
+  files = files_none (HasAsHeader c.args.disk.now.image.now c.args.disk.now.layout.now) c.in_ok-once.once c.in_ok-once.ensures.empty;
+  two = set_none (IsOfTwo c.args.disk.now.image.now c.args.disk.now.layout.now 0) c.in_ok-twice.twice c.in_ok-twice.ensures.empty (no_two c.args.disk.now.image.now c.args.disk.now.layout.now);
   room = c.in_ok-once.ensures.room;
   same = c.in_ok-twice.ensures.room;
 }
@@ -27,4 +27,4 @@ pub returns : goal.returns
 returns c =
     let end = c.loop-number-test.false in
     let last = ap (λ h. h.max_files) c.home.ensures in
-    two_all c.args.image.now c.args.layout.now c.loop-number.number c.loop-number.twice (omega arith) c.loop-number.invariant.two
+    two_all c.args.disk.now.image.now c.args.disk.now.layout.now c.loop-number.number c.loop-number.twice (omega arith) c.loop-number.invariant.two

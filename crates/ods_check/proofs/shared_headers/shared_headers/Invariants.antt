@@ -7,8 +7,8 @@ use Rattle.ods_check.proofs.shared_headers.shared_headers.Given as goal
 
 abbrev pub invariant-loop-number : goal.invariant-loop-number
 invariant-loop-number l = record {
-  files : IsOfFiles (HasAsHeader l.image l.layout) l.number l.once;
-  two : IsSetOf (IsOfTwo l.image l.layout l.number) l.twice;
+  files : IsOfFiles (HasAsHeader l.fn.disk.image.now l.fn.disk.layout.now) l.number l.once;
+  two : IsSetOf (IsOfTwo l.fn.disk.image.now l.fn.disk.layout.now l.number) l.twice;
   room : 65536 ≤ 64 * length l.once;
   same : 65536 ≤ 64 * length l.twice;
 }

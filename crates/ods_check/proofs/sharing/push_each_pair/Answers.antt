@@ -7,15 +7,15 @@ use Rattle.ods_check.proofs.sharing.push_each_pair.Goals as goal
 
 pub loop-one-init : goal.loop-one-init
 loop-one-init c = record {
-  sweeps = sweeps_none (IsLineOf c.args.image.now c.args.layout.now) (λ m found. TellsPair c.args.image.now c.args.layout.now found m c.args.number) c.args.faults.now.items;
+  sweeps = sweeps_none (IsLineOf c.args.disk.now.image.now c.args.disk.now.layout.now) (λ m found. TellsPair c.args.disk.now.image.now c.args.disk.now.layout.now found m c.args.number) c.args.faults.now.items;
   size = c.requires.size;
   counted = λ i. let zero = c.requires.counted i in omega arith;
 }
 
 pub loop-one-preserved : goal.loop-one-preserved
 loop-one-preserved c =
-    let I = c.args.image.now in
-    let L = c.args.layout.now in
+    let I = c.args.disk.now.image.now in
+    let L = c.args.disk.now.layout.now in
     let n = c.args.number in
     let P = IsLineOf I L in
     let mid = c.loop-one.faults.items in

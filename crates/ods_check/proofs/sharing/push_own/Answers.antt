@@ -4,11 +4,11 @@ use Rattle.ods_check.proofs.Pairs.{none_twice, shared_of_own}
 use Rattle.ods_check.proofs.sharing.push_own.Goals as goal
 
 pub returns-then-is_new-clause-told : goal.returns-then-is_new-clause-told
-returns-then-is_new-clause-told c = none_twice c.args.image.now c.args.layout.now c.args.faults.now.items c.args.number c.args.lbns.now c.requires.whole (c.requires.new c.if-is_new.true)
+returns-then-is_new-clause-told c = none_twice c.args.disk.now.image.now c.args.disk.now.layout.now c.args.faults.now.items c.args.number c.args.lbns.now c.requires.whole (c.requires.new c.if-is_new.true)
 
 pub push_common-requires-clause-shared : goal.push_common-requires-clause-shared
 push_common-requires-clause-shared c =
-    shared_of_own c.args.image.now c.args.layout.now c.args.number c.args.lbns.now c.in_ok-once.once c.in_ok-twice.twice c.insert_twice.new.twice c.requires.whole c.in_ok-once.ensures.empty c.in_ok-twice.ensures.empty c.insert_twice.ensures.twice
+    shared_of_own c.args.disk.now.image.now c.args.disk.now.layout.now c.args.number c.args.lbns.now c.in_ok-once.once c.in_ok-twice.twice c.insert_twice.new.twice c.requires.whole c.in_ok-once.ensures.empty c.in_ok-twice.ensures.empty c.insert_twice.ensures.twice
 
 pub insert_twice-requires-clause-twice : goal.insert_twice-requires-clause-twice
 insert_twice-requires-clause-twice c k d low =

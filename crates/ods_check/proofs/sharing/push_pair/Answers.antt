@@ -6,22 +6,22 @@ use Rattle.ods_check.proofs.Pairs.{no_pair, shared_of_pair}
 use Rattle.ods_check.proofs.sharing.push_pair.Goals as goal
 
 pub push_common-requires-clause-whole : goal.push_common-requires-clause-whole
-push_common-requires-clause-whole c = subst (HasBlocks c.args.image.now c.args.layout.now c.args.one) (sym c.deref.ensures.value) c.in-Ok.ensures.ok
+push_common-requires-clause-whole c = subst (HasBlocks c.args.disk.now.image.now c.args.disk.now.layout.now c.args.one) (sym c.deref.ensures.value) c.in-Ok.ensures.ok
 
 pub push_common-requires-clause-shared : goal.push_common-requires-clause-shared
-push_common-requires-clause-shared c = shared_of_pair c.args.image.now c.args.layout.now c.args.one c.args.other c.args.own.now c.requires.before c.requires.own
+push_common-requires-clause-shared c = shared_of_pair c.args.disk.now.image.now c.args.disk.now.layout.now c.args.one c.args.other c.args.own.now c.requires.before c.requires.own
 
 pub push_common-requires-clause-counted : goal.push_common-requires-clause-counted
 push_common-requires-clause-counted c i = let low = c.requires.counted i in omega arith
 
 pub returns-in-Err-BadChain-clause-told : goal.returns-in-Err-BadChain-clause-told
 returns-in-Err-BadChain-clause-told c =
-    no_pair c.args.image.now c.args.layout.now c.args.faults.now.items c.args.one c.args.other
-    (λ b h. not_held c.args.image.now c.args.layout.now c.args.one b c.in-Err-BadChain.field-0 c.in-Err-BadChain.ensures.err
+    no_pair c.args.disk.now.image.now c.args.disk.now.layout.now c.args.faults.now.items c.args.one c.args.other
+    (λ b h. not_held c.args.disk.now.image.now c.args.disk.now.layout.now c.args.one b c.in-Err-BadChain.field-0 c.in-Err-BadChain.ensures.err
     (λ e. let clash : BadChain ≡ NoMemory = sym c.in-Err-BadChain.field-0-is ∙ e in absurd cc) h.0 h.1)
 
 pub returns-in-Err-OutsideVolume-clause-told : goal.returns-in-Err-OutsideVolume-clause-told
 returns-in-Err-OutsideVolume-clause-told c =
-    no_pair c.args.image.now c.args.layout.now c.args.faults.now.items c.args.one c.args.other
-    (λ b h. not_held c.args.image.now c.args.layout.now c.args.one b c.in-Err-OutsideVolume.field-0 c.in-Err-OutsideVolume.ensures.err
+    no_pair c.args.disk.now.image.now c.args.disk.now.layout.now c.args.faults.now.items c.args.one c.args.other
+    (λ b h. not_held c.args.disk.now.image.now c.args.disk.now.layout.now c.args.one b c.in-Err-OutsideVolume.field-0 c.in-Err-OutsideVolume.ensures.err
     (λ e. let clash : OutsideVolume c.in-Err-OutsideVolume.field-0-0 ≡ NoMemory = sym c.in-Err-OutsideVolume.field-0-is ∙ e in absurd cc) h.0 h.1)

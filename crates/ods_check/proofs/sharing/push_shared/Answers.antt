@@ -10,8 +10,8 @@ use Rattle.ods_check.proofs.sharing.push_shared.Goals as goal
 
 pub loop-number-init : goal.loop-number-init
 loop-number-init c =
-    let I = c.args.image.now in
-    let L = c.args.layout.now in
+    let I = c.args.disk.now.image.now in
+    let L = c.args.disk.now.layout.now in
     let room = c.in_ok-held.ensures.room in
     let size = c.len.ensures.value in
     record {
@@ -22,8 +22,8 @@ loop-number-init c =
 
 pub loop-number-preserved : goal.loop-number-preserved
 loop-number-preserved c =
-    let I = c.args.image.now in
-    let L = c.args.layout.now in
+    let I = c.args.disk.now.image.now in
+    let L = c.args.disk.now.layout.now in
     let mid = c.loop-number.faults.items in
     let new = c.push_shared_of.new.faults.items in
     let e = c.in_ok-push_shared_of.ensures in
@@ -39,5 +39,5 @@ pub returns-clause-all : goal.returns-clause-all
 returns-clause-all c m n low b share =
     let end = c.loop-number-test.false in
     let last = ap (λ x. x.max_files) c.home.ensures in
-    let small = file_small c.args.image.now c.args.layout.now n share.3.file.file in
+    let small = file_small c.args.disk.now.image.now c.args.disk.now.layout.now n share.3.file.file in
     c.loop-number.invariant.told.told n (omega arith) m low b share

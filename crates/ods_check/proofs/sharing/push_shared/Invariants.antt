@@ -8,7 +8,7 @@ use Rattle.ods_check.proofs.sharing.push_shared.Given as goal
 
 abbrev pub invariant-loop-number : goal.invariant-loop-number
 invariant-loop-number l = record {
-  told : Sweeps (IsLineOf l.image l.layout) (λ n found. (m : ℕ) → m ≤ n → TellsPair l.image l.layout found m n) l.initial.faults.items l.faults.items l.number;
-  files : IsOfFiles (HasBlock l.image l.layout) l.number l.held;
-  room : length l.image ≤ 64 * length l.held;
+  told : Sweeps (IsLineOf l.fn.disk.image.now l.fn.disk.layout.now) (λ n found. (m : ℕ) → m ≤ n → TellsPair l.fn.disk.image.now l.fn.disk.layout.now found m n) l.initial.faults.items l.faults.items l.number;
+  files : IsOfFiles (HasBlock l.fn.disk.image.now l.fn.disk.layout.now) l.number l.held;
+  room : length l.fn.disk.image.now ≤ 64 * length l.held;
 }

@@ -15,12 +15,12 @@ use Rattle.ods_check.proofs.sharing.push_shared_of.Goals as goal
 
 pub returns-in_ok-push_own-in-Ok-clause-adds : goal.returns-in_ok-push_own-in-Ok-clause-adds
 returns-in_ok-push_own-in-Ok-clause-adds c =
-    adds_more (IsLineOf c.args.image.now c.args.layout.now) c.args.faults.now.items c.push_pairs.new.faults.items c.push_own.new.faults.items c.in_ok-push_pairs-in-Ok.ensures.adds c.in_ok-push_own-in-Ok.ensures.adds
+    adds_more (IsLineOf c.args.disk.now.image.now c.args.disk.now.layout.now) c.args.faults.now.items c.push_pairs.new.faults.items c.push_own.new.faults.items c.in_ok-push_pairs-in-Ok.ensures.adds c.in_ok-push_own-in-Ok.ensures.adds
 
 pub returns-in_ok-push_own-in-Ok-clause-told : goal.returns-in_ok-push_own-in-Ok-clause-told
 returns-in_ok-push_own-in-Ok-clause-told c m low =
-    let I = c.args.image.now in
-    let L = c.args.layout.now in
+    let I = c.args.disk.now.image.now in
+    let L = c.args.disk.now.layout.now in
     let n = c.args.number in
     let mid = c.push_pairs.new.faults.items in
     let new = c.push_own.new.faults.items in
@@ -34,8 +34,8 @@ returns-in_ok-push_own-in-Ok-clause-told c m low =
 
 pub returns-in_ok-push_own-in-Ok-clause-held : goal.returns-in_ok-push_own-in-Ok-clause-held
 returns-in_ok-push_own-in-Ok-clause-held c =
-    let I = c.args.image.now in
-    let L = c.args.layout.now in
+    let I = c.args.disk.now.image.now in
+    let L = c.args.disk.now.layout.now in
     let old = c.args.held.now in
     let new = c.insert_new-is_new.new.set in
     let P : List ℕ → Type 0 = λ xs. IsSetOf (λ b. (has old b ≡ true) ⊎ ((j : ℕ) × (slice_get xs j ≡ Some b))) new in
@@ -43,26 +43,26 @@ returns-in_ok-push_own-in-Ok-clause-held c =
 
 pub returns-in-Err-BadChain-clause-told : goal.returns-in-Err-BadChain-clause-told
 returns-in-Err-BadChain-clause-told c m low =
-    no_pair_behind c.args.image.now c.args.layout.now c.args.faults.now.items m c.args.number
-    (λ b h. not_held c.args.image.now c.args.layout.now c.args.number b c.in-Err-BadChain.field-0 c.in-Err-BadChain.ensures.err
+    no_pair_behind c.args.disk.now.image.now c.args.disk.now.layout.now c.args.faults.now.items m c.args.number
+    (λ b h. not_held c.args.disk.now.image.now c.args.disk.now.layout.now c.args.number b c.in-Err-BadChain.field-0 c.in-Err-BadChain.ensures.err
     (λ e. let clash : BadChain ≡ NoMemory = sym c.in-Err-BadChain.field-0-is ∙ e in absurd cc) h.0 h.1)
 
 pub returns-in-Err-BadChain-clause-held : goal.returns-in-Err-BadChain-clause-held
 returns-in-Err-BadChain-clause-held c =
-    files_more (HasBlock c.args.image.now c.args.layout.now) c.args.number c.args.held.now c.args.held.now c.requires.held (set_same (HasBlock c.args.image.now c.args.layout.now c.args.number) c.args.held.now
-    (λ b h. not_held c.args.image.now c.args.layout.now c.args.number b c.in-Err-BadChain.field-0 c.in-Err-BadChain.ensures.err
+    files_more (HasBlock c.args.disk.now.image.now c.args.disk.now.layout.now) c.args.number c.args.held.now c.args.held.now c.requires.held (set_same (HasBlock c.args.disk.now.image.now c.args.disk.now.layout.now c.args.number) c.args.held.now
+    (λ b h. not_held c.args.disk.now.image.now c.args.disk.now.layout.now c.args.number b c.in-Err-BadChain.field-0 c.in-Err-BadChain.ensures.err
     (λ e. let clash : BadChain ≡ NoMemory = sym c.in-Err-BadChain.field-0-is ∙ e in absurd cc) h.0 h.1))
 
 pub returns-in-Err-OutsideVolume-clause-told : goal.returns-in-Err-OutsideVolume-clause-told
 returns-in-Err-OutsideVolume-clause-told c m low =
-    no_pair_behind c.args.image.now c.args.layout.now c.args.faults.now.items m c.args.number
-    (λ b h. not_held c.args.image.now c.args.layout.now c.args.number b c.in-Err-OutsideVolume.field-0 c.in-Err-OutsideVolume.ensures.err
+    no_pair_behind c.args.disk.now.image.now c.args.disk.now.layout.now c.args.faults.now.items m c.args.number
+    (λ b h. not_held c.args.disk.now.image.now c.args.disk.now.layout.now c.args.number b c.in-Err-OutsideVolume.field-0 c.in-Err-OutsideVolume.ensures.err
     (λ e. let clash : OutsideVolume c.in-Err-OutsideVolume.field-0-0 ≡ NoMemory = sym c.in-Err-OutsideVolume.field-0-is ∙ e in absurd cc) h.0 h.1)
 
 pub returns-in-Err-OutsideVolume-clause-held : goal.returns-in-Err-OutsideVolume-clause-held
 returns-in-Err-OutsideVolume-clause-held c =
-    files_more (HasBlock c.args.image.now c.args.layout.now) c.args.number c.args.held.now c.args.held.now c.requires.held (set_same (HasBlock c.args.image.now c.args.layout.now c.args.number) c.args.held.now
-    (λ b h. not_held c.args.image.now c.args.layout.now c.args.number b c.in-Err-OutsideVolume.field-0 c.in-Err-OutsideVolume.ensures.err
+    files_more (HasBlock c.args.disk.now.image.now c.args.disk.now.layout.now) c.args.number c.args.held.now c.args.held.now c.requires.held (set_same (HasBlock c.args.disk.now.image.now c.args.disk.now.layout.now c.args.number) c.args.held.now
+    (λ b h. not_held c.args.disk.now.image.now c.args.disk.now.layout.now c.args.number b c.in-Err-OutsideVolume.field-0 c.in-Err-OutsideVolume.ensures.err
     (λ e. let clash : OutsideVolume c.in-Err-OutsideVolume.field-0-0 ≡ NoMemory = sym c.in-Err-OutsideVolume.field-0-is ∙ e in absurd cc) h.0 h.1))
 
 pub push_own-requires-clause-new : goal.push_own-requires-clause-new

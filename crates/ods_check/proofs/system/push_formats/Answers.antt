@@ -13,17 +13,17 @@ use Rattle.ods_check.proofs.system.push_formats.Goals as goal
 
 pub loop-k-init : goal.loop-k-init
 loop-k-init c = record {
-  adds = adds_none (IsLineOf c.args.image.now c.args.layout.now) c.args.faults.now.items;
+  adds = adds_none (IsLineOf c.args.disk.now.image.now c.args.disk.now.layout.now) c.args.faults.now.items;
   all = λ n low t.
       let e : n ≡ 0 = omega arith in
-      let none : false ≡ true = subst (λ x. is_in_use c.args.image.now c.args.layout.now.home x ≡ true) e t.0 in
+      let none : false ≡ true = subst (λ x. is_in_use c.args.disk.now.image.now c.args.disk.now.layout.now.home x ≡ true) e t.0 in
       absurd (cc);
 }
 
 pub loop-k-preserved : goal.loop-k-preserved
 loop-k-preserved c =
-    let P = IsLineOf c.args.image.now c.args.layout.now in
-    let T : ℕ → Type 0 = λ n. IsTrueOf c.args.image.now c.args.layout.now (UnsupportedMap n) in
+    let P = IsLineOf c.args.disk.now.image.now c.args.disk.now.layout.now in
+    let T : ℕ → Type 0 = λ n. IsTrueOf c.args.disk.now.image.now c.args.disk.now.layout.now (UnsupportedMap n) in
     let left = c.is_left_aside-is_left.result in
     let x = Plain (UnsupportedMap (c.loop-k.k + 1)) in
     let added = adds_if P c.loop-k.faults.items c.push_if.new.list.items x left c.in_ok-push_if.ensures (true_holds left (T (c.loop-k.k + 1)) c.is_left_aside-is_left.ensures) in
@@ -43,8 +43,8 @@ returns-clause-adds c = c.loop-k.invariant.adds
 
 pub returns-clause-all : goal.returns-clause-all
 returns-clause-all c n t =
-    let I = c.args.image.now in
-    let L = c.args.layout.now in
+    let I = c.args.disk.now.image.now in
+    let L = c.args.disk.now.layout.now in
     let small = number_small I L n c.len.ensures.image t.1 in
     let within = number_in_bitmap I L.home n t.0 in
     let P : ℕ → Type 0 = λ x. n ≤ 4096 * x in

@@ -8,8 +8,8 @@ use Rattle.ods_check.proofs.system.push_system.Goals as goal
 
 pub returns-clause-adds : goal.returns-clause-adds
 returns-clause-adds c =
-    let P = IsLineOf c.args.image.now c.args.layout.now in
-    let T = IsTrueOf c.args.image.now c.args.layout.now in
+    let P = IsLineOf c.args.disk.now.image.now c.args.disk.now.layout.now in
+    let T = IsTrueOf c.args.disk.now.image.now c.args.disk.now.layout.now in
     let start = c.args.faults.now.items in
     let middle = c.push_if.new.list.items in
     let end = c.push_if-2.new.list.items in
@@ -19,8 +19,8 @@ returns-clause-adds c =
 
 pub returns-clause-storage : goal.returns-clause-storage
 returns-clause-storage c t =
-    let P = IsLineOf c.args.image.now c.args.layout.now in
-    let T = IsTrueOf c.args.image.now c.args.layout.now in
+    let P = IsLineOf c.args.disk.now.image.now c.args.disk.now.layout.now in
+    let T = IsTrueOf c.args.disk.now.image.now c.args.disk.now.layout.now in
     let middle = c.push_if.new.list.items in
     let end = c.push_if-2.new.list.items in
     told_still P middle end (Plain BadStorageMap)
@@ -29,5 +29,5 @@ returns-clause-storage c t =
 
 pub returns-clause-master : goal.returns-clause-master
 returns-clause-master c t =
-    let T = IsTrueOf c.args.image.now c.args.layout.now in
+    let T = IsTrueOf c.args.disk.now.image.now c.args.disk.now.layout.now in
     told_if c.push_if.new.list.items c.push_if-2.new.list.items (Plain BadMaster) c.lacks_master.result c.in_ok-push_if-2.ensures (holds_true c.lacks_master.result (T BadMaster) c.lacks_master.ensures t)

@@ -6,8 +6,8 @@ use Rattle.ods_check.proofs.unheld.held_blocks.Goals as goal
 
 pub loop-number-init : goal.loop-number-init
 loop-number-init c =
-    let I = c.args.image.now in
-    let L = c.args.layout.now in
+    let I = c.args.disk.now.image.now in
+    let L = c.args.disk.now.layout.now in
     let room = c.in_ok-held.ensures.room in
     let size = c.len.ensures.value in
     record {
@@ -17,8 +17,8 @@ loop-number-init c =
 
 pub loop-number-preserved : goal.loop-number-preserved
 loop-number-preserved c =
-    let I = c.args.image.now in
-    let L = c.args.layout.now in
+    let I = c.args.disk.now.image.now in
+    let L = c.args.disk.now.layout.now in
     let same = c.in_ok-note_blocks.ensures.room in
     let room = c.loop-number.invariant.room in
     record {
@@ -28,8 +28,8 @@ loop-number-preserved c =
 
 pub returns : goal.returns
 returns c =
-    let I = c.args.image.now in
-    let L = c.args.layout.now in
+    let I = c.args.disk.now.image.now in
+    let L = c.args.disk.now.layout.now in
     let end = c.loop-number-test.false in
     let last = ap (λ h. h.max_files) c.home.ensures in
     files_all (λ m b. (v : ℕ) × Holds I L m v b) c.loop-number.number c.loop-number.held (λ m b held. let small = file_small I L m held.1.file.file in omega arith) c.loop-number.invariant.files

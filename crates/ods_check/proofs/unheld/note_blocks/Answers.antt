@@ -10,8 +10,8 @@ use Rattle.ods_check.proofs.unheld.note_blocks.Goals as goal
 
 pub returns-in-Ok-clause-with : goal.returns-in-Ok-clause-with
 returns-in-Ok-clause-with c =
-    let I = c.args.image.now in
-    let L = c.args.layout.now in
+    let I = c.args.disk.now.image.now in
+    let L = c.args.disk.now.layout.now in
     let n = c.args.number in
     let xs = c.in-Ok.lbns.items in
     let has_blocks = c.in-Ok.ensures.ok in
@@ -25,14 +25,14 @@ returns-in-Ok-clause-with c =
 
 pub returns-in-Err-BadChain-clause-with : goal.returns-in-Err-BadChain-clause-with
 returns-in-Err-BadChain-clause-with c =
-    let I = c.args.image.now in
-    let L = c.args.layout.now in
+    let I = c.args.disk.now.image.now in
+    let L = c.args.disk.now.layout.now in
     let n = c.args.number in
     set_same (λ b. (v : ℕ) × Holds I L n v b) c.args.held.now (λ b p. not_held I L n b c.in-Err-BadChain.field-0 c.in-Err-BadChain.ensures.err (λ e. let clash : BadChain ≡ NoMemory = sym c.in-Err-BadChain.field-0-is ∙ e in absurd cc) p.0 p.1)
 
 pub returns-in-Err-OutsideVolume-clause-with : goal.returns-in-Err-OutsideVolume-clause-with
 returns-in-Err-OutsideVolume-clause-with c =
-    let I = c.args.image.now in
-    let L = c.args.layout.now in
+    let I = c.args.disk.now.image.now in
+    let L = c.args.disk.now.layout.now in
     let n = c.args.number in
     set_same (λ b. (v : ℕ) × Holds I L n v b) c.args.held.now (λ b p. not_held I L n b c.in-Err-OutsideVolume.field-0 c.in-Err-OutsideVolume.ensures.err (λ e. let clash : OutsideVolume c.in-Err-OutsideVolume.field-0-0 ≡ NoMemory = sym c.in-Err-OutsideVolume.field-0-is ∙ e in absurd cc) p.0 p.1)

@@ -7,9 +7,9 @@ use Rattle.ods_cli.proofs.sessions.unserved.Goals as goal
 pub returns-clause-served : goal.returns-clause-served
 returns-clause-served c = λ stamp.
     let blocks : c.free_count-blocks.result ≡ length (free_blocks c.args.mounted.now.image c.args.mounted.now.layout) =
-    rw (c.image.ensures.value, c.layout.ensures.value) at c.free_count-blocks.ensures in
+    rw (c.disk-disk.ensures.image, c.disk-disk.ensures.layout) at c.free_count-blocks.ensures in
     let numbers : c.number_count-numbers.result ≡ length (free_numbers c.args.mounted.now.image c.args.mounted.now.layout) =
-    rw (c.image-2.ensures.value, c.layout-2.ensures.value) at c.number_count-numbers.ensures in
+    rw (c.disk-disk.ensures.image, c.disk-disk.ensures.layout) at c.number_count-numbers.ensures in
     unserved_to stamp c.args.scripts.now c.args.mounted.now.image c.args.mounted.now.layout (record { entries = 0; of_session = c.new.result })
-    (string_bytes c.push_totals.new.text) c.requires c.image.ensures.sound refl c.new.ensures.items
+    (string_bytes c.push_totals.new.text) c.requires (rw (c.disk-disk.ensures.image, c.disk-disk.ensures.layout) at c.disk-disk.ensures.sound) refl c.new.ensures.items
     (rw (c.new-text.ensures.bytes, blocks, numbers) at c.in_ok-push_totals.ensures)

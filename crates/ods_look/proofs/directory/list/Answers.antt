@@ -8,7 +8,7 @@ use Rattle.ods_look.proofs.directory.list.Goals as goal
 
 pub returns-in-Err : goal.returns-in-Err
 returns-in-Err c =
-    refused_by_fault c.args.image.now c.args.layout.now c.args.who (Lines c.args.dir) c.in-Err.refusal
+    refused_by_fault c.args.disk.now.image.now c.args.disk.now.layout.now c.args.who (Lines c.args.dir) c.in-Err.refusal
     (λ C shown. fault_list C c.args.who c.args.dir ∙ c.in-Err.ensures.err C (λ d. []) shown)
 
 pub returns-in-Ok-entries : goal.returns-in-Ok-entries
@@ -20,4 +20,4 @@ returns-in-Ok-entries c = λ C shown.
 
 pub returns-in-Err-entries : goal.returns-in-Err-entries
 returns-in-Err-entries c =
-    refused_for_memory c.args.image.now c.args.layout.now c.args.who (Lines c.args.dir) refl (λ C shown. fault_list C c.args.who c.args.dir ∙ (c.in-Ok.ensures.ok.passes C shown).left (λ d. []))
+    refused_for_memory c.args.disk.now.image.now c.args.disk.now.layout.now c.args.who (Lines c.args.dir) refl (λ C shown. fault_list C c.args.who c.args.dir ∙ (c.in-Ok.ensures.ok.passes C shown).left (λ d. []))

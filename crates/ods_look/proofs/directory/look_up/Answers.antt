@@ -8,7 +8,7 @@ use Rattle.ods_look.proofs.directory.look_up.Goals as goal
 
 pub returns-in-Err : goal.returns-in-Err
 returns-in-Err c =
-    refused_by_fault c.args.image.now c.args.layout.now c.args.who (LookUp c.args.dir c.args.name c.args.pick) c.in-Err.refusal
+    refused_by_fault c.args.disk.now.image.now c.args.disk.now.layout.now c.args.who (LookUp c.args.dir c.args.name c.args.pick) c.in-Err.refusal
     (λ C shown. fault_look_up C c.args.who c.args.dir c.args.name c.args.pick ∙ c.in-Err.ensures.err C (name_check c.args.name c.args.pick) shown)
 
 pub returns-in-Ok-look_up : goal.returns-in-Ok-look_up
@@ -21,6 +21,6 @@ returns-in-Ok-look_up c = λ C shown.
 
 pub returns-in-Err-look_up : goal.returns-in-Err-look_up
 returns-in-Err-look_up c =
-    refused_by_fault c.args.image.now c.args.layout.now c.args.who (LookUp c.args.dir c.args.name c.args.pick) refusal.NoSuchName (λ C shown.
+    refused_by_fault c.args.disk.now.image.now c.args.disk.now.layout.now c.args.who (LookUp c.args.dir c.args.name c.args.pick) refusal.NoSuchName (λ C shown.
     fault_look_up C c.args.who c.args.dir c.args.name c.args.pick
     ∙ not_found c.in-Ok.ensures.ok shown c.args.name c.words.ensures.name.three c.args.pick c.in-Err-look_up.field-0 c.in-Err-look_up.ensures.err)

@@ -8,7 +8,7 @@ use Rattle.ods_look.proofs.FilesFound.{no_such_file, found_there, checked, kind_
 use Rattle.ods_look.proofs.opening.open_directory.Goals as goal
 
 pub returns-in_default-clause-err : goal.returns-in_default-clause-err
-returns-in_default-clause-err c = λ C rest shown. no_such_file c.args.image.now c.args.layout.now C shown c.args.dir c.in_default.ensures.none _
+returns-in_default-clause-err c = λ C rest shown. no_such_file c.args.disk.now.image.now c.args.disk.now.layout.now C shown c.args.dir c.in_default.ensures.none _
 
 pub returns-then-not-is_directory-clause-err : goal.returns-then-not-is_directory-clause-err
 returns-then-not-is_directory-clause-err c = λ C rest shown.
@@ -35,7 +35,7 @@ returns-clause-ok c =
       is = is;
       passes = λ C shown. record {
         there = found_there shown id known.0 (is.lbns, is.held);
-        left = λ rest. checked shown id known.0 (is.lbns, is.held) (directory_checks c.args.who c.args.right rest) (first_of (rest (file_shown c.args.image.now c.args.layout.now id is.lbns)))
+        left = λ rest. checked shown id known.0 (is.lbns, is.held) (directory_checks c.args.who c.args.right rest) (first_of (rest (file_shown c.args.disk.now.image.now c.args.disk.now.layout.now id is.lbns)))
             (passes _ (ap not (kind_seen id known.1 (is.lbns, is.held) c.is_directory.result true c.is_directory.ensures c.if-not-is_directory.false))
             (passes _ (right_seen id known.1 (is.lbns, is.held) c.args.who c.args.right c.is_granted.result true c.is_granted.ensures c.if-not-is_granted.false) refl));
       };

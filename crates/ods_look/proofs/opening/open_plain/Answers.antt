@@ -9,7 +9,7 @@ use Rattle.ods_look.proofs.FilesFound.{no_such_file, found_there, checked, kind_
 use Rattle.ods_look.proofs.opening.open_plain.Goals as goal
 
 pub returns-in_default-clause-err : goal.returns-in_default-clause-err
-returns-in_default-clause-err c = λ C rest shown. no_such_file c.args.image.now c.args.layout.now C shown c.args.file c.in_default.ensures.none _
+returns-in_default-clause-err c = λ C rest shown. no_such_file c.args.disk.now.image.now c.args.disk.now.layout.now C shown c.args.file c.in_default.ensures.none _
 
 pub returns-then-file-reserved-clause-err : goal.returns-then-file-reserved-clause-err
 returns-then-file-reserved-clause-err c = λ C rest shown.
@@ -47,7 +47,7 @@ returns-clause-ok c =
         held = whole.1;
         passes = λ C shown. record {
           there = found_there shown id known.0 whole;
-          left = λ rest. checked shown id known.0 whole (plain_checks id c.args.reserved c.args.who c.args.right rest) (first_of (rest (file_shown c.args.image.now c.args.layout.now id whole.0)))
+          left = λ rest. checked shown id known.0 whole (plain_checks id c.args.reserved c.args.who c.args.right rest) (first_of (rest (file_shown c.args.disk.now.image.now c.args.disk.now.layout.now id whole.0)))
               (passes _ (lt-leb id.number c.args.reserved c.if-file-reserved.false)
               (passes _ (kind_seen id known.1 whole c.is_directory.result false c.is_directory.ensures c.if-is_directory.false)
               (passes _ (right_seen id known.1 whole c.args.who c.args.right c.is_granted.result true c.is_granted.ensures c.if-not-is_granted.false) refl)));

@@ -9,11 +9,11 @@ use Rattle.ods_look.proofs.reading.shown_block.Goals as goal
 
 pub returns-in-Err : goal.returns-in-Err
 returns-in-Err c =
-    refused_by_fault c.args.image.now c.args.layout.now c.args.who (ReadRequest c.args.file c.args.vbn) c.in-Err.refusal
+    refused_by_fault c.args.disk.now.image.now c.args.disk.now.layout.now c.args.who (ReadRequest c.args.file c.args.vbn) c.in-Err.refusal
     (λ C shown. fault_read C c.args.who c.args.file c.args.vbn ∙ c.in-Err.ensures.err C shown)
 
 pub block-requires : goal.block-requires
-block-requires c = held_inside c.args.image.now c.args.layout.now c.requires c.args.file.number c.args.vbn c.in-Ok.lbn [] c.in-Ok.ensures.ok.held
+block-requires c = held_inside c.args.disk.now.image.now c.args.disk.now.layout.now c.requires c.args.file.number c.args.vbn c.in-Ok.lbn [] c.in-Ok.ensures.ok.held
 
 pub returns-in-Ok : goal.returns-in-Ok
 returns-in-Ok c = λ C shown.

@@ -15,7 +15,7 @@ use Rattle.ods_look.proofs.StatAnswers.{few_names}
 use Rattle.ods_look.proofs.shown.kind.Goals as goal
 
 pub returns-then-number-le2 : goal.returns-then-number-le2
-returns-then-number-le2 c = λ held is. sym (ap kind_of (system_body c.args.number c.args.block.now (contents_of c.args.image.now held) (le-leb c.args.number 2 (omega arith))))
+returns-then-number-le2 c = λ held is. sym (ap kind_of (system_body c.args.number c.args.block.now (contents_of c.args.disk.now.image.now held) (le-leb c.args.number 2 (omega arith))))
 
 pub overflow_cast-result : goal.overflow_cast-result
 overflow_cast-result c =
@@ -25,7 +25,7 @@ overflow_cast-result c =
 
 pub returns-then-is_directory : goal.returns-then-is_directory
 returns-then-is_directory c = λ held holds.
-    let I = c.args.image.now in
+    let I = c.args.disk.now.image.now in
     let n = c.args.number in
     let is = c.of-directory.ensures in
     ap kind.Directory c.name_count.ensures
@@ -38,7 +38,7 @@ count_whole-requires-clause-whole c = c.requires.sound.chains c.args.number c.re
 pub returns : goal.returns
 returns c = λ held is.
     let plain : is_directory_header c.args.number c.args.block.now ≡ false = sym c.is_directory.ensures ∙ c.if-is_directory.false in
-    let count : c.count_whole.result ≡ length (contents_of c.args.image.now held) =
+    let count : c.count_whole.result ≡ length (contents_of c.args.disk.now.image.now held) =
     c.count_whole.ensures.2 ∙ ap length (blocks_are_one c.count_whole.ensures.1 is)
-    ∙ sym (length-map held (block_at c.args.image.now)) in
-    (λ i. kind.Plain (count i) (c.attributes.ensures i)) ∙ sym (ap kind_of (plain_body c.args.number c.args.block.now (contents_of c.args.image.now held) (omega arith) plain))
+    ∙ sym (length-map held (block_at c.args.disk.now.image.now)) in
+    (λ i. kind.Plain (count i) (c.attributes.ensures i)) ∙ sym (ap kind_of (plain_body c.args.number c.args.block.now (contents_of c.args.disk.now.image.now held) (omega arith) plain))

@@ -10,8 +10,8 @@ use Rattle.ods_look.proofs.shown.stat.Goals as goal
 
 pub returns-in_default : goal.returns-in_default
 returns-in_default c = λ who.
-    refused_by_fault c.args.image.now c.args.layout.now who (StatRequest c.args.file) refusal.NoSuchFile
-    (λ C shown. fault_stat C who c.args.file ∙ no_such_file c.args.image.now c.args.layout.now C shown c.args.file c.in_default.ensures.none (λ f. []))
+    refused_by_fault c.args.disk.now.image.now c.args.disk.now.layout.now who (StatRequest c.args.file) refusal.NoSuchFile
+    (λ C shown. fault_stat C who c.args.file ∙ no_such_file c.args.disk.now.image.now c.args.disk.now.layout.now C shown c.args.file c.in_default.ensures.none (λ f. []))
 
 pub returns : goal.returns
 returns c = λ who C shown.
@@ -19,7 +19,7 @@ returns c = λ who C shown.
     let whole = c.requires.chains c.args.file.number known.0.0 in
     let there = found_there shown c.args.file known.0 whole in (
       fault_stat C who c.args.file ∙ ap (λ o. on_file o (λ f. [])) there,
-      stat_is c.args.image.now c.args.layout.now C c.args.file whole.0 whole.1 there c.in-Some.block.now known.1
+      stat_is c.args.disk.now.image.now c.args.disk.now.layout.now C c.args.file whole.0 whole.1 there c.in-Some.block.now known.1
           c.ident.result c.owner.result c.protection.result c.user_char.result c.system_char.result c.kind.result
           c.ident.ensures c.owner.ensures c.protection.ensures c.user_char.ensures c.system_char.ensures c.kind.ensures,
     )

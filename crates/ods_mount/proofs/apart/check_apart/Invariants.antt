@@ -5,7 +5,7 @@ use Rattle.ods_mount.proofs.apart.check_apart.Given as goal
 
 abbrev pub invariant-loop-header : goal.invariant-loop-header
 invariant-loop-header l = record {
-  naming : IsNaming (numbers_of (headers_of l.image l.layout l.number)) l.initial.named l.named l.headers;
+  naming : IsNaming (numbers_of (headers_of l.fn.disk.image.now l.fn.disk.layout.now l.number)) l.initial.named l.named l.headers;
   room : length l.named ≡ length l.initial.named;
 }
 

@@ -15,7 +15,7 @@ pub new-blocks-requires-clause-few : goal.new-blocks-requires-clause-few
 new-blocks-requires-clause-few c =
     let has = c.in-Ok.ensures.ok in
     let size : length c.deref.result.now ≡ length c.in-Ok.lbns.items = ap length c.deref.ensures.value in
-    let small = chain_size c.args.image.now c.args.layout.now.home (index_for c.args.layout.now c.args.number) c.args.number has.others c.in-Ok.lbns.items c.len.ensures.image has.whole.chain in
+    let small = chain_size c.args.disk.now.image.now c.args.disk.now.layout.now.home (index_for c.args.disk.now.layout.now c.args.number) c.args.number has.others c.in-Ok.lbns.items c.len.ensures.image has.whole.chain in
     omega arith
 
 -- what was found of the blocks and the mark at hand is so of those of the file
@@ -31,14 +31,14 @@ moved P I J xs ys attributes at_hand mark count same_image same_blocks same_attr
 
 -- so it is at the end of the check
 found : (c : After-mark_of-mark) (P : List (List ℕ) → ℕ → Type 0) (blocks : List ℕ) → c.in-Ok.lbns.items ≡ blocks
-    → P (map (block_at c.new-blocks.result.image.now) c.new-blocks.result.lbns.now) c.mark_of-mark.result → P (contents_of c.args.image.now blocks) (mark_at c.args.image.now c.args.layout.now c.args.number blocks)
+    → P (map (block_at c.new-blocks.result.image.now) c.new-blocks.result.lbns.now) c.mark_of-mark.result → P (contents_of c.args.disk.now.image.now blocks) (mark_at c.args.disk.now.image.now c.args.disk.now.layout.now c.args.number blocks)
 found c P blocks same =
-    moved P c.args.image.now _ blocks _ _ c.args.attributes.now c.mark_of-mark.result c.count.result c.new-blocks.ensures.0 (c.new-blocks.ensures.1 ∙ c.deref.ensures.value ∙ same) c.requires.attributes
+    moved P c.args.disk.now.image.now _ blocks _ _ c.args.attributes.now c.mark_of-mark.result c.count.result c.new-blocks.ensures.0 (c.new-blocks.ensures.1 ∙ c.deref.ensures.value ∙ same) c.requires.attributes
     c.count.ensures c.mark_of-mark.ensures
 
 pub returns-in-Ok-Good-clause-ok : goal.returns-in-Ok-Good-clause-ok
 returns-in-Ok-Good-clause-ok c blocks has _ =
-    let same = same_blocks c.args.image.now c.args.layout.now c.args.number c.in-Ok.lbns.items blocks c.in-Ok.ensures.ok has in
+    let same = same_blocks c.args.disk.now.image.now c.args.disk.now.layout.now c.args.number c.in-Ok.lbns.items blocks c.in-Ok.ensures.ok has in
     found (goal.at.returns-in-Ok-Good-clause-ok c).After-mark_of-mark IsDirectory blocks same (c.in-Ok-Good.ensures.good (ap Ok c.in-Ok-Good.field-0-is))
 
 pub returns-in-Ok-BadEntry-clause-err : goal.returns-in-Ok-BadEntry-clause-err

@@ -4,10 +4,10 @@ use Rattle.ods_mount.proofs.Tables.{table_past}
 use Rattle.ods_mount.proofs.file.check_file.Goals as goal
 
 pub returns-in_default-clause-table : goal.returns-in_default-clause-table
-returns-in_default-clause-table c = table_past (Holds c.args.image.now c.args.layout.now) c.args.number c.args.held.now (λ v b held. c.in_default.ensures held.file.file) c.requires.table
+returns-in_default-clause-table c = table_past (Holds c.args.disk.now.image.now c.args.disk.now.layout.now) c.args.number c.args.held.now (λ v b held. c.in_default.ensures held.file.file) c.requires.table
 
 pub returns-in_default-clause-named : goal.returns-in_default-clause-named
-returns-in_default-clause-named c = table_unnamed c.args.image.now c.args.layout.now c.args.number c.args.named.now c.in_default.ensures c.requires.named
+returns-in_default-clause-named c = table_unnamed c.args.disk.now.image.now c.args.disk.now.layout.now c.args.number c.args.named.now c.in_default.ensures c.requires.named
 
 pub returns-clause-named : goal.returns-clause-named
 returns-clause-named c = c.in_default-check_apart.ensures.ok

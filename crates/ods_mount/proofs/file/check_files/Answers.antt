@@ -10,9 +10,9 @@ pub loop-number-init : goal.loop-number-init
 loop-number-init c = record {
   files = λ n low. absurd (omega arith);
   numbers = c.in-Ok.ensures.room;
-  named = table_first (HasHeader c.args.image.now c.args.layout.now) c.in-Ok.named c.in-Ok.ensures.empty;
+  named = table_first (HasHeader c.args.disk.now.image.now c.args.disk.now.layout.now) c.in-Ok.named c.in-Ok.ensures.empty;
   room = let size = c.len.ensures.value in let room = c.in-Ok-new.ensures.room in omega arith;
-  table = table_first (Holds c.args.image.now c.args.layout.now) c.in-Ok-new.held c.in-Ok-new.ensures.empty;
+  table = table_first (Holds c.args.disk.now.image.now c.args.disk.now.layout.now) c.in-Ok-new.held c.in-Ok-new.ensures.empty;
 }
 
 pub loop-number-preserved : goal.loop-number-preserved
@@ -21,7 +21,7 @@ loop-number-preserved c = record {
     | inl less ↦ c.loop-number.invariant.files n less
     | inr more ↦
         let e : c.loop-number.number ≡ n = omega arith in
-        let P : ℕ → Type 0 = λ x. IsFile c.args.image.now c.args.layout.now x → IsCheckedFile c.args.image.now c.args.layout.now c.args.home_lbn x in
+        let P : ℕ → Type 0 = λ x. IsFile c.args.disk.now.image.now c.args.disk.now.layout.now x → IsCheckedFile c.args.disk.now.image.now c.args.disk.now.layout.now c.args.home_lbn x in
         subst P e c.in_default-check_file.ensures.file
   ];
   numbers = let before = c.loop-number.invariant.numbers in let same = c.in_default-check_file.ensures.numbers in omega arith;
@@ -32,23 +32,23 @@ loop-number-preserved c = record {
 
 pub returns-clause-files : goal.returns-clause-files
 returns-clause-files c n file =
-    let small = file_small c.args.image.now c.args.layout.now n file in
+    let small = file_small c.args.disk.now.image.now c.args.disk.now.layout.now n file in
     let same = ap (λ h. h.max_files) c.home.ensures in
     let end = c.loop-number-test.false in
     c.loop-number.invariant.files n (omega arith) file
 
 pub returns-clause-once : goal.returns-clause-once
 returns-clause-once c m n v w b one other =
-    let first = file_small c.args.image.now c.args.layout.now m one.file.file in
-    let second = file_small c.args.image.now c.args.layout.now n other.file.file in
+    let first = file_small c.args.disk.now.image.now c.args.disk.now.layout.now m one.file.file in
+    let second = file_small c.args.disk.now.image.now c.args.disk.now.layout.now n other.file.file in
     let same = ap (λ h. h.max_files) c.home.ensures in
     let end = c.loop-number-test.false in
     c.loop-number.invariant.table.once m n v w b (omega arith) (omega arith) one other
 
 pub returns-clause-apart : goal.returns-clause-apart
 returns-clause-apart c m n v w x one other =
-    let first = file_small c.args.image.now c.args.layout.now m one.file in
-    let second = file_small c.args.image.now c.args.layout.now n other.file in
+    let first = file_small c.args.disk.now.image.now c.args.disk.now.layout.now m one.file in
+    let second = file_small c.args.disk.now.image.now c.args.disk.now.layout.now n other.file in
     let same = ap (λ h. h.max_files) c.home.ensures in
     let end = c.loop-number-test.false in
     (c.loop-number.invariant.named.once m n v w x (omega arith) (omega arith) one other).0

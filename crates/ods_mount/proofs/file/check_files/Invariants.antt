@@ -6,9 +6,9 @@ use Rattle.ods_mount.proofs.file.check_files.Given as goal
 
 abbrev pub invariant-loop-number : goal.invariant-loop-number
 invariant-loop-number l = record {
-  files : (n : ℕ) → n < l.number → IsFile l.image l.layout n → IsCheckedFile l.image l.layout l.home_lbn n;
+  files : (n : ℕ) → n < l.number → IsFile l.fn.disk.image.now l.fn.disk.layout.now n → IsCheckedFile l.fn.disk.image.now l.fn.disk.layout.now l.home_lbn n;
   numbers : 65536 ≤ 64 * length l.named;
-  named : IsTable (HasHeader l.image l.layout) l.number l.named;
-  room : length l.image ≤ 64 * length l.held;
-  table : IsTable (Holds l.image l.layout) l.number l.held;
+  named : IsTable (HasHeader l.fn.disk.image.now l.fn.disk.layout.now) l.number l.named;
+  room : length l.fn.disk.image.now ≤ 64 * length l.held;
+  table : IsTable (Holds l.fn.disk.image.now l.fn.disk.layout.now) l.number l.held;
 }

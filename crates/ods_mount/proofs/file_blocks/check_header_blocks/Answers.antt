@@ -8,7 +8,7 @@ use Rattle.ods_mount.proofs.file_blocks.check_header_blocks.Goals as goal
 
 pub check_run-requires-clause-names : goal.check_run-requires-clause-names
 check_run-requires-clause-names c =
-    names_run c.args.image.now c.args.layout.now c.args.number c.args.first c.loop-k.next c.args.header.now c.loop-k.k c.pointer_at-run.result
+    names_run c.args.disk.now.image.now c.args.disk.now.layout.now c.args.number c.args.first c.loop-k.next c.args.header.now c.loop-k.k c.pointer_at-run.result
     c.pointer_at-run.ensures.value c.loop-k.invariant.next c.requires.names
 
 pub loop-k-preserved : goal.loop-k-preserved

@@ -11,8 +11,8 @@ pub loop-k-preserved : goal.loop-k-preserved
 loop-k-preserved c n low = elim (cases_lt n (c.loop-k.k + 1)) [
   | inl less ↦ c.loop-k.invariant n (omega arith)
   | inr more ↦
-      let I = c.args.image.now in
-      let L = c.args.layout.now in
+      let I = c.args.disk.now.image.now in
+      let L = c.args.disk.now.layout.now in
       let e : c.loop-k.k + 1 ≡ n = omega arith in
       let P : ℕ → Type 0 = λ x. IsTrue (is_in_use I L.home x) → IsHeader (header_at I L x) x → IsFormat1 (header_at I L x) in
       subst P e (λ used header. elim c.else-in_use.branch [
@@ -25,8 +25,8 @@ loop-k-preserved c n low = elim (cases_lt n (c.loop-k.k + 1)) [
 
 pub returns-clause-ok : goal.returns-clause-ok
 returns-clause-ok c n used header =
-    let I = c.args.image.now in
-    let L = c.args.layout.now in
+    let I = c.args.disk.now.image.now in
+    let L = c.args.disk.now.layout.now in
     let small = number_small I L n c.len.ensures.image header in
     let within = number_in_bitmap I L.home n used in
     let P : ℕ → Type 0 = λ x. n ≤ 4096 * x in

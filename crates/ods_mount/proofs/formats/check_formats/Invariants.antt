@@ -5,4 +5,4 @@ use Rattle.ods_space.specs.Layout.{header_at, is_in_use}
 use Rattle.ods_mount.proofs.formats.check_formats.Given as goal
 
 abbrev pub invariant-loop-k : goal.invariant-loop-k
-invariant-loop-k l = (n : ℕ) → n ≤ l.k → IsTrue (is_in_use l.image l.layout.home n) → IsHeader (header_at l.image l.layout n) n → IsFormat1 (header_at l.image l.layout n)
+invariant-loop-k l = (n : ℕ) → n ≤ l.k → IsTrue (is_in_use l.fn.disk.image.now l.fn.disk.layout.now.home n) → IsHeader (header_at l.fn.disk.image.now l.fn.disk.layout.now n) n → IsFormat1 (header_at l.fn.disk.image.now l.fn.disk.layout.now n)

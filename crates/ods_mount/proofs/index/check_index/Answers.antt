@@ -4,7 +4,7 @@ use Rattle.ods_mount.proofs.index.check_index.Goals as goal
 
 pub returns-then-not-is_well_indexed-clause-err : goal.returns-then-not-is_well_indexed-clause-err
 returns-then-not-is_well_indexed-clause-err c =
-    let bad : IsBadlyIndexed c.args.layout.now c.args.home_lbn = c.if-not-is_well_indexed.ensures in
+    let bad : IsBadlyIndexed c.args.disk.now.layout.now c.args.home_lbn = c.if-not-is_well_indexed.ensures in
     elim bad [
       | inl few ↦ inl few
       | inr (inl other) ↦ inr (inl other)

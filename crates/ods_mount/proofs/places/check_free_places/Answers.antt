@@ -14,7 +14,7 @@ loop-lbn-preserved c k place low = elim (cases_lt k c.loop-lbn.lbn) [
   | inl less ↦ c.loop-lbn.invariant k place less
   | inr more ↦
       let e : c.loop-lbn.lbn ≡ k = omega arith in
-      let P : ℕ → Type 0 = λ x. IsHomePlace x → is_free_block c.args.image.now c.args.layout.now x ≡ false in
+      let P : ℕ → Type 0 = λ x. IsHomePlace x → is_free_block c.args.disk.now.image.now c.args.disk.now.layout.now x ≡ false in
       subst P e (λ here. elim c.else-is_home_place.branch [
         | else-is_home_place-via-then-is_home_place+else-is_free w ↦ sym w.is_free.ensures ∙ w.if-is_free.false
         | else-is_home_place-via-else-is_home_place w ↦

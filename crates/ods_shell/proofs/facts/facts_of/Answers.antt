@@ -3,4 +3,4 @@ use Rattle.ods_shell.proofs.facts.facts_of.Goals as goal
 
 pub returns-in_default-block_count : goal.returns-in_default-block_count
 returns-in_default-block_count c = λ facts a.
-    c.in_default-block_count.ensures.none a.lbns (rw (c.image-image.ensures.value, c.layout-layout.ensures.value) a.held)
+    c.in_default-block_count.ensures.none a.lbns (rw (c.disk-disk.ensures.image, c.disk-disk.ensures.layout) a.held)

@@ -2,11 +2,11 @@ use Rattle.ods_shell.proofs.Bodies.{none_of_file, none_told, none_whole, none_so
 use Rattle.ods_shell.proofs.spoiled.spoiled_records.Goals as goal
 
 pub returns-in-Ok-clause-none : goal.returns-in-Ok-clause-none
-returns-in-Ok-clause-none c = none_told c.fault_in.result _ _ (none_of_file c.args.image.now c.args.layout.now c.args.number c.in-Ok.body c.in-Ok.ensures.ok) c.fault_in.ensures.none
+returns-in-Ok-clause-none c = none_told c.fault_in.result _ _ (none_of_file c.args.disk.now.image.now c.args.disk.now.layout.now c.args.number c.in-Ok.body c.in-Ok.ensures.ok) c.fault_in.ensures.none
 
 pub returns-in-Err-clause-some : goal.returns-in-Err-clause-some
 returns-in-Err-clause-some c = none_some c.none_of.result _ _ c.none_of.ensures
 
 pub returns-in-Err-clause-none : goal.returns-in-Err-clause-none
 returns-in-Err-clause-none c =
-    none_none c.none_of.result _ _ (λ other fault spoiled. none_whole c.args.image.now c.args.layout.now c.args.number c.in-Err.fault spoiled.0 other c.in-Err.ensures.err spoiled.1) c.none_of.ensures
+    none_none c.none_of.result _ _ (λ other fault spoiled. none_whole c.args.disk.now.image.now c.args.disk.now.layout.now c.args.number c.in-Err.fault spoiled.0 other c.in-Err.ensures.err spoiled.1) c.none_of.ensures

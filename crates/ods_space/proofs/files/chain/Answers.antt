@@ -12,13 +12,13 @@ of_layout P at_hand home known index same is fact = subst (P home) is (subst (λ
 
 pub returns-in-Err-clause-err : goal.returns-in-Err-clause-err
 returns-in-Err-clause-err c =
-    dead_end_fault c.args.image.now c.args.layout.now c.args.number c.in-Err.fault
-    (of_layout (λ h index. IsDeadEnd c.args.image.now h index c.args.number c.in-Err.fault) _ _ _ _ c.home.ensures c.index_for-index.ensures c.in-Err.ensures.err)
+    dead_end_fault c.args.disk.now.image.now c.args.disk.now.layout.now c.args.number c.in-Err.fault
+    (of_layout (λ h index. IsDeadEnd c.args.disk.now.image.now h index c.args.number c.in-Err.fault) _ _ _ _ c.home.ensures c.index_for-index.ensures c.in-Err.ensures.err)
 
 pub returns-in-Some-clause-err : goal.returns-in-Some-clause-err
 returns-in-Some-clause-err c =
     let blocks = c.in-Ok.blocks.items in
-    let leads = of_layout (λ h index. Leads c.args.image.now h index c.args.number blocks) _ _ _ _ c.home.ensures c.index_for-index.ensures c.in-Ok.ensures.ok in
+    let leads = of_layout (λ h index. Leads c.args.disk.now.image.now h index c.args.number blocks) _ _ _ _ c.home.ensures c.index_for-index.ensures c.in-Ok.ensures.ok in
     let past = c.in-Some.ensures.some in
     let R : List ℕ → Type 0 = λ l. Contains l c.in-Some.lbn in
     (leads.0, blocks, leads.1, subst R c.deref.ensures.value past.0, past.1)
@@ -26,6 +26,6 @@ returns-in-Some-clause-err c =
 pub returns-in-None-clause-ok : goal.returns-in-None-clause-ok
 returns-in-None-clause-ok c =
     let blocks = c.in-Ok.blocks.items in
-    let leads = of_layout (λ h index. Leads c.args.image.now h index c.args.number blocks) _ _ _ _ c.home.ensures c.index_for-index.ensures c.in-Ok.ensures.ok in
-    let R : List ℕ → Type 0 = λ l. AreInside c.args.image.now l in
-    has_of_chain c.args.image.now c.args.layout.now c.args.number leads.0 blocks c.requires leads.1 (subst R c.deref.ensures.value c.in-None.ensures.none)
+    let leads = of_layout (λ h index. Leads c.args.disk.now.image.now h index c.args.number blocks) _ _ _ _ c.home.ensures c.index_for-index.ensures c.in-Ok.ensures.ok in
+    let R : List ℕ → Type 0 = λ l. AreInside c.args.disk.now.image.now l in
+    has_of_chain c.args.disk.now.image.now c.args.disk.now.layout.now c.args.number leads.0 blocks c.requires leads.1 (subst R c.deref.ensures.value c.in-None.ensures.none)

@@ -7,4 +7,4 @@ returns-in_err-survey_whole-clause-none c = rw c.from_residual.ensures (λ lbn h
 pub returns-clause-none : goal.returns-clause-none
 returns-clause-none c =
     let some = c.in_ok-survey_whole.ensures.some in
-    not_held c.args.image.now c.args.layout.now c.args.number c.args.vbn c.in_ok-survey_whole.field-0.found some.0 some.1 some.2.found
+    not_held c.args.disk.now.image.now c.args.disk.now.layout.now c.args.number c.args.vbn c.in_ok-survey_whole.field-0.found some.0 some.1 some.2.found

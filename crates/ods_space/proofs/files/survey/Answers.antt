@@ -8,19 +8,19 @@ use Rattle.ods_space.proofs.files.survey.Goals as goal
 pub survey_index-requires : goal.survey_index-requires
 survey_index-requires c =
     let own = c.requires.index in
-    let few = chain_size c.args.image.now c.args.layout.now.home None 1 own.others c.args.layout.now.index c.len-len.ensures.image own.whole.chain in
+    let few = chain_size c.args.disk.now.image.now c.args.disk.now.layout.now.home None 1 own.others c.args.disk.now.layout.now.index c.len-len.ensures.image own.whole.chain in
     let size = ap length c.index-index.ensures in
     omega arith
 
 pub returns-then-number-eq1-clause-some : goal.returns-then-number-eq1-clause-some
 returns-then-number-eq1-clause-some c =
     let found = c.survey_index.ensures in
-    of_index c.args.image.now c.args.layout.now c.args.number c.args.wanted c.index-index.result.now c.survey_index.result c.requires c.if-number-eq1.true c.index-index.ensures found.count found.found found.past
+    of_index c.args.disk.now.image.now c.args.disk.now.layout.now c.args.number c.args.wanted c.index-index.result.now c.survey_index.result c.requires c.if-number-eq1.true c.index-index.ensures found.count found.found found.past
 
 pub returns-then-whole-clause-some : goal.returns-then-whole-clause-some
 returns-then-whole-clause-some c =
-    let I = c.args.image.now in
-    let L = c.args.layout.now in
+    let I = c.args.disk.now.image.now in
+    let L = c.args.disk.now.layout.now in
     let new = c.new-surveyor.ensures in
     let got = rw c.if-whole.true at c.in-Ok.ensures in
     let noted = got.3 in
@@ -32,8 +32,8 @@ returns-then-whole-clause-some c =
 
 pub returns-else-whole-clause-none : goal.returns-else-whole-clause-none
 returns-else-whole-clause-none c others blocks chain =
-    let I = c.args.image.now in
-    let L = c.args.layout.now in
+    let I = c.args.disk.now.image.now in
+    let L = c.args.disk.now.layout.now in
     let got = rw c.if-whole.false at c.in-Ok.ensures in
     let P : Home → Type 0 = λ h. Follows I h (Some c.new-surveyor.result.index.now) [] 0 c.args.number others blocks in
     let Q : List ℕ → Type 0 = λ index. Follows I L.home (Some index) [] 0 c.args.number others blocks in

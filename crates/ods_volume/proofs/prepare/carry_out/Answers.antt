@@ -8,13 +8,13 @@ use Rattle.ods_volume.proofs.prepare.carry_out.Goals as goal
 
 pub returns-in-Some : goal.returns-in-Some
 returns-in-Some c =
-    subst (λ r. MatchResult c.look_only.result (λ d. IsStepOf c.args.image.now c.args.layout.now c.args.who r c.look_only.new.answer (applied c.args.image.now d.draft) (with_places c.args.layout.now d.places.items))
-    (IsRefusalOf c.args.image.now c.args.layout.now c.args.who r)) ((c.as_query.ensures c.in-Some.query).0 c.in-Some.is) c.look_only.ensures
+    subst (λ r. MatchResult c.look_only.result (λ d. IsStepOf c.args.disk.now.image.now c.args.disk.now.layout.now c.args.who r c.look_only.new.answer (applied c.args.disk.now.image.now d.draft) (with_places c.args.disk.now.layout.now d.places.items))
+    (IsRefusalOf c.args.disk.now.image.now c.args.disk.now.layout.now c.args.who r)) ((c.as_query.ensures c.in-Some.query).0 c.in-Some.is) c.look_only.ensures
 
 pub returns-in-List : goal.returns-in-List
 returns-in-List c =
-    subst (λ r. MatchResult c.list_only.result (λ d. IsStepOf c.args.image.now c.args.layout.now c.args.who r c.list_only.new.answer (applied c.args.image.now d.draft) (with_places c.args.layout.now d.places.items))
-    (IsRefusalOf c.args.image.now c.args.layout.now c.args.who r)) (sym c.in-List.is) c.list_only.ensures
+    subst (λ r. MatchResult c.list_only.result (λ d. IsStepOf c.args.disk.now.image.now c.args.disk.now.layout.now c.args.who r c.list_only.new.answer (applied c.args.disk.now.image.now d.draft) (with_places c.args.disk.now.layout.now d.places.items))
+    (IsRefusalOf c.args.disk.now.image.now c.args.disk.now.layout.now c.args.who r)) (sym c.in-List.is) c.list_only.ensures
 
 pub change-requires-clause-changes : goal.change-requires-clause-changes
 change-requires-clause-changes c =

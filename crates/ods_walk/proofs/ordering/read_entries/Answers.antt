@@ -22,10 +22,10 @@ pub new-blocks-requires-clause-few : goal.new-blocks-requires-clause-few
 new-blocks-requires-clause-few c =
     let has = c.in-Ok.ensures.ok in
     let size : length c.deref.result.now ≡ length c.in-Ok.lbns.items = ap length c.deref.ensures.value in
-    let small = chain_size c.args.image.now c.args.layout.now.home (index_for c.args.layout.now c.args.number) c.args.number has.others c.in-Ok.lbns.items c.len.ensures.image has.whole.chain in
+    let small = chain_size c.args.disk.now.image.now c.args.disk.now.layout.now.home (index_for c.args.disk.now.layout.now c.args.number) c.args.number has.others c.in-Ok.lbns.items c.len.ensures.image has.whole.chain in
     omega arith
 
-here : (c : After-mark_of-mark) → IsReadAs c.args.image.now c.args.layout.now c.args.number c.in-Ok.lbns.items (map (block_at c.new-blocks.result.image.now) c.new-blocks.result.lbns.now) c.mark_of-mark.result
+here : (c : After-mark_of-mark) → IsReadAs c.args.disk.now.image.now c.args.disk.now.layout.now c.args.number c.in-Ok.lbns.items (map (block_at c.new-blocks.result.image.now) c.new-blocks.result.lbns.now) c.mark_of-mark.result
 here c =
     read_as c.requires.sound c.new-blocks.result.image.now c.in-Ok.lbns.items c.new-blocks.result.lbns.now c.in-Some.header.now c.attributes.result c.count.result c.mark_of-mark.result c.requires.directory c.in-Ok.ensures.ok
     c.new-blocks.ensures.0 (c.new-blocks.ensures.1 ∙ c.deref.ensures.value) c.in-Some.ensures.some.1 c.attributes.ensures c.count.ensures c.mark_of-mark.ensures

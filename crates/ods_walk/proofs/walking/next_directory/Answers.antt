@@ -28,7 +28,7 @@ returns-then-is_walked_into-clause-some c =
       order = pile_so here;
       lines = lines_so here;
       into = λ entered are. subst
-          (λ b. MatchBool b (IsWalkedInto c.args.image.now c.args.layout.now entered c.in-Some.line.entry) (¬ IsWalkedInto c.args.image.now c.args.layout.now entered c.in-Some.line.entry))
+          (λ b. MatchBool b (IsWalkedInto c.args.disk.now.image.now c.args.disk.now.layout.now entered c.in-Some.line.entry) (¬ IsWalkedInto c.args.disk.now.image.now c.args.disk.now.layout.now entered c.in-Some.line.entry))
           c.if-is_walked_into.true (c.is_walked_into.ensures entered are);
     }
 
@@ -36,8 +36,8 @@ pub lines-preserved : goal.lines-preserved
 lines-preserved c =
     let here = (goal.at.lines-preserved c).After-is_walked_into in (
       c.lines.invariant.0 ++ c.in-Some.line ∷ [],
-      (λ entered are. All-push (λ l. ¬ IsWalkedInto c.args.image.now c.args.layout.now entered l.entry) c.lines.invariant.0 c.in-Some.line (c.lines.invariant.1 entered are) (subst
-          (λ b. MatchBool b (IsWalkedInto c.args.image.now c.args.layout.now entered c.in-Some.line.entry) (¬ IsWalkedInto c.args.image.now c.args.layout.now entered c.in-Some.line.entry))
+      (λ entered are. All-push (λ l. ¬ IsWalkedInto c.args.disk.now.image.now c.args.disk.now.layout.now entered l.entry) c.lines.invariant.0 c.in-Some.line (c.lines.invariant.1 entered are) (subst
+          (λ b. MatchBool b (IsWalkedInto c.args.disk.now.image.now c.args.disk.now.layout.now entered c.in-Some.line.entry) (¬ IsWalkedInto c.args.disk.now.image.now c.args.disk.now.layout.now entered c.in-Some.line.entry))
           c.if-is_walked_into.false (c.is_walked_into.ensures entered are))),
       pile_so here ∙ sym (append_assoc c.lines.invariant.0 (c.in-Some.line ∷ []) (from_top c.pop.new.self.items)),
       lines_so here,
@@ -48,6 +48,6 @@ returns-clause-none c =
     let none : c.lines.pile.items ≡ [] = search rules in
     let all : from_top c.args.pile.now.items ≡ c.lines.invariant.0 = c.lines.invariant.2 ∙ ap (λ p. c.lines.invariant.0 ++ from_top p) none ∙ append-nil c.lines.invariant.0 in
     record {
-      are = λ entered are. subst (λ l. All (λ p. ¬ IsWalkedInto c.args.image.now c.args.layout.now entered p.entry) l) (sym all) (c.lines.invariant.1 entered are);
+      are = λ entered are. subst (λ l. All (λ p. ¬ IsWalkedInto c.args.disk.now.image.now c.args.disk.now.layout.now entered p.entry) l) (sym all) (c.lines.invariant.1 entered are);
       lines = c.lines.invariant.3 ∙ ap (λ l. c.args.lines.now.items ++ l) (sym all);
     }

@@ -5,7 +5,7 @@ use Rattle.ods_walk.proofs.walking.next_directory.Given as goal
 
 abbrev pub invariant-lines : goal.invariant-lines
 invariant-lines l =
-    (passed : List Placed) × ArePassed l.image l.layout l.is_entered passed
+    (passed : List Placed) × ArePassed l.fn.disk.image.now l.fn.disk.layout.now l.is_entered passed
     × (from_top l.initial.pile.items ≡ passed ++ from_top l.pile.items)
     × (l.lines.items ≡ l.initial.lines.items ++ passed)
 

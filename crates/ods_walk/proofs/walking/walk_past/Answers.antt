@@ -17,15 +17,15 @@ directories-init c =
     let order : from_top c.put_lines.new.pile.items ≡ map (placed 0) put.0 = put.2 ∙ ap (λ p. map (placed 0) put.0 ++ from_top p) c.new-pile.ensures.items ∙ append-nil (map (placed 0) put.0) in
     let table : c.push.new.self.items ≡ record { number = start; from = None } ∷ [] = c.in_ok-push.ensures.items ∙ ap (λ l. l ++ record { number = start; from = None } ∷ []) c.new-directories.ensures.items in
     let flags = set (set shut 4 true) start true in
-    let begun = begins c.args.image.now c.args.layout.now start c.args.closed.now flags c.put_lines.new.pile.items put.0 two put.1 order in
-    subst (λ t. IsUnderWay c.args.image.now c.args.layout.now start c.args.closed.now t c.new-lines.result.items flags c.put_lines.new.pile.items) (sym table)
-    (subst (λ l. IsUnderWay c.args.image.now c.args.layout.now start c.args.closed.now (record { number = start; from = None } ∷ []) l flags c.put_lines.new.pile.items) (sym c.new-lines.ensures.items) begun)
+    let begun = begins c.args.disk.now.image.now c.args.disk.now.layout.now start c.args.closed.now flags c.put_lines.new.pile.items put.0 two put.1 order in
+    subst (λ t. IsUnderWay c.args.disk.now.image.now c.args.disk.now.layout.now start c.args.closed.now t c.new-lines.result.items flags c.put_lines.new.pile.items) (sym table)
+    (subst (λ l. IsUnderWay c.args.disk.now.image.now c.args.disk.now.layout.now start c.args.closed.now (record { number = start; from = None } ∷ []) l flags c.put_lines.new.pile.items) (sym c.new-lines.ensures.items) begun)
 
 -- where the walk stops at a directory
-stopped : (c : In-Some) → IsStop c.args.image.now c.args.layout.now c.directories.is_entered.items c.directories.pile.items c.directories.lines.items c.next_directory.new.pile.items c.next_directory.new.lines.items c.in-Some.line
+stopped : (c : In-Some) → IsStop c.args.disk.now.image.now c.args.disk.now.layout.now c.directories.is_entered.items c.directories.pile.items c.directories.lines.items c.next_directory.new.pile.items c.next_directory.new.lines.items c.in-Some.line
 stopped c =
-    subst (λ f. IsStop c.args.image.now c.args.layout.now f c.directories.pile.items c.directories.lines.items c.next_directory.new.pile.items c.next_directory.new.lines.items c.in-Some.line) c.deref.ensures.value
-    (subst (λ r. IfSome r (IsStop c.args.image.now c.args.layout.now c.deref.result.now c.directories.pile.items c.directories.lines.items c.next_directory.new.pile.items c.next_directory.new.lines.items)) c.in-Some.is c.in_ok-line.ensures.some)
+    subst (λ f. IsStop c.args.disk.now.image.now c.args.disk.now.layout.now f c.directories.pile.items c.directories.lines.items c.next_directory.new.pile.items c.next_directory.new.lines.items c.in-Some.line) c.deref.ensures.value
+    (subst (λ r. IfSome r (IsStop c.args.disk.now.image.now c.args.disk.now.layout.now c.deref.result.now c.directories.pile.items c.directories.lines.items c.next_directory.new.pile.items c.next_directory.new.lines.items)) c.in-Some.is c.in_ok-line.ensures.some)
 
 pub put_lines-requires-in-Some-clause-directory : goal.put_lines-requires-in-Some-clause-directory
 put_lines-requires-in-Some-clause-directory c =
@@ -47,14 +47,14 @@ directories-preserved c =
     let put = c.in_ok-put_lines-2.ensures in
     let order : from_top c.put_lines-in-Some.new.pile.items ≡ map (placed (length c.directories.directories.items)) put.0 ++ from_top c.next_directory.new.pile.items =
     put.2 ∙ ap (λ k. map (placed k) put.0 ++ from_top c.next_directory.new.pile.items) size in
-    subst (λ t. IsUnderWay c.args.image.now c.args.layout.now c.args.start c.args.closed.now t c.next_directory.new.lines.items (set c.directories.is_entered.items n true) c.put_lines-in-Some.new.pile.items) (sym c.in_ok-push-2.ensures.items)
+    subst (λ t. IsUnderWay c.args.disk.now.image.now c.args.disk.now.layout.now c.args.start c.args.closed.now t c.next_directory.new.lines.items (set c.directories.is_entered.items n true) c.put_lines-in-Some.new.pile.items) (sym c.in_ok-push-2.ensures.items)
     (entering u (stopped (goal.at.directories-preserved c).In-Some) c.put_lines-in-Some.new.pile.items put.0 small put.1 order)
 
 pub returns-clause-walk : goal.returns-clause-walk
 returns-clause-walk c =
     arrived c.directories.invariant c.next_directory.new.lines.items
-    (subst (λ f. IsPast c.args.image.now c.args.layout.now f c.directories.pile.items c.directories.lines.items c.next_directory.new.lines.items) c.deref.ensures.value
-    (subst (λ r. IfNone r (IsPast c.args.image.now c.args.layout.now c.deref.result.now c.directories.pile.items c.directories.lines.items c.next_directory.new.lines.items)) c.in_default.is c.in_ok-line.ensures.none))
+    (subst (λ f. IsPast c.args.disk.now.image.now c.args.disk.now.layout.now f c.directories.pile.items c.directories.lines.items c.next_directory.new.lines.items) c.deref.ensures.value
+    (subst (λ r. IfNone r (IsPast c.args.disk.now.image.now c.args.disk.now.layout.now c.deref.result.now c.directories.pile.items c.directories.lines.items c.next_directory.new.lines.items)) c.in_default.is c.in_ok-line.ensures.none))
 
 pub returns-clause-led : goal.returns-clause-led
 returns-clause-led c = c.directories.invariant.led

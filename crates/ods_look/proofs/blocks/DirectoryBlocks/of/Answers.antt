@@ -22,9 +22,9 @@ invariant_of-result c =
     )
 
 pub returns-clause-contents : goal.returns-clause-contents
-returns-clause-contents c = λ held is. ap (contents_of c.args.image.now) (blocks_are_one (in_order c.len.ensures.image c.requires.sound c.requires.file) is)
+returns-clause-contents c = λ held is. ap (contents_of c.args.disk.now.image.now) (blocks_are_one (in_order c.len.ensures.image c.requires.sound c.requires.file) is)
 
 pub returns-clause-few : goal.returns-clause-few
 returns-clause-few c =
     let held = in_order c.len.ensures.image c.requires.sound c.requires.file in
-    subst (λ k. k ≤ chain_blocks) (sym (length-map (blocks_in_order c.args.image.now c.args.layout.now c.args.number) (block_at c.args.image.now))) (few_blocks c.len.ensures.image held)
+    subst (λ k. k ≤ chain_blocks) (sym (length-map (blocks_in_order c.args.disk.now.image.now c.args.disk.now.layout.now c.args.number) (block_at c.args.disk.now.image.now))) (few_blocks c.len.ensures.image held)

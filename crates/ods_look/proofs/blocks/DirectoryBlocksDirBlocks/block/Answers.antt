@@ -9,13 +9,13 @@ use Rattle.ods_look.proofs.blocks.DirectoryBlocksDirBlocks.block.Goals as goal
 pub overflow_add-i : goal.overflow_add-i
 overflow_add-i c =
     let s = c.self.inside in
-    let order : List ℕ = blocks_in_order s.image.now s.layout.now s.number in
-    let within : c.args.i < length order = subst (λ k. c.args.i < k) (ap length (sym c.self.view_is) ∙ length-map order (block_at s.image.now)) c.requires in
+    let order : List ℕ = blocks_in_order s.disk.image.now s.disk.layout.now s.number in
+    let within : c.args.i < length order = subst (λ k. c.args.i < k) (ap length (sym c.self.view_is) ∙ length-map order (block_at s.disk.image.now)) c.requires in
     let few : length order ≤ chain_blocks = c.self.invariant.3 in
     omega arith
 
 pub locate_whole-requires-clause-whole : goal.locate_whole-requires-clause-whole
-locate_whole-requires-clause-whole c = let s = c.self.inside in (blocks_in_order s.image.now s.layout.now s.number, c.self.invariant.1)
+locate_whole-requires-clause-whole c = let s = c.self.inside in (blocks_in_order s.disk.image.now s.disk.layout.now s.number, c.self.invariant.1)
 
 pub locate_whole-requires-clause-other : goal.locate_whole-requires-clause-other
 locate_whole-requires-clause-other c = c.self.invariant.5
@@ -28,7 +28,7 @@ pub block-requires : goal.block-requires
 block-requires c =
     let s = c.self.inside in
     let within = subst (λ v. c.args.i < length v) (sym c.self.view_is) c.requires in
-    subst (λ x. x < length s.image.now) (sym (located_is c.self.invariant.1 c.args.i within c.locate_whole.result c.unwrap-lbn.result c.unwrap-lbn.ensures c.locate_whole.ensures.found))
+    subst (λ x. x < length s.disk.image.now) (sym (located_is c.self.invariant.1 c.args.i within c.locate_whole.result c.unwrap-lbn.result c.unwrap-lbn.ensures c.locate_whole.ensures.found))
     (located_inside c.self.invariant.1 c.args.i within)
 
 pub returns-clause-value : goal.returns-clause-value
@@ -36,6 +36,6 @@ returns-clause-value c =
     let s = c.self.inside in
     let within = subst (λ v. c.args.i < length v) (sym c.self.view_is) c.requires in
     c.block.ensures.value
-    ∙ ap (block_at s.image.now) (located_is c.self.invariant.1 c.args.i within c.locate_whole.result c.unwrap-lbn.result c.unwrap-lbn.ensures c.locate_whole.ensures.found)
+    ∙ ap (block_at s.disk.image.now) (located_is c.self.invariant.1 c.args.i within c.locate_whole.result c.unwrap-lbn.result c.unwrap-lbn.ensures c.locate_whole.ensures.found)
     ∙ block_of c.self.invariant.1 c.args.i within
     ∙ ap (λ bs. block_at bs c.args.i) c.self.view_is

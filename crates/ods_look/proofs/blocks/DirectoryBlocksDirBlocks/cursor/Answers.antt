@@ -12,7 +12,7 @@ pub from-requires-clause-chain : goal.from-requires-clause-chain
 from-requires-clause-chain c =
     let s = c.self.inside in
     let held = c.self.invariant.1 in
-    (held.others, blocks_in_order s.image.now s.layout.now s.number, held.whole.chain)
+    (held.others, blocks_in_order s.disk.image.now s.disk.layout.now s.number, held.whole.chain)
 
 pub from-requires-clause-first : goal.from-requires-clause-first
 from-requires-clause-first c = c.self.invariant.4
@@ -20,9 +20,9 @@ from-requires-clause-first c = c.self.invariant.4
 pub invariant_of-result : goal.invariant_of-result
 invariant_of-result c =
     let s = c.self.inside in
-    subst (AreInside s.image.now) (sym (c.from.ensures ∙ named_in_order s.image.now s.layout.now s.number)) c.self.invariant.1.whole.inside
+    subst (AreInside s.disk.image.now) (sym (c.from.ensures ∙ named_in_order s.disk.image.now s.disk.layout.now s.number)) c.self.invariant.1.whole.inside
 
 pub returns : goal.returns
 returns c =
     let s = c.self.inside in
-    ap (contents_of s.image.now) (c.from.ensures ∙ named_in_order s.image.now s.layout.now s.number) ∙ c.self.view_is
+    ap (contents_of s.disk.image.now) (c.from.ensures ∙ named_in_order s.disk.image.now s.disk.layout.now s.number) ∙ c.self.view_is

@@ -11,8 +11,8 @@ use Rattle.ods_look.proofs.opening.OpenDirectory.of.Goals as goal
 
 pub returns : goal.returns
 returns c =
-    let I = c.args.image.now in
-    let L = c.args.layout.now in
+    let I = c.args.disk.now.image.now in
+    let L = c.args.disk.now.layout.now in
     let n = c.args.number in
     let whole = c.requires.sound.chains n c.requires.file in
     let kind : is_directory_header n (header_at I L n) ≡ true = ap (is_directory_header n) (sym c.requires.header) ∙ c.requires.directory in

@@ -6,13 +6,13 @@ use Rattle.ods_space.proofs.cursor.ChainRuns.from.Goals as goal
 pub pointer_count-requires : goal.pointer_count-requires
 pointer_count-requires c =
     let chain = c.requires.chain in
-    laid_out c.args.image.now c.args.layout.now c.args.number chain.0 chain.1 c.args.first.now c.requires.layout chain.2 c.requires.first
+    laid_out c.args.disk.now.image.now c.args.disk.now.layout.now c.args.number chain.0 chain.1 c.args.first.now c.requires.layout chain.2 c.requires.first
 
 pub invariant_of-result : goal.invariant_of-result
 invariant_of-result c =
     let chain = c.requires.chain in
     let count = c.pointer_count.ensures.count in
-    (laid_out c.args.image.now c.args.layout.now c.args.number chain.0 chain.1 c.args.first.now c.requires.layout chain.2 c.requires.first, omega (arith, count))
+    (laid_out c.args.disk.now.image.now c.args.disk.now.layout.now c.args.number chain.0 chain.1 c.args.first.now c.requires.layout chain.2 c.requires.first, omega (arith, count))
 
 pub returns : goal.returns
 returns c =

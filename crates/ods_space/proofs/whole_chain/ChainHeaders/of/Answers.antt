@@ -11,6 +11,6 @@ is_there (Some x) b some none = refl
 pub unwrap-first-requires : goal.unwrap-first-requires
 unwrap-first-requires c =
     let chain = c.requires.chain in
-    let b = header_at c.args.image.now c.args.layout.now c.args.number in
-    is_there c.header_block.result b (first_there c.args.image.now c.args.layout.now c.args.number chain.0 chain.1 b c.len.ensures.image c.requires.layout chain.2 refl)
+    let b = header_at c.args.disk.now.image.now c.args.disk.now.layout.now c.args.number in
+    is_there c.header_block.result b (first_there c.args.disk.now.image.now c.args.disk.now.layout.now c.args.number chain.0 chain.1 b c.len.ensures.image c.requires.layout chain.2 refl)
     c.header_block.ensures.none

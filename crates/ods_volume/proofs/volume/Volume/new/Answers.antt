@@ -15,5 +15,5 @@ invariant_of-result c =
       low = c.requires.low;
       high = c.requires.high;
       reserved = omega (arith, c.in-Ok.ensures.exact);
-      counted = c.in-Ok-of.ensures ∙ ((λ i. counts_of (c.image.ensures.value i) (c.layout.ensures.value i)) ∙ (λ i. counts_of (sym parts.1 i) (sym parts.2 i)));
+      counted = c.in-Ok-of.ensures ∙ ((λ i. counts_of (c.disk.ensures.image i) (c.disk.ensures.layout i)) ∙ (λ i. counts_of (sym parts.1 i) (sym parts.2 i)));
     }

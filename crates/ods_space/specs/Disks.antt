@@ -1,0 +1,25 @@
+-- What contracts say of a disk, which is blocks with their layout: what they say of its blocks and its layout, as they are or as a draft makes them.
+use Rattle.std.specs.Prelude.{ℕ, List}
+use Rattle.ods_space.specs.Draft.{Changes, applied}
+use Rattle.ods_space.specs.Layout.{VolumeLayout, header_at}
+use Rattle.ods_space.specs.declared.disk.Disk.{Disk}
+
+-- what a relation of blocks and their layout says on this disk
+abbrev pub on : {A : Type 1} → (List (List ℕ) → VolumeLayout → A) → Disk → A
+on P D = P D.image.now D.layout.now
+
+-- what a function of blocks and their layout gives, seen on this disk
+abbrev pub seen : {A : Type 0} → (List (List ℕ) → VolumeLayout → A) → Disk → A
+seen f D = f D.image.now D.layout.now
+
+-- the block of header n on this disk
+abbrev pub header_on : Disk → ℕ → List ℕ
+header_on D n = header_at D.image.now D.layout.now n
+
+-- what a relation of blocks and their layout says of the blocks that this draft makes of the disk's, by the disk's layout
+abbrev pub drafted : {A : Type 1} → (List (List ℕ) → VolumeLayout → A) → Disk → Changes → A
+drafted P D d = P (applied D.image.now d) D.layout.now
+
+-- the block of header n of those blocks
+abbrev pub header_drafted : Disk → Changes → ℕ → List ℕ
+header_drafted D d n = header_at (applied D.image.now d) D.layout.now n
