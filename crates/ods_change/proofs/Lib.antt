@@ -1,4 +1,5 @@
 pub mod ChainEnds
+pub mod KnownEnds
 pub mod NewBodies
 pub mod TakenNumbers
 pub mod CreatingFile

@@ -1,15 +1,15 @@
 //! An Extend: its checks, and the draft by which the file gets blocks of zeros behind its own.
-ghost use Rattle.std.specs.Prelude.{◌≡◌, ◌<◌, ◌==◌, ◌||◌, nat_lt, ℕ, List, IfOk, IfErr, MatchResult};
+ghost use Rattle.std.specs.Prelude.{Some, ◌≡◌, ◌<◌, ◌==◌, ◌||◌, nat_lt, ℕ, List, IfOk, IfErr, MatchResult};
 ghost use Rattle.ods_alloc.specs.Counts.{counts_of};
 ghost use Rattle.ods_base.specs.Image.{IsImage};
 ghost use Rattle.ods_header.specs.Header.{owner_of, protection_of};
 ghost use Rattle.ods_space.specs.Draft.{applied};
 ghost use Rattle.ods_mount.specs.Sound.{IsSoundBy};
 ghost use Rattle.ods_request.specs.{declared.answers.Answer.TheVariants.Extended, declared.requests.Request.TheVariants.Extend, Rights.permits};
-ghost use Rattle.ods_state.specs.{Change.IsFaultBy, Served.IsRefusalOf};
+ghost use Rattle.ods_state.specs.{Change.IsFaultBy, Ends.IsKnownIn, Served.IsRefusalOf};
 ghost use Rattle.ods_change.specs.{Extending.IsExtensible, Extending.IsGrownBy, Extending.IsWanted, Taking.IsEndOf};
 ghost use Rattle.ods_space.specs.Disks.{drafted, header_drafted, header_on, on, seen};
-ghost use Rattle.ods_change.specs.Steps.{IsDraftFor};
+ghost use Rattle.ods_change.specs.Steps.{IsDraftFor, IsKnownThen};
 
 use crate::beginning::{Begun, Drafted, begin, layout_then};
 use crate::taking::{ChainEnd, Taken, ends_with, take};
@@ -19,6 +19,7 @@ use ods_header::{is_directory, owner, protection, without_contiguous};
 use ods_look::opening::named_header;
 use ods_request::{Refusal, Right, permits};
 use ods_space::{Disk, Draft};
+use ods_state::KnownEnd;
 use std::alloc::{AllocError, Global};
 
 /// The first header of a file that the user may extend by so many blocks, or the first fault.
@@ -101,8 +102,9 @@ fn grown(
     Ok(grown)
 }
 
-/// The draft that puts this many blocks of zeros behind a file's own, with the count that it has then, or why that is
-/// refused. Where more numbers are needed than are free, INDEXF.SYS grows.
+/// The draft that puts this many blocks of zeros behind a file's own, with where its chain ends then and so the count that it has,
+/// or why that is refused. Where more numbers are needed than are free, INDEXF.SYS grows. Nothing is walked along if it is noted
+/// where the chain of this file ends.
 pub fn extend(
     alloc: Global,
     disk: &Disk<'_>,
@@ -110,18 +112,21 @@ pub fn extend(
     who: Uic,
     file: FileId,
     count: u32,
-) -> Result<(Drafted, u32), Refusal>
+    known: &Option<KnownEnd>,
+) -> Result<(Drafted, KnownEnd), Refusal>
     requires sound { on IsSoundBy disk.now }
     requires counts { counts.now ≡ seen counts_of disk.now }
-    ensures { MatchResult result
-        (λ r. IsDraftFor disk.now who (Extend file count) (Extended r.1) r.0.draft r.0.places.items)
+    requires known { on IsKnownIn disk.now known.now }
+    ensures end { IfOk result (λ r. IsKnownThen disk.now r.0.draft r.0.places.items (Some r.1)) }
+    ensures step { MatchResult result
+        (λ r. IsDraftFor disk.now who (Extend file count) (Extended r.1.blocks) r.0.draft r.0.places.items)
         (on IsRefusalOf disk.now who (Extend file count)) }
 {
     let first = match open_to_extend(disk, who, file, count) {
         Ok(first) => first,
         Err(refusal) => return Err(refusal),
     };
-    let end = ChainEnd::of(disk, file.number, first);
+    let end = ChainEnd::found(disk, file.number, first, known);
     let taken = match take(alloc, disk, counts, end.headers, end.room, count) {
         Ok(taken) => taken,
         Err(refusal) => return Err(refusal),
@@ -142,13 +147,14 @@ pub fn extend(
         layout: then,
     };
     match grown(&later, draft, file.number, first, &end, &taken) {
-        Ok(draft) => Ok((
-            Drafted {
+        Ok(draft) => {
+            let end = end.with(file.number, count, &taken.numbers);
+            let drafted = Drafted {
                 draft,
                 places: taken.places,
-            },
-            end.blocks + count,
-        )),
+            };
+            Ok((drafted, end))
+        }
         Err(_) => Err(Refusal::NoMemory),
     }
 }

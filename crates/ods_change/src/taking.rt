@@ -3,8 +3,8 @@ ghost use Rattle.std.specs.Prelude.{◌≡◌, ◌≢◌, ◌+◌, ◌⊎◌, �
 ghost use Rattle.ods_alloc.specs.Counts.{counts_of};
 ghost use Rattle.ods_header.specs.Header.{room_of};
 ghost use Rattle.ods_space.specs.{Chain.chain_blocks, Files.IsLayoutOf, Free.free_blocks};
-ghost use Rattle.ods_alloc.specs.Extend.{cut};
-ghost use Rattle.ods_state.specs.Wants.{HasHeaders, index_end, index_growth, new_headers};
+ghost use Rattle.ods_alloc.specs.Extend.{cut, last_of};
+ghost use Rattle.ods_state.specs.{Ends.IsKnownIn, Wants.HasHeaders, Wants.index_end, Wants.index_growth, Wants.new_headers};
 ghost use Rattle.ods_change.specs.Taking.{HasPlacesFor, IsEndOf, IsMeasured, IsTakenBy, IsWhyNotTaken, LacksPlaces, refusal_for};
 ghost use Rattle.ods_space.specs.Disks.{header_on, on, seen};
 
@@ -15,6 +15,7 @@ use ods_base::Block;
 use ods_header::{Run, pointer_sum, room_words};
 use ods_request::Refusal;
 use ods_space::{ChainHeaders, Disk, Layout, header_block, last_number};
+use ods_state::KnownEnd;
 use std::alloc::{AllocError, Global};
 
 /// Where the chain of a file ends: how many headers it has, how many blocks they map, and the last of them, with its number
@@ -62,6 +63,64 @@ impl<'a> ChainEnd<'a> {
             room: room_words(last) as u32,
         }
     }
+
+    /// The same: with no walk, where it is noted where this chain ends.
+    pub fn found(disk: &Disk<'a>, number: u16, first: &'a Block, known: &Option<KnownEnd>) -> Self
+        requires layout { on IsLayoutOf disk.now }
+        requires whole { (hs : List ℕ) × (blocks : List ℕ) × on HasHeaders disk.now number hs blocks }
+        requires first { first.now ≡ header_on disk.now number }
+        requires known { on IsKnownIn disk.now known.now }
+        ensures end { on IsMeasured disk.now number result }
+        ensures last { on IsEndOf disk.now number result }
+        ensures few { result.headers ≤ 256 }
+        ensures small { result.blocks ≤ chain_blocks }
+    {
+        // The blocks of an image have bytes, so the header has its parts in place.
+        let _ = disk.image.len();
+        if let Some(end) = known {
+            if end.file == number {
+                if let Some(block) = header_block(disk, end.last) {
+                    return ChainEnd {
+                        headers: end.headers,
+                        blocks: end.blocks,
+                        number: end.last,
+                        last: block,
+                        room: room_words(block) as u32,
+                    };
+                }
+            }
+        }
+        ChainEnd::of(disk, number, first)
+    }
+
+    /// Where the chain of this file ends once it has so many blocks more, and these headers behind its own.
+    pub fn with(&self, file: u16, count: u32, numbers: &[u16]) -> KnownEnd
+        requires few { self.now.headers + length numbers.now ≤ 256 }
+        requires small { self.now.blocks ≤ chain_blocks }
+        requires count { count ≤ 65535 }
+        ensures file { result.file ≡ file }
+        ensures headers { result.headers ≡ self.now.headers + length numbers.now }
+        ensures blocks { result.blocks ≡ self.now.blocks + count }
+        ensures last { result.last ≡ last_of self.now.number numbers.now }
+    {
+        KnownEnd {
+            file,
+            headers: self.headers + numbers.len() as u32,
+            blocks: self.blocks + count,
+            last: last_or(numbers, self.number),
+        }
+    }
+}
+
+/// The last of these numbers; where there is none, this one.
+fn last_or(numbers: &[u16], other: u16) -> u16
+    ensures { result ≡ last_of other numbers.now }
+{
+    let count = numbers.len();
+    if count == 0 {
+        return other;
+    }
+    numbers[count - 1]
 }
 
 /// The ends of a chain whose first header, of this number, is written anew, and whose last was this one: where it has no other
@@ -111,6 +170,7 @@ pub(crate) fn take(
     requires small { count ≤ 65535 }
     ensures ok { IfOk result (on IsTakenBy disk.now headers room count) }
     ensures runs { IfOk result (λ t. t.runs.items ≡ cut t.blocks.items) }
+    ensures few { IfOk result (λ t. headers + length t.numbers.items ≤ 256) }
     ensures err { IfErr result (on IsWhyNotTaken disk.now headers room count) }
 {
     let blocks = match pick_blocks(alloc, disk, counts, count) {

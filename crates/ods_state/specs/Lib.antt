@@ -1,6 +1,7 @@
 pub mod Contents
 pub mod Version
 pub mod Wants
+pub mod Ends
 pub mod Made
 pub mod Moves
 pub mod Outcome

@@ -15,6 +15,8 @@ use Rattle.ods_request.specs.Steps.{step}
 use Rattle.ods_request.specs.Table.{takes_memory, given_version}
 pub use Rattle.ods_request.specs.Queries.{request_of}
 use Rattle.ods_state.specs.Version.{State, IsPresent, IsLawful}
+use Rattle.ods_state.specs.declared.known_end.KnownEnd.{KnownEnd}
+use Rattle.ods_state.specs.Ends.{IsKnownIn}
 use Rattle.ods_state.specs.Wants.{Lacks}
 use Rattle.ods_state.specs.Moves.{Moves, ChangesOnlyTouched}
 
@@ -38,12 +40,14 @@ pub data IsReason (v : State) (who : Uic) (r : Request) : Refusal → Type 0 whe
   lacks : (f : Refusal) → Lacks v.image v.layout r f → IsReason v who r f
   no_memory : takes_memory r ≡ true → IsReason v who r refusal.NoMemory
 
--- a request that is accepted, with its answer, the blocks that it changes, those that INDEXF.SYS gets, and the counts of the bitmaps afterwards, where they are made anew
+-- a request that is accepted, with its answer, the blocks that it changes, those that INDEXF.SYS gets, the counts of the bitmaps afterwards, where they are made anew,
+-- and what is noted then of where a file's chain ends
 pub record Plan : Type 0 where
   pub entry : Entry
   pub changes : Changes
   pub places : List ℕ
   pub counts : Option Counts
+  pub end : Option KnownEnd
 
 -- the volume with the plan made
 unfoldable pub carried_out : State → Plan → State
@@ -61,6 +65,7 @@ pub record IsLawfulPlan (v : State) (p : Plan) : Type 0 where
   pub accepts : Accepts v p.entry (carried_out v p)
   pub lawful : IsLawful (carried_out v p)
   pub counted : AreCountsAfter v.image (applied v.image p.changes) v.layout p.counts
+  pub ended : IsKnownIn (applied v.image p.changes) (with_places v.layout p.places) p.end
 
 -- a version that is given is 1 to 32,767
 abbrev pub IsVersionNumber : ℕ → Type 0

@@ -11,6 +11,8 @@ use Rattle.ods_request.specs.declared.answers.Entry.{Entry}
 use Rattle.ods_request.specs.Catalogue.{Catalogue}
 use Rattle.ods_request.specs.Steps.{step}
 use Rattle.ods_state.specs.Version.{State, IsLawful, IsPresent}
+use Rattle.ods_state.specs.declared.known_end.KnownEnd.{KnownEnd}
+use Rattle.ods_state.specs.Ends.{IsKnownIn}
 use Rattle.ods_state.specs.Served.{IsStepOf}
 use Rattle.ods_state.specs.Outcome.{Accepts, IsLawfulPlan, carried_out, entry_of}
 use Rattle.ods_state.proofs.One.{present_is_shown}
@@ -50,15 +52,17 @@ module _ (v : State) (lawful : IsLawful v) (e : Entry) (J : List (List ℕ)) (M 
   }
 
 -- the plan of a step
-pub plan_is_lawful : (v : State) → IsLawful v → (session nth : ℕ) (who : Uic) (r : Request) (a : Answer) (d : Changes) (places : List ℕ) (counts : Option Counts) → length v.entries < v.limit
+pub plan_is_lawful : (v : State) → IsLawful v → (session nth : ℕ) (who : Uic) (r : Request) (a : Answer) (d : Changes) (places : List ℕ) (counts : Option Counts) (end : Option KnownEnd) → length v.entries < v.limit
     → IsStepOf v.image v.layout who r a (applied v.image d) (with_places v.layout places) → AreCountsAfter v.image (applied v.image d) v.layout counts
-    → IsLawfulPlan v (record { entry = entry_of session nth who r a; changes = d; places = places; counts = counts })
+    → IsKnownIn (applied v.image d) (with_places v.layout places) end
+    → IsLawfulPlan v (record { entry = entry_of session nth who r a; changes = d; places = places; counts = counts; end = end })
 unfolding carried_out
-plan_is_lawful v lawful session nth who r a d places counts room made counted =
+plan_is_lawful v lawful session nth who r a d places counts end room made counted ended =
     let e = entry_of session nth who r a in
     record {
       room = room;
       accepts = next_is_accepted v lawful e (applied v.image d) (with_places v.layout places) room made;
       lawful = next_is_lawful v lawful e (applied v.image d) (with_places v.layout places) room made;
       counted = counted;
+      ended = ended;
     }

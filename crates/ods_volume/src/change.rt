@@ -63,6 +63,7 @@ impl Volume {
         prepared.draft.apply(&mut self.image);
         self.layout.grow(&prepared.places);
         put_counts(&mut self.counts, prepared.counts);
+        self.end = prepared.end;
         prepared.lines
     }
 

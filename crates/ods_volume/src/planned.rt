@@ -6,11 +6,12 @@ ghost use Rattle.ods_volume.specs.Kept.{AreLinesOf};
 use ods_alloc::FreeCounts;
 use ods_request::{Answer, CompactRequest, Entry, Listing, Request};
 use ods_space::Draft;
+use ods_state::KnownEnd;
 use std::alloc::{AllocError, Global};
 use std::marker::Model;
 
 /// A request that is accepted, with its answer, the blocks that it changes, those that INDEXF.SYS gets, and the counts of the bitmaps
-/// afterwards, where they are made anew. The lines of a directory are there twice, once for the list and once for the caller, so that making the change takes no memory.
+/// afterwards, where they are made anew; and what is noted then of where a file's chain ends. The lines of a directory are there twice, once for the list and once for the caller, so that making the change takes no memory.
 #[derive(Drop)]
 pub struct Prepared {
     pub(crate) entry: Entry,
@@ -18,6 +19,7 @@ pub struct Prepared {
     pub(crate) draft: Draft,
     pub(crate) places: Vec<u32>,
     pub(crate) counts: Option<FreeCounts>,
+    pub(crate) end: Option<KnownEnd>,
 }
 
 impl Model for Prepared {
@@ -26,7 +28,7 @@ impl Model for Prepared {
 
     ghost Value = { Plan };
 
-    ghost view = { λ p. record { entry = p.entry; changes = p.draft; places = p.places.items; counts = p.counts } };
+    ghost view = { λ p. record { entry = p.entry; changes = p.draft; places = p.places.items; counts = p.counts; end = p.end } };
 
     ghost use Rattle.ods_volume.specs.Kept.{AreLinesOf};
 

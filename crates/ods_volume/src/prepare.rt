@@ -5,10 +5,10 @@ ghost use Rattle.ods_alloc.specs.Counts.{AreCountsAfter, counts_of};
 ghost use Rattle.ods_space.specs.{Draft.applied, Layout.VolumeLayout};
 ghost use Rattle.ods_mount.specs.Sound.{IsSoundBy};
 ghost use Rattle.ods_request.specs.{declared.refusals.Refusal.Refusal, declared.requests.Request.TheVariants.List as Lines, Catalogue.Catalogue, Faults.fault_of, Queries.request_of, Table.only_looks, Table.takes_memory};
-ghost use Rattle.ods_state.specs.{Version.IsPresent, Wants.Lacks, Served.IsStepOf, Served.IsRefusalOf, Outcome.CanBeAsked, Outcome.IsReason, Outcome.IsLawfulPlan, Outcome.entry_of};
-ghost use Rattle.ods_change.specs.Steps.{IsDraftFor};
-ghost use Rattle.ods_volume.specs.Made.{answer_of};
-ghost use Rattle.ods_space.specs.Disks.{drafted, on, seen};
+ghost use Rattle.ods_state.specs.{Version.IsPresent, Wants.Lacks, Served.IsStepOf, Served.IsRefusalOf, Ends.IsKnownIn, Outcome.CanBeAsked, Outcome.IsReason, Outcome.IsLawfulPlan, Outcome.entry_of};
+ghost use Rattle.ods_change.specs.Steps.{IsDraftFor, IsKnownThen};
+ghost use Rattle.ods_volume.specs.Made.{answer_of, end_of};
+ghost use Rattle.ods_space.specs.Disks.{on, seen};
 
 use crate::planned::{Prepared, kept, lines_of};
 use crate::volume::Volume;
@@ -18,52 +18,59 @@ use ods_change::{Drafted, create, delete, enter, extend, remove, set_user, trunc
 use ods_look::{list, look_into};
 use ods_request::{Answer, Entry, Query, Refusal, Request};
 use ods_space::{Disk, Draft};
+use ods_state::KnownEnd;
 use std::alloc::{AllocError, Global};
 
-/// Writes the answer of a query into this place. It changes no block.
+/// Writes the answer of a query into this place. It changes no block, and what is noted stays.
 fn look_only(
     alloc: Global,
     disk: &Disk<'_>,
     who: Uic,
     query: Query,
+    known: &Option<KnownEnd>,
     answer: &mut Answer,
-) -> Result<Drafted, Refusal>
-    requires { on IsSoundBy disk.now }
-    ensures { MatchResult result (λ d. IsDraftFor disk.now who (request_of query) answer.new d.draft d.places.items)
+) -> Result<(Drafted, Option<KnownEnd>), Refusal>
+    requires sound { on IsSoundBy disk.now }
+    requires known { on IsKnownIn disk.now known.now }
+    ensures end { IfOk result (λ r. IsKnownThen disk.now r.0.draft r.0.places.items r.1) }
+    ensures step { MatchResult result (λ r. IsDraftFor disk.now who (request_of query) answer.new r.0.draft r.0.places.items)
         (on IsRefusalOf disk.now who (request_of query)) }
 {
     match look_into(disk, who, query, answer) {
-        Ok(()) => Ok(Drafted::still(alloc, Draft::new(alloc))),
+        Ok(()) => Ok((Drafted::still(alloc, Draft::new(alloc)), *known)),
         Err(refusal) => Err(refusal),
     }
 }
 
-/// Writes the answer of a List into this place. It changes no block.
+/// Writes the answer of a List into this place. It changes no block, and what is noted stays.
 fn list_only(
     alloc: Global,
     disk: &Disk<'_>,
     who: Uic,
     dir: FileId,
+    known: &Option<KnownEnd>,
     answer: &mut Answer,
-) -> Result<Drafted, Refusal>
-    requires { on IsSoundBy disk.now }
-    ensures { MatchResult result (λ d. IsDraftFor disk.now who (Lines dir) answer.new d.draft d.places.items)
+) -> Result<(Drafted, Option<KnownEnd>), Refusal>
+    requires sound { on IsSoundBy disk.now }
+    requires known { on IsKnownIn disk.now known.now }
+    ensures end { IfOk result (λ r. IsKnownThen disk.now r.0.draft r.0.places.items r.1) }
+    ensures step { MatchResult result (λ r. IsDraftFor disk.now who (Lines dir) answer.new r.0.draft r.0.places.items)
         (on IsRefusalOf disk.now who (Lines dir)) }
 {
     match list(alloc, disk, who, dir) {
         Ok(lines) => {
             *answer = Answer::Names(lines);
-            Ok(Drafted::still(alloc, Draft::new(alloc)))
+            Ok((Drafted::still(alloc, Draft::new(alloc)), *known))
         }
         Err(refusal) => Err(refusal),
     }
 }
 
-/// What a change is answered. No such answer has a block or lines, so this is small and cheap to hand on.
+/// What a change is answered; of an Extend, where the chain of its file ends then, with the count of its blocks. No such answer has a block or lines, so this is small and cheap to hand on.
 #[derive(Clone, Copy)]
 pub(crate) enum Made {
     Created(FileId),
-    Extended(u32),
+    Extended(KnownEnd),
     Truncated(u32),
     Done,
     Entered(u16),
@@ -76,11 +83,21 @@ fn put_answer(answer: &mut Answer, made: Made)
 {
     match made {
         Made::Created(file) => *answer = Answer::Created(file),
-        Made::Extended(count) => *answer = Answer::Extended(count),
+        Made::Extended(end) => *answer = Answer::Extended(end.blocks),
         Made::Truncated(count) => *answer = Answer::Truncated(count),
         Made::Done => *answer = Answer::Done,
         Made::Entered(version) => *answer = Answer::Entered(version),
         Made::Removed(file, version) => *answer = Answer::Removed(file, version),
+    }
+}
+
+/// What is noted after a change of where a file's chain ends. What was noted before need not be true any more.
+fn end_of(made: &Made) -> Option<KnownEnd>
+    ensures { result ≡ end_of made.now }
+{
+    match made {
+        Made::Extended(end) => Some(*end),
+        _ => None,
     }
 }
 
@@ -91,12 +108,15 @@ fn change(
     counts: &FreeCounts,
     who: Uic,
     request: &Request,
+    known: &Option<KnownEnd>,
 ) -> Result<(Made, Drafted), Refusal>
     requires asked { CanBeAsked request.now }
     requires changes { only_looks request.now ≡ false }
     requires sound { on IsSoundBy disk.now }
     requires counts { counts.now ≡ seen counts_of disk.now }
-    ensures { MatchResult result (λ p. IsDraftFor disk.now who request.now (answer_of p.0) p.1.draft p.1.places.items)
+    requires known { on IsKnownIn disk.now known.now }
+    ensures end { IfOk result (λ p. IsKnownThen disk.now p.1.draft p.1.places.items (end_of p.0)) }
+    ensures step { MatchResult result (λ p. IsDraftFor disk.now who request.now (answer_of p.0) p.1.draft p.1.places.items)
         (on IsRefusalOf disk.now who request.now) }
 {
     match request {
@@ -110,8 +130,8 @@ fn change(
             Err(refusal) => Err(refusal),
         },
         Request::Extend { file, blocks } => {
-            match extend(alloc, disk, counts, who, *file, *blocks) {
-                Ok((drafted, count)) => Ok((Made::Extended(count), drafted)),
+            match extend(alloc, disk, counts, who, *file, *blocks, known) {
+                Ok((drafted, end)) => Ok((Made::Extended(end), drafted)),
                 Err(refusal) => Err(refusal),
             }
         }
@@ -160,31 +180,35 @@ fn change(
     }
 }
 
-/// Writes what a request is answered into this place, and gives what it makes of the volume.
+/// Writes what a request is answered into this place, and gives what it makes of the volume, with what is noted then.
 fn carry_out(
     alloc: Global,
     disk: &Disk<'_>,
     counts: &FreeCounts,
     who: Uic,
     request: &Request,
+    known: &Option<KnownEnd>,
     answer: &mut Answer,
-) -> Result<Drafted, Refusal>
+) -> Result<(Drafted, Option<KnownEnd>), Refusal>
     requires asked { CanBeAsked request.now }
     requires sound { on IsSoundBy disk.now }
     requires counts { counts.now ≡ seen counts_of disk.now }
-    ensures { MatchResult result (λ d. IsDraftFor disk.now who request.now answer.new d.draft d.places.items)
+    requires known { on IsKnownIn disk.now known.now }
+    ensures end { IfOk result (λ r. IsKnownThen disk.now r.0.draft r.0.places.items r.1) }
+    ensures step { MatchResult result (λ r. IsDraftFor disk.now who request.now answer.new r.0.draft r.0.places.items)
         (on IsRefusalOf disk.now who request.now) }
 {
     if let Some(query) = request.as_query() {
-        return look_only(alloc, disk, who, query, answer);
+        return look_only(alloc, disk, who, query, known, answer);
     }
     if let Request::List { dir } = request {
-        return list_only(alloc, disk, who, *dir, answer);
+        return list_only(alloc, disk, who, *dir, known, answer);
     }
-    match change(alloc, disk, counts, who, request) {
+    match change(alloc, disk, counts, who, request, known) {
         Ok((made, drafted)) => {
+            let end = end_of(&made);
             put_answer(answer, made);
-            Ok(drafted)
+            Ok((drafted, end))
         }
         Err(refusal) => Err(refusal),
     }
@@ -210,7 +234,6 @@ fn counts_after(
 }
 
 impl Volume {
-    ghost use Rattle.ods_space.specs.Disks.{drafted};
     /// What a request would do, with all the memory that it takes: where it is given, the change itself takes none.
     pub fn prepare(
         &self,
@@ -242,8 +265,16 @@ impl Volume {
             layout: &self.layout,
         };
         let mut answer = Answer::Done;
-        let drafted = match carry_out(alloc, &disk, &self.counts, who, &request, &mut answer) {
-            Ok(drafted) => drafted,
+        let (drafted, end) = match carry_out(
+            alloc,
+            &disk,
+            &self.counts,
+            who,
+            &request,
+            &self.end,
+            &mut answer,
+        ) {
+            Ok(carried) => carried,
             Err(refusal) => return Err(refusal),
         };
         let Ok(counts) = counts_after(&self.counts, &disk, &request, &drafted.draft) else {
@@ -267,6 +298,7 @@ impl Volume {
             draft: drafted.draft,
             places: drafted.places,
             counts,
+            end,
         })
     }
 }

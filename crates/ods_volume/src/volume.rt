@@ -11,11 +11,13 @@ use ods_base::{FixedImage, Image, NoMemory};
 use ods_mount::Mounted;
 use ods_request::Entry;
 use ods_space::{Disk, Layout};
+use ods_state::KnownEnd;
 use std::alloc::Global;
 use std::marker::Model;
 
 /// A mounted image that changes by requests, and the list of those that were accepted. What is free is counted for
-/// each block of the bitmaps, so that a request reads none of which nothing is left.
+/// each block of the bitmaps, so that a request reads none of which nothing is left. Where the chain of the file ends that was
+/// extended last is noted, so that its next Extend does not walk along it.
 #[derive(Drop)]
 pub struct Volume {
     pub(crate) mounted: FixedImage,
@@ -24,6 +26,7 @@ pub struct Volume {
     pub(crate) entries: Vec<Entry>,
     pub(crate) limit: u32,
     pub(crate) counts: FreeCounts,
+    pub(crate) end: Option<KnownEnd>,
 }
 
 impl Model for Volume {
@@ -36,7 +39,7 @@ impl Model for Volume {
 
     ghost view = { state_of };
 
-    ghost invariant = { λ v. IsKept (state_of v) (vec_capacity v.entries) v.counts };
+    ghost invariant = { λ v. IsKept (state_of v) (vec_capacity v.entries) v.counts v.end };
 }
 
 impl Volume {
@@ -65,6 +68,7 @@ impl Volume {
                 entries,
                 limit,
                 counts,
+                end: None,
             }),
             Err(mounted) => Err((mounted, NoMemory)),
         }

@@ -7,7 +7,7 @@ use super::trial::{Trial, counts_bits, has_counts, has_totals, on_sample, plays}
 use crate::dice::Dice;
 use crate::persons::FIRST;
 use ods_request::{Answer, Refusal};
-use ods_space::{Disk, locate};
+use ods_space::locate;
 use std::alloc::Global;
 use std::process::Abort;
 use std::test::Fail;
@@ -29,10 +29,7 @@ fn takes_second(rt: &impl Abort, alloc: Global, it: &mut Trial) -> Result<(), Fa
         it,
         &[(extend(FIRST, 1), Ok(Answer::Extended(4_074)))],
     )?;
-    let disk = Disk {
-        image: it.volume.image(),
-        layout: it.volume.layout(),
-    };
+    let disk = it.volume.disk();
     assert!(rt; locate(&disk, 6, 4_074) == Some(4_096));
     has_counts(rt, it, &[0, 103]);
     plays(

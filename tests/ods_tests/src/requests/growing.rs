@@ -14,7 +14,7 @@ use Refusal::{BadCount, HeadersFull, NoSuchBlock, NoSuchFile, Reserved, VolumeFu
 use ods_base::{Block, Image};
 use ods_header::{Header, Run, read_header};
 use ods_request::{Answer, Kind, Refusal, Stat};
-use ods_space::{Disk, locate};
+use ods_space::locate;
 use std::alloc::Global;
 use std::process::Abort;
 use std::test::Fail;
@@ -232,10 +232,7 @@ fn has_two_runs(rt: &impl Abort, it: &Trial) -> Result<(), Fail> {
     let header = header_of(it.volume.image(), 6)?;
     let wanted = [run(22, 256), run(278, 44)];
     assert!(rt; header.runs().as_slice() == wanted.as_slice());
-    let disk = Disk {
-        image: it.volume.image(),
-        layout: it.volume.layout(),
-    };
+    let disk = it.volume.disk();
     assert!(rt; locate(&disk, 6, 257) == Some(278));
     has_totals(rt, it, (1, 190, 10));
     Ok(())

@@ -8,7 +8,6 @@ use crate::persons::USER;
 use crate::settings::number_of;
 use ods_request::Answer;
 use ods_share::{Desk, Naming, Viewer};
-use ods_space::Disk;
 use ods_volume::{Volume, look};
 use std::alloc::{AllocError, Global};
 use std::marker::Brand;
@@ -28,10 +27,7 @@ const REST: u64 = 20;
 
 /// How many of so many looks at the volume in hand show a block.
 fn looks(volume: &Volume, count: u32) -> u32 {
-    let disk = Disk {
-        image: volume.image(),
-        layout: volume.layout(),
-    };
+    let disk = volume.disk();
     let mut shown = 0u32;
     for _k in 0..count {
         if let Ok(Answer::Bytes(_)) = look(&disk, USER, block_viewed()) {

@@ -1,12 +1,17 @@
-use Rattle.std.proofs.Common.{◌≡◌, ℕ, ◌+◌, List, ◌∷◌, None, length, ap, sym, ◌∙◌, refl, subst, inl, inr}
+use Rattle.std.proofs.Common.{◌≡◌, ℕ, ◌+◌, List, ◌≤◌, ◌∷◌, ◌++◌, None, length, ap, sym, ◌∙◌, refl, subst, inl, inr, arith}
 use Rattle.std.specs.Prelude.{unwrap_or}
 use Rattle.ods_request.specs.declared.answers.Answer.TheVariants.{Extended}
 use Rattle.ods_request.specs.declared.requests.Request.TheVariants.{Extend}
+use Rattle.ods_space.specs.Chain.{IsChain}
 use Rattle.ods_space.specs.Draft.{applied}
 use Rattle.ods_space.specs.Layout.{VolumeLayout, header_at, with_places}
+use Rattle.ods_alloc.specs.Extend.{last_of}
+use Rattle.ods_state.specs.declared.known_end.KnownEnd.{KnownEnd}
+use Rattle.ods_state.specs.Ends.{IsEndKnown}
 use Rattle.ods_state.specs.Wants.{index_blocks, lack_of, room_in, taken_blocks, taken_numbers}
 use Rattle.ods_state.specs.Served.{IsRefusalOf, IsStepOf}
 use Rattle.ods_state.proofs.Chains.{first_in}
+use Rattle.ods_state.proofs.GrownContents.{so_many_blocks}
 use Rattle.ods_state.proofs.Served.{refused_by_fault, refused_for_memory}
 use Rattle.ods_change.specs.Beginning.{IsBegun}
 use Rattle.ods_change.specs.Extending.{IsExtensible, IsGrownBy, IsWanted}
@@ -14,31 +19,32 @@ use Rattle.ods_change.specs.Taking.{IsEndOf, Takes}
 use Rattle.ods_change.proofs.Begun.{IsAsked, IsKept, can_begin, kept, step_of}
 use Rattle.ods_change.proofs.BegunFiles.{above_reserved, asked_of_extend, end_kept, extensible_then}
 use Rattle.ods_change.proofs.ExtendingFile.{extend_is_step, has, refused_for_lack}
+use Rattle.ods_change.proofs.KnownEnds.{grown_known}
 use Rattle.ods_change.proofs.extend_file.extend.Goals as goal
-use Rattle.ods_change.proofs.extend_file.extend.Goals.{After-layout_then-then, After-of-end}
+use Rattle.ods_change.proofs.extend_file.extend.Goals.{After-layout_then-then, After-found-end}
 
-pub returns-in-Err : goal.returns-in-Err
-returns-in-Err c = refused_by_fault c.args.disk.now.image.now c.args.disk.now.layout.now c.args.who (Extend c.args.file c.args.count) c.in-Err.refusal c.in-Err.ensures.err
+pub returns-in-Err-clause-step : goal.returns-in-Err-clause-step
+returns-in-Err-clause-step c = refused_by_fault c.args.disk.now.image.now c.args.disk.now.layout.now c.args.who (Extend c.args.file c.args.count) c.in-Err.refusal c.in-Err.ensures.err
 
-pub of-end-requires-clause-whole : goal.of-end-requires-clause-whole
-of-end-requires-clause-whole c = let o = c.in-Ok.ensures.ok.0 in (_, o.lbns, has c.requires.sound o)
+pub found-end-requires-clause-whole : goal.found-end-requires-clause-whole
+found-end-requires-clause-whole c = let o = c.in-Ok.ensures.ok.0 in (_, o.lbns, has c.requires.sound o)
 
 -- how the chain of the file ends
-ends : (c : After-of-end) → let o = c.in-Ok.ensures.ok.0 in
-    (length (c.args.file.number ∷ o.held.others) ≡ c.of-end.result.headers) × (c.of-end.result.blocks ≡ length o.lbns)
-    × (room_in c.args.disk.now.image.now c.args.disk.now.layout.now (c.args.file.number ∷ o.held.others) ≡ c.of-end.result.room)
+ends : (c : After-found-end) → let o = c.in-Ok.ensures.ok.0 in
+    (length (c.args.file.number ∷ o.held.others) ≡ c.found-end.result.headers) × (c.found-end.result.blocks ≡ length o.lbns)
+    × (room_in c.args.disk.now.image.now c.args.disk.now.layout.now (c.args.file.number ∷ o.held.others) ≡ c.found-end.result.room)
 ends c =
     let o = c.in-Ok.ensures.ok.0 in
-    let end = c.of-end.ensures.end (c.args.file.number ∷ o.held.others) o.lbns (has c.requires.sound o) in
+    let end = c.found-end.ensures.end (c.args.file.number ∷ o.held.others) o.lbns (has c.requires.sound o) in
     (sym end.0, end.1, sym end.2)
 
-pub returns-in-Err-take : goal.returns-in-Err-take
-returns-in-Err-take c =
+pub returns-in-Err-take-clause-step : goal.returns-in-Err-take-clause-step
+returns-in-Err-take-clause-step c =
     let I = c.args.disk.now.image.now in
     let L = c.args.disk.now.layout.now in
     let r = Extend c.args.file c.args.count in
     let o = c.in-Ok.ensures.ok.0 in
-    let end = ends (goal.at.returns-in-Err-take c).After-of-end in
+    let end = ends (goal.at.returns-in-Err-take-clause-step c).After-found-end in
     elim c.in-Err-take.ensures.err [
       | inl none ↦ subst (IsRefusalOf I L c.args.who r) (sym none) (refused_for_memory I L c.args.who r refl o.fine)
       | inr lacks ↦ refused_for_lack I L c.args.who r c.in-Err-take.refusal (record {
@@ -79,8 +85,8 @@ module _ (c : After-layout_then-then) where
   abbrev places : List ℕ
   places = c.in-Ok-take.taken.places.items
 
-  end : (c.of-end.result.headers ≡ length headers) × (c.of-end.result.blocks ≡ length o.lbns) × (c.of-end.result.room ≡ room_in I L headers)
-  end = c.of-end.ensures.end headers o.lbns (has c.requires.sound o)
+  end : (c.found-end.result.headers ≡ length headers) × (c.found-end.result.blocks ≡ length o.lbns) × (c.found-end.result.room ≡ room_in I L headers)
+  end = c.found-end.ensures.end headers o.lbns (has c.requires.sound o)
 
   got : Takes I L headers count c.in-Ok-take.taken
   got = c.in-Ok-take.ensures.ok headers (sym end.0) (sym end.2)
@@ -110,19 +116,30 @@ module _ (c : After-layout_then-then) where
   first_is : c.in-Ok.first.now ≡ header_at K M n
   first_is = c.in-Ok.ensures.ok.1 ∙ sym (k.own n (first_in n o.held.others))
 
-  end_is : IsEndOf K M n c.of-end.result
-  end_is = end_kept c.of-end.result (has c.requires.sound o) (k.has n (above_reserved o) (has c.requires.sound o)) k.own c.of-end.ensures.last
+  end_is : IsEndOf K M n c.found-end.result
+  end_is = end_kept c.found-end.result (has c.requires.sound o) (k.has n (above_reserved o) (has c.requires.sound o)) k.own c.found-end.ensures.last
 
-  made : (J : List (List ℕ)) → IsGrownBy K M n headers o.lbns count c.in-Ok-take.taken.numbers.items J
-      → IsStepOf I L c.args.who (Extend c.args.file count) (Extended (c.of-end.result.blocks + count)) J (with_places L places)
-  made J g =
-      step_of asked begun J c.args.who (Extended (c.of-end.result.blocks + count))
-      (extend_is_step k.sound (extensible_then o k) g k.image (c.of-end.result.blocks + count) (ap (λ b. b + count) end.1) k.wants.enough)
+  made : (J : List (List ℕ)) → IsGrownBy K M n headers o.lbns count c.in-Ok-take.taken.numbers.items J → (total : ℕ) → total ≡ c.found-end.result.blocks + count
+      → IsStepOf I L c.args.who (Extend c.args.file count) (Extended total) J (with_places L places)
+  made J g total is =
+      step_of asked begun J c.args.who (Extended total)
+      (extend_is_step k.sound (extensible_then o k) g k.image total (is ∙ ap (λ b. b + count) end.1) k.wants.enough)
+
+  -- where the chain ends then
+  known_then : (J : List (List ℕ)) → IsGrownBy K M n headers o.lbns count c.in-Ok-take.taken.numbers.items J → (numbers : List ℕ) → numbers ≡ c.in-Ok-take.taken.numbers.items
+      → (now : KnownEnd) → now.file ≡ n → now.headers ≡ c.found-end.result.headers + length numbers → now.blocks ≡ c.found-end.result.blocks + count
+      → now.last ≡ last_of c.found-end.result.number numbers → IsEndKnown J (with_places L places) now
+  known_then J g numbers same now own many blocks last =
+      let long = so_many_blocks k.sound g.grown in
+      subst (λ N. IsEndKnown J N now) begun.layout
+      (grown_known J M now n o.held.others numbers o.lbns (taken_blocks K M count) (subst (λ l. IsChain J M n (o.held.others ++ l) (o.lbns ++ taken_blocks K M count)) (sym same) g.grown.chain)
+      own (omega (arith, many, end.0)) (omega (arith, blocks, end.1, long))
+      (last ∙ ap (λ m. last_of m numbers) (c.found-end.ensures.last.number o.held.others o.lbns o.held.whole.chain)))
 
 pub begin-requires-clause-can : goal.begin-requires-clause-can
 begin-requires-clause-can c =
     let o = c.in-Ok.ensures.ok.0 in
-    let end = c.of-end.ensures.end (c.args.file.number ∷ o.held.others) o.lbns (has c.requires.sound o) in
+    let end = c.found-end.ensures.end (c.args.file.number ∷ o.held.others) o.lbns (has c.requires.sound o) in
     let got = c.in-Ok-take.ensures.ok (c.args.file.number ∷ o.held.others) (sym end.0) (sym end.2) in
     can_begin (c.args.file.number ∷ o.held.others) c.args.count c.requires.sound got.3 (c.deref.ensures.value ∙ got.2)
 
@@ -146,13 +163,22 @@ grown-requires-clause-wanted c =
     let at = (goal.at.grown-requires-clause-wanted c).After-layout_then-then in
     (headers at, (o at).lbns, c.args.count, wanted at)
 
-pub returns-in-Ok-grown : goal.returns-in-Ok-grown
-returns-in-Ok-grown c =
-    let at = (goal.at.returns-in-Ok-grown c).After-layout_then-then in
-    made at (applied c.args.disk.now.image.now c.in-Ok-grown.draft) (c.in-Ok-grown.ensures (headers at) (o at).lbns c.args.count (wanted at))
+pub returns-in-Ok-grown-clause-step : goal.returns-in-Ok-grown-clause-step
+returns-in-Ok-grown-clause-step c =
+    let at = (goal.at.returns-in-Ok-grown-clause-step c).After-layout_then-then in
+    made at (applied c.args.disk.now.image.now c.in-Ok-grown.draft) (c.in-Ok-grown.ensures (headers at) (o at).lbns c.args.count (wanted at)) c.with-end.result.blocks c.with-end.ensures.blocks
 
-pub returns-in-Err-begin : goal.returns-in-Err-begin
-returns-in-Err-begin c = refused_for_memory c.args.disk.now.image.now c.args.disk.now.layout.now c.args.who (Extend c.args.file c.args.count) refl c.in-Ok.ensures.ok.0.fine
+pub with-end-requires-clause-few : goal.with-end-requires-clause-few
+with-end-requires-clause-few c = subst (λ l. c.found-end.result.headers + length l ≤ 256) (sym c.deref-in-Ok-grown.ensures.value) c.in-Ok-take.ensures.few
 
-pub returns-in-Err-grown : goal.returns-in-Err-grown
-returns-in-Err-grown c = refused_for_memory c.args.disk.now.image.now c.args.disk.now.layout.now c.args.who (Extend c.args.file c.args.count) refl c.in-Ok.ensures.ok.0.fine
+pub returns-in-Ok-grown-clause-end : goal.returns-in-Ok-grown-clause-end
+returns-in-Ok-grown-clause-end c =
+    let at = (goal.at.returns-in-Ok-grown-clause-end c).After-layout_then-then in
+    known_then at (applied c.args.disk.now.image.now c.in-Ok-grown.draft) (c.in-Ok-grown.ensures (headers at) (o at).lbns c.args.count (wanted at)) c.deref-in-Ok-grown.result.now c.deref-in-Ok-grown.ensures.value
+    c.with-end.result c.with-end.ensures.file c.with-end.ensures.headers c.with-end.ensures.blocks c.with-end.ensures.last
+
+pub returns-in-Err-begin-clause-step : goal.returns-in-Err-begin-clause-step
+returns-in-Err-begin-clause-step c = refused_for_memory c.args.disk.now.image.now c.args.disk.now.layout.now c.args.who (Extend c.args.file c.args.count) refl c.in-Ok.ensures.ok.0.fine
+
+pub returns-in-Err-grown-clause-step : goal.returns-in-Err-grown-clause-step
+returns-in-Err-grown-clause-step c = refused_for_memory c.args.disk.now.image.now c.args.disk.now.layout.now c.args.who (Extend c.args.file c.args.count) refl c.in-Ok.ensures.ok.0.fine

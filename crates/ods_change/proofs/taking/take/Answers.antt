@@ -92,3 +92,9 @@ returns-clause-ok c = λ hs count room.
 
 pub returns-clause-runs : goal.returns-clause-runs
 returns-clause-runs c = c.in-Ok-runs_of_blocks.ensures.cut ∙ ap cut c.deref.ensures.value
+
+pub returns-clause-few : goal.returns-clause-few
+returns-clause-few c =
+    let few = c.if-headers-needed-gt256.false in
+    let got = c.in-Ok-pick_open_numbers.ensures.ok in
+    omega (arith, few, ap length got.0 ∙ length-take-le c.headers_wanted-needed.result (open_numbers c.args.disk.now.image.now c.args.disk.now.layout.now) got.1)

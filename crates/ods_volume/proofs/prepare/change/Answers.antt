@@ -9,53 +9,53 @@ unreachable-requires c =
     no_other c.args.request.now c.requires.changes c.in_default.not-Create c.in_default.not-Extend c.in_default.not-Truncate c.in_default.not-Delete c.in_default.not-Enter
     c.in_default.not-Write c.in_default.not-SetUser c.in_default.not-Remove
 
-pub returns-in-Ok-write : goal.returns-in-Ok-write
-returns-in-Ok-write c = step_as c.in-Write.is (step_still c.still-in-Ok-write.result c.still-in-Ok-write.ensures.draft c.still-in-Ok-write.ensures.places c.in-Ok-write.ensures)
+pub returns-in-Ok-write-clause-step : goal.returns-in-Ok-write-clause-step
+returns-in-Ok-write-clause-step c = step_as c.in-Write.is (step_still c.still-in-Ok-write.result c.still-in-Ok-write.ensures.draft c.still-in-Ok-write.ensures.places c.in-Ok-write.ensures)
 
-pub returns-in-Err-write : goal.returns-in-Err-write
-returns-in-Err-write c = refused_as c.args.who c.in-Err-write.refusal c.in-Write.is c.in-Err-write.ensures
+pub returns-in-Err-write-clause-step : goal.returns-in-Err-write-clause-step
+returns-in-Err-write-clause-step c = refused_as c.args.who c.in-Err-write.refusal c.in-Write.is c.in-Err-write.ensures
 
-pub returns-in-Ok-set_user : goal.returns-in-Ok-set_user
-returns-in-Ok-set_user c = step_as c.in-SetUser.is (step_still c.still-in-Ok-set_user.result c.still-in-Ok-set_user.ensures.draft c.still-in-Ok-set_user.ensures.places c.in-Ok-set_user.ensures)
+pub returns-in-Ok-set_user-clause-step : goal.returns-in-Ok-set_user-clause-step
+returns-in-Ok-set_user-clause-step c = step_as c.in-SetUser.is (step_still c.still-in-Ok-set_user.result c.still-in-Ok-set_user.ensures.draft c.still-in-Ok-set_user.ensures.places c.in-Ok-set_user.ensures)
 
-pub returns-in-Err-set_user : goal.returns-in-Err-set_user
-returns-in-Err-set_user c = refused_as c.args.who c.in-Err-set_user.refusal c.in-SetUser.is c.in-Err-set_user.ensures
+pub returns-in-Err-set_user-clause-step : goal.returns-in-Err-set_user-clause-step
+returns-in-Err-set_user-clause-step c = refused_as c.args.who c.in-Err-set_user.refusal c.in-SetUser.is c.in-Err-set_user.ensures
 
-pub returns-in-Ok-remove : goal.returns-in-Ok-remove
-returns-in-Ok-remove c = step_as c.in-Remove.is (step_still c.still-drafted.result c.still-drafted.ensures.draft c.still-drafted.ensures.places c.in-Ok-remove.ensures)
+pub returns-in-Ok-remove-clause-step : goal.returns-in-Ok-remove-clause-step
+returns-in-Ok-remove-clause-step c = step_as c.in-Remove.is (step_still c.still-drafted.result c.still-drafted.ensures.draft c.still-drafted.ensures.places c.in-Ok-remove.ensures)
 
-pub returns-in-Err-remove : goal.returns-in-Err-remove
-returns-in-Err-remove c = refused_as c.args.who c.in-Err-remove.refusal c.in-Remove.is c.in-Err-remove.ensures
+pub returns-in-Err-remove-clause-step : goal.returns-in-Err-remove-clause-step
+returns-in-Err-remove-clause-step c = refused_as c.args.who c.in-Err-remove.refusal c.in-Remove.is c.in-Err-remove.ensures
 
-pub returns-in-Ok : goal.returns-in-Ok
-returns-in-Ok c = step_as c.in-Create.is c.in-Ok.ensures
+pub returns-in-Ok-clause-step : goal.returns-in-Ok-clause-step
+returns-in-Ok-clause-step c = step_as c.in-Create.is c.in-Ok.ensures
 
-pub returns-in-Err : goal.returns-in-Err
-returns-in-Err c = refused_as c.args.who c.in-Err.refusal c.in-Create.is c.in-Err.ensures
+pub returns-in-Err-clause-step : goal.returns-in-Err-clause-step
+returns-in-Err-clause-step c = refused_as c.args.who c.in-Err.refusal c.in-Create.is c.in-Err.ensures
 
-pub returns-in-Ok-extend : goal.returns-in-Ok-extend
-returns-in-Ok-extend c = step_as c.in-Extend.is c.in-Ok-extend.ensures
+pub returns-in-Ok-extend-clause-step : goal.returns-in-Ok-extend-clause-step
+returns-in-Ok-extend-clause-step c = step_as c.in-Extend.is c.in-Ok-extend.ensures.step
 
-pub returns-in-Err-extend : goal.returns-in-Err-extend
-returns-in-Err-extend c = refused_as c.args.who c.in-Err-extend.refusal c.in-Extend.is c.in-Err-extend.ensures
+pub returns-in-Err-extend-clause-step : goal.returns-in-Err-extend-clause-step
+returns-in-Err-extend-clause-step c = refused_as c.args.who c.in-Err-extend.refusal c.in-Extend.is c.in-Err-extend.ensures.step
 
-pub returns-in-Ok-truncate : goal.returns-in-Ok-truncate
-returns-in-Ok-truncate c = step_as c.in-Truncate.is (step_still c.still.result c.still.ensures.draft c.still.ensures.places c.in-Ok-truncate.ensures)
+pub returns-in-Ok-truncate-clause-step : goal.returns-in-Ok-truncate-clause-step
+returns-in-Ok-truncate-clause-step c = step_as c.in-Truncate.is (step_still c.still.result c.still.ensures.draft c.still.ensures.places c.in-Ok-truncate.ensures)
 
-pub returns-in-Err-truncate : goal.returns-in-Err-truncate
-returns-in-Err-truncate c = refused_as c.args.who c.in-Err-truncate.refusal c.in-Truncate.is c.in-Err-truncate.ensures
+pub returns-in-Err-truncate-clause-step : goal.returns-in-Err-truncate-clause-step
+returns-in-Err-truncate-clause-step c = refused_as c.args.who c.in-Err-truncate.refusal c.in-Truncate.is c.in-Err-truncate.ensures
 
-pub returns-in-Ok-delete : goal.returns-in-Ok-delete
-returns-in-Ok-delete c = step_as c.in-Delete.is (step_still c.still-in-Ok-delete.result c.still-in-Ok-delete.ensures.draft c.still-in-Ok-delete.ensures.places c.in-Ok-delete.ensures)
+pub returns-in-Ok-delete-clause-step : goal.returns-in-Ok-delete-clause-step
+returns-in-Ok-delete-clause-step c = step_as c.in-Delete.is (step_still c.still-in-Ok-delete.result c.still-in-Ok-delete.ensures.draft c.still-in-Ok-delete.ensures.places c.in-Ok-delete.ensures)
 
-pub returns-in-Err-delete : goal.returns-in-Err-delete
-returns-in-Err-delete c = refused_as c.args.who c.in-Err-delete.refusal c.in-Delete.is c.in-Err-delete.ensures
+pub returns-in-Err-delete-clause-step : goal.returns-in-Err-delete-clause-step
+returns-in-Err-delete-clause-step c = refused_as c.args.who c.in-Err-delete.refusal c.in-Delete.is c.in-Err-delete.ensures
 
-pub returns-in-Ok-enter : goal.returns-in-Ok-enter
-returns-in-Ok-enter c = step_as c.in-Enter.is c.in-Ok-enter.ensures
+pub returns-in-Ok-enter-clause-step : goal.returns-in-Ok-enter-clause-step
+returns-in-Ok-enter-clause-step c = step_as c.in-Enter.is c.in-Ok-enter.ensures
 
-pub returns-in-Err-enter : goal.returns-in-Err-enter
-returns-in-Err-enter c = refused_as c.args.who c.in-Err-enter.refusal c.in-Enter.is c.in-Err-enter.ensures
+pub returns-in-Err-enter-clause-step : goal.returns-in-Err-enter-clause-step
+returns-in-Err-enter-clause-step c = refused_as c.args.who c.in-Err-enter.refusal c.in-Enter.is c.in-Err-enter.ensures
 
 pub create-requires-clause-asked : goal.create-requires-clause-asked
 create-requires-clause-asked c = subst CanBeAsked c.in-Create.is c.requires.asked

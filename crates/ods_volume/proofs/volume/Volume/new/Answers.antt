@@ -16,4 +16,5 @@ invariant_of-result c =
       high = c.requires.high;
       reserved = omega (arith, c.in-Ok.ensures.exact);
       counted = c.in-Ok-of.ensures ∙ ((λ i. counts_of (c.disk.ensures.image i) (c.disk.ensures.layout i)) ∙ (λ i. counts_of (sym parts.1 i) (sym parts.2 i)));
+      known = tt;
     }

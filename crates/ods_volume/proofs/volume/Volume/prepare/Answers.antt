@@ -20,15 +20,15 @@ returns-then-len-self-clause-reason c =
 
 pub returns-clause-refused : goal.returns-clause-refused
 returns-clause-refused c = λ C f room present e.
-    absurd (step_has_none (state_of c.self.inside) c.self.invariant.lawful c.args.who c.args.request c.carry_out.new.answer (applied c.self.inside.image c.in-Ok.drafted.draft) (with_places c.self.inside.layout c.in-Ok.drafted.places.items) c.in-Ok.ensures C f (subst (λ w. IsPresent w C) (sym c.self.view_is) present) e)
+    absurd (step_has_none (state_of c.self.inside) c.self.invariant.lawful c.args.who c.args.request c.carry_out.new.answer (applied c.self.inside.image c.in-Ok.carried.0.draft) (with_places c.self.inside.layout c.in-Ok.carried.0.places.items) c.in-Ok.ensures.step C f (subst (λ w. IsPresent w C) (sym c.self.view_is) present) e)
 
 pub returns-clause-plan : goal.returns-clause-plan
 returns-clause-plan c =
     let room : length c.self.inside.entries.items < c.self.inside.limit = omega arith in
-    let d = c.in-Ok.drafted in
-    let lawful = plan_is_lawful (state_of c.self.inside) c.self.invariant.lawful c.args.session c.args.nth c.args.who c.args.request c.carry_out.new.answer d.draft d.places.items c.in-Ok-counts_after.counts room c.in-Ok.ensures c.in-Ok-counts_after.ensures.ok in
+    let d = c.in-Ok.carried.0 in
+    let lawful = plan_is_lawful (state_of c.self.inside) c.self.invariant.lawful c.args.session c.args.nth c.args.who c.args.request c.carry_out.new.answer d.draft d.places.items c.in-Ok-counts_after.counts c.in-Ok.carried.1 room c.in-Ok.ensures.step c.in-Ok-counts_after.ensures.ok c.in-Ok.ensures.end in
     let entry : Request → Entry = λ r. entry_of c.args.session c.args.nth c.args.who r c.carry_out.new.answer in
-    let plan : Request → Plan = λ r. record { entry = entry r; changes = d.draft; places = d.places.items; counts = c.in-Ok-counts_after.counts } in
+    let plan : Request → Plan = λ r. record { entry = entry r; changes = d.draft; places = d.places.items; counts = c.in-Ok-counts_after.counts; end = c.in-Ok.carried.1 } in
     let here : IsLawfulPlan c.args.self.now (plan c.args.request) = subst (λ w. IsLawfulPlan w (plan c.args.request)) c.self.view_is lawful in (
       subst (λ r. IsLawfulPlan c.args.self.now (plan r)) (sym c.in-Ok-kept.ensures.ok) here,
       ap entry c.in-Ok-kept.ensures.ok,
@@ -36,45 +36,45 @@ returns-clause-plan c =
 
 pub returns-clause-lacking : goal.returns-clause-lacking
 returns-clause-lacking c = λ f lacks.
-    absurd (c.in-Ok.ensures.enough f (subst (λ (w : State). Lacks w.image w.layout c.args.request f) (sym c.self.view_is) lacks))
+    absurd (c.in-Ok.ensures.step.enough f (subst (λ (w : State). Lacks w.image w.layout c.args.request f) (sym c.self.view_is) lacks))
 
 pub returns-in_default-lines_of-clause-refused : goal.returns-in_default-lines_of-clause-refused
 returns-in_default-lines_of-clause-refused c = λ C f room present e.
-    absurd (step_has_none (state_of c.self.inside) c.self.invariant.lawful c.args.who c.args.request c.carry_out.new.answer (applied c.self.inside.image c.in-Ok.drafted.draft) (with_places c.self.inside.layout c.in-Ok.drafted.places.items) c.in-Ok.ensures C f (subst (λ w. IsPresent w C) (sym c.self.view_is) present) e)
+    absurd (step_has_none (state_of c.self.inside) c.self.invariant.lawful c.args.who c.args.request c.carry_out.new.answer (applied c.self.inside.image c.in-Ok.carried.0.draft) (with_places c.self.inside.layout c.in-Ok.carried.0.places.items) c.in-Ok.ensures.step C f (subst (λ w. IsPresent w C) (sym c.self.view_is) present) e)
 
 pub returns-in_default-lines_of-clause-reason : goal.returns-in_default-lines_of-clause-reason
 returns-in_default-lines_of-clause-reason c =
-    no_memory (copy_takes_memory (state_of c.self.inside) c.self.invariant.lawful c.args.who c.args.request c.carry_out.new.answer (applied c.self.inside.image c.in-Ok.drafted.draft) (with_places c.self.inside.layout c.in-Ok.drafted.places.items) c.in-Ok.ensures c.in_default-lines_of.ensures.err)
+    no_memory (copy_takes_memory (state_of c.self.inside) c.self.invariant.lawful c.args.who c.args.request c.carry_out.new.answer (applied c.self.inside.image c.in-Ok.carried.0.draft) (with_places c.self.inside.layout c.in-Ok.carried.0.places.items) c.in-Ok.ensures.step c.in_default-lines_of.ensures.err)
 
 pub returns-in_default-lines_of-clause-memory : goal.returns-in_default-lines_of-clause-memory
 returns-in_default-lines_of-clause-memory c = λ none same.
-    let takes : takes_memory c.args.request ≡ true = copy_takes_memory (state_of c.self.inside) c.self.invariant.lawful c.args.who c.args.request c.carry_out.new.answer (applied c.self.inside.image c.in-Ok.drafted.draft) (with_places c.self.inside.layout c.in-Ok.drafted.places.items) c.in-Ok.ensures c.in_default-lines_of.ensures.err in
+    let takes : takes_memory c.args.request ≡ true = copy_takes_memory (state_of c.self.inside) c.self.invariant.lawful c.args.who c.args.request c.carry_out.new.answer (applied c.self.inside.image c.in-Ok.carried.0.draft) (with_places c.self.inside.layout c.in-Ok.carried.0.places.items) c.in-Ok.ensures.step c.in_default-lines_of.ensures.err in
     let wrong : false ≡ true = sym none ∙ takes in
     absurd (cc)
 
 pub returns-in_default-kept-clause-refused : goal.returns-in_default-kept-clause-refused
 returns-in_default-kept-clause-refused c = λ C f room present e.
-    absurd (step_has_none (state_of c.self.inside) c.self.invariant.lawful c.args.who c.args.request c.carry_out.new.answer (applied c.self.inside.image c.in-Ok.drafted.draft) (with_places c.self.inside.layout c.in-Ok.drafted.places.items) c.in-Ok.ensures C f (subst (λ w. IsPresent w C) (sym c.self.view_is) present) e)
+    absurd (step_has_none (state_of c.self.inside) c.self.invariant.lawful c.args.who c.args.request c.carry_out.new.answer (applied c.self.inside.image c.in-Ok.carried.0.draft) (with_places c.self.inside.layout c.in-Ok.carried.0.places.items) c.in-Ok.ensures.step C f (subst (λ w. IsPresent w C) (sym c.self.view_is) present) e)
 
 pub returns-in_default-kept-clause-reason : goal.returns-in_default-kept-clause-reason
 returns-in_default-kept-clause-reason c = no_memory c.in_default-kept.ensures.err
 
 pub returns-in_default-clause-refused : goal.returns-in_default-clause-refused
 returns-in_default-clause-refused c = λ C f room present e.
-    absurd (step_has_none (state_of c.self.inside) c.self.invariant.lawful c.args.who c.args.request c.carry_out.new.answer (applied c.self.inside.image c.in-Ok.drafted.draft) (with_places c.self.inside.layout c.in-Ok.drafted.places.items) c.in-Ok.ensures C f (subst (λ w. IsPresent w C) (sym c.self.view_is) present) e)
+    absurd (step_has_none (state_of c.self.inside) c.self.invariant.lawful c.args.who c.args.request c.carry_out.new.answer (applied c.self.inside.image c.in-Ok.carried.0.draft) (with_places c.self.inside.layout c.in-Ok.carried.0.places.items) c.in-Ok.ensures.step C f (subst (λ w. IsPresent w C) (sym c.self.view_is) present) e)
 
 pub returns-in_default-clause-reason : goal.returns-in_default-clause-reason
 returns-in_default-clause-reason c = no_memory c.in_default.ensures.err
 
 pub returns-in-Err-clause-refused : goal.returns-in-Err-clause-refused
 returns-in-Err-clause-refused c = λ C f room present e.
-    ap Err (refusal_is_first (state_of c.self.inside) c.self.invariant.lawful c.args.who c.args.request c.in-Err.refusal c.in-Err.ensures C f (subst (λ w. IsPresent w C) (sym c.self.view_is) present) e)
+    ap Err (refusal_is_first (state_of c.self.inside) c.self.invariant.lawful c.args.who c.args.request c.in-Err.refusal c.in-Err.ensures.step C f (subst (λ w. IsPresent w C) (sym c.self.view_is) present) e)
 
 pub returns-in-Err-clause-reason : goal.returns-in-Err-clause-reason
 returns-in-Err-clause-reason c =
     subst (λ w. IsReason w c.args.who c.args.request c.in-Err.refusal) c.self.view_is
-    (refusal_is_reason (state_of c.self.inside) c.self.invariant.lawful c.args.who c.args.request c.in-Err.refusal c.in-Err.ensures)
+    (refusal_is_reason (state_of c.self.inside) c.self.invariant.lawful c.args.who c.args.request c.in-Err.refusal c.in-Err.ensures.step)
 
 pub returns-in-Err-clause-memory : goal.returns-in-Err-clause-memory
 returns-in-Err-clause-memory c = λ none same.
-    refusal_is_other (state_of c.self.inside) c.self.invariant.lawful c.args.who c.args.request c.in-Err.refusal c.in-Err.ensures none (cc)
+    refusal_is_other (state_of c.self.inside) c.self.invariant.lawful c.args.who c.args.request c.in-Err.refusal c.in-Err.ensures.step none (cc)
