@@ -97,3 +97,9 @@ not_bits test w small bits i within =
     by zero less = refl
     by (suc zero) less = refl
     by (suc (suc b)) less = absurd (omega arith)
+
+-- a word of 0 says that none of its 64 passes
+pub zero_word : (test : ℕ → Bool) (k w : ℕ) → w ≡ 0 → IsWordOf (λ i. test (64 * k + i)) w → NonePasses test (64 * k) (64 * (k + 1))
+zero_word test k w none bits i above below =
+    let place : 64 * k + (i - 64 * k) ≡ i = omega arith in
+    sym (ap test place) ∙ sym (bits (i - 64 * k) (omega arith)) ∙ ap (λ n. nat_eq (bit_at n (i - 64 * k)) 1) none ∙ ap (λ b. nat_eq b 1) (bit_at-zero (i - 64 * k))

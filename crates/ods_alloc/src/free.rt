@@ -4,7 +4,7 @@ ghost use Rattle.ods_space.specs.{Files.IsLayoutOf, Free.is_free_block, Free.fre
 ghost use Rattle.ods_alloc.specs.{Scan.IsNext, Scan.NoneIsNext, Faults.IsShort, Counts.ShowsNone, Counts.free_in, Counts.counts_of};
 ghost use Rattle.ods_space.specs.Disks.{on, seen};
 
-use crate::words::{first_in, free_word, has_none};
+use crate::words::{first_in, free_word, has_none, later_word};
 use crate::{FreeCounts, SpaceFault};
 use ods_space::Disk;
 use std::alloc::Global;
@@ -36,7 +36,7 @@ fn next_free(disk: &Disk<'_>, counts: &[u32], from: u32) -> Option<u32>
             if let Some(lbn) = first_in(free_word(disk, at / 64), at) {
                 return Some(lbn);
             }
-            at = 64 * (at / 64 + 1);
+            at = 64 * later_word(disk, at / 64 + 1);
         }
     }
     None

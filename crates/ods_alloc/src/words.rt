@@ -1,12 +1,12 @@
 //! Both bitmaps, read 64 bits at a time, and the first bit of such a word that is set.
 ghost use Rattle.std.specs.Prelude.{◌≡◌, ℕ, ◌+◌, ◌*◌, ◌/◌, ◌^◌, ◌<◌, ◌≤◌, ◌&&◌, ◌==◌, Bool, true, nat_lt, slice_get, Some, IfSome, IfNone};
 ghost use Rattle.std.specs.Int.{bit_at};
-ghost use Rattle.ods_base.specs.Bits.{IsWordOf};
+ghost use Rattle.ods_base.specs.{Bits.IsWordOf, Block.has_bit};
 ghost use Rattle.ods_space.specs.{Layout.is_in_use, Free.is_free_block};
 ghost use Rattle.ods_alloc.specs.Scan.{IsNext, NonePasses};
 ghost use Rattle.ods_space.specs.Disks.{seen};
 
-use ods_base::{Image, bit_word};
+use ods_base::{Block, Image, bit_word};
 use ods_header::Home;
 use ods_space::Disk;
 
@@ -65,6 +65,37 @@ pub(crate) fn first_in(word: u64, at: u32) -> Option<u32>
     } else {
         Some(at + rest.trailing_zeros())
     }
+}
+
+/// The first word of a block from word `from` on that has a set bit, or 64 where none has.
+fn first_word(block: &Block, from: u32) -> u32
+    requires { from < 64 }
+    ensures on { (from ≤ result) × (result ≤ 64) }
+    ensures none { NonePasses (has_bit block.now) (64 * from) (64 * result) }
+{
+    for j in from..64 {
+        if bit_word(block, j) != 0 {
+            return j;
+        }
+    }
+    64
+}
+
+/// Word `k` of the storage bitmap, or a later one: those between, which stand in one block of the bitmap, have no set bit.
+pub(crate) fn later_word(disk: &Disk<'_>, k: u32) -> u32
+    requires { k < 2 ^ 20 }
+    ensures on { (k ≤ result) × (result ≤ k + 64) }
+    ensures none { NonePasses (seen is_free_block disk.now) (64 * k) (64 * result) }
+{
+    let at = 1 + k as usize / 64;
+    if disk.layout.bitmap().len() <= at {
+        return k;
+    }
+    let map = disk.layout.bitmap()[at];
+    if disk.image.len() <= map {
+        return k;
+    }
+    k - k % 64 + first_word(disk.image.block(map), k % 64)
 }
 
 /// Whether a list of counts has a 0 for block `k` of a bitmap.

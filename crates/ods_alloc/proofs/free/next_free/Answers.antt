@@ -27,7 +27,8 @@ pub loop-at-preserved : goal.loop-at-preserved
 loop-at-preserved c =
     let p = is_free_block c.args.disk.now.image.now c.args.disk.now.layout.now in
     let at = c.loop-at.at in
-    (omega (arith, c.loop-at.invariant.0), further p c.args.from at (64 * (at / 64 + 1)) c.loop-at.invariant.1 (c.in_default.ensures.none p c.free_word.ensures))
+    let word = further p at (64 * (at / 64 + 1)) (64 * c.later_word-at.result) (c.in_default.ensures.none p c.free_word.ensures) c.later_word-at.ensures.none in
+    (omega (arith, c.loop-at.invariant.0, c.later_word-at.ensures.on), further p c.args.from at (64 * c.later_word-at.result) c.loop-at.invariant.1 word)
 
 pub returns-clause-none : goal.returns-clause-none
 returns-clause-none c = λ k above. elim (cases_lt k c.loop-at.at) [
