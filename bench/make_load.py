@@ -4,7 +4,7 @@
 A script of f11 has at most 1,048,576 bytes, so names are short. What debugfs does stands in its own words for the same:
 a file made and taken away, a file that grows, a block written and read, a name made, looked up and taken away.
 
-usage: make_load.py KIND COUNT [--debugfs SOURCE]     KIND: creates mixed extends blocks names fills spread
+usage: make_load.py KIND COUNT [--debugfs SOURCE]     KIND: creates mixed extends blocks names views fills spread
 SOURCE is the file that debugfs copies from.
 """
 
@@ -49,6 +49,10 @@ def names(count):
     # The volumes of served.sh have the files 6 and 7.
     opening = ["CREATE D.DIR 63", "CREATE X.DAT 0"] + [f"ENTER 8,1 N{k}.D 9,1" for k in range(NAMES)]
     return rounds(count, opening, lambda k: ["ENTER 8,1 Z.D 9,1", "LOOK 8,1 Z.D", "REMOVE 8,1 Z.D"])
+
+
+def views(count):
+    return rounds(count, ["CREATE X.DAT 1", "WRITE $ 1 4142"], lambda k: ["VIEW READ $ 1"])
 
 
 def fills(count):
@@ -96,6 +100,7 @@ KINDS = {
     "extends": (extends, debugfs_extends),
     "blocks": (blocks, debugfs_blocks),
     "names": (names, debugfs_names),
+    "views": (views, None),
     "fills": (fills, None),
     "spread": (spread, None),
 }

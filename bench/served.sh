@@ -1,6 +1,6 @@
 #!/usr/bin/env bash
-# Measures scripts of f11: loads of 60,000 commands, beside debugfs of e2fsprogs with like operations on an ext2 image, and one of them
-# beside a server in plain Rust that prints the same; and the reading and writing of a large image, beside cat. Prints two tables and the targets.
+# Measures scripts of f11: loads of 60,000 commands, beside debugfs of e2fsprogs with like operations on an ext2 image, and those on the small
+# volume beside a server in plain Rust that prints the same; and the reading and writing of a large image, beside cat. Prints three tables and the targets.
 #
 # usage: bench/served.sh
 #
@@ -77,7 +77,7 @@ load() {
     done
     for ((round = 0; round < runs; round++)); do
         measure "$name" "$program" "$folder/$volume" --limit 65536 "${scripts[@]}"
-        [ "$name" != creates-v512-1 ] || serve_plainly "$name"
+        [ "$volume" != v512 ] || serve_plainly "$name" "${scripts[@]}"
     done
     if grep -q '^\(NO\|BAD\)' "$folder/$name.out"; then
         say "$name: refused: $(grep -m 1 '^\(NO\|BAD\)' "$folder/$name.out")"
@@ -93,11 +93,25 @@ load() {
     row "$kind" "$volume" "$sessions"
 }
 
-# Runs the script of a load by the plain server, which has to print what f11 printed: serve_plainly NAME
+# Runs the scripts of a load by the plain server, which has to print what f11 printed: serve_plainly NAME SCRIPT..
 serve_plainly() {
+    local name=$1
+    shift
     [ -f "$folder/plain_server" ] || return 0
-    measure plain "$folder/plain_server" "$folder/v512" "$folder/$1.script"
-    cmp "$folder/plain.out" "$folder/$1.out" || bad=1
+    measure "plain-$name" "$folder/plain_server" "$folder/v512" "$@"
+    cmp "$folder/plain-$name.out" "$folder/$name.out" || bad=1
+}
+
+# A load beside plain Rust, the seconds and MiB of both and the ratios to it: beside_plain NAME MOST
+beside_plain() {
+    local own plain
+    [ -f "$folder/plain_server" ] || return 0
+    own=$(figures "$1")
+    plain=$(figures "plain-$1")
+    echo "$own $plain $2" | awk -v text="$1" '{
+        printf "%-20s %8.3f %9.3f %8.1f %8.3f %9.3f %8.1f %7.2f %9.2f  at most %.1f is wanted, %s\n", text, $1, $2, $3 / 1024, $4, $5, $6 / 1024,
+            $1 / $4, $2 / $5, $7, $2 / $5 <= $7 ? "met" : "MISSED"
+    }'
 }
 
 # One line of the table: row KIND VOLUME SESSIONS
@@ -134,10 +148,6 @@ measure idle-v65536 "$program" "$folder/v65536" "$folder/one"
 say 'measuring'
 printf '%-28s %8s %9s %9s %11s %9s %9s %7s\n' "best of $runs" seconds processor 'peak MiB' 'commands/s' KiB/each debugfs/s times
 load creates v512 1
-if [ -f "$folder/plain_server" ]; then
-    read -r plain_clock plain_processor peak <<<"$(figures plain)"
-    awk -v clock="$plain_clock" -v processor="$plain_processor" -v peak="$peak" 'BEGIN { printf "%-28s %8.3f %9.3f %9.1f\n", "the same in plain Rust", clock, processor, peak / 1024 }'
-fi
 load creates v65536 1
 load mixed v512 1
 load mixed v65536 1
@@ -147,13 +157,17 @@ load blocks v512 1
 load blocks v65536 1
 load names v512 1
 load names v65536 1
+load views v512 1
+load views v512 8
 load creates v65536 8
 load mixed v65536 8
 echo 'wanted: over 200000 commands/s for one session of creates, mixed and blocks; at most 1.5 KiB each; over 100 times debugfs'
 if [ -f "$folder/plain_server" ]; then
-    read -r own_clock own_processor _ <<<"$(figures creates-v512-1)"
-    ratio "creates and deletes to plain Rust's seconds" "$own_clock" "$plain_clock" 1.0
-    ratio "the same by processor seconds" "$own_processor" "$plain_processor" 1.0
+    printf '%-20s %8s %9s %8s %8s %9s %8s %7s %9s\n' 'beside plain Rust' seconds processor MiB seconds processor MiB times processor
+    for kind in creates mixed extends blocks; do beside_plain "$kind-v512-1" 2.0; done
+    beside_plain names-v512-1 1.1
+    beside_plain views-v512-1 2.0
+    beside_plain views-v512-8 2.0
 fi
 
 for ((round = 0; round < runs; round++)); do
