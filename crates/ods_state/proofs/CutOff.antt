@@ -1,22 +1,22 @@
 -- A file keeps its first blocks and gives the others back, with the headers behind the one that has the last of them: each other file is as it was, and the volume stays sound.
-use Rattle.std.proofs.Common.{◌≡◌, ◌≢◌, ℕ, zero, suc, ◌+◌, ◌-◌, ◌*◌, ◌<◌, ◌≤◌, refl, ap, sym, ◌∙◌, subst, false, IsTrue, List, [], ◌∷◌, ◌++◌, length, take, drop, get_or, Some, arith, inl, inr}
-use Rattle.std.specs.Prelude.{◌⊎◌, not, slice_get}
+use Rattle.std.proofs.Common.{◌≡◌, ◌≢◌, ℕ, ◌+◌, ◌-◌, ◌*◌, ◌<◌, ◌≤◌, refl, ap, sym, ◌∙◌, subst, false, IsTrue, List, [], ◌∷◌, ◌++◌, length, take, drop, get_or, Some, arith, inl, inr}
+use Rattle.std.specs.Prelude.{◌⊎◌}
 use Rattle.std.specs.List.{All, Contains, flat_map}
 use Rattle.std.proofs.lemmas.Bool.{cases_eq}
-use Rattle.std.proofs.lemmas.List.{append-nil, append_assoc, length-append, take-append-drop, take-append-le}
+use Rattle.std.proofs.lemmas.List.{same_from_push, append-nil, append_assoc, length-append, take-append-drop, take-append-le}
 use Rattle.std.proofs.lemmas.List.Elements.{All-contains, All-take, Contains-append_cases, Contains-append_left, Contains-append_right, Contains-get_or}
 use Rattle.std.proofs.lemmas.Grind.{flat_map-append}
 use Rattle.ods_header.proofs.Cutting.{first_blocks}
 use Rattle.ods_base.specs.Block.{byte}
 use Rattle.ods_header.specs.Cutting.{IsCutTo, first_runs}
-use Rattle.ods_header.specs.Header.{IsFormat1, IsValidHeader, blocks_of, is_directory_header, map_word, runs_of, segment_of, sequence_of}
+use Rattle.ods_header.specs.Header.{IsValidHeader, blocks_of, is_directory_header, map_word, runs_of, segment_of, sequence_of}
 use Rattle.ods_header.specs.Pointing.{KeepsFields}
 use Rattle.ods_header.specs.Writing.{deleted}
 use Rattle.ods_space.specs.Layout.{VolumeLayout, header_at, is_in_use, last_number}
-use Rattle.ods_space.specs.Chain.{IsSegment, IsChain, Follows, index_for}
-use Rattle.ods_space.specs.Files.{IsFile, IsWhole, HasBlocks, Holds}
-use Rattle.ods_space.proofs.Chains.{head_of, same_chain}
-use Rattle.ods_alloc.specs.Extend.{chain_runs}
+use Rattle.ods_space.specs.Chain.{IsSegment, IsChain, Follows}
+use Rattle.ods_space.specs.Files.{IsFile, IsWhole, HasBlocks}
+use Rattle.ods_space.proofs.Chains.{head_of}
+use Rattle.ods_alloc.specs.Extend.{IsBookkeeping, chain_runs}
 use Rattle.ods_mount.specs.Faults.{contents_of}
 use Rattle.ods_mount.specs.Sound.{IsSoundBy}
 use Rattle.ods_state.specs.Change.{disk}
@@ -24,27 +24,12 @@ use Rattle.ods_state.specs.Cutting.{CutsOff, mapped_by}
 use Rattle.ods_state.specs.Moves.{AreCutOff}
 use Rattle.ods_state.proofs.Chains.{first_in, later_in}
 use Rattle.ods_state.proofs.CutChain.{chain_maps, chain_once, cut_follows, mapped_same, runs_cut, runs_same, take_within}
+use Rattle.ods_state.proofs.Rechained as re
 use Rattle.ods_state.proofs.Shrunk as shrunk
-use Rattle.ods_state.proofs.Links.{LinkedAt, linked_same, linked_segment}
+use Rattle.ods_state.proofs.Links.{LinkedAt, linked_same}
 use Rattle.ods_state.proofs.OnlyBookkeeping.{first_or_later, only_headers}
 use Rattle.ods_state.proofs.Shown.{IsAlike}
 use Rattle.ods_state.proofs.Taken.{contains_or_not}
-
-get_take : (xs : List ℕ) (k i x : ℕ) → slice_get xs i ≡ Some x → i < k → slice_get (take k xs) i ≡ Some x
-get_take xs zero i x e low = absurd (omega (arith, low))
-get_take [] (suc k) i x e low = e
-get_take (y ∷ ys) (suc k) zero x e low = e
-get_take (y ∷ ys) (suc k) (suc i) x e low = get_take ys k i x e (omega (arith, low))
-
--- two lists with a last element
-same_ends : (xs ys : List ℕ) (x y : ℕ) → xs ++ x ∷ [] ≡ ys ++ y ∷ [] → (xs ≡ ys) × (x ≡ y)
-same_ends [] [] x y e = (refl, ap (λ l. get_or l 0 0) e)
-same_ends [] (b ∷ bs) x y e = absurd (let long = ap length e in let behind = length-append bs (y ∷ []) in omega (arith, long, behind))
-same_ends (a ∷ xs) [] x y e = absurd (let long = ap length e in let behind = length-append xs (x ∷ []) in omega (arith, long, behind))
-same_ends (a ∷ xs) (b ∷ bs) x y e =
-    let rest = same_ends xs bs x y (ap (drop 1) e) in
-    let first : a ≡ b = ap (λ l. get_or l 0 0) e in
-    ((λ i. first i ∷ rest.0 i), rest.1)
 
 module _ (I J : List (List ℕ)) (L : VolumeLayout) (S : IsSoundBy I L) (n : ℕ) (high : 5 < n) (others blocks : List ℕ)
     (file : IsFile I L n) (whole : IsWhole I L n others blocks) (count : ℕ) (C : CutsOff I L n others blocks count J) where
@@ -61,22 +46,12 @@ module _ (I J : List (List ℕ)) (L : VolumeLayout) (S : IsSoundBy I L) (n : ℕ
   abbrev gone : List ℕ
   gone = C.gone
 
-  -- the blocks that go
-  abbrev away : List ℕ
-  away = drop count blocks
-
-  found : index_for L n ≡ Some L.index
-  found = shrunk.found I J L S n high others blocks file whole
-
   chain : Follows I L.home (Some L.index) [] 0 n others blocks
-  chain = shrunk.chain I J L S n high others blocks file whole
+  chain = shrunk.chain S high file whole
 
   -- the parts of its headers
   pub tail_in : (m : ℕ) → Contains (last ∷ gone) m → H m
   tail_in m c = subst (λ l. Contains l m) (sym C.parts) (Contains-append_right front (last ∷ gone) m c)
-
-  front_in : (m : ℕ) → Contains front m → H m
-  front_in m c = subst (λ l. Contains l m) (sym C.parts) (Contains-append_left front (last ∷ gone) m c)
 
   in_parts : (m : ℕ) → H m → Contains front m ⊎ ((last ≡ m) ⊎ Contains gone m)
   in_parts m c = elim (Contains-append_cases front (last ∷ gone) m (subst (λ l. Contains l m) C.parts c)) [
@@ -93,20 +68,11 @@ module _ (I J : List (List ℕ)) (L : VolumeLayout) (S : IsSoundBy I L) (n : ℕ
   header_far : (m : ℕ) → ¬ Contains (last ∷ gone) m → header_at J L m ≡ header_at I L m
   header_far = only_headers I L S J (last ∷ gone) C.only
 
-  used_far : (m : ℕ) → ¬ Contains gone m → is_in_use J L.home m ≡ is_in_use I L.home m
-  used_far = shrunk.used_far I J L S n high others blocks file whole away gone C.bits
-
-  not_gone : (m : ℕ) → IsTrue (is_in_use J L.home m) → ¬ Contains gone m
-  not_gone = shrunk.not_gone I J L S n high others blocks file whole away gone C.bits
-
   deleted_in : (m : ℕ) → Contains gone m → header_at J L m ≡ deleted (header_at I L m)
   deleted_in m among = All-contains (λ k. header_at J L k ≡ deleted (header_at I L k)) gone m C.headers among
 
-  segment_of_them : (m : ℕ) → H m → (j : ℕ) × IsSegment I L.home L.index (last_number L) m j
-  segment_of_them = shrunk.segment_of_them I J L S n high others blocks file whole
-
   last_valid : IsValidHeader (header_at I L last) last
-  last_valid = (segment_of_them last (tail_in last (first_in last gone))).1.valid
+  last_valid = (shrunk.segment_of_them S high file whole last (tail_in last (first_in last gone))).1.valid
 
   last_map : map_word (header_at J L last) ≡ map_word (header_at I L last)
   last_map = let p = last_valid.header.layout.ident in let q = last_valid.header.layout.map in C.fields 1 (inl (omega arith))
@@ -126,13 +92,13 @@ module _ (I J : List (List ℕ)) (L : VolumeLayout) (S : IsSoundBy I L) (n : ℕ
 
   -- the chain that is left
   linked_front : (m : ℕ) → Contains front m → LinkedAt I J L.home L.index m
-  linked_front m c = linked_same I J L.home L.index m (header_far m (front_apart m c)) (used_far m (λ g. front_apart m c (later_in last gone m g)))
+  linked_front m c = linked_same I J L.home L.index m (header_far m (front_apart m c)) (shrunk.used_far C.bits m (λ g. front_apart m c (later_in last gone m g)))
 
   ends_last : (k : ℕ) → IsSegment I L.home L.index (last_number L) last k → IsSegment J L.home L.index (last_number L) last k
   ends_last k s = record {
     first = s.first;
     last = s.last;
-    in_use = used_far last last_apart ∙ s.in_use;
+    in_use = shrunk.used_far C.bits last last_apart ∙ s.in_use;
     valid = C.valid last s.valid;
     segment = last_segment ∙ s.segment;
   }
@@ -141,9 +107,6 @@ module _ (I J : List (List ℕ)) (L : VolumeLayout) (S : IsSoundBy I L) (n : ℕ
   now = cut_follows I J L last gone sequence_kept ends_last C.cut.number front [] 0 n others blocks C.parts linked_front chain
 
   -- its blocks are the first ones
-  left : ℕ
-  left = count - length (mapped_by I L front)
-
   blocks_are : blocks ≡ mapped_by I L front ++ (blocks_of (header_at I L last) ++ mapped_by I L gone)
   blocks_are = chain_maps I L [] 0 n others blocks chain ∙ ap (mapped_by I L) C.parts ∙ flat_map-append (λ m. blocks_of (header_at I L m)) front (last ∷ gone)
 
@@ -164,82 +127,60 @@ module _ (I J : List (List ℕ)) (L : VolumeLayout) (S : IsSoundBy I L) (n : ℕ
   follows_now = subst (Follows J L.home (Some L.index) [] 0 n now.0) blocks_now now.2
 
   chain_now : IsChain J L n now.0 (take count blocks)
-  chain_now = subst (λ o. Follows J L.home o [] 0 n now.0 (take count blocks)) (sym found) follows_now
+  chain_now = subst (λ o. Follows J L.home o [] 0 n now.0 (take count blocks)) (sym (shrunk.found_by L n high)) follows_now
 
   whole_now : IsWhole J L n now.0 (take count blocks)
   whole_now = record { chain = chain_now; inside = subst (λ k. All (λ b. b < k) (take count blocks)) (sym C.only.size) (All-take (λ b. b < length I) count blocks whole.inside) }
 
-  own_now : HasBlocks J L n (take count blocks)
-  own_now = record { file = head_of J L.home (Some L.index) [] 0 n now.0 (take count blocks) follows_now; others = now.0; whole = whole_now }
+  -- so the file itself has its first blocks
+  pub has_first : HasBlocks J L n (take count blocks)
+  has_first = record { file = head_of J L.home (Some L.index) [] 0 n now.0 (take count blocks) follows_now; others = now.0; whole = whole_now }
 
   kept_in : (x : ℕ) → Contains (n ∷ now.0) x → H x
   kept_in x c = subst (λ l. Contains l x) (sym (C.parts ∙ sym (append_assoc front (last ∷ []) gone))) (Contains-append_left (front ++ last ∷ []) gone x (subst (λ l. Contains l x) now.1 c))
 
-  -- a header of it that begins a file began one before
-  own_first : (m : ℕ) → IsFile J L m → H m → IsFile I L m
-  own_first m f among = elim (in_parts m among) [
-    | inl before ↦ linked_segment J I L.home L.index (last_number L) m 0 (linked_same J I L.home L.index m (sym (header_far m (front_apart m before))) (sym (used_far m (λ g. front_apart m before (later_in last gone m g))))) f
-    | inr (inl same) ↦ subst (IsFile I L) same (last_first (subst (IsFile J L) (sym same) f))
-    | inr (inr behind) ↦ absurd (not_gone m f.in_use behind)
-  ]
-    where
-      last_first : IsFile J L last → IsFile I L last
-      last_first g =
-          let s = (segment_of_them last (tail_in last (first_in last gone))).1 in
-          record { first = s.first; last = s.last; in_use = s.in_use; valid = s.valid; segment = sym last_segment ∙ g.segment }
+  -- a header of it that is in use is one of those that are left
+  left_in : (m : ℕ) → H m → IsTrue (is_in_use J L.home m) → Contains (n ∷ now.0) m
+  left_in m among used = subst (λ l. Contains l m) (sym now.1) (elim (in_parts m among) [
+    | inl before ↦ Contains-append_left front (last ∷ []) m before
+    | inr (inl same) ↦ Contains-append_right front (last ∷ []) m (subst (Contains (last ∷ [])) same (first_in last []))
+    | inr (inr behind) ↦ absurd (shrunk.not_gone C.bits m used behind)
+  ])
 
-  -- so the file gives back the headers behind the cut and the blocks behind the first ones; the header of the cut changes besides
-  shrinks : shrunk.Shrinks I J L n others blocks count (last ∷ gone) gone
+  widened : (x : ℕ) → IsBookkeeping L (last ∷ gone) x → IsBookkeeping L (n ∷ others) x
+  widened x (inl p) = inl p
+  widened x (inr (inl p)) = inr (inl p)
+  widened x (inr (inr p)) = inr (inr (p.0, tail_in p.0 p.1, p.2))
+
+  -- so the file gives back the headers behind the cut and the blocks behind the first ones
+  shrinks : shrunk.Shrinks I J L n others blocks count now.0 gone
   shrinks = record {
-    within = tail_in;
-    deletes = λ m c. (later_in last gone m c, deleted_in m c);
-    sequences = λ m c. sequence_kept m;
-    formats = λ m c used. elim (first_or_later last gone m c) [
-      | inl same ↦ subst (λ k. IsFormat1 (header_at J L k)) same (C.valid last last_valid).format
-      | inr later ↦ absurd (not_gone m used later)
-    ];
+    goes = λ m c. tail_in m (later_in last gone m c);
+    within = kept_in;
+    left = λ m among used. (chain_now, left_in m among used);
+    sequences = sequence_kept;
     bits = C.bits;
-    only = C.only;
-    left = λ m c f. (own_first m f c, record { later = now.0; whole = whole_now; own = kept_in });
+    only = record { size = C.only.size; others = λ x none. C.only.others x (λ p. none (widened x p)) };
   }
 
   pub contents_far : (m : ℕ) (bs : List ℕ) → HasBlocks I L m bs → 2 < m → contents_of J bs ≡ contents_of I bs
-  contents_far = shrunk.contents_far I J L S n high others blocks file whole count (last ∷ gone) gone shrinks
+  contents_far m bs b past = re.contents_stay S (shrunk.rechained S high file whole shrinks) m bs past b
 
   -- each other file is as it was
   pub others_alike : (m : ℕ) → m ≢ n → IsAlike I J L m
-  others_alike = shrunk.others_alike I J L S n high others blocks file whole count (last ∷ gone) gone shrinks
+  others_alike = shrunk.others_alike S high file whole shrinks
 
   -- where the first header, which may be the one that is cut, does not become that of a directory
   pub still_sound : is_directory_header n (header_at J L n) ≡ false → IsSoundBy J L
-  still_sound plain = shrunk.still_sound I J L S n high others blocks file whole count (last ∷ gone) gone shrinks (λ f. plain)
-
-  held_still : (m v x : ℕ) → Holds I L m v x → (m ≢ n) ⊎ (v ≤ count) → Holds J L m v x
-  held_still m v x h how = elim (cases_eq m n) [
-    | inr other ↦ shrunk.held_others I J L S n high others blocks file whole count (last ∷ gone) gone shrinks m v x h other
-    | inl same ↦ subst (λ y. Holds J L y v x) (sym same) (own_still (subst (λ y. Holds I L y v x) same h) (low how same))
-  ]
-    where
-      low : (m ≢ n) ⊎ (v ≤ count) → m ≡ n → v ≤ count
-      low (inl other) same = absurd (other same)
-      low (inr few) same = few
-
-      own_still : Holds I L n v x → v ≤ count → Holds J L n v x
-      own_still g few =
-          let is : g.blocks ≡ blocks = (same_chain I L.home (index_for L n) [] 0 n g.file.others g.blocks others blocks g.file.whole.chain whole.chain).1 in
-          record { blocks = take count blocks; file = own_now; first = g.first; named = get_take blocks count (v - 1) x (ap (λ l. slice_get l (v - 1)) (sym is) ∙ g.named) (omega (arith, few, g.first)) }
+  still_sound plain = shrunk.still_sound S high file whole shrinks (λ f. plain)
 
   -- its first header stays, or it is the last one too, and is cut
   pub first_says : (P : List ℕ → Type 0) → P (header_at I L n) → ((c : List ℕ) → length c ≡ length (header_at I L n) → KeepsFields (header_at I L n) c → P c) → P (header_at J L n)
   first_says P same kept = elim (in_parts n (first_in n others)) [
     | inl before ↦ subst P (sym (header_far n (front_apart n before))) same
     | inr (inl is) ↦ kept (header_at J L n) (subst (λ k. length (header_at J L k) ≡ length (header_at I L k)) is C.cut.size) (subst (λ k. KeepsFields (header_at I L k) (header_at J L k)) is C.fields)
-    | inr (inr behind) ↦ absurd (not_gone n own_now.file.in_use behind)
+    | inr (inr behind) ↦ absurd (shrunk.not_gone C.bits n has_first.file.in_use behind)
   ]
-
-  -- the file itself has its first blocks
-  pub has_first : HasBlocks J L n (take count blocks)
-  has_first = own_now
 
   -- so the file is cut off
   few_passed : (k : ℕ) → 1 ≤ k → k < length (front ++ last ∷ []) → length (mapped_by I L (take k (front ++ last ∷ []))) < count
@@ -269,16 +210,16 @@ module _ (I J : List (List ℕ)) (L : VolumeLayout) (S : IsSoundBy I L) (n : ℕ
     ends = record { some = let long = length-append front (last ∷ []) in omega (arith, long); has = C.has; first = few_passed };
     chain = (now.0, sym now.1, whole_now);
     pointers = pointers_now;
-    held = λ m v x. (shrunk.held_now I J L S n high others blocks file whole count (last ∷ gone) gone shrinks m v x, λ h. held_still m v x h.0 h.1);
-    free = shrunk.free_now I J L S n high others blocks file whole count (last ∷ gone) gone shrinks;
-    numbers = shrunk.number_now I J L S n high others blocks file whole count (last ∷ gone) gone shrinks;
+    held = λ m v x. (shrunk.held_now S high file whole shrinks m v x, λ h. shrunk.held_still S high file whole shrinks has_first.file m v x h.0 h.1);
+    free = shrunk.free_now S high file whole shrinks;
+    numbers = shrunk.number_now S high file whole shrinks;
     bits = C.bits;
     deletes = deleted_in;
     stays = λ before end is.
-        let same = same_ends front before last end is in
+        let same = same_from_push front before last end is in
         subst (λ l. All (λ m. header_at J L m ≡ header_at I L m) l) same.0 (λ k d within. header_far (get_or front k d) (front_apart (get_or front k d) (Contains-get_or front k d within)));
     last = λ before end is.
-        let same = same_ends front before last end is in
+        let same = same_from_push front before last end is in
         subst (λ e. IsCutTo (header_at I L e) (first_runs (count - length (mapped_by I L before)) (runs_of (header_at I L e))) (header_at J L e)) same.1
         (subst (λ l. IsCutTo (header_at I L last) (first_runs (count - length (mapped_by I L l)) (runs_of (header_at I L last))) (header_at J L last)) same.0 C.cut);
   }

@@ -5,28 +5,28 @@ use Rattle.std.specs.FinMap as map
 use Rattle.std.specs.FinSet as set
 use Rattle.std.specs.List.{Contains}
 use Rattle.std.specs.Ordering.{eq_by_cmp, is_eq}
-use Rattle.std.proofs.lemmas.Bool.{and_from, cases_eq, eqb-true, le-leb, not_from_false}
+use Rattle.std.proofs.lemmas.Bool.{and_from, eqb-true, le-leb, not_from_false}
 use Rattle.std.proofs.lemmas.Cmp.{tied_itself}
 use Rattle.std.proofs.lemmas.List.Folds.{Any-from_list_any, list_any_at}
 use Rattle.ods_base.specs.declared.file_id.FileId.{FileId}
 use Rattle.ods_header.specs.Header.{sequence_of}
 use Rattle.ods_space.specs.Layout.{VolumeLayout, header_at}
-use Rattle.ods_space.specs.Files.{IsFile, HasBlocks}
+use Rattle.ods_space.specs.Files.{IsFile}
 use Rattle.ods_alloc.proofs.FreeTests.{IsFreeNumber, free_number}
-use Rattle.ods_mount.specs.Faults.{contents_of}
 use Rattle.ods_mount.specs.Sound.{IsSoundBy}
 use Rattle.ods_request.specs.Catalogue.{Catalogue, File, file_cmp}
 use Rattle.ods_request.specs.Steps.{created, is_new, is_used, put}
 use Rattle.ods_request.proofs.Orders.{file_cmp-total}
-use Rattle.ods_state.specs.Contents.{file_of, IsFileIn, ShowsBy}
+use Rattle.ods_state.specs.Contents.{IsFileIn, ShowsBy}
 use Rattle.ods_state.specs.Version.{PastIsSpent}
 use Rattle.ods_state.specs.Wants.{taken_numbers}
-use Rattle.ods_state.proofs.Grown.{contents_stay, new_file, other_is_far, others_stay, others_were}
+use Rattle.ods_state.proofs.Grown.{other_is_far, rechained}
 use Rattle.ods_state.proofs.GrownMoves.{sequences_rise}
 use Rattle.ods_state.specs.Growth.{IsGrowth}
-use Rattle.ods_state.proofs.Shown.{ids, shows_put, same_file}
+use Rattle.ods_state.proofs.Rechained as re
+use Rattle.ods_state.proofs.Shown.{ids, shows_put}
 use Rattle.ods_state.proofs.OpenNumbers.{taken_number_is_free}
-use Rattle.ods_state.proofs.Taken.{first_is_one, none_empty, old_or_new}
+use Rattle.ods_state.proofs.Taken.{first_is_one, new_is_no_file, none_empty, old_or_new}
 
 -- an ID that is a key of the catalogue's files has a file
 key_has_file : (C : Catalogue) (k : ℕ) (id : FileId) → k < length (map.keys C.files) → get_or (map.keys C.files) k id ≡ id → (f : File) × (map.get C.files id ≡ Some f)
@@ -47,38 +47,22 @@ used_by_file I L C number shown e =
     subst (IsFile I L) (eqb-true found.1.number number found.4) (shown.there found.1 file.0 file.1).held.file
 
 module _ {I J : List (List ℕ)} {L : VolumeLayout} {n : ℕ} {headers old : List ℕ} {count : ℕ} {numbers : List ℕ} (S : IsSoundBy I L) (g : IsGrowth I J L n headers old count numbers) where
-  -- the first header of another file stays
-  header_stays : (m : ℕ) → m ≢ n → IsFile I L m → header_at J L m ≡ header_at I L m
-  header_stays m ne f = g.stays m (other_is_far S g m f ne)
-
-  -- another file shows what it did
-  shown_stays : (m : ℕ) (blocks : List ℕ) → m ≢ n → HasBlocks I L m blocks → file_of m (header_at J L m) (contents_of J blocks) ≡ file_of m (header_at I L m) (contents_of I blocks)
-  shown_stays m blocks ne held = ap (λ b. file_of m b (contents_of J blocks)) (header_stays m ne held.file) ∙ by (cases_eq m 1) (cases_eq m 2)
-    where
-      b : List ℕ
-      b = header_at I L m
-
-      by : (m ≡ 1) ⊎ (m ≢ 1) → (m ≡ 2) ⊎ (m ≢ 2) → file_of m b (contents_of J blocks) ≡ file_of m b (contents_of I blocks)
-      by (inl e) side = same_file m b (contents_of J blocks) (contents_of I blocks) (inl (ap (λ k. nat_le k 2) e))
-      by (inr one) (inl e) = same_file m b (contents_of J blocks) (contents_of I blocks) (inl (ap (λ k. nat_le k 2) e))
-      by (inr one) (inr two) = ap (file_of m b) (contents_stay S g m blocks one two held)
-
   other_stays : (q : FileId) (f : File) → q.number ≢ n → IsFileIn I L q f → IsFileIn J L q f
   other_stays q f ne p = record {
     blocks = p.blocks;
-    held = others_stay S g q.number p.blocks ne p.held;
-    sequence = ap sequence_of (header_stays q.number ne p.held.file) ∙ p.sequence;
-    shown = shown_stays q.number p.blocks ne p.held ∙ p.shown;
+    held = re.others_stay S (rechained S g) q.number p.blocks ne p.held;
+    sequence = ap sequence_of (g.stays q.number (other_is_far S g q.number p.held.file ne)) ∙ p.sequence;
+    shown = re.shown_stays S (rechained S g) q.number p.blocks ne p.held ∙ p.shown;
   }
 
   other_was : (q : FileId) (f : File) → q.number ≢ n → IsFileIn J L q f → IsFileIn I L q f
   other_was q f ne p =
-      let before = others_were S g q.number p.blocks ne p.held in
+      let before = re.others_were S (rechained S g) q.number p.blocks ne p.held in
       record {
         blocks = p.blocks;
         held = before;
-        sequence = sym (ap sequence_of (header_stays q.number ne before.file)) ∙ p.sequence;
-        shown = sym (shown_stays q.number p.blocks ne before) ∙ p.shown;
+        sequence = sym (ap sequence_of (g.stays q.number (other_is_far S g q.number before.file ne))) ∙ p.sequence;
+        shown = sym (re.shown_stays S (rechained S g) q.number p.blocks ne before) ∙ p.shown;
       }
 
   -- under another ID, where the sequence number is that of the header, stands another number
@@ -110,7 +94,7 @@ module _ {I J : List (List ℕ)} {L : VolumeLayout} {n : ℕ} {headers old : Lis
       pub created_is_shown : (C : Catalogue) (f : File) → ShowsBy I L C → IsFileIn J L id f → ShowsBy J L (created C id f)
       created_is_shown C f shown here =
           let is_put : ShowsBy J L (put C id f) = shows_put I J L C id f shown here
-          (λ q h ne p. other_stays q h (λ e. new_file S g new (subst (IsFile I L) e p.held.file)) p)
+          (λ q h ne p. other_stays q h (λ e. new_is_no_file S g.taking new (subst (IsFile I L) e p.held.file)) p)
           (λ q h ne p. other_was q h (other_number J id q number here.sequence ne p.sequence) p) in
           record { there = is_put.there; all = is_put.all; default = is_put.default }
 
@@ -141,7 +125,7 @@ module _ {I J : List (List ℕ)} {L : VolumeLayout} {n : ℕ} {headers old : Lis
 
           used_by : (b : Bool) → is_used C id.number ≡ b → b ≡ false
           used_by false e = refl
-          used_by true e = absurd (new_file S g new (subst (IsFile I L) number (used_by_file I L C id.number shown e)))
+          used_by true e = absurd (new_is_no_file S g.taking new (subst (IsFile I L) number (used_by_file I L C id.number shown e)))
 
           not_used : is_used C id.number ≡ false
           not_used = used_by (is_used C id.number) refl

@@ -27,6 +27,8 @@ pub mod IndexTakes
 pub mod StepBehind
 pub mod Bookkeeping
 pub mod OnlyBookkeeping
+pub mod Rechained
+pub mod RechainedSound
 pub mod Grown
 pub mod GrownMoves
 pub mod Wanted

@@ -1,23 +1,18 @@
--- The blocks of the bitmaps and of headers: INDEXF.SYS and BITMAP.SYS hold them, each once, and no other file does. So where only such
--- blocks change, the other headers and the contents of all other files stay. This serves each request that takes blocks or gives them back.
-use Rattle.std.proofs.Common.{◌≡◌, ◌≢◌, ℕ, ◌+◌, refl, subst, true, false, List, [], ◌∷◌, Option, Some, None, inl, inr}
+-- Where only the blocks of the bitmaps and of some headers change, the other headers stay. This serves each request that gives blocks back.
+use Rattle.std.proofs.Common.{◌≡◌, ℕ, refl, subst, true, false, List, [], ◌∷◌, Option, Some, None, inl, inr}
 use Rattle.std.specs.Prelude.{◌⊎◌}
 use Rattle.std.specs.Option.{option_map_or}
 use Rattle.std.specs.List.{Contains}
 use Rattle.std.proofs.lemmas.Bool.{cases_eq}
 use Rattle.std.proofs.lemmas.Map.Made.{Contains-tail}
 use Rattle.ods_state.proofs.Taken.{contains_or_not, none_of, one_of}
-use Rattle.ods_state.proofs.Bookkeeping.{bookkeeping_or_not, bookkeeping_written, no_bookkeeping, well_placed}
-use Rattle.ods_mount.proofs.Each.{holds_at}
+use Rattle.ods_state.proofs.Bookkeeping.{well_placed}
 use Rattle.ods_base.specs.Image.{block_at}
 use Rattle.ods_space.specs.Layout.{VolumeLayout, place_of, header_at}
-use Rattle.ods_space.specs.Files.{HasBlocks}
 use Rattle.ods_alloc.specs.Extend.{IsBookkeeping, ChangesOnly, is_one_of}
 use Rattle.ods_alloc.proofs.Places.{place_not_index, place_not_storage}
-use Rattle.ods_mount.specs.Faults.{contents_of, CouldBeWritten}
 use Rattle.ods_mount.specs.Sound.{IsSoundBy}
 use Rattle.ods_state.proofs.Links.{place_is_one}
-use Rattle.ods_state.proofs.OneBlock.{mapped_alike}
 
 -- one of a list is its first, or one of the rest
 pub first_or_later : (m : ℕ) (ms : List ℕ) (x : ℕ) → Contains (m ∷ ms) x → (m ≡ x) ⊎ Contains ms x
@@ -30,13 +25,6 @@ among_or_not xs x = elim (contains_or_not xs x) [ inl c ↦ inl (one_of xs x c, 
 module _ (I : List (List ℕ)) (L : VolumeLayout) (S : IsSoundBy I L) where
   -- where only the bitmaps and these headers change
   module _ (J : List (List ℕ)) (numbers : List ℕ) (O : ChangesOnly I L numbers J) where
-    -- each block is as it was, or a request may write it
-    pub only_elsewhere : (x : ℕ) → (block_at J x ≡ block_at I x) ⊎ CouldBeWritten I L x
-    only_elsewhere x = elim (bookkeeping_or_not L numbers x) [
-      | inl p ↦ inr (bookkeeping_written S numbers x p)
-      | inr away ↦ inl (O.others x away)
-    ]
-
     -- the other headers stay
     pub only_headers : (m : ℕ) → ¬ Contains numbers m → header_at J L m ≡ header_at I L m
     only_headers m other = by (place_of L m) refl
@@ -49,8 +37,3 @@ module _ (I : List (List ℕ)) (L : VolumeLayout) (S : IsSoundBy I L) where
         by : (o : Option ℕ) → place_of L m ≡ o → option_map_or (block_at J) o [] ≡ option_map_or (block_at I) o []
         by None place = refl
         by (Some x) place = O.others x (away x place)
-
-    -- and so do the contents of each file but for both maps
-    pub only_contents : (m : ℕ) (blocks : List ℕ) → HasBlocks I L m blocks → m ≢ 1 → m ≢ 2 → contents_of J blocks ≡ contents_of I blocks
-    only_contents m blocks file one two =
-        mapped_alike (block_at I) (block_at J) blocks (λ i y e. O.others y (no_bookkeeping S numbers m (i + 1) y (holds_at I L m blocks i y file e) one two))
