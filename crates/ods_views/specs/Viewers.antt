@@ -1,5 +1,5 @@
 -- What a desk with a writer, and a viewer, are to a contract.
-use Rattle.std.specs.Prelude.{◌≡◌, ℕ, ◌≤◌, List, [], Option, Result, Ok, Err, length}
+use Rattle.std.specs.Prelude.{◌≡◌, ℕ, ◌≤◌, List, [], ◌∷◌, ◌++◌, Option, Result, Ok, Err, fold, length}
 use Rattle.atomic_table.specs.declared.shared.Seat.{Seat}
 use Rattle.left_right.specs.declared.part.Part.{Part}
 use Rattle.left_right.specs.declared.board.Doing.{Doing}
@@ -11,7 +11,7 @@ use Rattle.ods_request.specs.declared.refusals.Refusal.{Refusal}
 use Rattle.ods_request.specs.Catalogue.{Catalogue}
 use Rattle.ods_request.specs.Lists.{Begins}
 use Rattle.ods_state.specs.Version.{State, IsReplay}
-use Rattle.ods_views.specs.Versions.{AnswersBy}
+use Rattle.ods_views.specs.Versions.{AnswersBy, led_on}
 use Rattle.ods_views.specs.declared.version.Version.{Version}
 use Rattle.ods_views.specs.declared.version.Change.{Change}
 use Rattle.ods_views.specs.declared.rule.View.{View}
@@ -33,6 +33,15 @@ pub record IsOpened (mounted : List (List ℕ)) (opening : List Entry) (v : Stat
 -- the writer's place has seen the volume's list, the version that it shows is the volume's, and nothing is pending
 abbrev pub IsTied : Place → Version → List Change → State → Type 0
 IsTied p x pending v = (seen_by p ≡ v.entries) × (x.image ≡ v.image) × (x.layout ≡ v.layout) × (x.count ≡ length v.entries) × (pending ≡ [])
+
+-- the volume is over this mounted image, and its list is what was seen, with this entry behind
+abbrev pub IsOneOn : List (List ℕ) → List Entry → Entry → State → Type 0
+IsOneOn mounted seen e v = (v.mounted ≡ mounted) × (v.entries ≡ seen ++ e ∷ [])
+
+-- what is pending leads from this version to the volume's blocks, to its layout and to as many entries as it has
+abbrev pub LeadsTo : Version → List Change → State → Type 0
+LeadsTo x pending v = let next = fold led_on x pending in
+    (next.count ≡ length v.entries) × (next.image ≡ v.image) × (next.layout ≡ v.layout)
 
 -- a viewer: the entries that it has seen, and how many it was told of
 pub record Viewed : Type 0 where

@@ -1,6 +1,6 @@
 //! The writer of a desk: how it begins, gets a change and shows it.
-ghost use Rattle.std.specs.Prelude.{◌≡◌, ◌<◌, ◌≤◌, ◌++◌, ◌∷◌, [], drop, fold, length, IfOk, MatchResult};
-ghost use Rattle.ods_views.specs.{Versions.led_on, Viewers.IsTied, Viewers.seen_by};
+ghost use Rattle.std.specs.Prelude.{◌≡◌, ◌<◌, ◌≤◌, ◌∷◌, [], drop, length, IfOk, MatchResult};
+ghost use Rattle.ods_views.specs.Viewers.{IsOneOn, IsTied, LeadsTo, seen_by};
 
 use crate::naming::Naming;
 use crate::rule::{Adding, Adds, Lists, View};
@@ -68,9 +68,9 @@ pub fn publish_change<J: Naming, N: Adding, R: Wait>(
     volume: &Volume,
 ) -> DeskWriter<J>
     requires named { plan.value.entry ≡ N.entry }
-    requires volume { (volume.now.mounted ≡ J.mounted) × (volume.now.entries ≡ seen_by writer.desk.place ++ plan.value.entry ∷ []) }
+    requires volume { IsOneOn J.mounted (seen_by writer.desk.place) plan.value.entry volume.now }
     requires before { length (seen_by writer.desk.place) ≡ writer.desk.shown.value.count }
-    requires pending { let next = fold led_on writer.desk.shown.value (drop writer.behind writer.log.items) in (next.count ≡ length volume.now.entries) × (next.image ≡ volume.now.image) × (next.layout ≡ volume.now.layout) }
+    requires pending { LeadsTo writer.desk.shown.value (drop writer.behind writer.log.items) volume.now }
     ensures { IsTied result.desk.place result.desk.shown.value (drop result.behind result.log.items) volume.now }
 {
     let _ = plan;
