@@ -1,23 +1,24 @@
 -- New headers, made one after another.
-use Rattle.std.proofs.Common.{◌≡◌, ◌≢◌, ℕ, zero, suc, ◌+◌, ◌-◌, ◌*◌, ◌<◌, ◌≤◌, min, Bool, true, false, cond, nat_eq, nat_le, List, [], ◌∷◌, length, take, drop, drop-cons, get_or, slice_get, Option, Some, None, refl, sym, ap, ◌∙◌, subst, arith, inl, inr}
+use Rattle.std.proofs.Common.{◌≡◌, ◌≢◌, ℕ, zero, suc, ◌+◌, ◌-◌, ◌*◌, ◌<◌, ◌≤◌, min, Bool, true, false, cond, nat_eq, nat_le, List, [], ◌∷◌, ◌++◌, length, take, drop, drop-cons, get_or, slice_get, Option, Some, None, refl, sym, ap, ◌∙◌, subst, arith, inl, inr}
 use Rattle.std.specs.Option.{option_map_or}
+use Rattle.std.specs.List.{All}
 use Rattle.std.specs.List.Sorted.{IsStrictlyIncreasing}
 use Rattle.std.proofs.lemmas.Bool.{cases_lt, ne_eqb}
-use Rattle.std.proofs.lemmas.List.{take_all, drop_all, length-drop}
-use Rattle.std.proofs.lemmas.List.Elements.{Contains-get_or}
+use Rattle.std.proofs.lemmas.List.{take_all, take_more, drop_all, get_or-take, get_or_default, length-drop, length-take}
+use Rattle.std.proofs.lemmas.List.Elements.{Contains-append_left, Contains-push}
 use Rattle.std.proofs.lemmas.Option.{slice_get-get_or}
 use Rattle.ods_base.specs.Image.{block_at}
 use Rattle.ods_header.specs.declared.header.Run.{Run}
 use Rattle.ods_base.specs.declared.file_id.FileId.{FileId}
 use Rattle.ods_header.specs.declared.header.Header.{Header}
-use Rattle.ods_header.specs.Header.{IsValidHeader, header_of}
+use Rattle.ods_header.specs.Header.{IsValidHeader, header_of, sequence_of}
 use Rattle.ods_space.specs.Layout.{VolumeLayout, place_of, header_at, last_number}
 use Rattle.ods_space.specs.Draft.{Changes, applied, seen_at}
 use Rattle.ods_space.proofs.Drafts.{block_at-applied}
 use Rattle.ods_header.specs.Extension.{IsExtensionOf}
 use Rattle.ods_alloc.specs.Extend.{IsWellPlaced, IsHeaderPlace}
 use Rattle.ods_header.specs.Extension.{extension_of}
-use Rattle.ods_alloc.specs.Extension.{IsMade, MakesHeaders, first_number, first_sequence}
+use Rattle.ods_alloc.specs.Extension.{CanBeMade, IsMade, MakesHeaders, first_number, first_sequence}
 use Rattle.ods_alloc.proofs.OneBit.{size_put, put_same, put_other}
 use Rattle.ods_alloc.proofs.Places.{place_once}
 
@@ -59,33 +60,66 @@ header_put_other I d L m lbn c away = by (place_of L m) refl
     by None e = refl
     by (Some p) e = put_other I d lbn c p (λ same. away (e ∙ ap Some same))
 
-pub none_made : (I K : List (List ℕ)) (L : VolumeLayout) (f : List ℕ) (segment : ℕ) (numbers : List ℕ) (runs : List Run) → MakesHeaders I K L f segment numbers runs 0 K
-none_made I K L f segment numbers runs = record { size = refl; made = λ i below. absurd (omega arith); others = λ lbn away. refl }
+pub none_made : (K : List (List ℕ)) (L : VolumeLayout) (first : Header) (segment : ℕ) (numbers : List ℕ) (runs : List Run) → MakesHeaders K L first segment numbers runs 0 K
+none_made K L first segment numbers runs = record { size = refl; made = λ f same i below. absurd (omega arith); others = λ lbn away. refl }
 
-pub one_made : (I B K : List (List ℕ)) (d e : Changes) (L : VolumeLayout) (f : List ℕ) (segment : ℕ) (numbers : List ℕ) (runs : List Run) (k lbn : ℕ) (c : List ℕ) → IsWellPlaced L → IsStrictlyIncreasing numbers
-    → k < length numbers → lbn < length I → place_of L (get_or numbers k 0) ≡ Some lbn → e ≡ (lbn, c) ∷ d → IsMade B L f (segment + k) (get_or numbers k 0) (take 102 (drop (102 * k) runs)) (drop (k + 1) numbers) c
-    → MakesHeaders B K L f segment numbers runs k (applied I d) → MakesHeaders B K L f segment numbers runs (k + 1) (applied I e)
-one_made I B K d e L f segment numbers runs k lbn c places rises within inside found is made before =
+-- The headers from place j on are not made yet: they are as they were.
+module _ (K J : List (List ℕ)) (L : VolumeLayout) (first : Header) (segment : ℕ) (numbers : List ℕ) (runs : List Run) (k : ℕ) (places : IsWellPlaced L) (rises : IsStrictlyIncreasing numbers) (before : MakesHeaders K L first segment numbers runs k J) where
+  still : (j : ℕ) → k ≤ j → j < length numbers → header_at J L (get_or numbers j 0) ≡ header_at K L (get_or numbers j 0)
+  still j from within = by (place_of L (get_or numbers j 0)) refl
+    where
+      by : (o : Option ℕ) → place_of L (get_or numbers j 0) ≡ o → option_map_or (block_at J) o [] ≡ option_map_or (block_at K) o []
+      by None e = refl
+      by (Some q) e = before.others q (λ p.
+          let i : ℕ = p.1.0 in
+          let size = length-take k numbers in
+          let made = p.1.1 in
+          let early : i < k = omega (arith, size, made) in
+          let inside : i < length numbers = omega (arith, early, from, within) in
+          let same : get_or numbers i 0 ≡ p.0 = get_or_default numbers i 0 p.0 inside ∙ sym (get_or-take k numbers i p.0 early) ∙ p.1.2 in
+          absurd (rising_apart numbers rises i j (omega (arith, early, from)) within (same ∙ place_once L p.0 (get_or numbers j 0) q places p.2 e)))
+
+  pub still_sequence : (j : ℕ) → k ≤ j → first_sequence J L (drop j numbers) ≡ first_sequence K L (drop j numbers)
+  still_sequence j from = elim (cases_lt j (length numbers)) [
+    | inl within ↦
+        let split = drop-cons numbers j 0 within in
+        ap (first_sequence J L) split ∙ ap (λ b. sequence_of b + 1) (still j from within) ∙ sym (ap (first_sequence K L) split)
+    | inr past ↦ let none = drop_all j numbers past in ap (first_sequence J L) none ∙ sym (ap (first_sequence K L) none)
+  ]
+
+-- one more than the sequence number of a header that can be made is a word
+pub sequence_fits : (K : List (List ℕ)) (L : VolumeLayout) (numbers : List ℕ) (j : ℕ) → All (CanBeMade K L) numbers → first_sequence K L (drop j numbers) ≤ 65535
+sequence_fits K L numbers j new = elim (cases_lt j (length numbers)) [
+  | inl within ↦ let below = (new j 0 within).below in omega (arith, below, ap (first_sequence K L) (drop-cons numbers j 0 within))
+  | inr past ↦ omega (arith, ap (first_sequence K L) (drop_all j numbers past))
+]
+
+pub one_made : (I K : List (List ℕ)) (d e : Changes) (L : VolumeLayout) (first : Header) (segment : ℕ) (numbers : List ℕ) (runs : List Run) (k lbn : ℕ) (c : List ℕ) → IsWellPlaced L → IsStrictlyIncreasing numbers
+    → k < length numbers → lbn < length I → place_of L (get_or numbers k 0) ≡ Some lbn → e ≡ (lbn, c) ∷ d → ((f : List ℕ) → header_of f ≡ first → IsMade K L f (segment + k) (get_or numbers k 0) (take 102 (drop (102 * k) runs)) (drop (k + 1) numbers) c)
+    → MakesHeaders K L first segment numbers runs k (applied I d) → MakesHeaders K L first segment numbers runs (k + 1) (applied I e)
+one_made I K d e L first segment numbers runs k lbn c places rises within inside found is made before =
     let now : applied I e ≡ applied I ((lbn, c) ∷ d) = ap (applied I) is in
     let x : ℕ = get_or numbers k 0 in
-    let Made : ℕ → List ℕ → Type 0 = λ i b. IsMade B L f (segment + i) (get_or numbers i 0) (take 102 (drop (102 * i) runs)) (drop (i + 1) numbers) b in
+    let Made : List ℕ → ℕ → List ℕ → Type 0 = λ f i b. IsMade K L f (segment + i) (get_or numbers i 0) (take 102 (drop (102 * i) runs)) (drop (i + 1) numbers) b in
     record {
       size = ap length now ∙ size_put I d lbn c ∙ before.size;
-      made = λ i below. elim (cases_lt i k) [
+      made = λ f same i below. elim (cases_lt i k) [
         | inl earlier ↦
             let m : ℕ = get_or numbers i 0 in
             let away : place_of L m ≡ Some lbn → ⊥ = λ p. rising_apart numbers rises i k earlier within (place_once L m x lbn places p found) in
-            let P : List ℕ → Type 0 = λ b. Made i b in
-            subst P (sym (ap (λ J. header_at J L m) now ∙ header_put_other I d L m lbn c away)) (before.made i earlier)
+            let P : List ℕ → Type 0 = λ b. Made f i b in
+            subst P (sym (ap (λ J. header_at J L m) now ∙ header_put_other I d L m lbn c away)) (before.made f same i earlier)
         | inr later ↦
             let here : k ≡ i = omega arith in
-            let P : List ℕ → Type 0 = λ b. Made k b in
-            let Q : ℕ → Type 0 = λ j. Made j (header_at (applied I e) L (get_or numbers j 0)) in
-            subst Q here (subst P (sym (ap (λ J. header_at J L x) now ∙ header_put_same I d L x lbn c inside found)) made)
+            let P : List ℕ → Type 0 = λ b. Made f k b in
+            let Q : ℕ → Type 0 = λ j. Made f j (header_at (applied I e) L (get_or numbers j 0)) in
+            subst Q here (subst P (sym (ap (λ J. header_at J L x) now ∙ header_put_same I d L x lbn c inside found)) (made f same))
       ];
       others = λ at away.
-          let other : at ≢ lbn = λ same. away (let P : ℕ → Type 0 = λ p. IsHeaderPlace L numbers p in subst P (sym same) (x, Contains-get_or numbers k 0 within, found)) in
-          ap (λ J. block_at J at) now ∙ put_other I d lbn c at other ∙ before.others at away;
+          let more : take (k + 1) numbers ≡ take k numbers ++ x ∷ [] = take_more numbers k 0 within in
+          let gone : IsHeaderPlace L (take k numbers ++ x ∷ []) at → ⊥ = λ p. away (subst (λ ns. IsHeaderPlace L ns at) (sym more) p) in
+          let other : at ≢ lbn = λ same. gone (x, Contains-push (take k numbers) x, found ∙ ap Some (sym same)) in
+          ap (λ J. block_at J at) now ∙ put_other I d lbn c at other ∙ before.others at (λ p. gone (p.0, Contains-append_left (take k numbers) (x ∷ []) p.0 p.1, p.2));
     }
 
 -- what a bounded part of the runs is

@@ -1,9 +1,10 @@
 -- Extension headers that are made for a file.
-use Rattle.std.specs.Prelude.{◌≡◌, ◌≢◌, ℕ, ◌+◌, ◌*◌, ◌/◌, ◌<◌, List, [], ◌∷◌, slice_index, length, take, drop, Some}
+use Rattle.std.specs.Prelude.{◌≡◌, ◌≢◌, ℕ, ◌+◌, ◌*◌, ◌/◌, ◌<◌, ◌≤◌, List, [], ◌∷◌, slice_index, length, take, drop, Some}
 use Rattle.ods_base.specs.Image.{block_at}
 use Rattle.ods_header.specs.declared.header.Run.{Run}
-use Rattle.ods_header.specs.Header.{IsValidHeader, segment_of, sequence_of, next_volume_of, next_number_of, next_sequence_of, runs_of, room_of}
-use Rattle.ods_space.specs.Layout.{VolumeLayout, header_at, place_of}
+use Rattle.ods_header.specs.declared.header.Header.{Header}
+use Rattle.ods_header.specs.Header.{IsValidHeader, header_of, segment_of, sequence_of, next_volume_of, next_number_of, next_sequence_of, runs_of, room_of}
+use Rattle.ods_space.specs.Layout.{VolumeLayout, header_at, last_number, place_of}
 use Rattle.ods_header.specs.Extension.{IsExtensionOf}
 use Rattle.ods_header.specs.Pointing.{IsGrown}
 use Rattle.ods_alloc.specs.Extend.{IsHeaderPlace}
@@ -29,11 +30,17 @@ pub record IsMade (I : List (List ℕ)) (L : VolumeLayout) (f : List ℕ) (segme
   pub next_number : next_number_of b ≡ first_number behind
   pub next_sequence : next_sequence_of b ≡ first_sequence I L behind
 
--- J is K with the first `count` of these extension headers made, for a chain in I: each takes the next 102 of the runs, and the first has this segment
-pub record MakesHeaders (I K : List (List ℕ)) (L : VolumeLayout) (f : List ℕ) (segment : ℕ) (numbers : List ℕ) (runs : List Run) (count : ℕ) (J : List (List ℕ)) : Type 0 where
-  pub size : length J ≡ length K
-  pub made : (i : ℕ) → i < count → IsMade I L f (segment + i) (slice_index numbers i) (take 102 (drop (102 * i) runs)) (drop (i + 1) numbers) (header_at J L (slice_index numbers i))
-  pub others : (lbn : ℕ) → ¬ IsHeaderPlace L numbers lbn → block_at J lbn ≡ block_at K lbn
+-- a header can be made anew as number m: it has a place, and the sequence number one more than its block has is a word
+pub record CanBeMade (I : List (List ℕ)) (L : VolumeLayout) (m : ℕ) : Type 0 where
+  pub some : 1 ≤ m
+  pub last : m ≤ last_number L
+  pub below : sequence_of (header_at I L m) < 65535
+
+-- J is I with the first `count` of these extension headers made, for a file whose first header has these fields: each takes the next 102 of the runs, and the first of them has this segment
+pub record MakesHeaders (I : List (List ℕ)) (L : VolumeLayout) (first : Header) (segment : ℕ) (numbers : List ℕ) (runs : List Run) (count : ℕ) (J : List (List ℕ)) : Type 0 where
+  pub size : length J ≡ length I
+  pub made : (f : List ℕ) → header_of f ≡ first → (i : ℕ) → i < count → IsMade I L f (segment + i) (slice_index numbers i) (take 102 (drop (102 * i) runs)) (drop (i + 1) numbers) (header_at J L (slice_index numbers i))
+  pub others : (lbn : ℕ) → ¬ IsHeaderPlace L (take count numbers) lbn → block_at J lbn ≡ block_at I lbn
 
 -- J is I with the chain of file n, whose last header is z, grown by these headers: z has as many of the runs as have room and names the first of them, and each of them takes the next 102
 pub record WritesHeaders (I : List (List ℕ)) (L : VolumeLayout) (n z : ℕ) (numbers : List ℕ) (runs : List Run) (J : List (List ℕ)) : Type 0 where

@@ -1,11 +1,12 @@
 //! The extension headers by which a chain grows.
-ghost use Rattle.std.specs.Prelude.{◌≡◌, ◌+◌, ◌*◌, ◌<◌, ◌≤◌, ℕ, List, length, take, drop, IsTrue, OnOk};
+ghost use Rattle.std.specs.Prelude.{◌≡◌, ◌+◌, ◌<◌, ◌≤◌, length, take, drop, OnOk};
 ghost use Rattle.std.specs.List.{All};
 ghost use Rattle.std.specs.List.Sorted.{IsStrictlyIncreasing};
-ghost use Rattle.ods_header.specs.Header.{IsRun, header_of, sequence_of};
-ghost use Rattle.ods_space.specs.{Free.is_free_number, Draft.applied};
-ghost use Rattle.ods_alloc.specs.{Extension.MakesHeaders, Extension.first_number, Extension.first_sequence, Marks.HasPlaces};
-ghost use Rattle.ods_space.specs.Disks.{header_drafted};
+ghost use Rattle.ods_header.specs.Header.{IsRun, sequence_of};
+ghost use Rattle.ods_space.specs.Draft.{applied};
+ghost use Rattle.ods_alloc.specs.Extension.{CanBeMade, MakesHeaders, first_number, first_sequence};
+ghost use Rattle.ods_alloc.specs.Marks.{HasPlaces};
+ghost use Rattle.ods_space.specs.Disks.{drafted, header_drafted};
 
 use crate::drafted::drafted_header;
 use ods_base::FileId;
@@ -14,27 +15,28 @@ use ods_space::{Disk, Draft};
 use std::alloc::AllocError;
 
 /// Writes new extension headers of the file with this first header: each takes the next 102 of the runs and names
-/// the one behind it, and their segments follow this one. What their blocks had is read through the old draft.
+/// the one behind it, and their segments follow this one. They are written in their order, and what stands in the place
+/// of each is read before it is written.
 pub(crate) fn write_extensions(
     disk: &Disk<'_>,
     first: &Header,
     segment: u8,
     numbers: &[u16],
     runs: &[Run],
-    old: &Draft,
     draft: &mut Draft,
 ) -> Result<(), AllocError>
     requires places { HasPlaces (length disk.now.image.now) disk.now.layout.now }
-    requires free { All (λ m. IsTrue (is_free_number (applied disk.now.image.now old.now) disk.now.layout.now m)) numbers.now }
+    requires new { All (drafted CanBeMade disk.now draft.old) numbers.now }
     requires rising { IsStrictlyIncreasing numbers.now }
     requires segments { segment + length numbers.now ≤ 255 }
     requires runs { All IsRun runs.now }
-    ensures { OnOk result ((f : List ℕ) → header_of f ≡ first.now → MakesHeaders (applied disk.now.image.now old.now) (applied disk.now.image.now draft.old) disk.now.layout.now f (segment + 1) numbers.now runs.now (length numbers.now) (applied disk.now.image.now draft.new)) }
+    ensures { OnOk result (drafted MakesHeaders disk.now draft.old first.now (segment + 1) numbers.now runs.now (length numbers.now)
+        (applied disk.now.image.now draft.new)) }
 {
     for (i, number) in numbers.iter().enumerate() {
         if let Some(lbn) = disk.layout.place(*number) {
-            let file = first_id(disk, old, &numbers[i..]);
-            let next = first_id(disk, old, &numbers[i + 1..]);
+            let file = first_id(disk, draft, &numbers[i..]);
+            let next = first_id(disk, draft, &numbers[i + 1..]);
             let pointers = piece(runs, 102 * i, 102);
             let block = extension_block(first, file, segment + (i + 1) as u8, next, pointers);
             draft.set(lbn, block)?;
@@ -56,7 +58,7 @@ pub(crate) fn piece(runs: &[Run], at: usize, most: usize) -> &[Run]
 /// where there is none.
 pub(crate) fn first_id(disk: &Disk<'_>, draft: &Draft, numbers: &[u16]) -> FileId
     requires places { HasPlaces (length disk.now.image.now) disk.now.layout.now }
-    requires free { All (λ m. IsTrue (is_free_number (applied disk.now.image.now draft.now) disk.now.layout.now m)) numbers.now }
+    requires few { first_sequence (applied disk.now.image.now draft.now) disk.now.layout.now numbers.now ≤ 65535 }
     ensures number { result.number ≡ first_number numbers.now }
     ensures sequence { result.sequence ≡ first_sequence (applied disk.now.image.now draft.now) disk.now.layout.now numbers.now }
 {

@@ -14,8 +14,7 @@ use ods_space::{Disk, Draft};
 use std::alloc::AllocError;
 
 /// Writes the headers of file `number` whose chain grows by these runs: as many as have room stand in its last
-/// header, and the others in new headers. What stood where these come to stand is read through a copy of the draft,
-/// which is made only where there are new headers.
+/// header, and the others in new headers.
 pub(crate) fn write_headers(
     disk: &Disk<'_>,
     number: u16,
@@ -40,16 +39,14 @@ pub(crate) fn write_headers(
     };
     let grown = grown_last(ends.last, ends.number, runs, next);
     // Where the newest change of the draft is of this header, both are one.
+    draft.renew(lbn, grown)?;
     if numbers.is_empty() {
-        draft.renew(lbn, grown)?;
         return Ok(());
     }
-    let old = draft.copy()?;
-    draft.renew(lbn, grown)?;
     let Ok(first) = read_header(ends.first, number) else {
         return Ok(());
     };
     let rest = piece(runs, room(ends.last), runs.len());
-    write_extensions(disk, &first, segment(ends.last), numbers, rest, &old, draft)?;
+    write_extensions(disk, &first, segment(ends.last), numbers, rest, draft)?;
     Ok(())
 }
