@@ -24,7 +24,7 @@ use Rattle.ods_request.specs.declared.refusals.Refusal.{Refusal}
 use Rattle.ods_request.specs.declared.refusals.Refusal.TheVariants as refusal
 use Rattle.ods_request.specs.Faults.{first_of}
 use Rattle.ods_header.specs.Header.{room_of}
-use Rattle.ods_state.specs.Wants.{index_blocks, index_end, index_growth, lack_of, lacks_headers, new_headers, room_in, taken_blocks, taken_count, taken_numbers}
+use Rattle.ods_state.specs.Wants.{blocks_behind, count_for, index_end, index_growth, lack_for, lacks_places as no_places, new_headers, numbers_for, taken_blocks}
 use Rattle.ods_change.specs.Taking.{HasPlacesFor, LacksPlaces, refusal_for}
 
 -- no more runs than blocks
@@ -41,11 +41,6 @@ unfolding cut
 cut_few [] = omega arith
 cut_few (x ∷ xs) = let few = cut_from_few (single x) xs in omega (arith, few)
 
--- a new file has this room
-pub new_room : (I : List (List ℕ)) (L : VolumeLayout) (hs : List ℕ) (headers room : ℕ) → length hs ≡ headers → room_in I L hs ≡ room → headers ≡ 0 → room ≡ 204
-new_room I L [] headers room count is none = sym is
-new_room I L (h ∷ hs) headers room count is none = absurd (omega (arith, count, none))
-
 first_row : (a b d : Bool) (x y z : Refusal) → a ≡ true → first_of ((a, x) ∷ (b, y) ∷ (d, z) ∷ []) ≡ Some x
 first_row a b d x y z is = ap (λ t. first_of ((t, x) ∷ (b, y) ∷ (d, z) ∷ [])) is
 
@@ -55,45 +50,45 @@ second_row a b d x y z far is = ap (λ t. first_of ((t, x) ∷ (b, y) ∷ (d, z)
 third_row : (a b d : Bool) (x y z : Refusal) → a ≡ false → b ≡ false → first_of ((a, x) ∷ (b, y) ∷ (d, z) ∷ []) ≡ first_of ((d, z) ∷ [])
 third_row a b d x y z far none = ap (λ t. first_of ((t, x) ∷ (b, y) ∷ (d, z) ∷ [])) far ∙ ap (λ t. first_of ((t, y) ∷ (d, z) ∷ [])) none
 
--- The volume I, by the layout L, for a file with headers hs that is to get `count` blocks.
-module _ (I : List (List ℕ)) (L : VolumeLayout) (hs : List ℕ) (count : ℕ) where
-  pub lacks_blocks : length (free_blocks I L) < count → lack_of I L hs count ≡ Some refusal.VolumeFull
-  unfolding lack_of
+-- The volume I, by the layout L, for a file that is to get `count` blocks, where it has so many headers, and this room in the last.
+module _ (I : List (List ℕ)) (L : VolumeLayout) (headers room count : ℕ) where
+  pub lacks_blocks : length (free_blocks I L) < count → lack_for I L headers room count ≡ Some refusal.VolumeFull
+  unfolding lack_for
   lacks_blocks few = first_row _ _ _ refusal.VolumeFull refusal.HeadersFull refusal.ChainFull (lt-ltb (length (free_blocks I L)) count few)
 
-  pub lacks_numbers : count ≤ length (free_blocks I L) → length (open_numbers I L) < taken_count I L hs count → lack_of I L hs count ≡ Some refusal.HeadersFull
-  unfolding lack_of
+  pub lacks_numbers : count ≤ length (free_blocks I L) → length (open_numbers I L) < count_for I L headers room count → lack_for I L headers room count ≡ Some refusal.HeadersFull
+  unfolding lack_for
   lacks_numbers enough few = second_row _ _ _ refusal.VolumeFull refusal.HeadersFull refusal.ChainFull
-      (le-ltb (length (free_blocks I L)) count enough) (or_left _ _ (lt-ltb (length (open_numbers I L)) (taken_count I L hs count) few))
+      (le-ltb (length (free_blocks I L)) count enough) (or_left _ _ (lt-ltb (length (open_numbers I L)) (count_for I L headers room count) few))
 
-  pub lacks_places : count ≤ length (free_blocks I L) → LacksPlaces I L count (taken_numbers I L hs count) → lack_of I L hs count ≡ Some refusal.HeadersFull
-  unfolding lack_of
+  pub lacks_places : count ≤ length (free_blocks I L) → LacksPlaces I L count (numbers_for I L headers room count) → lack_for I L headers room count ≡ Some refusal.HeadersFull
+  unfolding lack_for
   lacks_places enough lacks = second_row _ _ _ refusal.VolumeFull refusal.HeadersFull refusal.ChainFull
-      (le-ltb (length (free_blocks I L)) count enough) (or_right (nat_lt (length (open_numbers I L)) (taken_count I L hs count)) _ (by lacks))
+      (le-ltb (length (free_blocks I L)) count enough) (or_right (nat_lt (length (open_numbers I L)) (count_for I L headers room count)) _ (by lacks))
     where
-      by : LacksPlaces I L count (taken_numbers I L hs count) → (nat_lt (length (free_blocks I L)) (count + index_growth L (taken_numbers I L hs count)) || nat_lt (room_of (header_at I L (index_end I L)) / 2) (length (cut (index_blocks I L hs count)))) ≡ true
-      by (inl few) = or_left _ _ (lt-ltb (length (free_blocks I L)) (count + index_growth L (taken_numbers I L hs count)) few)
-      by (inr full) = or_right (nat_lt (length (free_blocks I L)) (count + index_growth L (taken_numbers I L hs count))) _ (lt-ltb (room_of (header_at I L (index_end I L)) / 2) (length (cut (index_blocks I L hs count))) full)
+      by : LacksPlaces I L count (numbers_for I L headers room count) → (nat_lt (length (free_blocks I L)) (count + index_growth L (numbers_for I L headers room count)) || nat_lt (room_of (header_at I L (index_end I L)) / 2) (length (cut (blocks_behind I L (numbers_for I L headers room count) count)))) ≡ true
+      by (inl few) = or_left _ _ (lt-ltb (length (free_blocks I L)) (count + index_growth L (numbers_for I L headers room count)) few)
+      by (inr full) = or_right (nat_lt (length (free_blocks I L)) (count + index_growth L (numbers_for I L headers room count))) _ (lt-ltb (room_of (header_at I L (index_end I L)) / 2) (length (cut (blocks_behind I L (numbers_for I L headers room count) count))) full)
 
-  no_lack : taken_count I L hs count ≤ length (open_numbers I L) → (places : List ℕ) → HasPlacesFor I L count (taken_numbers I L hs count) places → lacks_headers I L hs count ≡ false
+  no_lack : count_for I L headers room count ≤ length (open_numbers I L) → (places : List ℕ) → HasPlacesFor I L count (numbers_for I L headers room count) places → (nat_lt (length (open_numbers I L)) (count_for I L headers room count) || no_places I L (numbers_for I L headers room count) count) ≡ false
   no_lack some places p =
-      or_from _ _ (le-ltb (length (open_numbers I L)) (taken_count I L hs count) some)
-      (or_from _ _ (le-ltb (length (free_blocks I L)) (count + index_growth L (taken_numbers I L hs count)) p.enough)
-      (le-ltb (room_of (header_at I L (index_end I L)) / 2) (length (cut (index_blocks I L hs count))) (subst (λ l. length (cut l) ≤ room_of (header_at I L (index_end I L)) / 2) p.are p.room)))
+      or_from _ _ (le-ltb (length (open_numbers I L)) (count_for I L headers room count) some)
+      (or_from _ _ (le-ltb (length (free_blocks I L)) (count + index_growth L (numbers_for I L headers room count)) p.enough)
+      (le-ltb (room_of (header_at I L (index_end I L)) / 2) (length (cut (blocks_behind I L (numbers_for I L headers room count) count))) (subst (λ l. length (cut l) ≤ room_of (header_at I L (index_end I L)) / 2) p.are p.room)))
 
-  pub lacks_segments : count ≤ length (free_blocks I L) → taken_count I L hs count ≤ length (open_numbers I L) → (places : List ℕ) → HasPlacesFor I L count (taken_numbers I L hs count) places
-      → 256 < length hs + taken_count I L hs count → lack_of I L hs count ≡ Some refusal.ChainFull
-  unfolding lack_of
+  pub lacks_segments : count ≤ length (free_blocks I L) → count_for I L headers room count ≤ length (open_numbers I L) → (places : List ℕ) → HasPlacesFor I L count (numbers_for I L headers room count) places
+      → 256 < headers + count_for I L headers room count → lack_for I L headers room count ≡ Some refusal.ChainFull
+  unfolding lack_for
   lacks_segments enough some places p many =
       third_row _ _ _ refusal.VolumeFull refusal.HeadersFull refusal.ChainFull (le-ltb (length (free_blocks I L)) count enough) (no_lack some places p)
-      ∙ ap (λ t. first_of ((t, refusal.ChainFull) ∷ [])) (lt-ltb 256 (length hs + taken_count I L hs count) many)
+      ∙ ap (λ t. first_of ((t, refusal.ChainFull) ∷ [])) (lt-ltb 256 (headers + count_for I L headers room count) many)
 
-  pub lacks_none : count ≤ length (free_blocks I L) → taken_count I L hs count ≤ length (open_numbers I L) → (places : List ℕ) → HasPlacesFor I L count (taken_numbers I L hs count) places
-      → length hs + taken_count I L hs count ≤ 256 → lack_of I L hs count ≡ None
-  unfolding lack_of
+  pub lacks_none : count ≤ length (free_blocks I L) → count_for I L headers room count ≤ length (open_numbers I L) → (places : List ℕ) → HasPlacesFor I L count (numbers_for I L headers room count) places
+      → headers + count_for I L headers room count ≤ 256 → lack_for I L headers room count ≡ None
+  unfolding lack_for
   lacks_none enough some places p few =
       third_row _ _ _ refusal.VolumeFull refusal.HeadersFull refusal.ChainFull (le-ltb (length (free_blocks I L)) count enough) (no_lack some places p)
-      ∙ ap (λ t. first_of ((t, refusal.ChainFull) ∷ [])) (le-ltb 256 (length hs + taken_count I L hs count) few)
+      ∙ ap (λ t. first_of ((t, refusal.ChainFull) ∷ [])) (le-ltb 256 (headers + count_for I L headers room count) few)
 
 -- a pick of blocks or numbers is refused for want of memory, or because fewer are free
 pub short_blocks : (f : SpaceFault) (free count : ℕ) → IsShort fault.VolumeFull free count f → (refusal_for f ≡ refusal.NoMemory) ⊎ ((refusal_for f ≡ refusal.VolumeFull) × (free < count))
@@ -109,10 +104,13 @@ short_numbers fault.ChainFull free count short = absurd short
 short_numbers fault.NoMemory free count short = inl refl
 
 -- how many headers are taken, by the runs of the blocks that are
-pub wanted_is : (I : List (List ℕ)) (L : VolumeLayout) (hs : List ℕ) (room count needed : ℕ) (blocks : List ℕ) (runs : List Run)
-    → room_in I L hs ≡ room → blocks ≡ taken_blocks I L count → runs ≡ cut blocks → needed ≡ new_headers hs room (length runs) → needed ≡ taken_count I L hs count
-wanted_is I L hs room count needed blocks runs is taken cuts counts =
-    counts ∙ ap (λ r. new_headers hs r (length runs)) (sym is) ∙ ap (λ l. new_headers hs (room_in I L hs) (length l)) (cuts ∙ ap cut taken)
+pub wanted_is : (I : List (List ℕ)) (L : VolumeLayout) (headers room count needed : ℕ) (blocks : List ℕ) (runs : List Run)
+    → blocks ≡ taken_blocks I L count → runs ≡ cut blocks → needed ≡ new_headers headers room (length runs) → needed ≡ count_for I L headers room count
+wanted_is I L headers room count needed blocks runs taken cuts counts = counts ∙ ap (λ l. new_headers headers room (length l)) (cuts ∙ ap cut taken)
+
+-- what is said of so many headers and this room is said of those that are as many, with that room
+pub by_numbers : (P : ℕ → ℕ → Type 0) {h k r s : ℕ} → h ≡ k → r ≡ s → P h r → P k s
+by_numbers P {h} {k} {r} {s} same alike p = subst (λ x. P x s) same (subst (λ x. P h x) alike p)
 
 -- the last of a list, by its place
 pub last_at : (d : ℕ) (xs : List ℕ) → 1 ≤ length xs → get_or xs (length xs - 1) 0 ≡ last_of d xs

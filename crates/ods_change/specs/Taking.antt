@@ -9,7 +9,7 @@ use Rattle.ods_alloc.specs.declared.fault.SpaceFault.{SpaceFault}
 use Rattle.ods_alloc.specs.declared.fault.SpaceFault.TheVariants as fault
 use Rattle.ods_header.specs.Header.{room_of}
 use Rattle.ods_space.specs.Free.{free_blocks}
-use Rattle.ods_state.specs.Wants.{HasHeaders, index_blocks, index_end, index_growth, lack_of, room_in, taken_blocks, taken_numbers}
+use Rattle.ods_state.specs.Wants.{HasHeaders, blocks_behind, index_end, index_growth, lack_for, numbers_for, room_in, taken_blocks}
 use Rattle.ods_alloc.specs.Extend.{cut, last_of}
 use Rattle.ods_change.specs.declared.taking.ChainEnd.{ChainEnd}
 use Rattle.ods_change.specs.declared.taking.Taken.{Taken}
@@ -25,7 +25,7 @@ refusal_for fault.NoMemory = refusal.NoMemory
 
 -- INDEXF.SYS gets these blocks for these numbers, behind so many that a file takes: the lowest free ones, and its last header has room for their pointers
 pub record HasPlacesFor (I : List (List ℕ)) (L : VolumeLayout) (count : ℕ) (numbers places : List ℕ) : Type 0 where
-  pub are : places ≡ take (index_growth L numbers) (drop count (free_blocks I L))
+  pub are : places ≡ blocks_behind I L numbers count
   pub enough : count + index_growth L numbers ≤ length (free_blocks I L)
   pub room : length (cut places) ≤ room_of (header_at I L (index_end I L)) / 2
 
@@ -33,7 +33,11 @@ pub record HasPlacesFor (I : List (List ℕ)) (L : VolumeLayout) (count : ℕ) (
 abbrev pub LacksPlaces : List (List ℕ) → VolumeLayout → ℕ → List ℕ → Type 0
 LacksPlaces I L count numbers =
     (length (free_blocks I L) < count + index_growth L numbers)
-    ⊎ (room_of (header_at I L (index_end I L)) / 2 < length (cut (take (index_growth L numbers) (drop count (free_blocks I L)))))
+    ⊎ (room_of (header_at I L (index_end I L)) / 2 < length (cut (blocks_behind I L numbers count)))
+
+-- INDEXF.SYS cannot get them, and this is said: there is no memory, or no block for each
+abbrev pub IsWhyNoPlaces : List (List ℕ) → VolumeLayout → ℕ → List ℕ → Refusal → Type 0
+IsWhyNoPlaces I L count numbers f = (f ≡ refusal.NoMemory) ⊎ ((f ≡ refusal.HeadersFull) × LacksPlaces I L count numbers)
 
 -- the chain of file n ends in this header
 pub record IsEndOf (I : List (List ℕ)) (L : VolumeLayout) (n : ℕ) (end : ChainEnd) : Type 0 where
@@ -45,22 +49,13 @@ abbrev pub IsMeasured : List (List ℕ) → VolumeLayout → ℕ → ChainEnd �
 IsMeasured I L n end = (hs blocks : List ℕ) → HasHeaders I L n hs blocks
     → (end.headers ≡ length hs) × (end.blocks ≡ length blocks) × (end.room ≡ room_in I L hs)
 
--- a file with headers hs takes this to get so many blocks, and the volume lacks nothing of it
-abbrev pub Takes : List (List ℕ) → VolumeLayout → List ℕ → ℕ → Taken → Type 0
-Takes I L hs count t =
-    (t.blocks.items ≡ taken_blocks I L count)
-    × (t.numbers.items ≡ taken_numbers I L hs count)
-    × (t.places.items ≡ index_blocks I L hs count)
-    × (lack_of I L hs count ≡ None)
-
--- P holds of the headers of whatever file has so many, and this room in words behind the pointers of the last
-abbrev pub ForFilesWith : List (List ℕ) → VolumeLayout → ℕ → ℕ → (List ℕ → Type 0) → Type 0
-ForFilesWith I L headers room P = (hs : List ℕ) → length hs ≡ headers → room_in I L hs ≡ room → P hs
-
--- such a file takes this to get so many blocks
-abbrev pub IsTakenBy : List (List ℕ) → VolumeLayout → ℕ → ℕ → ℕ → Taken → Type 0
-IsTakenBy I L headers room count t = ForFilesWith I L headers room (λ hs. Takes I L hs count t)
+-- this is what a file takes to get `count` blocks that has so many headers, and this room in words behind the pointers of the last; and the volume lacks nothing of it
+pub record IsTakenBy (I : List (List ℕ)) (L : VolumeLayout) (headers room count : ℕ) (t : Taken) : Type 0 where
+  pub blocks : t.blocks.items ≡ taken_blocks I L count
+  pub numbers : t.numbers.items ≡ numbers_for I L headers room count
+  pub places : t.places.items ≡ blocks_behind I L (numbers_for I L headers room count) count
+  pub enough : lack_for I L headers room count ≡ None
 
 -- such a file cannot get them: there is no memory, or the volume lacks what the refusal says
 abbrev pub IsWhyNotTaken : List (List ℕ) → VolumeLayout → ℕ → ℕ → ℕ → Refusal → Type 0
-IsWhyNotTaken I L headers room count f = (f ≡ refusal.NoMemory) ⊎ ForFilesWith I L headers room (λ hs. lack_of I L hs count ≡ Some f)
+IsWhyNotTaken I L headers room count f = (f ≡ refusal.NoMemory) ⊎ (lack_for I L headers room count ≡ Some f)

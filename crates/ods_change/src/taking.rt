@@ -5,7 +5,7 @@ ghost use Rattle.ods_header.specs.Header.{room_of};
 ghost use Rattle.ods_space.specs.{Chain.chain_blocks, Files.IsLayoutOf, Free.free_blocks};
 ghost use Rattle.ods_alloc.specs.Extend.{cut, last_of};
 ghost use Rattle.ods_state.specs.{Ends.IsKnownIn, Wants.HasHeaders, Wants.index_end, Wants.index_growth, Wants.new_headers};
-ghost use Rattle.ods_change.specs.Taking.{HasPlacesFor, IsEndOf, IsMeasured, IsTakenBy, IsWhyNotTaken, LacksPlaces, refusal_for};
+ghost use Rattle.ods_change.specs.Taking.{HasPlacesFor, IsEndOf, IsMeasured, IsTakenBy, IsWhyNoPlaces, IsWhyNotTaken, refusal_for};
 ghost use Rattle.ods_space.specs.Disks.{header_on, on, seen};
 
 use ods_alloc::{
@@ -216,7 +216,7 @@ fn places_for(
     requires small { count ≤ 65535 }
     requires enough { count ≤ length (seen free_blocks disk.now) }
     ensures ok { IfOk result (λ places. on HasPlacesFor disk.now count numbers.now places.items) }
-    ensures err { IfErr result (λ f. (f ≡ Refusal.NoMemory) ⊎ ((f ≡ Refusal.HeadersFull) × on LacksPlaces disk.now count numbers.now)) }
+    ensures err { IfErr result (on IsWhyNoPlaces disk.now count numbers.now) }
 {
     let growth = index_growth(disk.layout, numbers);
     if growth == 0 {
@@ -290,8 +290,8 @@ fn refusal_for(fault: SpaceFault) -> Refusal
 /// How many new headers so many runs need, where a file has so many headers and this room in words in the last: a
 /// pointer takes two words, a new header has room for 102 of them, and a new file needs its first header too.
 fn headers_wanted(headers: u32, room: u32, runs: usize) -> u32
-    requires { runs < 2 ^ 32 }
-    ensures wanted { (hs : List ℕ) → length hs ≡ headers → (headers ≡ 0 → room ≡ 204) → result ≡ new_headers hs room runs }
+    requires few { runs < 2 ^ 32 }
+    ensures wanted { result ≡ new_headers headers room runs }
     ensures few { result < 2 ^ 31 }
 {
     let more = (runs.saturating_sub(room as usize / 2).div_ceil(102)) as u32;

@@ -1,11 +1,10 @@
 -- No fault of a request, and nothing that a volume lacks, is a full list.
 use Rattle.std.proofs.Common.{◌≢◌, ℕ, ◌<◌, ◌∙◌, subst, Bool, true, false, cond, List, [], ◌∷◌, Option, Some, None, length, arith}
-use Rattle.std.specs.Prelude.{◌+◌, nat_lt}
+use Rattle.std.specs.Prelude.{nat_lt}
 use Rattle.std.specs.FinMap as map
 use Rattle.ods_base.specs.declared.file_id.Uic.{Uic}
 use Rattle.ods_base.specs.Name.{RadName}
 use Rattle.ods_base.specs.Names.{NameMap}
-use Rattle.ods_space.specs.Free.{free_blocks}
 use Rattle.ods_space.specs.Layout.{VolumeLayout}
 use Rattle.ods_request.specs.declared.requests.Request.{Request}
 use Rattle.ods_request.specs.declared.requests.Request.TheVariants.{Create, Extend, Truncate, Delete, Enter, LookUp, Remove, Read, Write, List as Lines, Stat, SetUser}
@@ -15,7 +14,7 @@ use Rattle.ods_request.specs.Catalogue.{Catalogue, File, names_of}
 use Rattle.ods_request.specs.Faults.{fault_of, first_of, on_file, cannot_enter}
 use Rattle.ods_state.specs.Outcome.{IsReason, list_full, fault_is, lacks, no_memory}
 use Rattle.ods_state.specs.Version.{State}
-use Rattle.ods_state.specs.Wants.{Lacks, lack_of, lacks_headers, taken_count}
+use Rattle.ods_state.specs.Wants.{Lacks, lack_for}
 
 -- none of these refusals is a full list
 abbrev NoneIsList : List (Bool × Refusal) → Type 0
@@ -57,10 +56,8 @@ one_is_other : (a b c : Bool) → first_of ((a, refusal.VolumeFull) ∷ (b, refu
 one_is_other a b c = first_is_other ((a, refusal.VolumeFull) ∷ (b, refusal.HeadersFull) ∷ (c, refusal.ChainFull) ∷ []) (λ g. absurd (cc), (λ g. absurd (cc), (λ g. absurd (cc), tt)))
 
 lack_is_other : (I : List (List ℕ)) (L : VolumeLayout) (r : Request) → ¬ Lacks I L r refusal.ListFull
-unfolding lack_of
-lack_is_other I L r short = one_is_other (nat_lt (length (free_blocks I L)) short.count)
-    (lacks_headers I L short.headers short.count) (nat_lt 256 (length short.headers + taken_count I L short.headers short.count))
-    short.lacking
+unfolding lack_for
+lack_is_other I L r short = one_is_other _ _ _ short.lacking
 
 -- where the list has room, it is no reason
 pub reason_is_other : (v : State) (who : Uic) (r : Request) (f : Refusal) → length v.entries < v.limit → IsReason v who r f → f ≢ refusal.ListFull

@@ -16,7 +16,7 @@ use Rattle.ods_alloc.proofs.FreeTests.{free_inside}
 use Rattle.ods_mount.specs.Sound.{IsSoundBy}
 use Rattle.ods_request.specs.declared.refusals.Refusal.{Refusal}
 use Rattle.ods_request.specs.Faults.{first_of}
-use Rattle.ods_state.specs.Wants.{index_blocks, index_end, index_growth, lack_of, new_headers, room_in, taken_blocks, taken_count, taken_numbers}
+use Rattle.ods_state.specs.Wants.{index_blocks, index_end, index_growth, lack_for, lack_of, new_headers, room_in, taken_blocks, taken_count, taken_numbers}
 use Rattle.ods_state.specs.Growth.{IsReady, IsTaking}
 use Rattle.ods_state.proofs.GrowthReady.{IsNewFile, IsOldFile, header_stays, seen, taken_not_bitmap, taken_not_index, used_stays}
 use Rattle.ods_state.proofs.Rising.{blocks_rise, numbers_rise, stands_at}
@@ -38,7 +38,7 @@ pub record IsEnough (I : List (List ℕ)) (L : VolumeLayout) (headers : List ℕ
   pub segments : length headers + taken_count I L headers count ≤ 256
 
 pub is_enough : (I : List (List ℕ)) (L : VolumeLayout) (headers : List ℕ) (count : ℕ) → lack_of I L headers count ≡ None → IsEnough I L headers count
-unfolding lack_of
+unfolding lack_for
 is_enough I L headers count none =
     let all = none_of_three _ _ _ _ _ _ none in
     let rows = or_parts _ _ all.1 in
@@ -113,14 +113,14 @@ module _ (I K : List (List ℕ)) (L : VolumeLayout) (S : IsSoundBy I L) (n : ℕ
   enough : length numbers ≡ headers_needed (room_of (header_at K L (last_of n (drop 1 headers))) / 2) runs
   enough = by which
     where
-      many : length (taken_numbers I L headers count) ≡ new_headers headers (room_in I L headers) runs
+      many : length (taken_numbers I L headers count) ≡ new_headers (length headers) (room_in I L headers) runs
       many = so_many_numbers I L headers count (is_enough I L headers count t.enough)
 
       by : Kind → length numbers ≡ headers_needed (room_of (header_at K L (last_of n (drop 1 headers))) / 2) runs
-      by (inl o) = ap length o.new ∙ many ∙ ap (λ l. new_headers l (room_in I L headers) runs) o.is ∙ ap (λ room. headers_needed (room / 2) runs) (sym (same_room o))
+      by (inl o) = ap length o.new ∙ many ∙ ap (λ l. new_headers (length l) (room_in I L headers) runs) o.is ∙ ap (λ room. headers_needed (room / 2) runs) (sym (same_room o))
       by (inr f) =
           let room : room_of (header_at K L (last_of n (drop 1 headers))) ≡ 204 = ap (λ l. room_of (header_at K L (last_of n (drop 1 l)))) f.none ∙ f.made.room in
-          let all : length (n ∷ numbers) ≡ 1 + headers_needed 102 runs = ap length f.new ∙ many ∙ ap (λ l. new_headers l (room_in I L headers) runs) f.none in
+          let all : length (n ∷ numbers) ≡ 1 + headers_needed 102 runs = ap length f.new ∙ many ∙ ap (λ l. new_headers (length l) (room_in I L l) runs) f.none in
           let one : length numbers ≡ headers_needed 102 runs = omega (arith, all) in
           one ∙ ap (λ x. headers_needed (x / 2) runs) (sym room)
 

@@ -24,7 +24,7 @@ use Rattle.ods_mount.specs.Sound.{IsSoundBy}
 use Rattle.ods_request.specs.declared.refusals.Refusal.{Refusal}
 use Rattle.ods_request.specs.Faults.{first_of}
 use Rattle.ods_state.specs.IndexGrowth.{CanGrowIndex, GrowsIndex, WantsTheSame}
-use Rattle.ods_state.specs.Wants.{HasHeaders, index_blocks, index_end, index_growth, lack_of, lacks_headers, new_headers, room_in, taken_blocks, taken_count, taken_numbers}
+use Rattle.ods_state.specs.Wants.{HasHeaders, index_blocks, index_end, index_growth, lack_for, lack_of, new_headers, room_in, taken_blocks, taken_count, taken_numbers}
 use Rattle.ods_state.proofs.GrowthTakes.{IsEnough, is_enough}
 use Rattle.ods_state.proofs.IndexGrown as grown
 use Rattle.ods_state.proofs.IndexGrown.{longer}
@@ -69,9 +69,9 @@ none_of_these false false true f g h p q s = absurd (cc)
 
 -- where there is enough, nothing is lacking
 pub nothing_lacks : (I : List (List ℕ)) (L : VolumeLayout) (headers : List ℕ) (count : ℕ) → IsEnough I L headers count → lack_of I L headers count ≡ None
-unfolding lack_of
+unfolding lack_for
 nothing_lacks I L headers count e =
-    none_of_these (nat_lt (length (free_blocks I L)) count) (lacks_headers I L headers count) (nat_lt 256 (length headers + taken_count I L headers count)) _ _ _
+    none_of_these _ _ _ _ _ _
     (le-ltb (length (free_blocks I L)) count e.blocks)
     (or_from _ _ (le-ltb (length (open_numbers I L)) (taken_count I L headers count) e.numbers)
     (or_from _ _ (le-ltb (length (free_blocks I L)) (count + index_growth L (taken_numbers I L headers count)) e.places)
@@ -217,7 +217,7 @@ module _ (I K : List (List ℕ)) (L : VolumeLayout) (headers old : List ℕ) (co
       by (n ∷ os) each = ap room_of (each (last_of n os) (last_in n os))
 
   pub count_stays : taken_count K M headers count ≡ taken_count I L headers count
-  count_stays = λ i. new_headers headers (room_stays i) (length (cut (blocks_stay i)))
+  count_stays = λ i. new_headers (length headers) (room_stays i) (length (cut (blocks_stay i)))
 
   pub numbers_stay : taken_numbers K M headers count ≡ taken_numbers I L headers count
   numbers_stay = λ i. take (count_stays i) (open_numbers_stay i)

@@ -1,5 +1,5 @@
 -- What a request wants of a volume, blocks and numbers for headers, and what the volume lacks.
-use Rattle.std.specs.Prelude.{◌≡◌, ℕ, ◌+◌, ◌-◌, ◌/◌, Bool, true, ◌||◌, nat_lt, List, [], ◌∷◌, length, take, drop, Option, Some}
+use Rattle.std.specs.Prelude.{◌≡◌, ℕ, zero, suc, ◌+◌, ◌-◌, ◌/◌, Bool, true, ◌||◌, nat_lt, List, [], ◌∷◌, length, take, drop, Option, Some}
 use Rattle.ods_header.specs.Header.{room_of}
 use Rattle.ods_space.specs.Layout.{VolumeLayout, header_at, last_number}
 use Rattle.ods_space.specs.Chain.{headers_of, numbers_of}
@@ -44,48 +44,60 @@ abbrev pub room_in : List (List ℕ) → VolumeLayout → List ℕ → ℕ
 room_in I L [] = 204
 room_in I L (n ∷ others) = room_of (header_at I L (last_of n others))
 
--- how many new headers these runs need: a new file's first, and one for each 102 runs past the room
-abbrev pub new_headers : List ℕ → ℕ → ℕ → ℕ
-new_headers [] room runs = 1 + headers_needed 102 runs
-new_headers (n ∷ headers) room runs = headers_needed (room / 2) runs
+-- How many new headers so many runs need, where a file has so many headers, and this room in words behind the pointers of the last: one for each 102 runs past the room, and a new file's first.
+abbrev pub new_headers : ℕ → ℕ → ℕ → ℕ
+new_headers zero room runs = 1 + headers_needed (room / 2) runs
+new_headers (suc headers) room runs = headers_needed (room / 2) runs
 
 -- the blocks that are taken, lowest first; the runs that they are cut into; the numbers of new headers, lowest first
 abbrev pub taken_blocks : List (List ℕ) → VolumeLayout → ℕ → List ℕ
 taken_blocks I L n = take n (free_blocks I L)
 
--- how many new headers it takes
-abbrev pub taken_count : List (List ℕ) → VolumeLayout → List ℕ → ℕ → ℕ
-taken_count I L headers n = new_headers headers (room_in I L headers) (length (cut (taken_blocks I L n)))
+-- how many new headers a file takes to get n blocks, where it has so many headers, and this room in words behind the pointers of the last
+abbrev pub count_for : List (List ℕ) → VolumeLayout → ℕ → ℕ → ℕ → ℕ
+count_for I L headers room n = new_headers headers room (length (cut (taken_blocks I L n)))
 
 -- the numbers of those headers, lowest first: free ones, and then such for which INDEXF.SYS has no block yet
-abbrev pub taken_numbers : List (List ℕ) → VolumeLayout → List ℕ → ℕ → List ℕ
-taken_numbers I L headers n = take (taken_count I L headers n) (open_numbers I L)
+abbrev pub numbers_for : List (List ℕ) → VolumeLayout → ℕ → ℕ → ℕ → List ℕ
+numbers_for I L headers room n = take (count_for I L headers room n) (open_numbers I L)
 
 -- how many blocks INDEXF.SYS gets, so that it has one for each of these numbers, which ascend
 abbrev pub index_growth : VolumeLayout → List ℕ → ℕ
 index_growth L numbers = last_of 0 numbers - last_number L
 
--- those blocks: the lowest free ones behind the file's own
-abbrev pub index_blocks : List (List ℕ) → VolumeLayout → List ℕ → ℕ → List ℕ
-index_blocks I L headers n = take (index_growth L (taken_numbers I L headers n)) (drop n (free_blocks I L))
+-- those blocks, for these numbers of a file that gets n blocks: the lowest free ones behind the file's own
+abbrev pub blocks_behind : List (List ℕ) → VolumeLayout → List ℕ → ℕ → List ℕ
+blocks_behind I L numbers n = take (index_growth L numbers) (drop n (free_blocks I L))
 
 -- the last header of INDEXF.SYS, which gets the pointers to them
 abbrev pub index_end : List (List ℕ) → VolumeLayout → ℕ
 index_end I L = last_of 0 (numbers_of (headers_of I L 1))
 
--- There are too few numbers for the new headers; or INDEXF.SYS cannot get a block for each: too few are free behind the file's own, or its last header has no room for their pointers.
-abbrev pub lacks_headers : List (List ℕ) → VolumeLayout → List ℕ → ℕ → Bool
-lacks_headers I L headers n =
-    nat_lt (length (open_numbers I L)) (taken_count I L headers n)
-    || (nat_lt (length (free_blocks I L)) (n + index_growth L (taken_numbers I L headers n))
-    || nat_lt (room_of (header_at I L (index_end I L)) / 2) (length (cut (index_blocks I L headers n))))
+-- INDEXF.SYS cannot get a block for each of these numbers: too few are free behind the file's own, or its last header has no room for their pointers.
+abbrev pub lacks_places : List (List ℕ) → VolumeLayout → List ℕ → ℕ → Bool
+lacks_places I L numbers n =
+    nat_lt (length (free_blocks I L)) (n + index_growth L numbers)
+    || nat_lt (room_of (header_at I L (index_end I L)) / 2) (length (cut (blocks_behind I L numbers n)))
 
--- what the volume lacks, for a file with these headers that is to get n blocks
-unfoldable pub lack_of : List (List ℕ) → VolumeLayout → List ℕ → ℕ → Option Refusal
-lack_of I L headers n = first_of (
+-- what the volume lacks, for a file with so many headers and this room that is to get n blocks; there may be too few numbers for its new headers, or no block for each
+unfoldable pub lack_for : List (List ℕ) → VolumeLayout → ℕ → ℕ → ℕ → Option Refusal
+lack_for I L headers room n = first_of (
     (nat_lt (length (free_blocks I L)) n, refusal.VolumeFull)
-    ∷ (lacks_headers I L headers n, refusal.HeadersFull)
-    ∷ (nat_lt 256 (length headers + taken_count I L headers n), refusal.ChainFull) ∷ [])
+    ∷ (nat_lt (length (open_numbers I L)) (count_for I L headers room n) || lacks_places I L (numbers_for I L headers room n) n, refusal.HeadersFull)
+    ∷ (nat_lt 256 (headers + count_for I L headers room n), refusal.ChainFull) ∷ [])
+
+-- the same of a file with these headers: how many new ones it takes to get n blocks, their numbers, the blocks that INDEXF.SYS gets for them, and what the volume lacks
+abbrev pub taken_count : List (List ℕ) → VolumeLayout → List ℕ → ℕ → ℕ
+taken_count I L headers n = count_for I L (length headers) (room_in I L headers) n
+
+abbrev pub taken_numbers : List (List ℕ) → VolumeLayout → List ℕ → ℕ → List ℕ
+taken_numbers I L headers n = numbers_for I L (length headers) (room_in I L headers) n
+
+abbrev pub index_blocks : List (List ℕ) → VolumeLayout → List ℕ → ℕ → List ℕ
+index_blocks I L headers n = blocks_behind I L (taken_numbers I L headers n) n
+
+abbrev pub lack_of : List (List ℕ) → VolumeLayout → List ℕ → ℕ → Option Refusal
+lack_of I L headers n = lack_for I L (length headers) (room_in I L headers) n
 
 -- the volume lacks what the request takes, and this is the refusal
 pub record Lacks (I : List (List ℕ)) (L : VolumeLayout) (r : Request) (f : Refusal) : Type 0 where

@@ -1,9 +1,8 @@
 -- Why a request is refused, by the volume's present catalogue.
 use Rattle.std.proofs.Common.{◌≡◌, ◌≢◌, ℕ, refl, ap, sym, ◌∙◌, subst, Bool, true, false, cond, List, [], ◌∷◌, Option, Some, None, is_some, inl, inr, arith}
-use Rattle.std.specs.Prelude.{◌+◌, IsSome, MatchOption, length, nat_lt, not, is_none}
+use Rattle.std.specs.Prelude.{IsSome, MatchOption, not, is_none}
 use Rattle.std.specs.FinMap as map
 use Rattle.ods_base.specs.declared.file_id.Uic.{Uic}
-use Rattle.ods_space.specs.Free.{free_blocks}
 use Rattle.ods_space.specs.Layout.{VolumeLayout}
 use Rattle.ods_request.specs.declared.requests.Request.{Request}
 use Rattle.ods_request.specs.declared.requests.Request.TheVariants.{Create, Extend, Truncate, Delete, Enter, LookUp, Remove, Read, Write, List as Lines, Stat, SetUser}
@@ -22,7 +21,7 @@ use Rattle.ods_request.specs.Table.{creates, takes_memory}
 use Rattle.ods_request.proofs.FaultTable.{fault_look_up, fault_read, fault_stat}
 use Rattle.ods_request.proofs.StepLaws.{determined, refused}
 use Rattle.ods_state.specs.Version.{State, IsLawful, IsPresent}
-use Rattle.ods_state.specs.Wants.{Lacks, lack_of, lacks_headers, taken_count}
+use Rattle.ods_state.specs.Wants.{Lacks, lack_for}
 use Rattle.ods_state.specs.Served.{IsStepOf, IsRefusalOf, IsShortOf}
 use Rattle.ods_state.specs.Outcome.{IsReason, fault_is, lacks, no_memory}
 use Rattle.ods_state.proofs.One.{present_is_shown}
@@ -71,10 +70,8 @@ one_is_other : (a b c : Bool) → first_of ((a, refusal.VolumeFull) ∷ (b, refu
 one_is_other a b c = first_is_other ((a, refusal.VolumeFull) ∷ (b, refusal.HeadersFull) ∷ (c, refusal.ChainFull) ∷ []) (λ g. absurd (cc), (λ g. absurd (cc), (λ g. absurd (cc), tt)))
 
 lack_is_other : (I : List (List ℕ)) (L : VolumeLayout) (r : Request) → ¬ Lacks I L r refusal.NoMemory
-unfolding lack_of
-lack_is_other I L r short = one_is_other (nat_lt (length (free_blocks I L)) short.count)
-    (lacks_headers I L short.headers short.count) (nat_lt 256 (length short.headers + taken_count I L short.headers short.count))
-    short.lacking
+unfolding lack_for
+lack_is_other I L r short = one_is_other _ _ _ short.lacking
 
 -- only a request that takes memory is answered by a directory's lines
 lines_by : (C : Catalogue) (r : Request) (lines : List Listed) → answer_of C r ≡ Names lines → takes_memory r ≡ true

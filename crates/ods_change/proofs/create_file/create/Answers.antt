@@ -39,7 +39,7 @@ returns-in-Err c = elim c.in-Err.ensures.err [
       (λ C shown. no_fault c.args.disk.now.image.now c.args.disk.now.layout.now c.args.who c.args.name c.args.version c.args.count c.args.stamp c.if-count-gt65535.false C))
   | inr lack ↦
       refused_for_lack c.args.disk.now.image.now c.args.disk.now.layout.now c.args.who c.args.name c.args.version c.args.count c.args.stamp c.in-Err.refusal c.if-count-gt65535.false
-      (lack [] refl refl)
+      lack
 ]
 
 -- the numbers that are taken: there is a first one, and it is open
@@ -48,10 +48,10 @@ module _ (c : After-as_slice-numbers) where
   ns = c.as_slice-numbers.result.now
 
   enough : lack_of c.args.disk.now.image.now c.args.disk.now.layout.now [] c.args.count ≡ None
-  enough = (c.in-Ok.ensures.ok [] refl refl).3
+  enough = c.in-Ok.ensures.ok.enough
 
   numbers_are : ns ≡ taken_numbers c.args.disk.now.image.now c.args.disk.now.layout.now [] c.args.count
-  numbers_are = c.as_slice-numbers.ensures.value ∙ (c.in-Ok.ensures.ok [] refl refl).1
+  numbers_are = c.as_slice-numbers.ensures.value ∙ c.in-Ok.ensures.ok.numbers
 
   some : 1 ≤ length ns
   some = numbers_there c.args.disk.now.image.now c.args.disk.now.layout.now c.args.count enough ns numbers_are
@@ -78,8 +78,8 @@ slice_bounds-others-start c =
 
 pub begin-requires-clause-can : goal.begin-requires-clause-can
 begin-requires-clause-can c =
-    let got = c.in-Ok.ensures.ok [] refl refl in
-    can_begin [] c.args.count c.requires.sound got.3 (c.deref.ensures.value ∙ got.2)
+    let got = c.in-Ok.ensures.ok in
+    can_begin [] c.args.count c.requires.sound got.enough (c.deref.ensures.value ∙ got.places)
 
 -- the file that is made of what is taken, on the volume with which the request goes on
 module _ (c : After-layout_then-then) where
@@ -117,7 +117,7 @@ module _ (c : After-layout_then-then) where
   places = c.in-Ok.taken.places.items
 
   there : lack_of I L [] count ≡ None
-  there = (c.in-Ok.ensures.ok [] refl refl).3
+  there = c.in-Ok.ensures.ok.enough
 
   asked : IsAsked I L r [] [] count places
   asked = record {
@@ -126,7 +126,7 @@ module _ (c : After-layout_then-then) where
     wants = (refl, refl, refl);
     file = λ m behind none. absurd (cc);
     enough = there;
-    are = (c.in-Ok.ensures.ok [] refl refl).2;
+    are = c.in-Ok.ensures.ok.places;
   }
 
   begun : IsBegun I L places K M
@@ -138,13 +138,13 @@ module _ (c : After-layout_then-then) where
   k = kept asked begun
 
   all_are : all ≡ taken_numbers I L [] count
-  all_are = c.as_slice-numbers.ensures.value ∙ (c.in-Ok.ensures.ok [] refl refl).1
+  all_are = c.as_slice-numbers.ensures.value ∙ c.in-Ok.ensures.ok.numbers
 
   all_now : all ≡ taken_numbers K M [] count
   all_now = all_are ∙ sym k.wants.numbers
 
   blocks_are : blocks ≡ taken_blocks K M count
-  blocks_are = c.as_slice-blocks.ensures.value ∙ (c.in-Ok.ensures.ok [] refl refl).0 ∙ sym k.wants.blocks
+  blocks_are = c.as_slice-blocks.ensures.value ∙ c.in-Ok.ensures.ok.blocks ∙ sym k.wants.blocks
 
   many : length blocks ≡ count
   many = ap length blocks_are ∙ all_blocks K M count k.wants.enough

@@ -1,4 +1,4 @@
-use Rattle.std.proofs.Common.{◌≡◌, ℕ, List, refl, ap, sym, ◌∙◌, ◌∷◌, None, Option, subst}
+use Rattle.std.proofs.Common.{◌≡◌, ℕ, List, length, refl, ap, sym, ◌∙◌, ◌∷◌, Option, subst}
 use Rattle.std.specs.Prelude.{unwrap_or}
 use Rattle.ods_base.specs.Name.{RadName}
 use Rattle.ods_base.specs.declared.file_id.FileId.{FileId}
@@ -9,16 +9,17 @@ use Rattle.ods_space.specs.Draft.{applied}
 use Rattle.ods_space.specs.Layout.{VolumeLayout, with_places}
 use Rattle.ods_alloc.specs.Extend.{cut}
 use Rattle.ods_state.specs.Served.{IsStepOf}
-use Rattle.ods_state.specs.Wants.{index_blocks, lack_of, taken_blocks, taken_numbers}
+use Rattle.ods_state.specs.Wants.{room_in}
 use Rattle.ods_state.proofs.Served.{refused_for_memory}
 use Rattle.ods_change.specs.Beginning.{IsBegun}
 use Rattle.ods_change.specs.Entering.{IsEntering, IsEntryFor, IsTakenFor}
-use Rattle.ods_change.specs.Taking.{IsEndOf}
+use Rattle.ods_change.specs.Taking.{IsEndOf, IsTakenBy}
 use Rattle.ods_change.proofs.Begun.{IsAsked, IsKept, can_begin, kept, step_of}
 use Rattle.ods_change.proofs.BegunDirectories.{asked_by, entry_then, high_directory, taken_then}
 use Rattle.ods_change.proofs.BegunFiles.{end_kept}
 use Rattle.ods_change.proofs.GrowingChain.{has_headers}
 use Rattle.ods_change.proofs.GrowingDirectory.{refused}
+use Rattle.ods_change.proofs.TakingBlocks.{by_numbers}
 use Rattle.ods_change.proofs.enter_behind.enter_behind.Goals as goal
 use Rattle.ods_change.proofs.enter_behind.enter_behind.Goals.{After-layout_then-then}
 
@@ -34,9 +35,10 @@ returns-in-Err c = λ who name given file e.
 pub begin-requires-clause-can : goal.begin-requires-clause-can
 begin-requires-clause-can c =
     let own = c.requires.entry.4.own.is in
+    let D = c.args.entry.now.disk in
     let end = c.of-end.ensures.end (c.args.entry.now.dir.number ∷ own.held.others) own.lbns (has_headers own.held) in
-    let got = c.in-Ok.ensures.ok (c.args.entry.now.dir.number ∷ own.held.others) (sym end.0) (sym end.2) in
-    can_begin (c.args.entry.now.dir.number ∷ own.held.others) 1 c.requires.sound got.3 (c.deref.ensures.value ∙ got.2)
+    let got = by_numbers (λ h r. IsTakenBy D.image.now D.layout.now h r 1 c.in-Ok.taken) end.0 end.2 c.in-Ok.ensures.ok in
+    can_begin (c.args.entry.now.dir.number ∷ own.held.others) 1 c.requires.sound got.enough (c.deref.ensures.value ∙ got.places)
 
 -- the directory, on the volume with which the request goes on
 module _ (c : After-layout_then-then) where
@@ -67,11 +69,11 @@ module _ (c : After-layout_then-then) where
     abbrev headers : List ℕ
     headers = dir.number ∷ e.own.is.held.others
 
-    got : (c.in-Ok.taken.blocks.items ≡ taken_blocks I L 1) × (c.in-Ok.taken.numbers.items ≡ taken_numbers I L headers 1) × (places ≡ index_blocks I L headers 1) × (lack_of I L headers 1 ≡ None)
-    got = let end = c.of-end.ensures.end headers e.own.is.lbns (has_headers e.own.is.held) in c.in-Ok.ensures.ok headers (sym end.0) (sym end.2)
+    got : IsTakenBy I L (length headers) (room_in I L headers) 1 c.in-Ok.taken
+    got = let end = c.of-end.ensures.end headers e.own.is.lbns (has_headers e.own.is.held) in by_numbers (λ h r. IsTakenBy I L h r 1 c.in-Ok.taken) end.0 end.2 c.in-Ok.ensures.ok
 
     asked : IsAsked I L (Enter dir name given file) headers e.own.is.lbns 1 places
-    asked = asked_by e c.requires.sound c.requires.grows c.len.ensures.image got.3 got.2
+    asked = asked_by e c.requires.sound c.requires.grows c.len.ensures.image got.enough got.places
 
     k : IsKept I L headers e.own.is.lbns 1 K M
     k = kept asked begun
@@ -91,7 +93,7 @@ module _ (c : After-layout_then-then) where
       end_kept c.of-end.result has ((k some).has dir.number (high_directory some) has) (k some).own c.of-end.ensures.last
 
   taken : IsTakenFor K M dir.number c.in-Ok.taken.blocks.items c.in-Ok.taken.numbers.items
-  taken = taken_then (k some) ((k some).has dir.number (high_directory some) (has_headers some.own.is.held)) (got some).0 (got some).1
+  taken = taken_then (k some) ((k some).has dir.number (high_directory some) (has_headers some.own.is.held)) (got some).blocks (got some).numbers
 
 pub with_block-requires-clause-sound : goal.with_block-requires-clause-sound
 with_block-requires-clause-sound c = let at = (goal.at.with_block-requires-clause-sound c).After-layout_then-then in (k at (some at)).sound

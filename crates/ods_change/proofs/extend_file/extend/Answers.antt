@@ -1,4 +1,4 @@
-use Rattle.std.proofs.Common.{◌≡◌, ℕ, ◌+◌, List, ◌≤◌, ◌∷◌, ◌++◌, None, length, ap, sym, ◌∙◌, refl, subst, inl, inr, arith}
+use Rattle.std.proofs.Common.{◌≡◌, ℕ, ◌+◌, List, ◌≤◌, ◌∷◌, ◌++◌, Some, length, ap, sym, ◌∙◌, refl, subst, inl, inr, arith}
 use Rattle.std.specs.Prelude.{unwrap_or}
 use Rattle.ods_request.specs.declared.answers.Answer.TheVariants.{Extended}
 use Rattle.ods_request.specs.declared.requests.Request.TheVariants.{Extend}
@@ -8,18 +8,19 @@ use Rattle.ods_space.specs.Layout.{VolumeLayout, header_at, with_places}
 use Rattle.ods_alloc.specs.Extend.{last_of}
 use Rattle.ods_state.specs.declared.known_end.KnownEnd.{KnownEnd}
 use Rattle.ods_state.specs.Ends.{IsEndKnown}
-use Rattle.ods_state.specs.Wants.{index_blocks, lack_of, room_in, taken_blocks, taken_numbers}
+use Rattle.ods_state.specs.Wants.{lack_for, room_in, taken_blocks}
 use Rattle.ods_state.specs.Served.{IsRefusalOf, IsStepOf}
 use Rattle.ods_state.proofs.Chains.{first_in}
 use Rattle.ods_state.proofs.GrownContents.{so_many_blocks}
 use Rattle.ods_state.proofs.Served.{refused_by_fault, refused_for_memory}
 use Rattle.ods_change.specs.Beginning.{IsBegun}
 use Rattle.ods_change.specs.Extending.{IsExtensible, IsGrownBy, IsWanted}
-use Rattle.ods_change.specs.Taking.{IsEndOf, Takes}
+use Rattle.ods_change.specs.Taking.{IsEndOf, IsTakenBy}
 use Rattle.ods_change.proofs.Begun.{IsAsked, IsKept, can_begin, kept, step_of}
 use Rattle.ods_change.proofs.BegunFiles.{above_reserved, asked_of_extend, end_kept, extensible_then}
 use Rattle.ods_change.proofs.ExtendingFile.{extend_is_step, has, refused_for_lack}
 use Rattle.ods_change.proofs.KnownEnds.{grown_known}
+use Rattle.ods_change.proofs.TakingBlocks.{by_numbers}
 use Rattle.ods_change.proofs.extend_file.extend.Goals as goal
 use Rattle.ods_change.proofs.extend_file.extend.Goals.{After-layout_then-then, After-found-end}
 
@@ -31,12 +32,9 @@ found-end-requires-clause-whole c = let o = c.in-Ok.ensures.ok.0 in (_, o.lbns, 
 
 -- how the chain of the file ends
 ends : (c : After-found-end) → let o = c.in-Ok.ensures.ok.0 in
-    (length (c.args.file.number ∷ o.held.others) ≡ c.found-end.result.headers) × (c.found-end.result.blocks ≡ length o.lbns)
-    × (room_in c.args.disk.now.image.now c.args.disk.now.layout.now (c.args.file.number ∷ o.held.others) ≡ c.found-end.result.room)
-ends c =
-    let o = c.in-Ok.ensures.ok.0 in
-    let end = c.found-end.ensures.end (c.args.file.number ∷ o.held.others) o.lbns (has c.requires.sound o) in
-    (sym end.0, end.1, sym end.2)
+    (c.found-end.result.headers ≡ length (c.args.file.number ∷ o.held.others)) × (c.found-end.result.blocks ≡ length o.lbns)
+    × (c.found-end.result.room ≡ room_in c.args.disk.now.image.now c.args.disk.now.layout.now (c.args.file.number ∷ o.held.others))
+ends c = let o = c.in-Ok.ensures.ok.0 in c.found-end.ensures.end (c.args.file.number ∷ o.held.others) o.lbns (has c.requires.sound o)
 
 pub returns-in-Err-take-clause-step : goal.returns-in-Err-take-clause-step
 returns-in-Err-take-clause-step c =
@@ -52,7 +50,7 @@ returns-in-Err-take-clause-step c =
         blocks = o.lbns;
         count = c.args.count;
         wants = (has c.requires.sound o, refl);
-        lacking = lacks (c.args.file.number ∷ o.held.others) end.0 end.2;
+        lacking = by_numbers (λ h r. lack_for I L h r c.args.count ≡ Some c.in-Err-take.refusal) end.0 end.2 lacks;
       }) o.fine
     ]
 
@@ -88,11 +86,11 @@ module _ (c : After-layout_then-then) where
   end : (c.found-end.result.headers ≡ length headers) × (c.found-end.result.blocks ≡ length o.lbns) × (c.found-end.result.room ≡ room_in I L headers)
   end = c.found-end.ensures.end headers o.lbns (has c.requires.sound o)
 
-  got : Takes I L headers count c.in-Ok-take.taken
-  got = c.in-Ok-take.ensures.ok headers (sym end.0) (sym end.2)
+  got : IsTakenBy I L (length headers) (room_in I L headers) count c.in-Ok-take.taken
+  got = by_numbers (λ h r. IsTakenBy I L h r count c.in-Ok-take.taken) end.0 end.2 c.in-Ok-take.ensures.ok
 
   asked : IsAsked I L (Extend c.args.file count) headers o.lbns count places
-  asked = asked_of_extend o c.len.ensures.image c.requires.sound got.3 got.2
+  asked = asked_of_extend o c.len.ensures.image c.requires.sound got.enough got.places
 
   begun : IsBegun I L places K M
   begun =
@@ -106,9 +104,9 @@ module _ (c : After-layout_then-then) where
   wanted = record {
     file = k.file n o.file.0;
     has = k.has n (above_reserved o) (has c.requires.sound o);
-    blocks = got.0 ∙ sym k.wants.blocks;
+    blocks = got.blocks ∙ sym k.wants.blocks;
     runs = c.in-Ok-take.ensures.runs;
-    numbers = got.1 ∙ sym k.wants.numbers;
+    numbers = got.numbers ∙ sym k.wants.numbers;
     enough = k.wants.enough;
     no_growth = k.wants.no_growth;
   }
@@ -139,9 +137,9 @@ module _ (c : After-layout_then-then) where
 pub begin-requires-clause-can : goal.begin-requires-clause-can
 begin-requires-clause-can c =
     let o = c.in-Ok.ensures.ok.0 in
-    let end = c.found-end.ensures.end (c.args.file.number ∷ o.held.others) o.lbns (has c.requires.sound o) in
-    let got = c.in-Ok-take.ensures.ok (c.args.file.number ∷ o.held.others) (sym end.0) (sym end.2) in
-    can_begin (c.args.file.number ∷ o.held.others) c.args.count c.requires.sound got.3 (c.deref.ensures.value ∙ got.2)
+    let end = ends (goal.at.begin-requires-clause-can c).After-found-end in
+    let got = by_numbers (λ h r. IsTakenBy c.args.disk.now.image.now c.args.disk.now.layout.now h r c.args.count c.in-Ok-take.taken) end.0 end.2 c.in-Ok-take.ensures.ok in
+    can_begin (c.args.file.number ∷ o.held.others) c.args.count c.requires.sound got.enough (c.deref.ensures.value ∙ got.places)
 
 pub take-requires-clause-small : goal.take-requires-clause-small
 take-requires-clause-small c = c.in-Ok.ensures.ok.0.count_fits
