@@ -18,8 +18,8 @@ use Rattle.ods_space.specs.Free.{is_free_number}
 use Rattle.ods_space.proofs.Chains.{head_of}
 use Rattle.ods_alloc.specs.Extend.{IsWellPlaced, CanExtend, with_in_use, with_bit, last_of}
 use Rattle.ods_alloc.specs.Chains.{IsLink}
-use Rattle.ods_alloc.specs.Ends.{AreEnds, IsHeaderAt}
-use Rattle.ods_alloc.specs.declared.extend.ChainEnds.{ChainEnds}
+use Rattle.ods_alloc.specs.Ends.{AreEnds, EndsWhereDrafted, IsHeaderAt}
+use Rattle.ods_alloc.specs.declared.end.ChainEnd.{ChainEnd}
 use Rattle.ods_alloc.proofs.Places.{place_not_index, in_use_is, never_in_use, cases_covered}
 use Rattle.ods_alloc.proofs.FreeTests.{free_number}
 
@@ -127,15 +127,15 @@ module _ (I C : List (List ℕ)) (L : VolumeLayout) (n : ℕ) (others all : List
   last_valid = valid_by (last_of n others) (length others) last_link
 
 -- What is known of the ends of a chain that can grow.
-pub record AreEndsFound (I : List (List ℕ)) (L : VolumeLayout) (n : ℕ) (others numbers : List ℕ) (ends : ChainEnds) : Type 0 where
-  pub first : IsHeaderAt I L n ends.first.now
-  pub last : IsHeaderAt I L ends.number ends.last.now
-  pub new : Contains numbers ends.number → ⊥
-  pub segment : segment_of (header_at I L ends.number) ≡ length others
+pub record AreEndsFound (I : List (List ℕ)) (L : VolumeLayout) (n : ℕ) (others numbers b : List ℕ) (end : ℕ) (c : List ℕ) : Type 0 where
+  pub first : IsHeaderAt I L n b
+  pub last : IsHeaderAt I L end c
+  pub new : Contains numbers end → ⊥
+  pub segment : segment_of (header_at I L end) ≡ length others
 
-pub ends_found : (I : List (List ℕ)) (L : VolumeLayout) (n : ℕ) (others all blocks numbers : List ℕ) (ends : ChainEnds) → IsWellPlaced L → IsChain (with_in_use I L.home n) L n others all → CanExtend I L n others blocks numbers
-    → AreEnds I L n others ends → AreEndsFound I L n others numbers ends
-ends_found I L n others all blocks numbers ends places chain grows e =
+pub ends_found : (I : List (List ℕ)) (L : VolumeLayout) (n : ℕ) (others all blocks numbers first : List ℕ) (end : ChainEnd) (last : List ℕ) → IsWellPlaced L → IsChain (with_in_use I L.home n) L n others all → CanExtend I L n others blocks numbers
+    → AreEnds I L n others first end → (end.number ≡ n → last ≡ first) → (end.number ≢ n → last ≡ end.last.now) → AreEndsFound I L n others numbers first end.number last
+ends_found I L n others all blocks numbers first end last places chain grows e one other =
     let C : List (List ℕ) = with_in_use I L.home n in
     let low = grows.file in
     let high : 2 ≤ n = omega arith in
@@ -143,30 +143,28 @@ ends_found I L n others all blocks numbers ends places chain grows e =
     let link = last_link I C L n others all places high refl chain in
     let P : ℕ → Type 0 = λ x. IsValidHeader (header_at I L x) x in
     let Q : ℕ → Type 0 = λ x. Contains numbers x in
-    let last : IsValidHeader (header_at I L ends.number) ends.number = subst P (sym e.number) (last_valid I C L n others all places high refl chain) in
+    let valid : IsValidHeader (header_at I L end.number) end.number = subst P (sym e.number) (last_valid I C L n others all places high refl chain) in
+    let is : last ≡ header_at I L end.number = elim (cases_eq end.number n) [
+      | inl alone ↦ one alone ∙ e.first ∙ ap (header_at I L) (sym alone)
+      | inr apart ↦ other apart ∙ e.last apart
+    ] in
     record {
       first = record { is = e.first; valid = let R : List ℕ → Type 0 = λ b. IsValidHeader b n in subst R (sym e.first) (first_valid I C L n others all places high refl chain) };
-      last = record { is = e.last; valid = let R : List ℕ → Type 0 = λ b. IsValidHeader b ends.number in subst R (sym e.last) last };
+      last = record { is = is; valid = let R : List ℕ → Type 0 = λ b. IsValidHeader b end.number in subst R (sym is) valid };
       new = λ among. not_new I C L n others all places high refl chain numbers grows.free grows.new (last_of n others) (length others) link (subst Q e.number among);
       segment = ap (λ x. segment_of (header_at I L x)) e.number ∙ ap segment_of (sym (same (last_of n others))) ∙ link.segment;
     }
 
--- the headers that a walk along such a chain starts and stops at are valid
+-- the first header of such a chain is valid
 pub first_found : (I : List (List ℕ)) (L : VolumeLayout) (n : ℕ) (others all blocks numbers : List ℕ) → IsWellPlaced L → IsChain (with_in_use I L.home n) L n others all → CanExtend I L n others blocks numbers → IsValidHeader (header_at I L n) n
 first_found I L n others all blocks numbers places chain grows = let low = grows.file in first_valid I (with_in_use I L.home n) L n others all places (omega arith) refl chain
 
-pub last_found : (I : List (List ℕ)) (L : VolumeLayout) (n : ℕ) (others all blocks numbers : List ℕ) (last : ℕ) → IsWellPlaced L → IsChain (with_in_use I L.home n) L n others all → CanExtend I L n others blocks numbers
-    → last ≡ last_of n others → IsValidHeader (header_at I L last) last
-last_found I L n others all blocks numbers last places chain grows is =
-    let low = grows.file in
-    let P : ℕ → Type 0 = λ x. IsValidHeader (header_at I L x) x in
-    subst P (sym is) (last_valid I (with_in_use I L.home n) L n others all places (omega arith) refl chain)
-
--- a walk finds the last header of a chain that can grow
-pub last_walked : (I : List (List ℕ)) (L : VolumeLayout) (n : ℕ) (others all blocks numbers : List ℕ) (last : ℕ) → IsWellPlaced L → IsChain (with_in_use I L.home n) L n others all → CanExtend I L n others blocks numbers
-    → ((C : List (List ℕ)) (os bs : List ℕ) → ((m : ℕ) → header_at C L m ≡ header_at I L m) → length os < 256 → IsChain C L n os bs → last ≡ last_of n os) → last ≡ last_of n others
-last_walked I L n others all blocks numbers last places chain grows find =
+-- a walk along a chain that can grow finds its end
+pub ends_walked : (I : List (List ℕ)) (L : VolumeLayout) (n : ℕ) (others all blocks numbers first : List ℕ) (end : ChainEnd) → IsWellPlaced L → IsChain (with_in_use I L.home n) L n others all → CanExtend I L n others blocks numbers
+    → first ≡ header_at I L n → EndsWhereDrafted I L n end → AreEnds I L n others first end
+ends_walked I L n others all blocks numbers first end places chain grows is walked =
     let few = grows.segments in
     let low = grows.file in
     let high : 2 ≤ n = omega arith in
-    find (with_in_use I L.home n) others all (same_header I (with_in_use I L.home n) L n others all places high refl chain) (omega arith) chain
+    let found = walked (with_in_use I L.home n) others all (same_header I (with_in_use I L.home n) L n others all places high refl chain) (omega arith) chain in
+    record { first = is; number = found.0; last = λ apart. found.1 }

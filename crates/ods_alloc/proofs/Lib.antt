@@ -6,6 +6,7 @@ pub mod Giving
 pub mod NewHeaders
 pub mod Longer
 pub mod Walking
+pub mod EndWalks
 pub mod Written
 pub mod Chained
 pub mod Fields

@@ -8,11 +8,16 @@ ghost use Rattle.ods_alloc.specs.Extension.{CanBeMade, MakesHeaders, first_numbe
 ghost use Rattle.ods_alloc.specs.Marks.{HasPlaces};
 ghost use Rattle.ods_space.specs.Disks.{drafted, header_drafted};
 
-use crate::drafted::drafted_header;
 use ods_base::FileId;
 use ods_header::{Header, Run, extension_block, file_sequence};
 use ods_space::{Disk, Draft};
 use std::alloc::AllocError;
+
+/// How many pointers a header that is made here has room for.
+pub const HEADER_POINTERS: usize = 102;
+
+/// And so its room in words: a pointer takes two.
+pub const HEADER_ROOM: u32 = 204;
 
 /// Writes new extension headers of the file with this first header: each takes the next 102 of the runs and names
 /// the one behind it, and their segments follow this one. They are written in their order, and what stands in the place
@@ -37,7 +42,7 @@ pub(crate) fn write_extensions(
         if let Some(lbn) = disk.layout.place(*number) {
             let file = first_id(disk, draft, &numbers[i..]);
             let next = first_id(disk, draft, &numbers[i + 1..]);
-            let pointers = piece(runs, 102 * i, 102);
+            let pointers = piece(runs, HEADER_POINTERS * i, HEADER_POINTERS);
             let block = extension_block(first, file, segment + (i + 1) as u8, next, pointers);
             draft.set(lbn, block)?;
         }
@@ -80,8 +85,8 @@ fn new_sequence(disk: &Disk<'_>, draft: &Draft, number: u16) -> u16
     requires below { sequence_of (header_drafted disk.now draft.now number) < 65535 }
     ensures { result ≡ sequence_of (header_drafted disk.now draft.now number) + 1 }
 {
-    match drafted_header(disk, number, draft) {
-        Some(block) => file_sequence(block) + 1,
+    match disk.layout.place(number) {
+        Some(lbn) => file_sequence(draft.block(disk.image, lbn)) + 1,
         None => 1,
     }
 }

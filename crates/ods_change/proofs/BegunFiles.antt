@@ -1,28 +1,26 @@
 -- A file on the volume with which a request goes on: what was known of it is known still.
-use Rattle.std.proofs.Common.{◌≡◌, ◌≢◌, ℕ, ◌≤◌, ◌<◌, refl, ap, sym, ◌∙◌, subst, List, [], ◌∷◌, drop, None, Some, Option, arith}
+use Rattle.std.proofs.Common.{◌≡◌, ℕ, ◌≤◌, ◌<◌, refl, ap, sym, ◌∙◌, subst, List, [], ◌∷◌, drop, None, Some, arith}
 use Rattle.std.specs.List.{Contains}
 use Rattle.std.specs.FinMap as map
 use Rattle.ods_base.specs.Image.{IsImage}
-use Rattle.ods_base.specs.Name.{RadName}
 use Rattle.ods_base.specs.declared.file_id.FileId.{FileId}
 use Rattle.ods_base.specs.declared.file_id.Uic.{Uic}
 use Rattle.ods_header.specs.Header.{is_directory_header, sequence_of}
 use Rattle.ods_space.specs.Layout.{VolumeLayout, header_at}
-use Rattle.ods_space.specs.Chain.{IsChain, index_for}
-use Rattle.ods_space.specs.Files.{HasBlocks, IsWhole}
+use Rattle.ods_space.specs.Chain.{index_for}
+use Rattle.ods_space.specs.Files.{IsWhole}
 use Rattle.ods_space.proofs.Chains.{same_chain}
 use Rattle.ods_alloc.specs.Extend.{last_of}
 use Rattle.ods_alloc.proofs.Fields.{last_in}
 use Rattle.ods_mount.specs.Sound.{IsSoundBy}
-use Rattle.ods_request.specs.Catalogue.{Catalogue}
 use Rattle.ods_request.specs.declared.requests.Request.TheVariants.{Extend}
-use Rattle.ods_state.specs.Contents.{ShowsBy, file_of}
+use Rattle.ods_state.specs.Contents.{file_of}
 use Rattle.ods_state.specs.Wants.{HasHeaders, index_blocks, lack_of}
 use Rattle.ods_state.proofs.Chains.{first_in}
-use Rattle.ods_look.specs.Opening.{IsDirectoryAt, IsFileId, IsOpenDirectory, PassesChecks, directory_checks, file_shown}
-use Rattle.ods_change.specs.declared.taking.ChainEnd.{ChainEnd}
+use Rattle.ods_look.specs.Opening.{file_shown}
+use Rattle.ods_alloc.specs.declared.end.ChainEnd.{ChainEnd}
+use Rattle.ods_alloc.specs.Ends.{IsEndOf}
 use Rattle.ods_change.specs.Extending.{IsExtensible}
-use Rattle.ods_change.specs.Taking.{IsEndOf}
 use Rattle.ods_change.proofs.Begun.{IsAsked, IsKept}
 use Rattle.ods_change.proofs.ExtendingFile.{has}
 

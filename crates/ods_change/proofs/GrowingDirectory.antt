@@ -33,7 +33,7 @@ use Rattle.ods_request.specs.Steps.{after, put, file_at, no_file, with_body}
 use Rattle.ods_state.specs.Contents.{body_of, file_of, ShowsBy}
 use Rattle.ods_state.specs.Change.{disk}
 use Rattle.ods_state.specs.Served.{IsRefusalOf, IsShortOf, IsStepOf}
-use Rattle.ods_state.specs.Wants.{HasHeaders, Lacks, Wants, index_growth, lack_for, lack_of, room_in, taken_blocks, taken_numbers}
+use Rattle.ods_state.specs.Wants.{Lacks, Wants, index_growth, lack_for, lack_of, room_in, taken_blocks, taken_numbers}
 use Rattle.ods_state.proofs.Grown.{own_blocks, own_contents}
 use Rattle.ods_state.proofs.GrownMoves.{grown_taken, grown_touches, sequences_rise}
 use Rattle.ods_state.proofs.GrownShown.{grown_is_put}
@@ -138,16 +138,13 @@ module _ {I : List (List ℕ)} {L : VolumeLayout} (S : IsSoundBy I L) {who : Uic
   taking numbers are enough still = record { above = above_maps n (header_at I L n) e.own.is.kind; before = inl (e.own.file.0, wants.0); all = ap (λ l. headers ++ l) are; enough = enough; no_growth = still }
 
   -- what it lacks, of so many headers and that room in the last, or want of memory, is why the Enter is refused
-  pub refused : (f : Refusal) (count room : ℕ) → ((hs : List ℕ) → HasHeaders I L n hs old → (count ≡ length hs) × (room ≡ room_in I L hs))
+  pub refused : (f : Refusal) (count room : ℕ) → (count ≡ length headers) × (room ≡ room_in I L headers)
       → (f ≡ refusal.NoMemory) ⊎ (lack_for I L count room 1 ≡ Some f) → IsRefusalOf I L who request f
   refused f count room end (inl is) C shown = subst (IsRefusalOf I L who request) (sym is) (refused_for_memory I L who request refl (λ D known. (e.answered D known).0)) C shown
   refused f count room end (inr lacks) C shown = subst (λ o. MatchOption o (IsShortOf I L request f) (λ g. f ≡ g)) (sym (e.answered C shown).0) (inl lacking)
     where
-      own : (count ≡ length headers) × (room ≡ room_in I L headers)
-      own = end headers wants.0
-
       lacking : Lacks I L request f
-      lacking = record { headers = headers; blocks = old; count = 1; wants = wants; lacking = by_numbers (λ h r. lack_for I L h r 1 ≡ Some f) own.0 own.1 lacks }
+      lacking = record { headers = headers; blocks = old; count = 1; wants = wants; lacking = by_numbers (λ h r. lack_for I L h r 1 ≡ Some f) end.0 end.1 lacks }
 
   module _ {x y count : ℕ} {c numbers : List ℕ} (d : IsGrowing I L n new headers x y count c numbers) where
     abbrev place : place_of L n ≡ Some y

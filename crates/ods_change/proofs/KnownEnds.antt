@@ -6,44 +6,40 @@ use Rattle.ods_base.specs.Image.{IsImage}
 use Rattle.ods_header.specs.Header.{IsLaidOut, room_of}
 use Rattle.ods_space.specs.Layout.{VolumeLayout, header_at}
 use Rattle.ods_space.specs.Chain.{chain_blocks, IsChain, index_for}
-use Rattle.ods_space.specs.Files.{IsLayoutOf}
+use Rattle.ods_space.specs.Files.{IsLayoutOf, IsWhole}
 use Rattle.ods_space.proofs.Chains.{same_chain}
 use Rattle.ods_space.proofs.Wholes.{chain_seen}
 use Rattle.ods_alloc.specs.Extend.{last_of}
+use Rattle.ods_alloc.proofs.EndWalks.{walked, walked_few}
 use Rattle.ods_alloc.proofs.Fields.{last_in}
 use Rattle.ods_state.specs.declared.known_end.KnownEnd.{KnownEnd}
 use Rattle.ods_state.specs.Ends.{IsEndKnown}
-use Rattle.ods_state.specs.Wants.{HasHeaders, room_in}
 use Rattle.ods_state.proofs.IndexEnd.{valid_in}
-use Rattle.ods_change.proofs.ChainEnds.{walked, walked_few}
 
 module _ (I : List (List ℕ)) (L : VolumeLayout) (n : ℕ) (end : KnownEnd) (known : IsEndKnown I L end) (own : end.file ≡ n) where
   -- what is noted, of the chain of this file
   pub chain_known : (others blocks : List ℕ) → IsChain I L n others blocks → (end.headers ≡ length (n ∷ others)) × (end.blocks ≡ length blocks) × (end.last ≡ last_of n others)
   chain_known = subst (λ m. (others blocks : List ℕ) → IsChain I L m others blocks → (end.headers ≡ length (m ∷ others)) × (end.blocks ≡ length blocks) × (end.last ≡ last_of m others)) own known
 
-  pub known_measured : (last : List ℕ) (room : ℕ) → last ≡ header_at I L end.last → room ≡ room_of last → (hs blocks : List ℕ) → HasHeaders I L n hs blocks
-      → (end.headers ≡ length hs) × (end.blocks ≡ length blocks) × (room ≡ room_in I L hs)
-  known_measured last room there is hs blocks has =
-      let k = chain_known has.0 blocks has.2.chain in
-      (k.0 ∙ ap length (sym has.1), k.1, is ∙ ap room_of there ∙ ap (λ m. room_of (header_at I L m)) k.2 ∙ ap (room_in I L) (sym has.1))
+  pub known_measured : (last : List ℕ) (room : ℕ) → last ≡ header_at I L end.last → room ≡ room_of last → (others blocks : List ℕ) → IsWhole I L n others blocks
+      → (end.headers ≡ length (n ∷ others)) × (end.blocks ≡ length blocks) × (room ≡ room_of (header_at I L (last_of n others)))
+  known_measured last room there is others blocks whole =
+      let k = chain_known others blocks whole.chain in
+      (k.0, k.1, is ∙ ap room_of there ∙ ap (λ m. room_of (header_at I L m)) k.2)
 
-  module _ (image : IsImage I) (layout : IsLayoutOf I L) (whole : (hs : List ℕ) × (blocks : List ℕ) × HasHeaders I L n hs blocks) where
+  module _ (image : IsImage I) (layout : IsLayoutOf I L) (whole : (others : List ℕ) × (blocks : List ℕ) × IsWhole I L n others blocks) where
     pub known_few : (end.headers ≤ 256) × (end.blocks ≤ chain_blocks)
     known_few =
-        let has = whole.2 in
-        let k = chain_known has.0 whole.1 has.2.chain in
-        let all = ap length has.1 in
-        let met = walked I L n whole.0 whole.1 image layout has in
-        let most = walked_few I L n whole.0 whole.1 image layout has in
-        (omega (arith, k.0, all, met.0, most.0), omega (arith, k.1, met.1, most.1))
+        let k = chain_known whole.0 whole.1 whole.2.chain in
+        let met = walked I L n whole.0 whole.1 image layout whole.2 in
+        let most = walked_few I L n whole.0 whole.1 image layout whole.2 in
+        (omega (arith, k.0, met.0, most.0), omega (arith, k.1, met.1, most.1))
 
     -- the last header has its parts in place
     pub known_laid_out : IsLaidOut (header_at I L end.last)
     known_laid_out =
-        let has = whole.2 in
-        let k = chain_known has.0 whole.1 has.2.chain in
-        (valid_in I L (n ∷ has.0) end.last (chain_seen I L n has.0 whole.1 image layout has.2.chain).valid (subst (Contains (n ∷ has.0)) (sym k.2) (last_in n has.0))).header.layout
+        let k = chain_known whole.0 whole.1 whole.2.chain in
+        (valid_in I L (n ∷ whole.0) end.last (chain_seen I L n whole.0 whole.1 image layout whole.2.chain).valid (subst (Contains (n ∷ whole.0)) (sym k.2) (last_in n whole.0))).header.layout
 
 last_of-append : (n : ℕ) (xs ys : List ℕ) → last_of n (xs ++ ys) ≡ last_of (last_of n xs) ys
 last_of-append n [] ys = refl

@@ -1,20 +1,10 @@
 -- What a file takes: which refusal is answered where the volume lacks something.
-use Rattle.std.proofs.Common.{drop, suc, ◌/◌, ◌||◌, nat_lt, ◌≡◌, ◌≢◌, ◌⊎◌, ℕ, ◌+◌, ◌-◌, ◌<◌, ◌≤◌, Bool, true, false, cond, List, [], ◌∷◌, ◌++◌, length, take, get_or, Some, None, refl, sym, ap, ◌∙◌, subst, inl, inr, arith}
-use Rattle.std.specs.List.{Contains, flat_map}
-use Rattle.std.specs.Prelude.{unwrap_or}
+use Rattle.std.proofs.Common.{drop, suc, ◌/◌, ◌||◌, nat_lt, ◌≡◌, ◌⊎◌, ℕ, ◌+◌, ◌-◌, ◌<◌, ◌≤◌, Bool, true, false, cond, List, [], ◌∷◌, length, take, get_or, Some, None, refl, ap, ◌∙◌, subst, inl, inr, arith}
 use Rattle.std.proofs.lemmas.Bool.{lt-ltb, le-ltb, or_from, or_left, or_right}
 use Rattle.std.proofs.lemmas.List.{drop-take, take_rest}
-use Rattle.std.proofs.lemmas.List.Elements.{Contains-append_left, Contains-append_right, Contains-append_cases}
-use Rattle.std.proofs.lemmas.List.FromFn.{length-range_with_len, get_or-range_with_len}
-use Rattle.std.proofs.lemmas.Grind.{flat_map-append}
-use Rattle.ods_base.specs.Block.{zeros}
-use Rattle.ods_base.specs.Image.{block_at}
 use Rattle.ods_header.specs.declared.header.Run.{Run}
-use Rattle.ods_header.specs.Header.{run_blocks}
-use Rattle.ods_space.specs.Draft.{Changes, change_at, applied, zeroed}
 use Rattle.ods_space.specs.Free.{free_blocks, open_numbers}
 use Rattle.ods_space.specs.Layout.{VolumeLayout, header_at}
-use Rattle.ods_space.proofs.Drafts.{all_from, block_at-applied, change_at-inside, change_at-outside, length-applied, seen_at-append}
 use Rattle.ods_alloc.specs.declared.fault.SpaceFault.{SpaceFault}
 use Rattle.ods_alloc.specs.declared.fault.SpaceFault.TheVariants as fault
 use Rattle.ods_alloc.specs.Extend.{cut, cut_from, last_of}

@@ -1,17 +1,12 @@
--- Taking: where the chain of a file ends, and why a volume has too little.
-use Rattle.std.specs.Prelude.{◌≡◌, ◌⊎◌, ℕ, ◌+◌, ◌/◌, ◌<◌, ◌≤◌, List, None, Some, drop, length, take}
-use Rattle.std.specs.List.{Contains}
-use Rattle.ods_base.specs.Block.{zeros}
-use Rattle.ods_base.specs.Image.{block_at}
-use Rattle.ods_space.specs.Chain.{IsChain}
+-- Taking: what a file takes to grow, and why a volume has too little.
+use Rattle.std.specs.Prelude.{◌≡◌, ◌⊎◌, ℕ, ◌+◌, ◌/◌, ◌<◌, ◌≤◌, List, None, Some, length}
 use Rattle.ods_space.specs.Layout.{VolumeLayout, header_at}
 use Rattle.ods_alloc.specs.declared.fault.SpaceFault.{SpaceFault}
 use Rattle.ods_alloc.specs.declared.fault.SpaceFault.TheVariants as fault
 use Rattle.ods_header.specs.Header.{room_of}
 use Rattle.ods_space.specs.Free.{free_blocks}
-use Rattle.ods_state.specs.Wants.{HasHeaders, blocks_behind, index_end, index_growth, lack_for, numbers_for, room_in, taken_blocks}
-use Rattle.ods_alloc.specs.Extend.{cut, last_of}
-use Rattle.ods_change.specs.declared.taking.ChainEnd.{ChainEnd}
+use Rattle.ods_state.specs.Wants.{blocks_behind, index_end, index_growth, lack_for, numbers_for, taken_blocks}
+use Rattle.ods_alloc.specs.Extend.{cut}
 use Rattle.ods_change.specs.declared.taking.Taken.{Taken}
 use Rattle.ods_request.specs.declared.refusals.Refusal.{Refusal}
 use Rattle.ods_request.specs.declared.refusals.Refusal.TheVariants as refusal
@@ -38,16 +33,6 @@ LacksPlaces I L count numbers =
 -- INDEXF.SYS cannot get them, and this is said: there is no memory, or no block for each
 abbrev pub IsWhyNoPlaces : List (List ℕ) → VolumeLayout → ℕ → List ℕ → Refusal → Type 0
 IsWhyNoPlaces I L count numbers f = (f ≡ refusal.NoMemory) ⊎ ((f ≡ refusal.HeadersFull) × LacksPlaces I L count numbers)
-
--- the chain of file n ends in this header
-pub record IsEndOf (I : List (List ℕ)) (L : VolumeLayout) (n : ℕ) (end : ChainEnd) : Type 0 where
-  pub number : (others blocks : List ℕ) → IsChain I L n others blocks → end.number ≡ last_of n others
-  pub last : end.last.now ≡ header_at I L end.number
-
--- the chain of file n has so many headers, maps so many blocks, and has this room in words behind the pointers of its last header
-abbrev pub IsMeasured : List (List ℕ) → VolumeLayout → ℕ → ChainEnd → Type 0
-IsMeasured I L n end = (hs blocks : List ℕ) → HasHeaders I L n hs blocks
-    → (end.headers ≡ length hs) × (end.blocks ≡ length blocks) × (end.room ≡ room_in I L hs)
 
 -- this is what a file takes to get `count` blocks that has so many headers, and this room in words behind the pointers of the last; and the volume lacks nothing of it
 pub record IsTakenBy (I : List (List ℕ)) (L : VolumeLayout) (headers room count : ℕ) (t : Taken) : Type 0 where

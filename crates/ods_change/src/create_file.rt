@@ -13,7 +13,7 @@ ghost use Rattle.ods_change.specs.Steps.{IsDraftFor};
 
 use crate::beginning::{Begun, Drafted, begin, layout_then};
 use crate::taking::take;
-use ods_alloc::{ChainEnds, FreeCounts, extend_from, zero_runs};
+use ods_alloc::{ChainEnd, FreeCounts, HEADER_ROOM, extend_from, zero_runs};
 use ods_base::{Block, FileId, Name, Uic};
 use ods_directory::with_mark;
 use ods_header::{Run, first_block};
@@ -46,8 +46,7 @@ pub fn create(
     if count > 65535 {
         return Err(Refusal::BadCount);
     }
-    // A new header has room for 204 words of pointers.
-    let taken = match take(alloc, disk, counts, 0, 204, count) {
+    let taken = match take(alloc, disk, counts, 0, HEADER_ROOM, count) {
         Ok(taken) => taken,
         Err(refusal) => return Err(refusal),
     };
@@ -120,12 +119,14 @@ fn new_file(
     let first = disk.layout.place(number).unwrap();
     draft.set(first, header)?;
     // The first header is the last that the chain has.
-    let ends = ChainEnds {
-        first: &header,
+    let end = ChainEnd {
+        headers: 1,
+        blocks: 0,
         number,
         last: &header,
+        room: HEADER_ROOM,
     };
-    let grown = extend_from(disk, number, &ends, blocks, others, runs, draft)?;
+    let grown = extend_from(disk, number, &header, &end, blocks, others, runs, draft)?;
     Ok(grown)
 }
 

@@ -1,17 +1,17 @@
 //! An Enter whose entry stands in a new block, behind those that the directory has.
 ghost use Rattle.std.specs.Prelude.{◌≡◌, true, IfOk};
-ghost use Rattle.ods_alloc.specs.{Counts.counts_of, Extend.cut};
+ghost use Rattle.ods_alloc.specs.{Counts.counts_of, Ends.IsEndOf, Extend.cut};
 ghost use Rattle.ods_base.specs.Image.{IsImage};
 ghost use Rattle.ods_mount.specs.Sound.{IsSoundBy};
 ghost use Rattle.ods_space.specs.Draft.{applied};
-ghost use Rattle.ods_change.specs.{Entering.IsEntering, Entering.IsOwnGrowing, Entering.IsOwnEntry, Entering.IsSomeEntry, Entering.IsTakenFor, Taking.IsEndOf};
+ghost use Rattle.ods_change.specs.{Entering.IsEntering, Entering.IsOwnGrowing, Entering.IsOwnEntry, Entering.IsSomeEntry, Entering.IsTakenFor};
 ghost use Rattle.ods_space.specs.Disks.{drafted, on, seen};
 
 use crate::beginning::{Begun, Drafted, begin, layout_then};
 use crate::drafts::marked_header;
 use crate::entry::NewEntry;
-use crate::taking::{ChainEnd, ends_with, take};
-use ods_alloc::{FreeCounts, extend_from};
+use crate::taking::take;
+use ods_alloc::{ChainEnd, FreeCounts, extend_from};
 use ods_base::{Block, FileId};
 use ods_directory::DirBlocks;
 use ods_header::Run;
@@ -101,14 +101,6 @@ fn with_block(
     draft.set(first, header)?;
     // The blocks of what the image becomes have bytes, so its chains have at most 256 headers.
     draft.makes_image(disk.image);
-    let grown = extend_from(
-        disk,
-        dir.number,
-        &ends_with(dir.number, &header, end.number, end.last),
-        blocks,
-        numbers,
-        runs,
-        draft,
-    )?;
+    let grown = extend_from(disk, dir.number, &header, end, blocks, numbers, runs, draft)?;
     Ok(grown)
 }

@@ -1,19 +1,20 @@
 //! An Extend: its checks, and the draft by which the file gets blocks of zeros behind its own.
 ghost use Rattle.std.specs.Prelude.{Some, ◌≡◌, ◌<◌, ◌==◌, ◌||◌, nat_lt, ℕ, List, IfOk, IfErr, MatchResult};
-ghost use Rattle.ods_alloc.specs.Counts.{counts_of};
+ghost use Rattle.ods_alloc.specs.{Counts.counts_of, Ends.IsEndOf};
 ghost use Rattle.ods_base.specs.Image.{IsImage};
 ghost use Rattle.ods_header.specs.Header.{owner_of, protection_of};
 ghost use Rattle.ods_space.specs.Draft.{applied};
 ghost use Rattle.ods_mount.specs.Sound.{IsSoundBy};
 ghost use Rattle.ods_request.specs.{declared.answers.Answer.TheVariants.Extended, declared.requests.Request.TheVariants.Extend, Rights.permits};
 ghost use Rattle.ods_state.specs.{Change.IsFaultBy, Ends.IsKnownIn, Served.IsRefusalOf};
-ghost use Rattle.ods_change.specs.{Extending.IsExtensible, Extending.IsGrownBy, Extending.IsWanted, Taking.IsEndOf};
+ghost use Rattle.ods_change.specs.{Extending.IsExtensible, Extending.IsGrownBy, Extending.IsWanted};
 ghost use Rattle.ods_space.specs.Disks.{drafted, header_drafted, header_on, on, seen};
 ghost use Rattle.ods_change.specs.Steps.{IsDraftFor, IsKnownThen};
 
 use crate::beginning::{Begun, Drafted, begin, layout_then};
-use crate::taking::{ChainEnd, Taken, ends_with, take};
-use ods_alloc::{FreeCounts, extend_from, zero_runs};
+use crate::known_end::{grown_end, known_end};
+use crate::taking::{Taken, take};
+use ods_alloc::{ChainEnd, FreeCounts, extend_from, zero_runs};
 use ods_base::{Block, FileId, Uic};
 use ods_header::{is_directory, owner, protection, without_contiguous};
 use ods_look::opening::named_header;
@@ -93,7 +94,8 @@ fn grown(
     let grown = extend_from(
         disk,
         number,
-        &ends_with(number, &header, end.number, end.last),
+        &header,
+        end,
         &taken.blocks,
         &taken.numbers,
         &taken.runs,
@@ -126,7 +128,7 @@ pub fn extend(
         Ok(first) => first,
         Err(refusal) => return Err(refusal),
     };
-    let end = ChainEnd::found(disk, file.number, first, known);
+    let end = known_end(disk, file.number, first, known);
     let taken = match take(alloc, disk, counts, end.headers, end.room, count) {
         Ok(taken) => taken,
         Err(refusal) => return Err(refusal),
@@ -148,7 +150,7 @@ pub fn extend(
     };
     match grown(&later, draft, file.number, first, &end, &taken) {
         Ok(draft) => {
-            let end = end.with(file.number, count, &taken.numbers);
+            let end = grown_end(&end, file.number, count, &taken.numbers);
             let drafted = Drafted {
                 draft,
                 places: taken.places,

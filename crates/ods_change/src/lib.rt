@@ -11,6 +11,7 @@ mod enter_name;
 mod enter_within;
 mod entry;
 mod extend_file;
+mod known_end;
 mod taking;
 mod truncate_file;
 

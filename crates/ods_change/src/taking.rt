@@ -1,147 +1,21 @@
 //! What a file takes to grow: the lowest free blocks, and the lowest free numbers for the headers that their pointers need.
-ghost use Rattle.std.specs.Prelude.{◌≡◌, ◌≢◌, ◌+◌, ◌⊎◌, ◌<◌, ◌≤◌, ◌^◌, ℕ, List, None, Some, length, IfOk, IfErr, OnOk};
+ghost use Rattle.std.specs.Prelude.{◌≡◌, ◌+◌, ◌<◌, ◌≤◌, ◌^◌, length, IfOk, IfErr};
 ghost use Rattle.ods_alloc.specs.Counts.{counts_of};
 ghost use Rattle.ods_header.specs.Header.{room_of};
-ghost use Rattle.ods_space.specs.{Chain.chain_blocks, Files.IsLayoutOf, Free.free_blocks};
-ghost use Rattle.ods_alloc.specs.Extend.{cut, last_of};
-ghost use Rattle.ods_state.specs.{Ends.IsKnownIn, Wants.HasHeaders, Wants.index_end, Wants.index_growth, Wants.new_headers};
-ghost use Rattle.ods_change.specs.Taking.{HasPlacesFor, IsEndOf, IsMeasured, IsTakenBy, IsWhyNoPlaces, IsWhyNotTaken, refusal_for};
+ghost use Rattle.ods_space.specs.{Files.IsLayoutOf, Free.free_blocks};
+ghost use Rattle.ods_alloc.specs.Extend.{cut};
+ghost use Rattle.ods_state.specs.Wants.{index_end, index_growth, new_headers};
+ghost use Rattle.ods_change.specs.Taking.{HasPlacesFor, IsTakenBy, IsWhyNoPlaces, IsWhyNotTaken, refusal_for};
 ghost use Rattle.ods_space.specs.Disks.{header_on, on, seen};
 
 use ods_alloc::{
-    ChainEnds, FreeCounts, SpaceFault, pick_blocks, pick_open_numbers, runs_of_blocks,
+    CHAIN_HEADERS, ChainEnd, FreeCounts, HEADER_POINTERS, SpaceFault, pick_blocks,
+    pick_open_numbers, runs_of_blocks,
 };
-use ods_base::Block;
-use ods_header::{Run, pointer_sum, room_words};
+use ods_header::Run;
 use ods_request::Refusal;
-use ods_space::{ChainHeaders, Disk, Layout, header_block, last_number};
-use ods_state::KnownEnd;
+use ods_space::{Disk, Layout, header_block, last_number};
 use std::alloc::{AllocError, Global};
-
-/// Where the chain of a file ends: how many headers it has, how many blocks they map, and the last of them, with its number
-/// and its room in words for pointers.
-#[derive(Clone, Copy)]
-pub(crate) struct ChainEnd<'a> {
-    pub headers: u32,
-    pub blocks: u32,
-    pub number: u16,
-    pub last: &'a Block,
-    pub room: u32,
-}
-
-impl<'a> ChainEnd<'a> {
-    ghost use Rattle.ods_space.specs.Disks.{header_on, on};
-
-    /// Where the chain of a file ends, by one walk along it. `first` is its first header.
-    pub fn of(disk: &Disk<'a>, number: u16, first: &'a Block) -> Self
-        requires layout { on IsLayoutOf disk.now }
-        requires whole { (hs : List ℕ) × (blocks : List ℕ) × on HasHeaders disk.now number hs blocks }
-        requires first { first.now ≡ header_on disk.now number }
-        ensures end { on IsMeasured disk.now number result }
-        ensures last { on IsEndOf disk.now number result }
-        ensures few { result.headers ≤ 256 }
-        ensures small { result.blocks ≤ chain_blocks }
-    {
-        // The blocks of an image have bytes, so a chain has at most 256 headers.
-        let _ = disk.image.len();
-        let mut count = 0;
-        let mut blocks = 0;
-        let mut end = number;
-        let mut last = first;
-        let mut headers = ChainHeaders::from(disk, number, first);
-        while let Some((at, header)) = headers.next() {
-            count += 1;
-            blocks += pointer_sum(header);
-            end = at;
-            last = header;
-        }
-        ChainEnd {
-            headers: count,
-            blocks,
-            number: end,
-            last,
-            room: room_words(last) as u32,
-        }
-    }
-
-    /// The same: with no walk, where it is noted where this chain ends.
-    pub fn found(disk: &Disk<'a>, number: u16, first: &'a Block, known: &Option<KnownEnd>) -> Self
-        requires layout { on IsLayoutOf disk.now }
-        requires whole { (hs : List ℕ) × (blocks : List ℕ) × on HasHeaders disk.now number hs blocks }
-        requires first { first.now ≡ header_on disk.now number }
-        requires known { on IsKnownIn disk.now known.now }
-        ensures end { on IsMeasured disk.now number result }
-        ensures last { on IsEndOf disk.now number result }
-        ensures few { result.headers ≤ 256 }
-        ensures small { result.blocks ≤ chain_blocks }
-    {
-        // The blocks of an image have bytes, so the header has its parts in place.
-        let _ = disk.image.len();
-        if let Some(end) = known {
-            if end.file == number {
-                if let Some(block) = header_block(disk, end.last) {
-                    return ChainEnd {
-                        headers: end.headers,
-                        blocks: end.blocks,
-                        number: end.last,
-                        last: block,
-                        room: room_words(block) as u32,
-                    };
-                }
-            }
-        }
-        ChainEnd::of(disk, number, first)
-    }
-
-    /// Where the chain of this file ends once it has so many blocks more, and these headers behind its own.
-    pub fn with(&self, file: u16, count: u32, numbers: &[u16]) -> KnownEnd
-        requires few { self.now.headers + length numbers.now ≤ 256 }
-        requires small { self.now.blocks ≤ chain_blocks }
-        requires count { count ≤ 65535 }
-        ensures file { result.file ≡ file }
-        ensures headers { result.headers ≡ self.now.headers + length numbers.now }
-        ensures blocks { result.blocks ≡ self.now.blocks + count }
-        ensures last { result.last ≡ last_of self.now.number numbers.now }
-    {
-        KnownEnd {
-            file,
-            headers: self.headers + numbers.len() as u32,
-            blocks: self.blocks + count,
-            last: last_or(numbers, self.number),
-        }
-    }
-}
-
-/// The last of these numbers; where there is none, this one.
-fn last_or(numbers: &[u16], other: u16) -> u16
-    ensures { result ≡ last_of other numbers.now }
-{
-    let count = numbers.len();
-    if count == 0 {
-        return other;
-    }
-    numbers[count - 1]
-}
-
-/// The ends of a chain whose first header, of this number, is written anew, and whose last was this one: where it has no other
-/// header, that is the new one too.
-pub(crate) fn ends_with<'a>(
-    number: u16,
-    first: &'a Block,
-    end: u16,
-    last: &'a Block,
-) -> ChainEnds<'a>
-    ensures first { result.first.now ≡ first.now }
-    ensures number { result.number ≡ end }
-    ensures one { end ≡ number → result.last.now ≡ first.now }
-    ensures other { end ≢ number → result.last.now ≡ last.now }
-{
-    ChainEnds {
-        first,
-        number: end,
-        last: if end == number { first } else { last },
-    }
-}
 
 /// What a file takes: blocks, and numbers for the headers that their pointers need; and what INDEXF.SYS gets for these. All ascend.
 #[derive(Drop)]
@@ -190,8 +64,7 @@ pub(crate) fn take(
         Ok(places) => places,
         Err(refusal) => return Err(refusal),
     };
-    // A segment is a byte, so a chain has at most 256 headers.
-    if headers + needed > 256 {
+    if headers + needed > CHAIN_HEADERS {
         return Err(Refusal::ChainFull);
     }
     Ok(Taken {
@@ -294,6 +167,8 @@ fn headers_wanted(headers: u32, room: u32, runs: usize) -> u32
     ensures wanted { result ≡ new_headers headers room runs }
     ensures few { result < 2 ^ 31 }
 {
-    let more = (runs.saturating_sub(room as usize / 2).div_ceil(102)) as u32;
+    let more = (runs
+        .saturating_sub(room as usize / 2)
+        .div_ceil(HEADER_POINTERS)) as u32;
     if headers == 0 { more + 1 } else { more }
 }

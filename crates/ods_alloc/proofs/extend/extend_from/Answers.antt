@@ -25,16 +25,16 @@ pub mark_blocks-requires : goal.mark_blocks-requires
 mark_blocks-requires g c = record { places = has_places c.args.disk.now.image.now c.args.draft c.args.disk.now.layout.now c.requires.0 c.requires.1.0 }
 
 pub write_headers-requires-clause-first : goal.write_headers-requires-clause-first
-write_headers-requires-clause-first g c = (ends_found (applied c.args.disk.now.image.now c.args.draft) c.args.disk.now.layout.now c.args.number g.chain.0 g.chain.1 c.args.blocks.now c.args.numbers.now c.args.ends.now c.requires.1.0 c.requires.1.1.0 c.requires.1.1.1.0 c.requires.1.1.1.1.0).first
+write_headers-requires-clause-first g c = (ends_found (applied c.args.disk.now.image.now c.args.draft) c.args.disk.now.layout.now c.args.number g.chain.0 g.chain.1 c.args.blocks.now c.args.numbers.now c.args.first.now c.args.end.now c.last_header-last.result.now c.requires.1.0 c.requires.1.1.0 c.requires.1.1.1.0 c.requires.1.1.1.1.0 c.last_header-last.ensures.one c.last_header-last.ensures.other).first
 
 pub write_headers-requires-clause-last : goal.write_headers-requires-clause-last
-write_headers-requires-clause-last g c = (ends_found (applied c.args.disk.now.image.now c.args.draft) c.args.disk.now.layout.now c.args.number g.chain.0 g.chain.1 c.args.blocks.now c.args.numbers.now c.args.ends.now c.requires.1.0 c.requires.1.1.0 c.requires.1.1.1.0 c.requires.1.1.1.1.0).last
+write_headers-requires-clause-last g c = (ends_found (applied c.args.disk.now.image.now c.args.draft) c.args.disk.now.layout.now c.args.number g.chain.0 g.chain.1 c.args.blocks.now c.args.numbers.now c.args.first.now c.args.end.now c.last_header-last.result.now c.requires.1.0 c.requires.1.1.0 c.requires.1.1.1.0 c.requires.1.1.1.1.0 c.last_header-last.ensures.one c.last_header-last.ensures.other).last
 
 pub write_headers-requires-clause-apart : goal.write_headers-requires-clause-apart
-write_headers-requires-clause-apart g c = (ends_found (applied c.args.disk.now.image.now c.args.draft) c.args.disk.now.layout.now c.args.number g.chain.0 g.chain.1 c.args.blocks.now c.args.numbers.now c.args.ends.now c.requires.1.0 c.requires.1.1.0 c.requires.1.1.1.0 c.requires.1.1.1.1.0).new
+write_headers-requires-clause-apart g c = (ends_found (applied c.args.disk.now.image.now c.args.draft) c.args.disk.now.layout.now c.args.number g.chain.0 g.chain.1 c.args.blocks.now c.args.numbers.now c.args.first.now c.args.end.now c.last_header-last.result.now c.requires.1.0 c.requires.1.1.0 c.requires.1.1.1.0 c.requires.1.1.1.1.0 c.last_header-last.ensures.one c.last_header-last.ensures.other).new
 
 pub write_headers-requires-clause-segments : goal.write_headers-requires-clause-segments
-write_headers-requires-clause-segments g c = omega (arith, (ends_found (applied c.args.disk.now.image.now c.args.draft) c.args.disk.now.layout.now c.args.number g.chain.0 g.chain.1 c.args.blocks.now c.args.numbers.now c.args.ends.now c.requires.1.0 c.requires.1.1.0 c.requires.1.1.1.0 c.requires.1.1.1.1.0).segment, c.requires.1.1.1.0.segments)
+write_headers-requires-clause-segments g c = omega (arith, (ends_found (applied c.args.disk.now.image.now c.args.draft) c.args.disk.now.layout.now c.args.number g.chain.0 g.chain.1 c.args.blocks.now c.args.numbers.now c.args.first.now c.args.end.now c.last_header-last.result.now c.requires.1.0 c.requires.1.1.0 c.requires.1.1.1.0 c.requires.1.1.1.1.0 c.last_header-last.ensures.one c.last_header-last.ensures.other).segment, c.requires.1.1.1.0.segments)
 
 pub write_headers-requires-clause-runs : goal.write_headers-requires-clause-runs
 write_headers-requires-clause-runs g c =

@@ -16,7 +16,7 @@ use Rattle.ods_alloc.proofs.headers.write_headers.Goals as goal
 use Rattle.ods_alloc.proofs.headers.write_headers.Goals.{After-renew}
 
 -- behind the last header, as it is written, the new ones are made
-made_behind : (c : After-renew) → let B = applied c.args.disk.now.image.now c.args.draft.now in let L = c.args.disk.now.layout.now in let z = c.args.ends.now.number in
+made_behind : (c : After-renew) → let B = applied c.args.disk.now.image.now c.args.draft.now in let L = c.args.disk.now.layout.now in let z = c.args.end in
     (first : Header) (rest : List Run) (segment : ℕ) (J : List (List ℕ)) → header_of (header_at B L c.args.number) ≡ first → rest ≡ drop (room_of (header_at B L z) / 2) c.args.runs.now → segment ≡ segment_of (header_at B L z)
     → ((K : List (List ℕ)) → applied K c.renew.new.self ≡ applied K ((c.in-Some.lbn, c.grown_last-grown.result) ∷ c.args.draft.now))
     → MakesHeaders (applied c.args.disk.now.image.now c.renew.new.self) L first (segment + 1) c.args.numbers.now rest (length c.args.numbers.now) J
@@ -25,7 +25,7 @@ made_behind c = λ first rest segment J is left at set.
     let I = c.args.disk.now.image.now in
     let L = c.args.disk.now.layout.now in
     let B = applied I c.args.draft.now in
-    let z = c.args.ends.now.number in
+    let z = c.args.end in
     let numbers = c.args.numbers.now in
     let runs = c.args.runs.now in
     let next = c.first_id-next.result in
@@ -47,7 +47,7 @@ returns-then-is_empty c =
     let I = c.args.disk.now.image.now in
     let L = c.args.disk.now.layout.now in
     let B = applied I c.args.draft.now in
-    let h = header_at B L c.args.ends.now.number in
+    let h = header_at B L c.args.end in
     let J = applied I c.renew.new.self in
     let rest = drop (room_of h / 2) c.args.runs.now in
     let first = header_of (header_at B L c.args.number) in
@@ -61,7 +61,7 @@ returns-in_default-read_header c =
 pub write_extensions-requires-clause-new : goal.write_extensions-requires-clause-new
 write_extensions-requires-clause-new c =
     let I = c.args.disk.now.image.now in
-    can_be_made I (applied I c.args.draft.now) c.args.draft.now c.renew.new.self c.args.disk.now.layout.now c.args.ends.now.number c.in-Some.lbn c.args.numbers.now c.grown_last-grown.result c.requires.places.places c.requires.apart
+    can_be_made I (applied I c.args.draft.now) c.args.draft.now c.renew.new.self c.args.disk.now.layout.now c.args.end c.in-Some.lbn c.args.numbers.now c.grown_last-grown.result c.requires.places.places c.requires.apart
     (sym c.place.ensures ∙ c.in-Some.is) refl (c.in_ok-renew.ensures.ok I) c.requires.free
 
 pub write_extensions-requires-clause-runs : goal.write_extensions-requires-clause-runs
@@ -75,8 +75,8 @@ returns c =
     let I = c.args.disk.now.image.now in
     let L = c.args.disk.now.layout.now in
     let B = applied I c.args.draft.now in
-    let first : header_of (header_at B L c.args.number) ≡ c.in-Ok.first = ap header_of (sym c.requires.first.is) ∙ sym c.in-Ok.ensures.ok.1 in
-    made_behind (goal.at.returns c).After-renew c.in-Ok.first c.piece-rest.result.now c.segment.result (applied I c.write_extensions.new.draft) first
-    (c.piece-rest.ensures ∙ rest_of c.args.runs.now (room_of (header_at B L c.args.ends.now.number) / 2) c.room.result (c.room.ensures ∙ ap (λ b. room_of b / 2) c.requires.last.is))
+    let first : header_of (header_at B L c.args.number) ≡ c.in-Ok.fields = ap header_of (sym c.requires.first.is) ∙ sym c.in-Ok.ensures.ok.1 in
+    made_behind (goal.at.returns c).After-renew c.in-Ok.fields c.piece-rest.result.now c.segment.result (applied I c.write_extensions.new.draft) first
+    (c.piece-rest.ensures ∙ rest_of c.args.runs.now (room_of (header_at B L c.args.end) / 2) c.room.result (c.room.ensures ∙ ap (λ b. room_of b / 2) c.requires.last.is))
     (c.segment.ensures ∙ ap segment_of c.requires.last.is)
     c.in_ok-renew.ensures.ok c.in_ok-write_extensions.ensures

@@ -1,21 +1,19 @@
 use Rattle.std.proofs.Common.{◌≡◌, ℕ, ◌+◌, ◌-◌, ◌≤◌, refl, ap, sym, ◌∙◌, subst, List, [], length, take, drop, get_or, None, Some, arith, rules, inl, inr}
 use Rattle.std.specs.Prelude.{slice_get, unwrap_or}
 use Rattle.std.proofs.lemmas.List.{length-drop, take_all}
-use Rattle.ods_base.specs.Image.{IsImage}
 use Rattle.ods_base.specs.declared.file_id.FileId.{FileId}
 use Rattle.ods_header.specs.declared.home.Home.{Home}
 use Rattle.ods_space.specs.Draft.{applied}
-use Rattle.ods_space.specs.Layout.{VolumeLayout, greatest_number, header_at, with_places}
+use Rattle.ods_space.specs.Layout.{VolumeLayout, greatest_number, with_places}
 use Rattle.ods_alloc.specs.Extend.{cut}
 use Rattle.ods_alloc.proofs.FreeTests.{IsOpenNumber}
-use Rattle.ods_mount.specs.Sound.{IsSoundBy}
 use Rattle.ods_request.specs.declared.answers.Answer.TheVariants.{Created}
 use Rattle.ods_request.specs.declared.refusals.Refusal.TheVariants as refusal
 use Rattle.ods_request.specs.declared.requests.Request.{Request}
 use Rattle.ods_request.specs.declared.requests.Request.TheVariants.{Create}
 use Rattle.ods_state.specs.Served.{IsRefusalOf, IsStepOf}
 use Rattle.ods_state.specs.Wants.{lack_of, taken_blocks, taken_numbers}
-use Rattle.ods_state.specs.Growth.{IsNewFirst, IsTaking}
+use Rattle.ods_state.specs.Growth.{IsTaking}
 use Rattle.ods_state.proofs.Served.{refused_by_fault, refused_for_memory}
 use Rattle.ods_change.specs.Beginning.{IsBegun}
 use Rattle.ods_change.specs.Creating.{IsMadeFile, IsNewHeaderFor, new_id}

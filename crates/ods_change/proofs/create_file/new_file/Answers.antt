@@ -62,7 +62,7 @@ extend_from-requires c =
     let count : ℕ = length c.args.blocks.now in
     let at = ready (goal.at.extend_from-requires c).In_ok-set in
     let there = sym (header_written (written (goal.at.extend_from-requires c).In_ok-set)) in
-    let ends : AreEnds K L n [] _ = record { first = there; number = refl; last = there } in (
+    let ends : AreEnds K L n [] c.args.header _ = record { first = there; number = refl; last = λ apart. there } in (
       ready_layout I K L c.requires.sound n [] [] count c.args.others.now c.requires.taking at,
       (
         well_placed I L c.requires.sound,

@@ -1,4 +1,4 @@
-use Rattle.std.proofs.Common.{◌≡◌, ℕ, List, length, refl, ap, sym, ◌∙◌, ◌∷◌, Option, subst}
+use Rattle.std.proofs.Common.{ℕ, List, length, refl, ap, sym, ◌∙◌, ◌∷◌, Option, subst}
 use Rattle.std.specs.Prelude.{unwrap_or}
 use Rattle.ods_base.specs.Name.{RadName}
 use Rattle.ods_base.specs.declared.file_id.FileId.{FileId}
@@ -7,13 +7,14 @@ use Rattle.ods_request.specs.declared.requests.Request.TheVariants.{Enter}
 use Rattle.ods_request.specs.declared.answers.Answer.TheVariants.{Entered}
 use Rattle.ods_space.specs.Draft.{applied}
 use Rattle.ods_space.specs.Layout.{VolumeLayout, with_places}
+use Rattle.ods_alloc.specs.Ends.{IsEndOf}
 use Rattle.ods_alloc.specs.Extend.{cut}
 use Rattle.ods_state.specs.Served.{IsStepOf}
 use Rattle.ods_state.specs.Wants.{room_in}
 use Rattle.ods_state.proofs.Served.{refused_for_memory}
 use Rattle.ods_change.specs.Beginning.{IsBegun}
 use Rattle.ods_change.specs.Entering.{IsEntering, IsEntryFor, IsTakenFor}
-use Rattle.ods_change.specs.Taking.{IsEndOf, IsTakenBy}
+use Rattle.ods_change.specs.Taking.{IsTakenBy}
 use Rattle.ods_change.proofs.Begun.{IsAsked, IsKept, can_begin, kept, step_of}
 use Rattle.ods_change.proofs.BegunDirectories.{asked_by, entry_then, high_directory, taken_then}
 use Rattle.ods_change.proofs.BegunFiles.{end_kept}
@@ -24,19 +25,19 @@ use Rattle.ods_change.proofs.enter_behind.enter_behind.Goals as goal
 use Rattle.ods_change.proofs.enter_behind.enter_behind.Goals.{After-layout_then-then}
 
 pub of-end-requires-clause-whole : goal.of-end-requires-clause-whole
-of-end-requires-clause-whole c = let own = c.requires.entry.4.own.is in (c.args.entry.now.dir.number ∷ own.held.others, own.lbns, has_headers own.held)
+of-end-requires-clause-whole c = let own = c.requires.entry.4.own.is in (own.held.others, own.lbns, own.held.whole)
 
 pub returns-in-Err : goal.returns-in-Err
 returns-in-Err c = λ who name given file e.
     refused c.requires.sound e c.requires.grows c.in-Err.refusal c.of-end.result.headers c.of-end.result.room
-    (λ hs has. let end = c.of-end.ensures.end hs e.own.is.lbns has in (end.0, end.2))
+    (let end = c.of-end.ensures.end e.own.is.held.others e.own.is.lbns e.own.is.held.whole in (end.0, end.2))
     c.in-Err.ensures.err
 
 pub begin-requires-clause-can : goal.begin-requires-clause-can
 begin-requires-clause-can c =
     let own = c.requires.entry.4.own.is in
     let D = c.args.entry.now.disk in
-    let end = c.of-end.ensures.end (c.args.entry.now.dir.number ∷ own.held.others) own.lbns (has_headers own.held) in
+    let end = c.of-end.ensures.end own.held.others own.lbns own.held.whole in
     let got = by_numbers (λ h r. IsTakenBy D.image.now D.layout.now h r 1 c.in-Ok.taken) end.0 end.2 c.in-Ok.ensures.ok in
     can_begin (c.args.entry.now.dir.number ∷ own.held.others) 1 c.requires.sound got.enough (c.deref.ensures.value ∙ got.places)
 
@@ -70,7 +71,7 @@ module _ (c : After-layout_then-then) where
     headers = dir.number ∷ e.own.is.held.others
 
     got : IsTakenBy I L (length headers) (room_in I L headers) 1 c.in-Ok.taken
-    got = let end = c.of-end.ensures.end headers e.own.is.lbns (has_headers e.own.is.held) in by_numbers (λ h r. IsTakenBy I L h r 1 c.in-Ok.taken) end.0 end.2 c.in-Ok.ensures.ok
+    got = let end = c.of-end.ensures.end e.own.is.held.others e.own.is.lbns e.own.is.held.whole in by_numbers (λ h r. IsTakenBy I L h r 1 c.in-Ok.taken) end.0 end.2 c.in-Ok.ensures.ok
 
     asked : IsAsked I L (Enter dir name given file) headers e.own.is.lbns 1 places
     asked = asked_by e c.requires.sound c.requires.grows c.len.ensures.image got.enough got.places

@@ -54,8 +54,7 @@ extend_from-requires c =
     let has = has_headers e.own.is.held in
     let before = walked_now c.requires.sound e c.requires.grows (grows_so s e) c.requires.image (drafted s) c.makes_image.ensures in
     let ready = chain_ready c.requires.sound e c.requires.grows (grows_so s e) c.requires.image (drafted s) before.0 before.1 (c.requires.taken headers e.own.is.lbns has).0 in
-    let there = headers_ready c.requires.sound e c.requires.grows (grows_so s e) (drafted s) in
-    let ends = c.ends_with.ensures in (
+    let there = headers_ready c.requires.sound e c.requires.grows (grows_so s e) (drafted s) in (
       ready.0,
       (
         ready.1,
@@ -63,7 +62,7 @@ extend_from-requires c =
           ready.2,
           (
             ready.3,
-            (ends_asked (I s) (applied c.args.disk.now.image.now c.set-2.new.self) (L s) c.args.dir.number headers e.own.is.lbns c.marked_header-header.result c.args.end.now c.ends_with.result has c.requires.end before.0 there ends.first ends.number ends.one ends.other, c.requires.runs),
+            (ends_asked (I s) (applied c.args.disk.now.image.now c.set-2.new.self) (L s) c.args.dir.number headers e.own.is.lbns c.marked_header-header.result c.args.end.now has c.requires.end before.0 there, c.requires.runs),
           ),
         ),
       ),

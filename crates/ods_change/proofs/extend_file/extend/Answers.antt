@@ -5,6 +5,7 @@ use Rattle.ods_request.specs.declared.requests.Request.TheVariants.{Extend}
 use Rattle.ods_space.specs.Chain.{IsChain}
 use Rattle.ods_space.specs.Draft.{applied}
 use Rattle.ods_space.specs.Layout.{VolumeLayout, header_at, with_places}
+use Rattle.ods_alloc.specs.Ends.{IsEndOf}
 use Rattle.ods_alloc.specs.Extend.{last_of}
 use Rattle.ods_state.specs.declared.known_end.KnownEnd.{KnownEnd}
 use Rattle.ods_state.specs.Ends.{IsEndKnown}
@@ -15,26 +16,26 @@ use Rattle.ods_state.proofs.GrownContents.{so_many_blocks}
 use Rattle.ods_state.proofs.Served.{refused_by_fault, refused_for_memory}
 use Rattle.ods_change.specs.Beginning.{IsBegun}
 use Rattle.ods_change.specs.Extending.{IsExtensible, IsGrownBy, IsWanted}
-use Rattle.ods_change.specs.Taking.{IsEndOf, IsTakenBy}
+use Rattle.ods_change.specs.Taking.{IsTakenBy}
 use Rattle.ods_change.proofs.Begun.{IsAsked, IsKept, can_begin, kept, step_of}
 use Rattle.ods_change.proofs.BegunFiles.{above_reserved, asked_of_extend, end_kept, extensible_then}
 use Rattle.ods_change.proofs.ExtendingFile.{extend_is_step, has, refused_for_lack}
 use Rattle.ods_change.proofs.KnownEnds.{grown_known}
 use Rattle.ods_change.proofs.TakingBlocks.{by_numbers}
 use Rattle.ods_change.proofs.extend_file.extend.Goals as goal
-use Rattle.ods_change.proofs.extend_file.extend.Goals.{After-layout_then-then, After-found-end}
+use Rattle.ods_change.proofs.extend_file.extend.Goals.{After-layout_then-then, After-known_end-end}
 
 pub returns-in-Err-clause-step : goal.returns-in-Err-clause-step
 returns-in-Err-clause-step c = refused_by_fault c.args.disk.now.image.now c.args.disk.now.layout.now c.args.who (Extend c.args.file c.args.count) c.in-Err.refusal c.in-Err.ensures.err
 
-pub found-end-requires-clause-whole : goal.found-end-requires-clause-whole
-found-end-requires-clause-whole c = let o = c.in-Ok.ensures.ok.0 in (_, o.lbns, has c.requires.sound o)
+pub known_end-end-requires-clause-whole : goal.known_end-end-requires-clause-whole
+known_end-end-requires-clause-whole c = let o = c.in-Ok.ensures.ok.0 in (o.held.others, o.lbns, o.held.whole)
 
 -- how the chain of the file ends
-ends : (c : After-found-end) → let o = c.in-Ok.ensures.ok.0 in
-    (c.found-end.result.headers ≡ length (c.args.file.number ∷ o.held.others)) × (c.found-end.result.blocks ≡ length o.lbns)
-    × (c.found-end.result.room ≡ room_in c.args.disk.now.image.now c.args.disk.now.layout.now (c.args.file.number ∷ o.held.others))
-ends c = let o = c.in-Ok.ensures.ok.0 in c.found-end.ensures.end (c.args.file.number ∷ o.held.others) o.lbns (has c.requires.sound o)
+ends : (c : After-known_end-end) → let o = c.in-Ok.ensures.ok.0 in
+    (c.known_end-end.result.headers ≡ length (c.args.file.number ∷ o.held.others)) × (c.known_end-end.result.blocks ≡ length o.lbns)
+    × (c.known_end-end.result.room ≡ room_in c.args.disk.now.image.now c.args.disk.now.layout.now (c.args.file.number ∷ o.held.others))
+ends c = let o = c.in-Ok.ensures.ok.0 in c.known_end-end.ensures.end o.held.others o.lbns o.held.whole
 
 pub returns-in-Err-take-clause-step : goal.returns-in-Err-take-clause-step
 returns-in-Err-take-clause-step c =
@@ -42,7 +43,7 @@ returns-in-Err-take-clause-step c =
     let L = c.args.disk.now.layout.now in
     let r = Extend c.args.file c.args.count in
     let o = c.in-Ok.ensures.ok.0 in
-    let end = ends (goal.at.returns-in-Err-take-clause-step c).After-found-end in
+    let end = ends (goal.at.returns-in-Err-take-clause-step c).After-known_end-end in
     elim c.in-Err-take.ensures.err [
       | inl none ↦ subst (IsRefusalOf I L c.args.who r) (sym none) (refused_for_memory I L c.args.who r refl o.fine)
       | inr lacks ↦ refused_for_lack I L c.args.who r c.in-Err-take.refusal (record {
@@ -83,8 +84,8 @@ module _ (c : After-layout_then-then) where
   abbrev places : List ℕ
   places = c.in-Ok-take.taken.places.items
 
-  end : (c.found-end.result.headers ≡ length headers) × (c.found-end.result.blocks ≡ length o.lbns) × (c.found-end.result.room ≡ room_in I L headers)
-  end = c.found-end.ensures.end headers o.lbns (has c.requires.sound o)
+  end : (c.known_end-end.result.headers ≡ length headers) × (c.known_end-end.result.blocks ≡ length o.lbns) × (c.known_end-end.result.room ≡ room_in I L headers)
+  end = c.known_end-end.ensures.end o.held.others o.lbns o.held.whole
 
   got : IsTakenBy I L (length headers) (room_in I L headers) count c.in-Ok-take.taken
   got = by_numbers (λ h r. IsTakenBy I L h r count c.in-Ok-take.taken) end.0 end.2 c.in-Ok-take.ensures.ok
@@ -114,10 +115,10 @@ module _ (c : After-layout_then-then) where
   first_is : c.in-Ok.first.now ≡ header_at K M n
   first_is = c.in-Ok.ensures.ok.1 ∙ sym (k.own n (first_in n o.held.others))
 
-  end_is : IsEndOf K M n c.found-end.result
-  end_is = end_kept c.found-end.result (has c.requires.sound o) (k.has n (above_reserved o) (has c.requires.sound o)) k.own c.found-end.ensures.last
+  end_is : IsEndOf K M n c.known_end-end.result
+  end_is = end_kept c.known_end-end.result (has c.requires.sound o) (k.has n (above_reserved o) (has c.requires.sound o)) k.own c.known_end-end.ensures.last
 
-  made : (J : List (List ℕ)) → IsGrownBy K M n headers o.lbns count c.in-Ok-take.taken.numbers.items J → (total : ℕ) → total ≡ c.found-end.result.blocks + count
+  made : (J : List (List ℕ)) → IsGrownBy K M n headers o.lbns count c.in-Ok-take.taken.numbers.items J → (total : ℕ) → total ≡ c.known_end-end.result.blocks + count
       → IsStepOf I L c.args.who (Extend c.args.file count) (Extended total) J (with_places L places)
   made J g total is =
       step_of asked begun J c.args.who (Extended total)
@@ -125,19 +126,19 @@ module _ (c : After-layout_then-then) where
 
   -- where the chain ends then
   known_then : (J : List (List ℕ)) → IsGrownBy K M n headers o.lbns count c.in-Ok-take.taken.numbers.items J → (numbers : List ℕ) → numbers ≡ c.in-Ok-take.taken.numbers.items
-      → (now : KnownEnd) → now.file ≡ n → now.headers ≡ c.found-end.result.headers + length numbers → now.blocks ≡ c.found-end.result.blocks + count
-      → now.last ≡ last_of c.found-end.result.number numbers → IsEndKnown J (with_places L places) now
+      → (now : KnownEnd) → now.file ≡ n → now.headers ≡ c.known_end-end.result.headers + length numbers → now.blocks ≡ c.known_end-end.result.blocks + count
+      → now.last ≡ last_of c.known_end-end.result.number numbers → IsEndKnown J (with_places L places) now
   known_then J g numbers same now own many blocks last =
       let long = so_many_blocks k.sound g.grown in
       subst (λ N. IsEndKnown J N now) begun.layout
       (grown_known J M now n o.held.others numbers o.lbns (taken_blocks K M count) (subst (λ l. IsChain J M n (o.held.others ++ l) (o.lbns ++ taken_blocks K M count)) (sym same) g.grown.chain)
       own (omega (arith, many, end.0)) (omega (arith, blocks, end.1, long))
-      (last ∙ ap (λ m. last_of m numbers) (c.found-end.ensures.last.number o.held.others o.lbns o.held.whole.chain)))
+      (last ∙ ap (λ m. last_of m numbers) (c.known_end-end.ensures.last.number o.held.others o.lbns o.held.whole.chain)))
 
 pub begin-requires-clause-can : goal.begin-requires-clause-can
 begin-requires-clause-can c =
     let o = c.in-Ok.ensures.ok.0 in
-    let end = ends (goal.at.begin-requires-clause-can c).After-found-end in
+    let end = ends (goal.at.begin-requires-clause-can c).After-known_end-end in
     let got = by_numbers (λ h r. IsTakenBy c.args.disk.now.image.now c.args.disk.now.layout.now h r c.args.count c.in-Ok-take.taken) end.0 end.2 c.in-Ok-take.ensures.ok in
     can_begin (c.args.file.number ∷ o.held.others) c.args.count c.requires.sound got.enough (c.deref.ensures.value ∙ got.places)
 
@@ -164,16 +165,16 @@ grown-requires-clause-wanted c =
 pub returns-in-Ok-grown-clause-step : goal.returns-in-Ok-grown-clause-step
 returns-in-Ok-grown-clause-step c =
     let at = (goal.at.returns-in-Ok-grown-clause-step c).After-layout_then-then in
-    made at (applied c.args.disk.now.image.now c.in-Ok-grown.draft) (c.in-Ok-grown.ensures (headers at) (o at).lbns c.args.count (wanted at)) c.with-end.result.blocks c.with-end.ensures.blocks
+    made at (applied c.args.disk.now.image.now c.in-Ok-grown.draft) (c.in-Ok-grown.ensures (headers at) (o at).lbns c.args.count (wanted at)) c.grown_end-end.result.blocks c.grown_end-end.ensures.blocks
 
-pub with-end-requires-clause-few : goal.with-end-requires-clause-few
-with-end-requires-clause-few c = subst (λ l. c.found-end.result.headers + length l ≤ 256) (sym c.deref-in-Ok-grown.ensures.value) c.in-Ok-take.ensures.few
+pub grown_end-end-requires-clause-few : goal.grown_end-end-requires-clause-few
+grown_end-end-requires-clause-few c = subst (λ l. c.known_end-end.result.headers + length l ≤ 256) (sym c.deref-in-Ok-grown.ensures.value) c.in-Ok-take.ensures.few
 
 pub returns-in-Ok-grown-clause-end : goal.returns-in-Ok-grown-clause-end
 returns-in-Ok-grown-clause-end c =
     let at = (goal.at.returns-in-Ok-grown-clause-end c).After-layout_then-then in
     known_then at (applied c.args.disk.now.image.now c.in-Ok-grown.draft) (c.in-Ok-grown.ensures (headers at) (o at).lbns c.args.count (wanted at)) c.deref-in-Ok-grown.result.now c.deref-in-Ok-grown.ensures.value
-    c.with-end.result c.with-end.ensures.file c.with-end.ensures.headers c.with-end.ensures.blocks c.with-end.ensures.last
+    c.grown_end-end.result c.grown_end-end.ensures.file c.grown_end-end.ensures.headers c.grown_end-end.ensures.blocks c.grown_end-end.ensures.last
 
 pub returns-in-Err-begin-clause-step : goal.returns-in-Err-begin-clause-step
 returns-in-Err-begin-clause-step c = refused_for_memory c.args.disk.now.image.now c.args.disk.now.layout.now c.args.who (Extend c.args.file c.args.count) refl c.in-Ok.ensures.ok.0.fine

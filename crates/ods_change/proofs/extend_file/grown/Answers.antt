@@ -63,9 +63,8 @@ extend_from-requires c =
             growth_asked I Z K L c.requires.sound n c.unwrap-lbn.result c.without_contiguous-header.result (place_is s) (changed s) (fields s) headers old count c.args.taken.now c.requires.above w (zeroed s) (set s)
                 (drop 1 (numbers_of (headers_of K L n))) c.deref-2.result.now c.deref-3.result.now walk.0 c.deref-2.ensures.value c.deref-3.ensures.value,
             (
-              ends_asked I K L n headers old c.without_contiguous-header.result c.args.end.now c.ends_with.result w.has c.requires.end walk.0
-                  (headers_asked I Z K L c.requires.sound n c.unwrap-lbn.result c.without_contiguous-header.result (place_is s) (changed s) (fields s) headers old count c.args.taken.now c.requires.above w (zeroed s) (set s))
-                  c.ends_with.ensures.first c.ends_with.ensures.number c.ends_with.ensures.one c.ends_with.ensures.other,
+              ends_asked I K L n headers old c.without_contiguous-header.result c.args.end.now w.has c.requires.end walk.0
+                  (headers_asked I Z K L c.requires.sound n c.unwrap-lbn.result c.without_contiguous-header.result (place_is s) (changed s) (fields s) headers old count c.args.taken.now c.requires.above w (zeroed s) (set s)),
               c.deref-4.ensures.value ∙ w.runs ∙ ap cut (sym c.deref-2.ensures.value),
             ),
           ),

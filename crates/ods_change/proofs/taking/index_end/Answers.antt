@@ -1,4 +1,4 @@
-use Rattle.std.proofs.Common.{◌≡◌, ℕ, List, ◌∷◌, refl, ap, sym, ◌∙◌}
+use Rattle.std.proofs.Common.{◌≡◌, ap, sym, ◌∙◌}
 use Rattle.ods_header.specs.Header.{room_of}
 use Rattle.ods_space.specs.Layout.{header_at}
 use Rattle.ods_space.proofs.Wholes.{chain_seen}
@@ -8,7 +8,7 @@ use Rattle.ods_change.proofs.taking.index_end.Goals as goal
 use Rattle.ods_change.proofs.taking.index_end.Goals.{After-of}
 
 pub of-requires-clause-whole : goal.of-requires-clause-whole
-of-requires-clause-whole c = (1 ∷ c.requires.index.others, c.args.disk.now.layout.now.index, (c.requires.index.others, refl, c.requires.index.whole))
+of-requires-clause-whole c = (c.requires.index.others, c.args.disk.now.layout.now.index, c.requires.index.whole)
 
 -- the headers that are walked along are those of the chain
 is_end : (c : After-of) → index_end c.args.disk.now.image.now c.args.disk.now.layout.now ≡ last_of 1 c.requires.index.others
@@ -28,5 +28,5 @@ returns-clause-last c = c.of.ensures.last.last ∙ ap (header_at c.args.disk.now
 pub returns-clause-room : goal.returns-clause-room
 returns-clause-room c =
     let own = c.requires.index in
-    (c.of.ensures.end (1 ∷ own.others) c.args.disk.now.layout.now.index (own.others, refl, own.whole)).2
+    (c.of.ensures.end own.others c.args.disk.now.layout.now.index own.whole).2
     ∙ ap (λ n. room_of (header_at c.args.disk.now.image.now c.args.disk.now.layout.now n)) (sym (is_end (goal.at.returns-clause-room c).After-of))

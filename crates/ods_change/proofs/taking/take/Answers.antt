@@ -61,13 +61,13 @@ returns-in-Err-places_for-clause-err c =
           ∙ ap Some (sym lacks.0))
     ]
 
-pub returns-then-headers-needed-gt256-clause-err : goal.returns-then-headers-needed-gt256-clause-err
-returns-then-headers-needed-gt256-clause-err c = inr (
+pub returns-then-headers-needed-gt-CHAIN_HEADERS-clause-err : goal.returns-then-headers-needed-gt-CHAIN_HEADERS-clause-err
+returns-then-headers-needed-gt-CHAIN_HEADERS-clause-err c = inr (
     let I = c.args.disk.now.image.now in
     let L = c.args.disk.now.layout.now in
-    let at = (goal.at.returns-then-headers-needed-gt256-clause-err c).After-headers_wanted-needed in
+    let at = (goal.at.returns-then-headers-needed-gt-CHAIN_HEADERS-clause-err c).After-headers_wanted-needed in
     let needed = needed_is at in
-    let many = c.if-headers-needed-gt256.true in
+    let many = c.if-headers-needed-gt-CHAIN_HEADERS.true in
     let same = numbers_are at c.in-Ok-pick_open_numbers.numbers.items c.deref-2.result.now c.in-Ok-pick_open_numbers.ensures.ok.0 c.deref-2.ensures.value in
     lacks_segments I L c.args.headers c.args.room c.args.count c.in-Ok.ensures.ok.1 (subst (λ n. n ≤ length (open_numbers I L)) needed c.in-Ok-pick_open_numbers.ensures.ok.1) c.in-Ok-places_for.places.items
     (subst (λ ns. HasPlacesFor I L c.args.count ns c.in-Ok-places_for.places.items) same c.in-Ok-places_for.ensures.ok) (omega (arith, many, needed)))
@@ -78,7 +78,7 @@ returns-clause-ok c =
     let L = c.args.disk.now.layout.now in
     let at = (goal.at.returns-clause-ok c).After-headers_wanted-needed in
     let needed = needed_is at in
-    let few = c.if-headers-needed-gt256.false in
+    let few = c.if-headers-needed-gt-CHAIN_HEADERS.false in
     let same = numbers_are at c.in-Ok-pick_open_numbers.numbers.items c.deref-2.result.now c.in-Ok-pick_open_numbers.ensures.ok.0 c.deref-2.ensures.value in
     let places = subst (λ ns. HasPlacesFor I L c.args.count ns c.in-Ok-places_for.places.items) same c.in-Ok-places_for.ensures.ok in record {
       blocks = c.in-Ok.ensures.ok.0;
@@ -92,6 +92,6 @@ returns-clause-runs c = c.in-Ok-runs_of_blocks.ensures.cut ∙ ap cut c.deref.en
 
 pub returns-clause-few : goal.returns-clause-few
 returns-clause-few c =
-    let few = c.if-headers-needed-gt256.false in
+    let few = c.if-headers-needed-gt-CHAIN_HEADERS.false in
     let got = c.in-Ok-pick_open_numbers.ensures.ok in
     omega (arith, few, ap length got.0 ∙ length-take-le c.headers_wanted-needed.result (open_numbers c.args.disk.now.image.now c.args.disk.now.layout.now) got.1)

@@ -2,11 +2,10 @@ use Rattle.std.proofs.Common.{◌≡◌, ◌≤◌, ℕ, List, length, ap, sym, 
 use Rattle.ods_header.specs.Header.{IsLaidOut, room_of}
 use Rattle.ods_space.specs.Chain.{IsChain, chain_blocks, headers_of, named_by}
 use Rattle.ods_space.specs.Layout.{header_at}
-use Rattle.ods_state.specs.Wants.{room_in}
 use Rattle.ods_alloc.specs.Extend.{last_of}
-use Rattle.ods_change.proofs.ChainEnds.{passed_all, passed_few, passed_first, passed_next, walked, walked_few, walked_first, walked_last}
-use Rattle.ods_change.proofs.taking.ChainEnd.of.Goals as goal
-use Rattle.ods_change.proofs.taking.ChainEnd.of.Goals.{After-from-headers, In_default}
+use Rattle.ods_alloc.proofs.EndWalks.{passed_all, passed_few, passed_first, passed_next, walked, walked_few, walked_first, walked_last}
+use Rattle.ods_alloc.proofs.end.ChainEnd.of.Goals as goal
+use Rattle.ods_alloc.proofs.end.ChainEnd.of.Goals.{After-from-headers, In_default}
 
 pub loop-at-init : goal.loop-at-init
 loop-at-init c =
@@ -49,12 +48,12 @@ all c =
     (a.0, a.1, λ others blocks chain. a.2 ∙ walked_last c.args.disk.now.image.now c.args.disk.now.layout.now c.args.number others blocks (c.args.number, c.args.first.now) c.len.ensures.image c.requires.layout chain)
 
 pub returns-clause-end : goal.returns-clause-end
-returns-clause-end c = λ hs blocks has.
+returns-clause-end c = λ others blocks whole.
     let I = c.args.disk.now.image.now in
     let L = c.args.disk.now.layout.now in
     let a = all (goal.at.returns-clause-end c).In_default in
-    let b = walked I L c.args.number hs blocks c.len.ensures.image c.requires.layout has in
-    (a.0 ∙ b.0, a.1 ∙ b.1, c.room_words.ensures ∙ ap (λ h. room_of h.1) (a.2 has.0 blocks has.2.chain) ∙ ap (room_in I L) (sym has.1))
+    let b = walked I L c.args.number others blocks c.len.ensures.image c.requires.layout whole in
+    (a.0 ∙ b.0, a.1 ∙ b.1, c.room_words.ensures ∙ ap (λ h. room_of h.1) (a.2 others blocks whole.chain))
 
 pub returns-clause-few : goal.returns-clause-few
 returns-clause-few c = let is = (all (goal.at.returns-clause-few c).In_default).0 in let most = (few (goal.at.returns-clause-few c).After-from-headers).0 in omega (arith, is, most)
@@ -66,7 +65,7 @@ pub returns-clause-last : goal.returns-clause-last
 returns-clause-last c =
     let a = all (goal.at.returns-clause-last c).In_default in
     let has = c.requires.whole in
-    let is = a.2 has.2.0 has.1 has.2.2.chain in
+    let is = a.2 has.0 has.1 has.2.chain in
     record {
       number = λ others blocks chain. ap (λ h. h.0) (a.2 others blocks chain);
       last = ap (λ h. h.1) is ∙ ap (header_at c.args.disk.now.image.now c.args.disk.now.layout.now) (sym (ap (λ h. h.0) is));

@@ -1,10 +1,10 @@
-use Rattle.std.proofs.Common.{ap, sym, ◌∙◌, subst}
+use Rattle.std.proofs.Common.{sym, subst}
 use Rattle.std.specs.Prelude.{IfSome}
 use Rattle.ods_header.specs.Header.{IsLaidOut}
 use Rattle.ods_state.specs.Ends.{IsEndKnown}
 use Rattle.ods_change.proofs.KnownEnds.{chain_known, known_few, known_laid_out, known_measured}
-use Rattle.ods_change.proofs.taking.ChainEnd.found.Goals as goal
-use Rattle.ods_change.proofs.taking.ChainEnd.found.Goals.{In-Some-header_block}
+use Rattle.ods_change.proofs.known_end.known_end.Goals as goal
+use Rattle.ods_change.proofs.known_end.known_end.Goals.{In-Some-header_block}
 
 -- what is noted is true
 noted : (c : In-Some-header_block) → IsEndKnown c.args.disk.now.image.now c.args.disk.now.layout.now c.in-Some.end

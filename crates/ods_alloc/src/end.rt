@@ -1,0 +1,129 @@
+//! Where a chain of headers ends: by a walk along a whole chain, or along one as a draft has it.
+ghost use Rattle.std.specs.Prelude.{◌≡◌, ◌≤◌, ℕ, List, length, IfSome, IfNone};
+ghost use Rattle.ods_header.specs.Header.{IsValidHeader};
+ghost use Rattle.ods_space.specs.{Chain.chain_blocks, Draft.applied, Files.IsLayoutOf, Files.IsWhole, Layout.header_at};
+ghost use Rattle.ods_space.specs.Disks.{header_on, on};
+ghost use Rattle.ods_alloc.specs.{Ends.EndsWhereDrafted, Ends.IsEndOf, Ends.IsHeaderAt, Ends.IsMeasured, Marks.HasPlaces};
+
+use ods_base::{Block, Image};
+use ods_header::{is_valid_header, next_number, pointer_sum, room_words};
+use ods_space::{ChainHeaders, Disk, Draft, Layout};
+
+/// The most headers that a chain may have: a segment number is a byte.
+pub const CHAIN_HEADERS: u32 = 256;
+
+/// Where the chain of a file ends: how many headers it has, how many blocks they map, and the last of them, with its number
+/// and its room in words for pointers.
+#[derive(Clone, Copy)]
+pub struct ChainEnd<'a> {
+    /// How many headers the chain has.
+    pub headers: u32,
+    /// How many blocks they map.
+    pub blocks: u32,
+    /// The number of the last header.
+    pub number: u16,
+    /// The block of the last header.
+    pub last: &'a Block,
+    /// The room in words behind its pointers; a pointer takes two.
+    pub room: u32,
+}
+
+impl<'a> ChainEnd<'a> {
+    ghost use Rattle.ods_space.specs.Disks.{header_on, on};
+
+    /// Where the chain of a file ends, by one walk along it. `first` is its first header.
+    pub fn of(disk: &Disk<'a>, number: u16, first: &'a Block) -> Self
+        requires layout { on IsLayoutOf disk.now }
+        requires whole { (others : List ℕ) × (blocks : List ℕ) × on IsWhole disk.now number others blocks }
+        requires first { first.now ≡ header_on disk.now number }
+        ensures end { on IsMeasured disk.now number result }
+        ensures last { on IsEndOf disk.now number result }
+        ensures few { result.headers ≤ 256 }
+        ensures small { result.blocks ≤ chain_blocks }
+    {
+        // The blocks of an image have bytes, so a chain has at most 256 headers.
+        let _ = disk.image.len();
+        let mut count = 0;
+        let mut blocks = 0;
+        let mut end = number;
+        let mut last = first;
+        let mut headers = ChainHeaders::from(disk, number, first);
+        while let Some((at, header)) = headers.next() {
+            count += 1;
+            blocks += pointer_sum(header);
+            end = at;
+            last = header;
+        }
+        ChainEnd {
+            headers: count,
+            blocks,
+            number: end,
+            last,
+            room: room_words(last) as u32,
+        }
+    }
+}
+
+/// Where the chain with this first header ends, as a draft has it. Index bits are not looked at, so the chain may be one of
+/// any image with these headers.
+pub(crate) fn drafted_end<'a>(
+    image: &'a Image,
+    layout: &Layout,
+    number: u16,
+    first: &'a Block,
+    draft: &'a Draft,
+) -> ChainEnd<'a>
+    requires places { HasPlaces (length image.now) layout.now }
+    requires file { 2 ≤ number }
+    ensures { EndsWhereDrafted (applied image.now draft.now) layout.now number result }
+{
+    let mut blocks = 0;
+    let mut room = 0;
+    let mut end = number;
+    let mut last = first;
+    let mut next = number;
+    for k in 0..CHAIN_HEADERS {
+        let Some(header) = valid_header(image, layout, next, draft) else {
+            return ChainEnd {
+                headers: k,
+                blocks,
+                number: end,
+                last,
+                room,
+            };
+        };
+        blocks += pointer_sum(header);
+        room = room_words(header) as u32;
+        end = next;
+        last = header;
+        next = next_number(header);
+    }
+    ChainEnd {
+        headers: CHAIN_HEADERS,
+        blocks,
+        number: end,
+        last,
+        room,
+    }
+}
+
+/// The block of a header as a draft has it, where it has a place and is valid.
+pub(crate) fn valid_header<'a>(
+    image: &'a Image,
+    layout: &Layout,
+    number: u16,
+    draft: &'a Draft,
+) -> Option<&'a Block>
+    requires places { HasPlaces (length image.now) layout.now }
+    ensures some { IfSome result (λ header. IsHeaderAt (applied image.now draft.now) layout.now number header.now) }
+    ensures none { IfNone result (¬ IsValidHeader (header_at (applied image.now draft.now) layout.now number) number) }
+{
+    let Some(lbn) = layout.place(number) else {
+        return None;
+    };
+    let header = draft.block(image, lbn);
+    if !is_valid_header(header, number) {
+        return None;
+    }
+    Some(header)
+}
