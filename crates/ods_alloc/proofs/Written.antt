@@ -81,11 +81,11 @@ module _ (I B : List (List ℕ)) (d e : Changes) (L : VolumeLayout) (z lbn : ℕ
     | inr past ↦ let none = drop_all j numbers past in ap (first_sequence (applied I e) L) none ∙ sym (ap (first_sequence B L) none)
   ]
 
-  -- so free numbers can still be made
-  pub can_be_made : All (λ m. IsTrue (is_free_number B L m)) numbers → All (CanBeMade (applied I e) L) numbers
-  can_be_made free = λ i default below.
+  -- so what could be made still can
+  pub can_be_made : All (CanBeMade B L) numbers → All (CanBeMade (applied I e) L) numbers
+  can_be_made each = λ i default below.
       let m : ℕ = get_or numbers i 0 in
-      let new = free_can_be_made B L numbers free i 0 below in
+      let new = each i 0 below in
       let under = new.below in
       subst (CanBeMade (applied I e) L) (get_or_default numbers i 0 default below)
       (record { some = new.some; last = new.last; below = omega (arith, under, ap sequence_of (others_kept i below)) })

@@ -13,6 +13,8 @@ use Rattle.ods_header.specs.Writing.{deleted}
 use Rattle.ods_header.specs.Header.{next_volume_of, runs_of, room_of, sequence_of}
 use Rattle.ods_space.specs.Layout.{VolumeLayout, header_at, place_of, is_in_use}
 use Rattle.ods_space.specs.Chain.{IsChain}
+use Rattle.ods_space.specs.Draft.{Changes, applied}
+use Rattle.ods_space.specs.declared.disk.Disk.{Disk}
 use Rattle.ods_space.specs.Free.{is_covered, storage_bit, is_free_number}
 
 -- Blocks that ascend, cut into runs from the lowest upward: a run ends where the next block is not the next number, or where it has 256 blocks.
@@ -107,6 +109,15 @@ pub record Extends (I : List (List ℕ)) (L : VolumeLayout) (n : ℕ) (others al
   pub sequences : All (λ m. sequence_of (header_at J L m) ≡ sequence_of (header_at I L m) + 1) numbers
   pub bits : TakesBits I L blocks (n ∷ numbers) J
   pub only : ChangesOnly I L (n ∷ others ++ numbers) J
+
+-- n has the chain of these headers behind its first, and of these blocks, once its index bit is set
+abbrev pub HasChainInUse : List (List ℕ) → VolumeLayout → ℕ → List ℕ × List ℕ → Type 0
+HasChainInUse I L n chain = IsChain (with_in_use I L.home n) L n chain.0 chain.1
+
+-- what the second draft makes of a disk is what the first makes of it, with that chain of n grown by these blocks and these extension headers
+abbrev pub ExtendsDrafted : Disk → Changes → ℕ → List ℕ × List ℕ → List ℕ → List ℕ → Changes → Type 0
+ExtendsDrafted D before n chain blocks numbers after =
+    Extends (applied D.image.now before) D.layout.now n chain.0 chain.1 blocks numbers (applied D.image.now after)
 
 -- J is I with these blocks given back and these headers deleted.
 pub record GivesBack (I : List (List ℕ)) (L : VolumeLayout) (blocks numbers : List ℕ) (J : List (List ℕ)) : Type 0 where

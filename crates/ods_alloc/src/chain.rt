@@ -3,8 +3,7 @@ ghost use Rattle.std.specs.Prelude.{◌≡◌, ◌+◌, ◌<◌, ◌≤◌, leng
 ghost use Rattle.std.specs.List.{All};
 ghost use Rattle.std.specs.List.Sorted.{IsStrictlyIncreasing};
 ghost use Rattle.ods_header.specs.Header.{IsRun, sequence_of};
-ghost use Rattle.ods_space.specs.Draft.{applied};
-ghost use Rattle.ods_alloc.specs.Extension.{CanBeMade, MakesHeaders, first_number, first_sequence};
+ghost use Rattle.ods_alloc.specs.Extension.{CanBeMade, MakesHeadersDrafted, first_number, sequence_drafted};
 ghost use Rattle.ods_alloc.specs.Marks.{HasPlaces};
 ghost use Rattle.ods_space.specs.Disks.{drafted, header_drafted};
 
@@ -35,8 +34,8 @@ pub(crate) fn write_extensions(
     requires rising { IsStrictlyIncreasing numbers.now }
     requires segments { segment + length numbers.now ≤ 255 }
     requires runs { All IsRun runs.now }
-    ensures { OnOk result (drafted MakesHeaders disk.now draft.old first.now (segment + 1) numbers.now runs.now (length numbers.now)
-        (applied disk.now.image.now draft.new)) }
+    ensures { OnOk result
+        (MakesHeadersDrafted disk.now draft.old first.now (segment + 1) numbers.now runs.now draft.new) }
 {
     for (i, number) in numbers.iter().enumerate() {
         if let Some(lbn) = disk.layout.place(*number) {
@@ -63,9 +62,9 @@ pub(crate) fn piece(runs: &[Run], at: usize, most: usize) -> &[Run]
 /// where there is none.
 pub(crate) fn first_id(disk: &Disk<'_>, draft: &Draft, numbers: &[u16]) -> FileId
     requires places { HasPlaces (length disk.now.image.now) disk.now.layout.now }
-    requires few { first_sequence (applied disk.now.image.now draft.now) disk.now.layout.now numbers.now ≤ 65535 }
+    requires few { sequence_drafted disk.now draft.now numbers.now ≤ 65535 }
     ensures number { result.number ≡ first_number numbers.now }
-    ensures sequence { result.sequence ≡ first_sequence (applied disk.now.image.now draft.now) disk.now.layout.now numbers.now }
+    ensures sequence { result.sequence ≡ sequence_drafted disk.now draft.now numbers.now }
 {
     match numbers {
         [] => FileId {

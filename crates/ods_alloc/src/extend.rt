@@ -1,7 +1,8 @@
 //! Chains that grow: a file gets blocks, and headers where its own have no room for their pointers, all in a draft.
 ghost use Rattle.std.specs.Prelude.{◌≡◌, ◌≢◌, List, ℕ, IfOk, OnOk, OnErr};
-ghost use Rattle.ods_space.specs.{Chain.IsChain, Files.IsLayoutOf, Draft.applied};
-ghost use Rattle.ods_alloc.specs.{Ends.AreEnds, Extend.IsWellPlaced, Extend.CanExtend, Extend.Extends, Extend.cut, Extend.with_in_use};
+ghost use Rattle.ods_space.specs.Files.{IsLayoutOf};
+ghost use Rattle.ods_alloc.specs.Ends.{AreEnds};
+ghost use Rattle.ods_alloc.specs.Extend.{CanExtend, ExtendsDrafted, HasChainInUse, IsWellPlaced, cut};
 ghost use Rattle.ods_space.specs.Disks.{drafted};
 
 use crate::ChainEnd;
@@ -28,9 +29,10 @@ pub fn extend_chain(
     ghost chain: { List ℕ × List ℕ }
     requires layout { drafted IsLayoutOf disk.now draft.old }
     requires places { IsWellPlaced disk.now.layout.now }
-    requires chain { IsChain (with_in_use (applied disk.now.image.now draft.old) disk.now.layout.now.home number) disk.now.layout.now number chain.0 chain.1 }
+    requires chain { drafted HasChainInUse disk.now draft.old number chain }
     requires grows { drafted CanExtend disk.now draft.old number chain.0 blocks.now numbers.now }
-    ensures ok { OnOk result (drafted Extends disk.now draft.old number chain.0 chain.1 blocks.now numbers.now (applied disk.now.image.now draft.new)) }
+    ensures ok { OnOk result
+        (ExtendsDrafted disk.now draft.old number chain blocks.now numbers.now draft.new) }
     ensures err { OnErr result (draft.new ≡ draft.old) }
 {
     let first = valid_header(disk.image, disk.layout, number, draft).unwrap();
@@ -59,11 +61,11 @@ pub fn extend_from(
     ghost chain: { List ℕ × List ℕ }
     requires layout { drafted IsLayoutOf disk.now draft }
     requires places { IsWellPlaced disk.now.layout.now }
-    requires chain { IsChain (with_in_use (applied disk.now.image.now draft) disk.now.layout.now.home number) disk.now.layout.now number chain.0 chain.1 }
+    requires chain { drafted HasChainInUse disk.now draft number chain }
     requires grows { drafted CanExtend disk.now draft number chain.0 blocks.now numbers.now }
     requires ends { drafted AreEnds disk.now draft number chain.0 first.now end.now }
     requires runs { runs.now ≡ cut blocks.now }
-    ensures { IfOk result (λ d. drafted Extends disk.now draft number chain.0 chain.1 blocks.now numbers.now (applied disk.now.image.now d)) }
+    ensures { IfOk result (ExtendsDrafted disk.now draft number chain blocks.now numbers.now) }
 {
     let _ = disk.image.len();
     let last = last_header(number, first, end.number, end.last);

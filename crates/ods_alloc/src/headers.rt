@@ -1,11 +1,11 @@
 //! The headers of a chain that grows: the last one that it has, and those behind it.
-ghost use Rattle.std.specs.Prelude.{◌+◌, ◌≤◌, length, IsTrue, OnOk};
+ghost use Rattle.std.specs.Prelude.{◌+◌, ◌≤◌, length, OnOk};
 ghost use Rattle.std.specs.List.{All, Contains};
 ghost use Rattle.std.specs.List.Sorted.{IsStrictlyIncreasing};
 ghost use Rattle.ods_header.specs.Header.{IsRun, segment_of};
-ghost use Rattle.ods_space.specs.{Free.is_free_number, Draft.applied};
-ghost use Rattle.ods_alloc.specs.{Ends.IsHeaderAt, Extension.WritesHeaders, Marks.HasPlaces};
-ghost use Rattle.ods_space.specs.Disks.{drafted, header_drafted};
+ghost use Rattle.ods_alloc.specs.Extension.{CanBeMade, WritesHeadersDrafted};
+ghost use Rattle.ods_alloc.specs.{Ends.IsHeaderAt, Marks.HasPlaces};
+ghost use Rattle.ods_space.specs.Disks.{drafted};
 
 use crate::chain::{first_id, piece, write_extensions};
 use ods_base::Block;
@@ -29,11 +29,12 @@ pub(crate) fn write_headers(
     requires first { drafted IsHeaderAt disk.now draft.old number first.now }
     requires last { drafted IsHeaderAt disk.now draft.old end last.now }
     requires apart { ¬ Contains numbers.now end }
-    requires free { All (λ m. IsTrue (is_free_number (applied disk.now.image.now draft.old) disk.now.layout.now m)) numbers.now }
+    requires new { All (drafted CanBeMade disk.now draft.old) numbers.now }
     requires rising { IsStrictlyIncreasing numbers.now }
-    requires segments { segment_of (header_drafted disk.now draft.old end) + length numbers.now ≤ 255 }
+    requires segments { segment_of last.now + length numbers.now ≤ 255 }
     requires runs { All IsRun runs.now }
-    ensures { OnOk result (drafted WritesHeaders disk.now draft.old number end numbers.now runs.now (applied disk.now.image.now draft.new)) }
+    ensures { OnOk result
+        (WritesHeadersDrafted disk.now draft.old number end numbers.now runs.now draft.new) }
 {
     let next = first_id(disk, draft, numbers);
     let Some(lbn) = disk.layout.place(end) else {

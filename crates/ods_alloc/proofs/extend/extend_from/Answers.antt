@@ -1,7 +1,7 @@
-use Rattle.std.proofs.Common.{ℕ, List, sym, subst, refl, arith}
+use Rattle.std.proofs.Common.{ℕ, List, ap, sym, subst, refl, arith}
 use Rattle.std.specs.List.{All}
 use Rattle.ods_header.specs.declared.header.Run.{Run}
-use Rattle.ods_header.specs.Header.{IsRun}
+use Rattle.ods_header.specs.Header.{IsRun, segment_of}
 use Rattle.ods_space.specs.Draft.{applied}
 use Rattle.ods_space.proofs.Drafts.{length-applied}
 use Rattle.ods_alloc.specs.Extend.{with_in_use}
@@ -10,6 +10,7 @@ use Rattle.ods_alloc.proofs.Places.{has_places}
 use Rattle.ods_alloc.proofs.Cuts.{cut_runs}
 use Rattle.ods_alloc.proofs.Chained.{ends_found}
 use Rattle.ods_alloc.proofs.Extending.{extends}
+use Rattle.ods_alloc.proofs.Written.{free_can_be_made}
 use Rattle.ods_alloc.proofs.extend.extend_from.Goals as goal
 
 pub write_headers-requires-clause-places : goal.write_headers-requires-clause-places
@@ -27,6 +28,9 @@ mark_blocks-requires g c = record { places = has_places c.args.disk.now.image.no
 pub write_headers-requires-clause-first : goal.write_headers-requires-clause-first
 write_headers-requires-clause-first g c = (ends_found (applied c.args.disk.now.image.now c.args.draft) c.args.disk.now.layout.now c.args.number g.chain.0 g.chain.1 c.args.blocks.now c.args.numbers.now c.args.first.now c.args.end.now c.last_header-last.result.now c.requires.1.0 c.requires.1.1.0 c.requires.1.1.1.0 c.requires.1.1.1.1.0 c.last_header-last.ensures.one c.last_header-last.ensures.other).first
 
+pub write_headers-requires-clause-new : goal.write_headers-requires-clause-new
+write_headers-requires-clause-new g c = free_can_be_made _ c.args.disk.now.layout.now c.args.numbers.now c.requires.1.1.1.0.free
+
 pub write_headers-requires-clause-last : goal.write_headers-requires-clause-last
 write_headers-requires-clause-last g c = (ends_found (applied c.args.disk.now.image.now c.args.draft) c.args.disk.now.layout.now c.args.number g.chain.0 g.chain.1 c.args.blocks.now c.args.numbers.now c.args.first.now c.args.end.now c.last_header-last.result.now c.requires.1.0 c.requires.1.1.0 c.requires.1.1.1.0 c.requires.1.1.1.1.0 c.last_header-last.ensures.one c.last_header-last.ensures.other).last
 
@@ -34,7 +38,9 @@ pub write_headers-requires-clause-apart : goal.write_headers-requires-clause-apa
 write_headers-requires-clause-apart g c = (ends_found (applied c.args.disk.now.image.now c.args.draft) c.args.disk.now.layout.now c.args.number g.chain.0 g.chain.1 c.args.blocks.now c.args.numbers.now c.args.first.now c.args.end.now c.last_header-last.result.now c.requires.1.0 c.requires.1.1.0 c.requires.1.1.1.0 c.requires.1.1.1.1.0 c.last_header-last.ensures.one c.last_header-last.ensures.other).new
 
 pub write_headers-requires-clause-segments : goal.write_headers-requires-clause-segments
-write_headers-requires-clause-segments g c = omega (arith, (ends_found (applied c.args.disk.now.image.now c.args.draft) c.args.disk.now.layout.now c.args.number g.chain.0 g.chain.1 c.args.blocks.now c.args.numbers.now c.args.first.now c.args.end.now c.last_header-last.result.now c.requires.1.0 c.requires.1.1.0 c.requires.1.1.1.0 c.requires.1.1.1.1.0 c.last_header-last.ensures.one c.last_header-last.ensures.other).segment, c.requires.1.1.1.0.segments)
+write_headers-requires-clause-segments g c =
+    let found = (ends_found (applied c.args.disk.now.image.now c.args.draft) c.args.disk.now.layout.now c.args.number g.chain.0 g.chain.1 c.args.blocks.now c.args.numbers.now c.args.first.now c.args.end.now c.last_header-last.result.now c.requires.1.0 c.requires.1.1.0 c.requires.1.1.1.0 c.requires.1.1.1.1.0 c.last_header-last.ensures.one c.last_header-last.ensures.other) in
+    omega (arith, found.segment, ap segment_of found.last.is, c.requires.1.1.1.0.segments)
 
 pub write_headers-requires-clause-runs : goal.write_headers-requires-clause-runs
 write_headers-requires-clause-runs g c =

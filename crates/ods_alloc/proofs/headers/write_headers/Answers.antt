@@ -11,7 +11,7 @@ use Rattle.ods_alloc.specs.Extension.{MakesHeaders, WritesHeaders, first_number}
 use Rattle.ods_header.specs.Pointing.{IsGrown}
 use Rattle.ods_alloc.proofs.NewHeaders.{sequence_fits}
 use Rattle.ods_alloc.proofs.Places.{place_inside}
-use Rattle.ods_alloc.proofs.Written.{can_be_made, free_can_be_made, headers_written, no_fault, none_new, rest_of}
+use Rattle.ods_alloc.proofs.Written.{can_be_made, headers_written, no_fault, none_new, rest_of}
 use Rattle.ods_alloc.proofs.headers.write_headers.Goals as goal
 use Rattle.ods_alloc.proofs.headers.write_headers.Goals.{After-renew}
 
@@ -40,7 +40,7 @@ made_behind c = λ first rest segment J is left at set.
     left at is
 
 pub first_id-next-requires-clause-few : goal.first_id-next-requires-clause-few
-first_id-next-requires-clause-few c = sequence_fits _ c.args.disk.now.layout.now c.args.numbers.now 0 (free_can_be_made _ c.args.disk.now.layout.now c.args.numbers.now c.requires.free)
+first_id-next-requires-clause-few c = sequence_fits _ c.args.disk.now.layout.now c.args.numbers.now 0 c.requires.new
 
 pub returns-then-is_empty : goal.returns-then-is_empty
 returns-then-is_empty c =
@@ -62,7 +62,7 @@ pub write_extensions-requires-clause-new : goal.write_extensions-requires-clause
 write_extensions-requires-clause-new c =
     let I = c.args.disk.now.image.now in
     can_be_made I (applied I c.args.draft.now) c.args.draft.now c.renew.new.self c.args.disk.now.layout.now c.args.end c.in-Some.lbn c.args.numbers.now c.grown_last-grown.result c.requires.places.places c.requires.apart
-    (sym c.place.ensures ∙ c.in-Some.is) refl (c.in_ok-renew.ensures.ok I) c.requires.free
+    (sym c.place.ensures ∙ c.in-Some.is) refl (c.in_ok-renew.ensures.ok I) c.requires.new
 
 pub write_extensions-requires-clause-runs : goal.write_extensions-requires-clause-runs
 write_extensions-requires-clause-runs c =
