@@ -1,10 +1,10 @@
--- A test of two requests that tells whether they are equal is that of `==`.
-use Rattle.std.proofs.Common.{◌≡◌, ◌↔◌, IsTrue, Bool}
-use Rattle.ods_request.specs.declared.requests.Request.{Request}
-use Rattle.ods_request.specs.Equal.{same_request}
-use Rattle.ods_request.specs.Deciding.{alike}
-use Rattle.ods_request.specs.RequestTests.{requests_decide}
+-- What the test of two answers says of two values that are these answers.
+use Rattle.std.proofs.Common.{◌≡◌, ◌↔◌, IsTrue, Bool, sym, ◌∙◌}
+use Rattle.ods_request.specs.declared.answers.Answer.{Answer}
+use Rattle.ods_request.specs.Equal.{same_answer}
+use Rattle.ods_request.specs.RequestTests.{answers_decide}
 
-pub is_the_test : (r : Bool) (a b : Request) → IsTrue r ↔ (a ≡ b) → r ≡ same_request a b
-is_the_test r a b told =
-    alike r (same_request a b) (λ h. (requests_decide a b).1 (told.0 h)) (λ h. told.1 ((requests_decide a b).0 h))
+pub told_by : (r : Bool) (x y a b : Answer) → x ≡ a → y ≡ b → r ≡ same_answer a b → IsTrue r ↔ (x ≡ y)
+told_by r x y a b one other test =
+    let decides = answers_decide a b in
+    (λ h. one ∙ (decides.0 (sym test ∙ h) ∙ sym other), λ e. test ∙ decides.1 (sym one ∙ (e ∙ other)))

@@ -1,4 +1,4 @@
--- Which requests are long: those that are kept in a box.
+-- Which requests want a box where they are kept in little room.
 use Rattle.std.specs.Prelude.{Bool, true, false}
 use Rattle.ods_request.specs.declared.requests.Request.{Request}
 use Rattle.ods_request.specs.declared.requests.Request.TheVariants as request

@@ -1,9 +1,9 @@
--- Why a test that decides whether two are equal is a lawful `==`; and so the test of two requests.
+-- Why a test that decides whether two are equal is a lawful `==`; and so the tests of two requests, and of two answers.
 use Rattle.std.specs.Prelude.{◌≡◌, Bool, true, false, refl}
 use Rattle.std.proofs.Common.{sym, ◌∙◌}
 use Rattle.std.specs.Cmp.{IsEquivalence, IsPartialEquivalence, partial_equiv_from_equiv}
-use Rattle.ods_request.specs.Equal.{same_request}
-use Rattle.ods_request.specs.RequestTests.{requests_decide}
+use Rattle.ods_request.specs.Equal.{same_request, same_answer}
+use Rattle.ods_request.specs.RequestTests.{requests_decide, answers_decide}
 
 -- two tests that are passed together are one
 pub alike : (a b : Bool) → (a ≡ true → b ≡ true) → (b ≡ true → a ≡ true) → a ≡ b
@@ -33,3 +33,9 @@ requests_equivalence = deciding same_request requests_decide
 
 pub requests_partial_equivalence : IsPartialEquivalence same_request
 requests_partial_equivalence = partial_equiv_from_equiv requests_equivalence
+
+pub answers_equivalence : IsEquivalence same_answer
+answers_equivalence = deciding same_answer answers_decide
+
+pub answers_partial_equivalence : IsPartialEquivalence same_answer
+answers_partial_equivalence = partial_equiv_from_equiv answers_equivalence

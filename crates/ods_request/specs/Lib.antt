@@ -13,6 +13,8 @@ pub mod Same
 pub mod Lines
 pub mod CompactRequest
 pub mod RequestForms
+pub mod CompactAnswer
+pub mod AnswerForms
 pub mod Deciding
 pub mod AnswerTests
 pub mod RequestTests

@@ -1,21 +1,22 @@
-//! Requests as lists keep them: the short ones in place, and a Write, which has a block, in a box.
+//! Requests as lists keep them: in place, but for the block of a Write, which is in a box.
 ghost use Rattle.std.specs.Prelude.{◌≡◌, ◌↔◌, IsTrue, IfOk, OnErr, true};
 ghost use Rattle.ods_request.specs.CompactRequest.{has_block};
 
+use crate::compact_answer::block_in_a_box;
 use crate::requests::Request;
 use crate::stamps::Stamp;
-use ods_base::{FileId, Name, Pick};
+use ods_base::{Block, FileId, Name, Pick};
 use std::alloc::{AllocError, Global};
 use std::marker::Model;
 
-/// A request in little room: 40 bytes, and a box for a Write alone. A contract sees the request.
+/// A request in little room: 40 bytes, and a box for the block of a Write alone. A contract sees the request.
 #[derive(Drop, Debug)]
 pub struct CompactRequest {
     form: RequestForm,
 }
 
-/// How a request is kept. Each short request is a variant of its own.
-#[derive(Drop, Debug)]
+/// How a request is kept: as it is, with a block in a box.
+#[derive(Drop, PartialEq, Eq, Debug)]
 enum RequestForm {
     Create {
         name: Name,
@@ -54,6 +55,11 @@ enum RequestForm {
         file: FileId,
         vbn: u32,
     },
+    Write {
+        file: FileId,
+        vbn: u32,
+        block: Box<Block>,
+    },
     List {
         dir: FileId,
     },
@@ -64,8 +70,6 @@ enum RequestForm {
         file: FileId,
         attributes: [u8; 32],
     },
-    /// A request that is none of the others.
-    Long(Box<Request>),
 }
 
 impl Model for CompactRequest {
@@ -113,10 +117,18 @@ impl CompactRequest {
             Request::LookUp { dir, name, pick } => RequestForm::LookUp { dir, name, pick },
             Request::Remove { dir, name, pick } => RequestForm::Remove { dir, name, pick },
             Request::Read { file, vbn } => RequestForm::Read { file, vbn },
+            Request::Write {
+                file,
+                vbn,
+                ref block,
+            } => RequestForm::Write {
+                file,
+                vbn,
+                block: block_in_a_box(alloc, block)?,
+            },
             Request::List { dir } => RequestForm::List { dir },
             Request::Stat { file } => RequestForm::Stat { file },
             Request::SetUser { file, attributes } => RequestForm::SetUser { file, attributes },
-            Request::Write { .. } => RequestForm::Long(Box::new(alloc, *request)?),
         };
         Ok(CompactRequest { form })
     }
@@ -171,13 +183,17 @@ impl CompactRequest {
                 file: *file,
                 vbn: *vbn,
             },
+            RequestForm::Write { file, vbn, block } => Request::Write {
+                file: *file,
+                vbn: *vbn,
+                block: **block,
+            },
             RequestForm::List { dir } => Request::List { dir: *dir },
             RequestForm::Stat { file } => Request::Stat { file: *file },
             RequestForm::SetUser { file, attributes } => Request::SetUser {
                 file: *file,
                 attributes: *attributes,
             },
-            RequestForm::Long(request) => **request,
         }
     }
 
@@ -185,20 +201,14 @@ impl CompactRequest {
     pub fn is_same(&self, other: &CompactRequest) -> bool
         ensures { IsTrue result ↔ (self.now ≡ other.now) }
     {
-        match &other.form {
-            RequestForm::Long(request) => self.is(request),
-            _ => self.is(&other.get()),
-        }
+        self == other
     }
 
     /// Whether this is the request.
     pub fn is(&self, request: &Request) -> bool
         ensures { IsTrue result ↔ (self.now ≡ request.now) }
     {
-        match &self.form {
-            RequestForm::Long(long) => long.is_same(request),
-            _ => self.get().is_same(request),
-        }
+        self.get().is_same(request)
     }
 }
 
@@ -210,7 +220,7 @@ impl PartialEq for CompactRequest {
     ghost laws = { requests_partial_equivalence };
 
     fn eq(&self, other: &CompactRequest) -> bool {
-        self.is_same(other)
+        self.form == other.form
     }
 }
 

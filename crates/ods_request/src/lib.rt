@@ -2,6 +2,7 @@
 #![tactic(auto)]
 
 mod answers;
+mod compact_answer;
 mod compact_request;
 mod idents;
 mod laws;
@@ -11,6 +12,7 @@ mod rights;
 mod stamps;
 
 pub use answers::{Answer, Entry, Kind, Listing, Stat};
+pub use compact_answer::{AnswerForm, CompactAnswer};
 pub use compact_request::CompactRequest;
 pub use idents::new_ident;
 pub use laws::{

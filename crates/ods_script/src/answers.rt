@@ -8,28 +8,32 @@ ghost use Rattle.ods_script.specs.Texts.{answer_text, listed_text};
 use crate::hex_text::push_block;
 use crate::stats::{push_file, push_stat};
 use ods_base::{Listed, Name, print_name};
-use ods_request::{Answer, Listing};
+use ods_request::{AnswerForm, CompactAnswer, Listing};
 use std::alloc::AllocError;
 
 /// Appends the answer to a command that speaks of this name, as it stands behind `OK`.
-pub(crate) fn push_answer(text: &mut String, name: &Name, answer: &Answer) -> Result<(), AllocError>
+pub(crate) fn push_answer(
+    text: &mut String,
+    name: &Name,
+    answer: &CompactAnswer,
+) -> Result<(), AllocError>
     ensures { OnOk result (string_bytes text.new ≡ string_bytes text.old ++ answer_text name.now answer.now) }
 {
-    match answer {
-        Answer::Created(id) => write!(text, " {},{}", id.number, id.sequence),
-        Answer::Extended(count) => write!(text, " {count}"),
-        Answer::Truncated(count) => write!(text, " {count}"),
-        Answer::Done => Ok(()),
-        Answer::Entered(version) => write!(text, " {}", print_name(name, *version)),
-        Answer::Found(file, version) | Answer::Removed(file, version) => {
+    match answer.form() {
+        AnswerForm::Created(id) => write!(text, " {},{}", id.number, id.sequence),
+        AnswerForm::Extended(count) => write!(text, " {count}"),
+        AnswerForm::Truncated(count) => write!(text, " {count}"),
+        AnswerForm::Done => Ok(()),
+        AnswerForm::Entered(version) => write!(text, " {}", print_name(name, *version)),
+        AnswerForm::Found(file, version) | AnswerForm::Removed(file, version) => {
             push_file(text, *file, print_name(name, *version).as_str())
         }
-        Answer::Bytes(block) => {
+        AnswerForm::Bytes(block) => {
             text.push_str(" ")?;
             push_block(text, block)
         }
-        Answer::Names(lines) => push_listing(text, lines),
-        Answer::Info(stat) => push_stat(text, stat),
+        AnswerForm::Names(lines) => push_listing(text, lines),
+        AnswerForm::Info(stat) => push_stat(text, stat),
     }
 }
 

@@ -1,11 +1,11 @@
 //! Replies as they are printed: a line for each command, and the lines of all sessions.
 ghost use Rattle.std.specs.Prelude.{◌≡◌, ◌++◌, ◌<◌, ◌≤◌, ◌+◌, ◌^◌, OnOk, IfOk, length};
 ghost use Rattle.std.specs.String.{string_bytes};
-ghost use Rattle.ods_script.specs.Texts.{answer_text, refusal_line, asked_name, looked_name, spoken_name, no_name, reply_text, replies_text, session_text, replied_text};
+ghost use Rattle.ods_script.specs.Texts.{refusal_line, asked_name, looked_name, spoken_name, no_name, reply_text, replies_text, session_text, replied_text};
 
 use crate::answers::push_answer;
 use ods_base::{Coded, Name};
-use ods_share::{Action, Ask, Command, CompactAnswer, Look, Reply, Script};
+use ods_share::{Action, Ask, Command, Look, Reply, Script};
 use std::alloc::{AllocError, Global};
 
 /// The name of blanks, for what speaks of no name.
@@ -63,16 +63,6 @@ fn push_refusal(text: &mut String, number: u16, name: &str) -> Result<(), AllocE
     write!(text, "NO {number} {name}\n")
 }
 
-/// Appends an answer as it stands behind `OK`. It stands by itself, so that no other reply pays for an answer by value.
-fn push_compact(text: &mut String, name: &Name, answer: &CompactAnswer) -> Result<(), AllocError>
-    ensures { OnOk result (string_bytes text.new ≡ string_bytes text.old ++ answer_text name.now answer.now) }
-{
-    match answer.boxed() {
-        Some(long) => push_answer(text, name, long),
-        None => push_answer(text, name, &answer.unboxed()),
-    }
-}
-
 /// Appends the reply to a command, with its line feed.
 pub fn push_reply(text: &mut String, command: &Command, reply: &Reply) -> Result<(), AllocError>
     ensures { OnOk result (string_bytes text.new ≡ string_bytes text.old ++ reply_text command.now reply.now) }
@@ -81,7 +71,7 @@ pub fn push_reply(text: &mut String, command: &Command, reply: &Reply) -> Result
         Reply::User => text.push_str("OK\n"),
         Reply::Got(answer) => {
             text.push_str("OK")?;
-            push_compact(text, &action_name(&command.action), answer)?;
+            push_answer(text, &action_name(&command.action), answer)?;
             text.push_str("\n")
         }
         Reply::No(refusal) => push_refusal(text, refusal.code(), refusal.name()),

@@ -1,6 +1,5 @@
 pub mod Carried
 pub mod Desks
-pub mod Equals
 pub mod Handles
 pub mod Refusals
 pub mod Rooms

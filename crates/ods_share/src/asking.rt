@@ -1,10 +1,10 @@
-//! Which request or query a command asks for.
+//! Which request or query a command asks for, and what `$` stands for in the next one.
 ghost use Rattle.std.specs.Prelude.{◌≡◌};
-ghost use Rattle.ods_share.specs.Scripts.{resolved as id_of, request_of, query_of};
+ghost use Rattle.ods_share.specs.Scripts.{resolved as id_of, request_of, query_of, last_after};
 
 use crate::script::{Ask, Id, Look};
 use ods_base::FileId;
-use ods_request::{Query, Request, Stamp};
+use ods_request::{AnswerForm, CompactAnswer, Query, Request, Stamp};
 
 /// The file that is meant; none where `$` stands for none.
 fn resolve(last: Option<FileId>, id: Id) -> Option<FileId>
@@ -13,6 +13,17 @@ fn resolve(last: Option<FileId>, id: Id) -> Option<FileId>
     match id {
         Id::Given(file) => Some(file),
         Id::Last => last,
+    }
+}
+
+/// What `$` stands for after an answer.
+pub(crate) fn last_from(last: Option<FileId>, answer: &CompactAnswer) -> Option<FileId>
+    ensures { result ≡ last_after last answer.now }
+{
+    match answer.form() {
+        AnswerForm::Created(file) | AnswerForm::Found(file, _) | AnswerForm::Removed(file, _) =>
+            Some(*file),
+        _ => last,
     }
 }
 

@@ -2,7 +2,6 @@
 #![tactic(auto)]
 
 mod asking;
-mod compact;
 mod desk;
 mod faults;
 mod gate;
@@ -15,7 +14,6 @@ mod settlement;
 mod storing;
 mod threads;
 
-pub use compact::CompactAnswer;
 pub use desk::Desk;
 pub use faults::{RunFault, SettleFault};
 pub use gate::Gate;

@@ -2,10 +2,9 @@
 ghost use Rattle.std.specs.Prelude.{◌≡◌, ◌≤◌, length};
 ghost use Rattle.ods_share.specs.Sittings.{room_for};
 
-use crate::compact::CompactAnswer;
 use crate::script::{Action, Command};
 use ods_base::Uic;
-use ods_request::{CompactRequest, Refusal};
+use ods_request::{CompactAnswer, CompactRequest, Refusal};
 
 /// What a command is replied.
 #[derive(Drop, PartialEq, Eq, Debug)]

@@ -4,15 +4,14 @@ ghost use Rattle.std.specs.Vec.{vec_capacity};
 ghost use Rattle.ods_state.specs.Outcome.{CanBeAsked};
 ghost use Rattle.ods_share.specs.{Scripts.CanBeObeyed, Scripts.CanBeRun, Keeping.IsEnded, Keeping.TellsOn, Sittings.room_of, Sittings.IsReply, Sittings.IsView, Sittings.stands, Sittings.TellsContext};
 
-use crate::asking::{query_for, request_for};
-use crate::compact::CompactAnswer;
+use crate::asking::{last_from, query_for, request_for};
 use crate::desk::Desk;
 use crate::gate::Gate;
 use crate::keeping::{Ended, Keep, reserve};
 use crate::outcome::{Call, Reply};
 use crate::script::{Action, Command};
 use ods_base::{FileId, Uic};
-use ods_request::{CompactRequest, Query, Request, Stamp};
+use ods_request::{CompactAnswer, CompactRequest, Query, Request, Stamp};
 use ods_views::{Naming, ViewFault, Viewer};
 use std::alloc::{AllocError, Global};
 use std::hint::spin_loop;
@@ -62,12 +61,13 @@ impl<J: Naming, G: Gate, R: Wait> Session<'_, J, G, R> {
         MutexGuard::unlock(guard);
         match result {
             Ok(answer) => {
-                let compact = CompactAnswer::of(self.alloc, &answer)?;
+                // The call and the reply both keep the answer.
+                let compact = CompactAnswer::of(self.alloc, answer.copy()?)?;
                 calls.push_reserved(Call {
                     nth,
                     who,
                     request: CompactRequest::of(self.alloc, request)?,
-                    answer: CompactAnswer::of(self.alloc, &answer)?,
+                    answer: CompactAnswer::of(self.alloc, answer)?,
                 });
                 Ok(Reply::Got(compact))
             }
@@ -101,7 +101,7 @@ impl<J: Naming, G: Gate, R: Wait> Session<'_, J, G, R> {
                 };
                 let reply = self.submit(command.nth, context.who, request, calls)?;
                 if let Reply::Got(answer) = &reply {
-                    context.last = answer.next_last(context.last);
+                    context.last = last_from(context.last, answer);
                 }
                 Ok(reply)
             }
@@ -111,7 +111,7 @@ impl<J: Naming, G: Gate, R: Wait> Session<'_, J, G, R> {
                 };
                 let reply = reply_to_view(self.alloc, viewer, context.who, query)?;
                 if let Reply::Got(answer) = &reply {
-                    context.last = answer.next_last(context.last);
+                    context.last = last_from(context.last, answer);
                 }
                 Ok(reply)
             }
@@ -189,7 +189,7 @@ fn reply_to_view<J: Naming>(
 {
     match viewer.ask(who, query) {
         Ok(answer) => {
-            let compact = CompactAnswer::of(alloc, &answer)?;
+            let compact = CompactAnswer::of(alloc, answer)?;
             Ok(Reply::Got(compact))
         }
         Err(ViewFault::Refused(refusal)) => Ok(Reply::No(refusal)),

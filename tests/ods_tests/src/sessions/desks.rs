@@ -6,8 +6,8 @@ use super::requests::block_viewed;
 use super::runs::{two_file_volume, two_files, volume_of};
 use crate::persons::{FIRST, NONE, USER};
 use ods_base::FileId;
-use ods_request::{Answer, CompactRequest, Refusal, Request};
-use ods_share::{Call, CompactAnswer, Desk, Naming, SettleFault, settle_mounted};
+use ods_request::{Answer, CompactAnswer, CompactRequest, Refusal, Request};
+use ods_share::{Call, Desk, Naming, SettleFault, settle_mounted};
 use ods_volume::Volume;
 use std::alloc::{AllocError, Global};
 use std::marker::Brand;
@@ -40,7 +40,7 @@ fn asks<J: Naming, R: Abort + Wait>(
             nth: 1,
             who: USER,
             request: CompactRequest::of(alloc, &first_block(FIRST))?,
-            answer: CompactAnswer::of(alloc, &answer)?,
+            answer: CompactAnswer::of(alloc, answer)?,
         })?;
     }
     Ok(calls)

@@ -13,10 +13,10 @@ use crate::same::same_image;
 use crate::settings::{Refusing, ends};
 use crate::volumes::sample_of;
 use ods_base::Image;
-use ods_request::{Answer, CompactRequest, Entry, Refusal, Request};
+use ods_request::{Answer, CompactAnswer, CompactRequest, Entry, Refusal, Request};
 use ods_script::parse_script;
 use ods_share::{
-    Action, Call, CompactAnswer, Desk, Naming, SettleFault, ViewFault, Viewer, settle,
+    Action, Call, Desk, Naming, SettleFault, ViewFault, Viewer, settle,
 };
 use ods_volume::Volume;
 use std::alloc::Global;
@@ -183,7 +183,7 @@ fn calls_in(alloc: Global, volume: &Volume) -> Result<Vec<Vec<Call>>, Fail> {
             nth: entry.nth,
             who: entry.who,
             request: CompactRequest::of(alloc, &entry.request.get())?,
-            answer: CompactAnswer::of(alloc, &entry.answer)?,
+            answer: CompactAnswer::of(alloc, entry.answer.copy()?)?,
         })?;
     }
     let mut lists = Vec::new(alloc);

@@ -6,8 +6,8 @@ use crate::persons::{NONE, USER};
 use crate::reader::{image_of, plain_catalogue, plain_last};
 use ods_base::{FileId, Uic};
 use ods_plain::{Catalogue, StepError};
-use ods_request::{Answer, Entry, Request};
-use ods_share::{Action, Command, CompactAnswer, Id, Look, Outcome, Reply, Script};
+use ods_request::{AnswerForm, CompactAnswer, Entry, Request};
+use ods_share::{Action, Command, Id, Look, Outcome, Reply, Script};
 use ods_volume::Volume;
 use std::alloc::Global;
 use std::process::Abort;
@@ -99,13 +99,10 @@ impl<'a> Replay<'a> {
 
 /// The file that `$` stands for from this answer on, where it names one.
 fn named(answer: &CompactAnswer) -> Option<FileId> {
-    if answer.boxed().is_some() {
-        return None;
-    }
-    match answer.unboxed() {
-        Answer::Created(file) => Some(file),
-        Answer::Found(file, _) => Some(file),
-        Answer::Removed(file, _) => Some(file),
+    match answer.form() {
+        AnswerForm::Created(file) => Some(*file),
+        AnswerForm::Found(file, _) => Some(*file),
+        AnswerForm::Removed(file, _) => Some(*file),
         _ => None,
     }
 }
