@@ -5,3 +5,4 @@ pub mod Refusals
 pub mod Rooms
 pub mod Runs
 pub mod Settled
+pub mod Entering

@@ -10,7 +10,8 @@ use crate::storing::store;
 use ods_base::{NoMemory, Uic};
 use ods_request::{Answer, Refusal, Request};
 use ods_views::{
-    Change, DeskWriter, Naming, Told, Viewer, add_change, make_viewers, open_writer, publish_change,
+    Change, DeskWriter, Naming, Told, Viewer, add_change, entry_count, make_viewers, open_writer,
+    publish_change,
 };
 use ods_volume::{Prepared, Volume};
 use std::alloc::Global;
@@ -143,7 +144,7 @@ impl<J: Naming> Desk<J> {
         let Ok(places) = prepared.copy_places() else {
             return (Err(Refusal::NoMemory), self.tell());
         };
-        let count = self.volume.entries().len() as u64 + 1;
+        let count = u64::from(entry_count(&self.volume)) + 1;
         let writer = self.writer.take().unwrap();
         let writer = match add_change(
             writer,

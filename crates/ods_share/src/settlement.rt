@@ -1,13 +1,13 @@
 //! The settlement, after all sessions have ended: a volume's list against their calls.
-ghost use Rattle.std.specs.Prelude.{◌≡◌, ◌<◌, ◌≤◌, ◌^◌, ◌↔◌, All, IsTrue, IfOk, length, map};
+ghost use Rattle.std.specs.Prelude.{◌≡◌, ◌<◌, ◌≤◌, ◌^◌, ◌↔◌, All, IsTrue, IfOk, length, map, slice_index_or};
+ghost use Rattle.ods_request.specs.declared.answers.Entry.{Entry};
 ghost use Rattle.ods_share.specs.Settles.{call_in, calls_of, EachMatches, IsSettled, SettlesAs};
 
 use crate::faults::SettleFault;
 use crate::outcome::Call;
 use ods_base::Image;
-use ods_request::Entry;
 use ods_views::entry_count;
-use ods_volume::Volume;
+use ods_volume::{Entries, Volume};
 use std::alloc::{AllocError, Global};
 
 /// How many entries a settled list has, in all, and of each session in order.
@@ -19,40 +19,39 @@ pub struct Report {
     pub of_session: Vec<u32>,
 }
 
-/// Whether the call is that of the entry.
-fn is_entry(call: &Call, entry: &Entry) -> bool
-    ensures { IsTrue result ↔ (call.now ≡ call_in entry.now) }
+/// Whether the call is that of the entry at this place.
+fn is_entry(call: &Call, entries: &Entries, at: usize) -> bool
+    requires { at < length entries.now.items }
+    ensures { (e : Entry) → IsTrue result ↔ (call.now ≡ call_in (slice_index_or entries.now.items at e)) }
 {
-    call.nth == entry.nth
-        && call.who == entry.who
-        && call.request.is_same(&entry.request)
-        && call.answer.is(&entry.answer)
+    call.nth == entries.nth(at)
+        && call.who == entries.who(at)
+        && call.request.is_same(entries.request(at))
+        && entries.has_answer(at, &call.answer)
 }
 
 /// Whether the entries of a session are these calls.
-fn matches(entries: &[Entry], session: usize, calls: &[Call]) -> bool
-    ensures { IsTrue result ↔ (calls.now ≡ calls_of session entries.now) }
+fn matches(entries: &Entries, session: usize, calls: &[Call]) -> bool
+    ensures { IsTrue result ↔ (calls.now ≡ calls_of session entries.now.items) }
 {
-    let mut entries = entries;
     let mut calls = calls;
-    while let Some((entry, rest)) = entries.split_first() {
-        if entry.session as usize == session {
+    for at in 0..entries.len() {
+        if entries.session(at) as usize == session {
             let Some((call, others)) = calls.split_first() else {
                 return false;
             };
-            if !is_entry(call, entry) {
+            if !is_entry(call, entries, at) {
                 return false;
             }
             calls = others;
         }
-        entries = rest;
     }
     calls.is_empty()
 }
 
 /// Whether each session's entries are its calls.
-fn each_matches(entries: &[Entry], calls: &[Vec<Call>]) -> bool
-    ensures { IsTrue result ↔ EachMatches entries.now calls.now }
+fn each_matches(entries: &Entries, calls: &[Vec<Call>]) -> bool
+    ensures { IsTrue result ↔ EachMatches entries.now.items calls.now }
 {
     for (k, list) in calls.iter().enumerate() {
         if !matches(entries, k + 1, list.as_slice()) {
@@ -62,13 +61,23 @@ fn each_matches(entries: &[Entry], calls: &[Vec<Call>]) -> bool
     true
 }
 
-/// Whether each entry is of one of so many sessions.
-fn in_range(entries: &[Entry], sessions: usize) -> bool
-    ensures { IsTrue result ↔ All (λ e. (1 ≤ e.session) × (e.session ≤ sessions)) entries.now }
+/// Whether this is one of so many sessions.
+fn is_session(session: u16, sessions: usize) -> bool
+    ensures { IsTrue result ↔ ((1 ≤ session) × (session ≤ sessions)) }
 {
-    entries
-        .iter()
-        .all(|e| 1 <= e.session && e.session as usize <= sessions)
+    1 <= session && session as usize <= sessions
+}
+
+/// Whether each entry is of one of so many sessions.
+fn in_range(entries: &Entries, sessions: usize) -> bool
+    ensures { IsTrue result ↔ All (λ e. (1 ≤ e.session) × (e.session ≤ sessions)) entries.now.items }
+{
+    for at in 0..entries.len() {
+        if !is_session(entries.session(at), sessions) {
+            return false;
+        }
+    }
+    true
 }
 
 /// Whether the image is the one that was mounted.

@@ -1,8 +1,9 @@
 -- A volume after its change, field by field.
-use Rattle.std.proofs.Common.{◌≡◌, refl, ℕ, List, [], ◌∷◌, ◌++◌, ◌∙◌, ap, sym, subst}
+use Rattle.std.proofs.Common.{◌≡◌, refl, ℕ, ◌-◌, List, [], ◌∷◌, ◌++◌, length, slice_index_or, ◌∙◌, ap, sym, subst, arith}
+use Rattle.std.proofs.Math.Seq.{get_or-append_seam}
+use Rattle.std.proofs.lemmas.List.{length-append}
 use Rattle.ods_space.specs.Draft.{applied}
 use Rattle.ods_space.specs.Layout.{VolumeLayout, with_places}
-use Rattle.ods_request.specs.declared.answers.Answer.{Answer}
 use Rattle.ods_request.specs.declared.answers.Entry.{Entry}
 use Rattle.ods_alloc.specs.Counts.{counts_of, free_counts}
 use Rattle.ods_state.specs.Version.{State}
@@ -14,11 +15,13 @@ pub carried_is : (v : State) (p : Plan) (entries : List Entry) (image : List (Li
 unfolding carried_out
 carried_is v p entries image layout listed changed grown = λ i. record { mounted = v.mounted; entries = listed i; image = changed i; layout = grown i; limit = v.limit }
 
--- what holds of the answer of the newest entry, whatever it is, holds after a plan of that plan's answer
-pub newest_is : (now v : State) (p : Plan) (entries : List Entry) (a : Answer) → ((front : List Entry) (e : Entry) → entries ≡ front ++ e ∷ [] → a ≡ e.answer)
-    → entries ≡ now.entries → now ≡ carried_out v p → a ≡ p.entry.answer
+-- the newest entry after a plan is that of the plan
+pub newest_is : (now v : State) (p : Plan) (count : ℕ) (e : Entry) → now ≡ carried_out v p → count ≡ length now.entries → slice_index_or now.entries (count - 1) e ≡ p.entry
 unfolding carried_out
-newest_is now v p entries a newest is changed = newest v.entries p.entry (is ∙ ap (λ (s : State). s.entries) changed)
+newest_is now v p count e changed counted =
+    let listed : now.entries ≡ v.entries ++ p.entry ∷ [] = ap (λ (s : State). s.entries) changed in
+    let place : count - 1 ≡ length v.entries = omega (arith, counted, ap length listed, length-append v.entries (p.entry ∷ [])) in
+    (λ i. slice_index_or (listed i) (place i) e) ∙ get_or-append_seam v.entries p.entry [] e
 
 -- the counts are those of the bitmaps, which stay where they are
 pub counts_stay : (J : List (List ℕ)) (L : VolumeLayout) (places : List ℕ) → counts_of J L ≡ counts_of J (with_places L places)

@@ -4,3 +4,4 @@ pub mod Reasons
 pub mod Carried
 pub mod Arms
 pub mod Counted
+pub mod Pools

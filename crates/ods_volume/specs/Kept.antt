@@ -1,4 +1,4 @@
--- What a volume is made of, and what it keeps beside what contracts see: the room of its list is reserved, what the bitmaps have left is counted, and where a file's chain ends may be noted.
+-- What a volume is made of, and what it keeps beside what contracts see: the memory of its list is reserved, what the bitmaps have left is counted, and where a file's chain ends may be noted.
 use Rattle.std.specs.Prelude.{◌≡◌, ℕ, ◌≤◌, List, Option, MatchOption}
 use Rattle.ods_alloc.specs.Counts.{Counts, counts_of}
 use Rattle.ods_base.specs.declared.listed.Listed.{Listed}
@@ -14,13 +14,13 @@ use Rattle.ods_volume.specs.declared.volume.Volume.TheInside.{Inside}
 abbrev pub state_of : Inside → State
 state_of v = record { mounted = v.mounted; entries = v.entries.items; image = v.image; layout = v.layout; limit = v.limit }
 
--- a volume is lawful, its limit is 1 to 65,536, its list has room for the limit without another growth, its counts are those made anew of its blocks,
+-- a volume is lawful, its limit is 1 to 65,536, its list has memory for as many entries as the limit, its counts are those made anew of its blocks,
 -- and what is noted of where a file's chain ends is true of them
-pub record IsKept (v : State) (capacity : ℕ) (counts : Counts) (end : Option KnownEnd) : Type 0 where
+pub record IsKept (v : State) (room : ℕ) (counts : Counts) (end : Option KnownEnd) : Type 0 where
   pub lawful : IsLawful v
   pub low : 1 ≤ v.limit
   pub high : v.limit ≤ 65536
-  pub reserved : v.limit ≤ capacity
+  pub reserved : v.limit ≤ room
   pub counted : counts ≡ counts_of v.image v.layout
   pub known : IsKnownIn v.image v.layout end
 

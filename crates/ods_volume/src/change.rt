@@ -1,6 +1,6 @@
 //! Requests that are accepted: their change, and their entry in the list.
-ghost use Rattle.std.specs.Prelude.{◌≡◌, ◌≢◌, ◌<◌, ◌++◌, ◌∷◌, [], List, false, length, IfOk, IfErr, IsErr, OnErr, Some, unwrap_or};
-ghost use Rattle.ods_request.specs.{declared.answers.Entry.Entry, declared.refusals.Refusal.Refusal, Catalogue.Catalogue, Faults.fault_of, Table.takes_memory};
+ghost use Rattle.std.specs.Prelude.{◌≡◌, ◌≢◌, ◌<◌, false, length, IfOk, IfErr, IsErr, OnErr, Some, unwrap_or};
+ghost use Rattle.ods_request.specs.{declared.refusals.Refusal.Refusal, Catalogue.Catalogue, Faults.fault_of, Table.takes_memory};
 ghost use Rattle.ods_state.specs.{Version.IsPresent, Wants.Lacks, Outcome.Accepts, Outcome.CanBeAsked, Outcome.IsReason, Outcome.IsLawfulPlan, Outcome.carried_out, Outcome.entry_of};
 ghost use Rattle.ods_volume.specs.Kept.{AreLinesOf};
 
@@ -8,7 +8,7 @@ use crate::planned::Prepared;
 use crate::volume::Volume;
 use ods_alloc::FreeCounts;
 use ods_base::Uic;
-use ods_request::{Answer, Entry, Listing, Refusal, Request};
+use ods_request::{Answer, Listing, Refusal, Request};
 
 /// The new counts take the place of those that are kept; where there are none, those stay.
 fn put_counts(kept: &mut FreeCounts, new: Option<FreeCounts>)
@@ -17,14 +17,6 @@ fn put_counts(kept: &mut FreeCounts, new: Option<FreeCounts>)
     if let Some(counts) = new {
         *kept = counts;
     }
-}
-
-/// The answer of the newest entry of a list.
-fn newest_answer(entries: &[Entry]) -> &Answer
-    requires { 0 < length entries.now }
-    ensures { (front : List Entry) (entry : Entry) → entries.now ≡ front ++ entry ∷ [] → result.now ≡ entry.answer }
-{
-    &entries[entries.len() - 1].answer
 }
 
 impl Volume {
@@ -38,19 +30,8 @@ impl Volume {
         if let Some(lines) = self.store(prepared) {
             return Answer::Names(lines);
         }
-        match newest_answer(&self.entries) {
-            Answer::Created(file) => Answer::Created(*file),
-            Answer::Extended(count) => Answer::Extended(*count),
-            Answer::Truncated(count) => Answer::Truncated(*count),
-            Answer::Done => Answer::Done,
-            Answer::Entered(version) => Answer::Entered(*version),
-            Answer::Found(file, version) => Answer::Found(*file, *version),
-            Answer::Removed(file, version) => Answer::Removed(*file, *version),
-            Answer::Bytes(block) => Answer::Bytes(*block),
-            Answer::Info(stat) => Answer::Info(*stat),
-            // Lines were given already.
-            Answer::Names(_) => unreachable!(),
-        }
+        // Lines were given already.
+        self.entries.answer(self.entries.len() - 1)
     }
 
     /// Makes a change that was prepared, puts its entry into the list, and gives the lines of its answer, where it has lines.

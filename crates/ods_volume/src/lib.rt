@@ -2,10 +2,12 @@
 #![tactic(auto)]
 
 mod change;
+mod entries;
 mod planned;
 mod prepare;
 mod volume;
 
+pub use entries::Entries;
 pub use ods_look::look;
 pub use planned::Prepared;
 pub use volume::Volume;

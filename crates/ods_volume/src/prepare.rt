@@ -259,7 +259,7 @@ impl Volume {
         if self.entries.len() >= self.limit as usize {
             return Err(Refusal::ListFull);
         }
-        let alloc = *self.entries.allocator();
+        let alloc = self.entries.allocator();
         let disk = Disk {
             image: &self.image,
             layout: &self.layout,

@@ -6,10 +6,10 @@ ghost use Rattle.ods_mount.specs.{Faults.IsSound, Sound.IsSoundBy};
 ghost use Rattle.ods_request.specs.Catalogue.{Catalogue};
 ghost use Rattle.ods_state.specs.Version.{IsVersionBy, IsPresent, IsLawful};
 
+use crate::entries::Entries;
 use ods_alloc::FreeCounts;
 use ods_base::{FixedImage, Image, NoMemory};
 use ods_mount::Mounted;
-use ods_request::Entry;
 use ods_space::{Disk, Layout};
 use ods_state::KnownEnd;
 use std::alloc::Global;
@@ -23,7 +23,7 @@ pub struct Volume {
     pub(crate) mounted: FixedImage,
     pub(crate) image: Image,
     pub(crate) layout: Layout,
-    pub(crate) entries: Vec<Entry>,
+    pub(crate) entries: Entries,
     pub(crate) limit: u32,
     pub(crate) counts: FreeCounts,
     pub(crate) end: Option<KnownEnd>,
@@ -34,12 +34,11 @@ impl Model for Volume {
 
     ghost Value = { State };
 
-    ghost use Rattle.std.specs.Vec.{vec_capacity};
     ghost use Rattle.ods_volume.specs.Kept.{state_of, IsKept};
 
     ghost view = { state_of };
 
-    ghost invariant = { λ v. IsKept (state_of v) (vec_capacity v.entries) v.counts v.end };
+    ghost invariant = { λ v. IsKept (state_of v) v.entries.room v.counts v.end };
 }
 
 impl Volume {
@@ -52,7 +51,7 @@ impl Volume {
         ensures ok { IfOk result (λ v. v ≡ record { mounted = mounted.image; entries = []; image = mounted.image; layout = mounted.layout; limit = limit }) }
         ensures err { IfErr result (λ e. e.0 ≡ mounted) }
     {
-        let entries = match Vec::with_capacity(alloc, limit as usize) {
+        let entries = match Entries::with_capacity(alloc, limit as usize) {
             Ok(entries) => entries,
             Err(_) => return Err((mounted, NoMemory)),
         };
@@ -96,10 +95,10 @@ impl Volume {
     }
 
     /// The accepted requests, the oldest first.
-    pub fn entries(&self) -> &[Entry]
-        ensures { result.now ≡ self.now.entries }
+    pub fn entries(&self) -> &Entries
+        ensures { result.now.items ≡ self.now.entries }
     {
-        self.entries.as_slice()
+        &self.entries
     }
 
     /// The image now. It is a version of the mounted one, and no fault is true of it.

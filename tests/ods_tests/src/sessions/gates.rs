@@ -89,8 +89,8 @@ fn goes_first<R: Abort + Threads + Wait + Sync>(
     let ran = run_on(rt, alloc, volume, &scripts, &gate)?;
     let gave_up = gate.gave_up.load(Ordering::SeqCst);
     assert!(rt; !gave_up, "session {kept} was kept too long");
-    let first = ran.volume.entries().first();
-    assert!(rt; first.is_some_and(|entry| entry.session == awaited));
+    let entries = ran.volume.entries();
+    assert!(rt; !entries.is_empty() && entries.session(0) == awaited);
     Ok(())
 }
 

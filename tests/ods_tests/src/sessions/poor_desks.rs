@@ -18,7 +18,7 @@ use ods_script::parse_script;
 use ods_share::{
     Action, Call, Desk, Naming, SettleFault, ViewFault, Viewer, settle,
 };
-use ods_volume::Volume;
+use ods_volume::{Entries, Volume};
 use std::alloc::Global;
 use std::marker::Brand;
 use std::process::Abort;
@@ -48,20 +48,33 @@ struct Noted {
 /// The volume as it is.
 fn as_it_is(alloc: Global, volume: &Volume) -> Result<Noted, Fail> {
     let mut entries = Vec::new(alloc);
-    for entry in volume.entries() {
-        entries.push(Entry {
-            session: entry.session,
-            nth: entry.nth,
-            who: entry.who,
-            request: CompactRequest::of(alloc, &entry.request.get())?,
-            answer: entry.answer.copy()?,
-        })?;
+    let list = volume.entries();
+    for at in 0..list.len() {
+        entries.push(list.copy(at)?)?;
     }
     Ok(Noted {
         image: volume.image().copy()?,
         mounted: image_of(alloc, volume.mounted())?,
         entries,
     })
+}
+
+/// Whether the list has just these entries.
+fn holds(list: &Entries, entries: &[Entry]) -> bool {
+    if list.len() != entries.len() {
+        return false;
+    }
+    for (at, entry) in entries.iter().enumerate() {
+        let same = list.session(at) == entry.session
+            && list.nth(at) == entry.nth
+            && list.who(at) == entry.who
+            && list.request(at).is_same(&entry.request)
+            && list.is_answered(at, &entry.answer);
+        if !same {
+            return false;
+        }
+    }
+    true
 }
 
 /// The volume is as it was.
@@ -75,7 +88,7 @@ fn is_as_noted(rt: &impl Abort, volume: &Volume, noted: &Noted) {
         "the mounted image changed"
     );
     assert!(rt;
-        volume.entries() == noted.entries.as_slice(),
+        holds(volume.entries(), &noted.entries),
         "the list changed"
     );
 }
@@ -178,7 +191,9 @@ fn refused_memory_at_a_desk(rt: HostRuntime) -> Result<(), Fail> {
 /// The calls of session 1 that stand for the entries of a volume.
 fn calls_in(alloc: Global, volume: &Volume) -> Result<Vec<Vec<Call>>, Fail> {
     let mut calls = Vec::new(alloc);
-    for entry in volume.entries() {
+    let list = volume.entries();
+    for at in 0..list.len() {
+        let entry = list.copy(at)?;
         calls.push(Call {
             nth: entry.nth,
             who: entry.who,

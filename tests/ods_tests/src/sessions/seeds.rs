@@ -113,8 +113,9 @@ fn same_file(rt: &impl Abort, shown: &mut Catalogue, plain: &mut Catalogue, file
 fn is_replayed(rt: &impl Abort, alloc: Global, volume: &Volume) -> Result<(), Fail> {
     let mounted = image_of(alloc, volume.mounted())?;
     let mut plain = plain_catalogue(alloc, &mounted)?;
-    for entry in volume.entries() {
-        replay(rt, &mut plain, entry)?;
+    let entries = volume.entries();
+    for at in 0..entries.len() {
+        replay(rt, &mut plain, &entries.copy(at)?)?;
     }
     let mut shown = plain_catalogue(alloc, volume.image())?;
     for number in 1..plain_last(volume.image()).wrapping_add(1) {

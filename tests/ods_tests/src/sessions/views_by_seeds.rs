@@ -6,9 +6,9 @@ use crate::persons::{NONE, USER};
 use crate::reader::{image_of, plain_catalogue, plain_last};
 use ods_base::{FileId, Uic};
 use ods_plain::{Catalogue, StepError};
-use ods_request::{AnswerForm, CompactAnswer, Entry, Request};
+use ods_request::{AnswerForm, CompactAnswer, Request};
 use ods_share::{Action, Command, Id, Look, Outcome, Reply, Script};
-use ods_volume::Volume;
+use ods_volume::{Entries, Volume};
 use std::alloc::Global;
 use std::process::Abort;
 use std::sync::Wait;
@@ -28,7 +28,7 @@ const MIX: Mix = Mix {
 /// The list of a volume, replayed by the plain program as far as a session has been answered and shown.
 #[derive(Drop)]
 struct Replay<'a> {
-    entries: &'a [Entry],
+    entries: &'a Entries,
     session: u16,
     plain: Catalogue,
     made: usize,
@@ -50,8 +50,8 @@ impl<'a> Replay<'a> {
     fn reach(&mut self, rt: &impl Abort, nth: u32) -> Result<(), Fail> {
         let entries = self.entries;
         for k in self.made..entries.len() {
-            replay(rt, &mut self.plain, &entries[k])?;
-            if entries[k].session == self.session && entries[k].nth == nth {
+            replay(rt, &mut self.plain, &entries.copy(k)?)?;
+            if entries.session(k) == self.session && entries.nth(k) == nth {
                 self.made = k + 1;
                 return Ok(());
             }
@@ -66,7 +66,7 @@ impl<'a> Replay<'a> {
         }
         let entries = self.entries;
         for k in self.made..entries.len() {
-            replay(rt, &mut self.plain, &entries[k])?;
+            replay(rt, &mut self.plain, &entries.copy(k)?)?;
             if self.is_answered(query, reply) {
                 self.made = k + 1;
                 return Ok(());

@@ -12,9 +12,9 @@ new-requires-clause-rule g c =
     let v = c.args.volume.now in
     let blocks : v.image ≡ c.in_ok-first.first = search rules in
     let places : v.layout ≡ c.in_ok-one.one = search rules in
-    let count : length o ≡ length c.entries.result.now = sym (ap length c.requires.named.1) ∙ ap length (sym c.entries.ensures) in
+    let count : length o ≡ c.len-count.result = sym (ap length c.requires.named.1) ∙ (ap length (sym c.entries.ensures) ∙ sym c.len-count.ensures) in
     let one = subst (λ (l : List (List ℕ)). IsVersionBy l v.entries v.image v.layout) c.requires.named.0 c.image.ensures.version in
     let two = subst (λ (l : List Entry). IsVersionBy M l v.image v.layout) c.requires.named.1 one in
     let three = subst (λ (l : List (List ℕ)). IsVersionBy M o l v.layout) blocks two in
     let four = subst (λ (l : VolumeLayout). IsVersionBy M o c.in_ok-first.first l) places three in
-    opens M o (record { image = c.in_ok-first.first; layout = c.in_ok-one.one; count = length c.entries.result.now }) four count
+    opens M o (record { image = c.in_ok-first.first; layout = c.in_ok-one.one; count = c.len-count.result }) four count

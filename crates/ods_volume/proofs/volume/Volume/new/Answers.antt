@@ -1,20 +1,21 @@
-use Rattle.std.proofs.Common.{sym, subst, arith, ◌∙◌}
+use Rattle.std.proofs.Common.{ap, sym, subst, arith, ◌∙◌}
 use Rattle.ods_alloc.specs.Counts.{counts_of}
 use Rattle.ods_state.specs.Version.{IsLawful}
 use Rattle.ods_state.proofs.Opening.{new_is_lawful}
+use Rattle.ods_volume.specs.Entries.{EntryList}
 use Rattle.ods_volume.proofs.volume.Volume.new.Goals as goal
 
 pub invariant_of-result : goal.invariant_of-result
 invariant_of-result c =
     let m = c.args.mounted in
-    let none = c.in-Ok.ensures.items in
+    let none = ap (λ (l : EntryList). l.items) c.in-Ok.ensures in
     let parts = c.in-Ok-split.ensures.ok in
     record {
       lawful = subst IsLawful (λ i. record { mounted = sym parts.0 i; entries = sym none i; image = sym parts.1 i; layout = sym parts.2 i; limit = c.args.limit })
           (new_is_lawful m.image m.layout c.in-Ok-split.ensures.sound c.args.limit);
       low = c.requires.low;
       high = c.requires.high;
-      reserved = omega (arith, c.in-Ok.ensures.exact);
+      reserved = omega (arith, ap (λ (l : EntryList). l.room) c.in-Ok.ensures);
       counted = c.in-Ok-of.ensures ∙ ((λ i. counts_of (c.disk.ensures.image i) (c.disk.ensures.layout i)) ∙ (λ i. counts_of (sym parts.1 i) (sym parts.2 i)));
       known = tt;
     }

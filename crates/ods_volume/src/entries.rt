@@ -1,0 +1,293 @@
+//! The list of accepted requests, in little room: a row for each entry, and what is large of answers, the blocks of Reads and what
+//! Stats show, in two pools beside the rows. All memory is taken when the list is made, and a page of a pool is touched by such answers alone.
+ghost use Rattle.std.specs.Prelude.{◌≡◌, ◌<◌, ◌↔◌, ◌++◌, ◌∷◌, [], length, vec_capacity, slice_index_or, IsTrue, IfOk, OnErr};
+ghost use Rattle.ods_request.specs.{declared.answers.Entry.Entry, Lines.HasLines};
+ghost use Rattle.ods_request.specs.declared.answers.Answer.TheVariants as Answer;
+ghost use Rattle.ods_volume.specs.Entries.{IsPut};
+
+use ods_base::{Block, FileId, Uic};
+use ods_request::{Answer, AnswerForm, CompactAnswer, CompactRequest, Entry, Listing, Stat};
+use std::alloc::{AllocError, Global};
+use std::marker::Model;
+
+/// Accepted requests with their answers, the oldest first. A contract sees the entries, and for how many there is memory.
+#[derive(Drop)]
+pub struct Entries {
+    rows: Vec<EntryRow>,
+    block_pool: Vec<Block>,
+    stat_pool: Vec<Stat>,
+}
+
+/// An entry without what is large of its answer.
+#[derive(Drop)]
+struct EntryRow {
+    session: u16,
+    who: Uic,
+    nth: u32,
+    request: CompactRequest,
+    answer: RowAnswer,
+}
+
+/// An answer, of which a block and what is shown of a file stand in a pool, at this place.
+#[derive(Drop)]
+enum RowAnswer {
+    Created(FileId),
+    Extended(u32),
+    Truncated(u32),
+    Done,
+    Entered(u16),
+    Found(FileId, u16),
+    Removed(FileId, u16),
+    Bytes(usize),
+    Names(Listing),
+    Info(usize),
+}
+
+impl Model for Entries {
+    ghost use Rattle.ods_volume.specs.Entries.{EntryList};
+
+    ghost Value = { EntryList };
+
+    ghost use Rattle.std.specs.Prelude.{map};
+    ghost use Rattle.std.specs.Vec.{vec_capacity};
+    ghost use Rattle.ods_volume.specs.Entries.{entry_in, IsPooled};
+
+    ghost view = { λ e. record { items = map (entry_in e.block_pool.items e.stat_pool.items) e.rows.items; room = vec_capacity e.rows } };
+
+    ghost invariant = { λ e. IsPooled e.rows.items e.block_pool.items e.stat_pool.items (vec_capacity e.rows) (vec_capacity e.block_pool) (vec_capacity e.stat_pool) };
+}
+
+/// Puts what is large of an answer into its pool, and gives the rest.
+fn put_answer(block_pool: &mut Vec<Block>, stat_pool: &mut Vec<Stat>, answer: Answer) -> RowAnswer
+    requires block { length block_pool.old.items < vec_capacity block_pool.old }
+    requires stat { length stat_pool.old.items < vec_capacity stat_pool.old }
+    ensures put { IsPut block_pool.old.items block_pool.new.items stat_pool.old.items stat_pool.new.items answer result }
+    ensures blocks_fit { vec_capacity block_pool.new ≡ vec_capacity block_pool.old }
+    ensures stats_fit { vec_capacity stat_pool.new ≡ vec_capacity stat_pool.old }
+{
+    match answer {
+        Answer::Created(file) => RowAnswer::Created(file),
+        Answer::Extended(count) => RowAnswer::Extended(count),
+        Answer::Truncated(count) => RowAnswer::Truncated(count),
+        Answer::Done => RowAnswer::Done,
+        Answer::Entered(version) => RowAnswer::Entered(version),
+        Answer::Found(file, version) => RowAnswer::Found(file, version),
+        Answer::Removed(file, version) => RowAnswer::Removed(file, version),
+        Answer::Bytes(block) => {
+            let at = block_pool.len();
+            block_pool.push_reserved(block);
+            RowAnswer::Bytes(at)
+        }
+        Answer::Names(lines) => RowAnswer::Names(lines),
+        Answer::Info(stat) => {
+            let at = stat_pool.len();
+            stat_pool.push_reserved(stat);
+            RowAnswer::Info(at)
+        }
+    }
+}
+
+/// Whether an answer is this block.
+fn is_block(answer: &Answer, block: &Block) -> bool
+    ensures { IsTrue result ↔ (answer.now ≡ Answer.Bytes block.now) }
+{
+    match answer {
+        Answer::Bytes(other) => other == block,
+        _ => false,
+    }
+}
+
+/// Whether an answer is what is shown of a file.
+fn is_stat(answer: &Answer, stat: &Stat) -> bool
+    ensures { IsTrue result ↔ (answer.now ≡ Answer.Info stat.now) }
+{
+    match answer {
+        Answer::Info(other) => other == stat,
+        _ => false,
+    }
+}
+
+/// Whether an answer is these lines.
+fn is_listing(answer: &Answer, lines: &Listing) -> bool
+    ensures { IsTrue result ↔ (answer.now ≡ Answer.Names lines.now) }
+{
+    match answer {
+        Answer::Names(others) => others == lines,
+        _ => false,
+    }
+}
+
+/// Whether an answer in little room is these lines.
+fn has_lines(answer: &CompactAnswer, lines: &Listing) -> bool
+    ensures { IsTrue result ↔ (answer.now ≡ Answer.Names lines.now) }
+{
+    match answer.form() {
+        AnswerForm::Names(others) => others == lines,
+        _ => false,
+    }
+}
+
+impl Entries {
+    /// An empty list with memory for so many entries, whatever they are answered, but for the lines of directories.
+    pub fn with_capacity(alloc: Global, room: usize) -> Result<Entries, AllocError>
+        ensures { IfOk result (λ e. e ≡ record { items = []; room = room }) }
+    {
+        let rows = Vec::with_capacity(alloc, room)?;
+        let block_pool = Vec::with_capacity(alloc, room)?;
+        let stat_pool = Vec::with_capacity(alloc, room)?;
+        Ok(Entries {
+            rows,
+            block_pool,
+            stat_pool,
+        })
+    }
+
+    /// Whether there is none.
+    pub fn is_empty(&self) -> bool
+        ensures { IsTrue result ↔ (length self.now.items ≡ 0) }
+    {
+        self.rows.is_empty()
+    }
+
+    /// How many entries there are.
+    pub fn len(&self) -> usize
+        ensures { result ≡ length self.now.items }
+    {
+        self.rows.len()
+    }
+
+    /// Puts an entry behind the others. It takes no memory.
+    pub fn push_reserved(&mut self, entry: Entry)
+        requires { length self.old.items < self.old.room }
+        ensures { self.new ≡ record { items = self.old.items ++ entry ∷ []; room = self.old.room } }
+    {
+        let Entry {
+            session,
+            nth,
+            who,
+            request,
+            answer,
+        } = entry;
+        let answer = put_answer(&mut self.block_pool, &mut self.stat_pool, answer);
+        self.rows.push_reserved(EntryRow {
+            session,
+            who,
+            nth,
+            request,
+            answer,
+        });
+    }
+
+    /// The user for whom it was asked.
+    pub fn who(&self, at: usize) -> Uic
+        requires { at < length self.now.items }
+        ensures { (e : Entry) → result ≡ (slice_index_or self.now.items at e).who }
+    {
+        self.rows[at].who
+    }
+
+    /// The number that the caller gave the request.
+    pub fn nth(&self, at: usize) -> u32
+        requires { at < length self.now.items }
+        ensures { (e : Entry) → result ≡ (slice_index_or self.now.items at e).nth }
+    {
+        self.rows[at].nth
+    }
+
+    /// The request.
+    pub fn request(&self, at: usize) -> &CompactRequest
+        requires { at < length self.now.items }
+        ensures { (e : Entry) → result.now ≡ (slice_index_or self.now.items at e).request }
+    {
+        &self.rows[at].request
+    }
+
+    /// Whether the request was answered this.
+    pub fn is_answered(&self, at: usize, answer: &Answer) -> bool
+        requires { at < length self.now.items }
+        ensures { (e : Entry) → IsTrue result ↔ (answer.now ≡ (slice_index_or self.now.items at e).answer) }
+    {
+        match &self.rows[at].answer {
+            RowAnswer::Bytes(place) => is_block(answer, &self.block_pool[*place]),
+            RowAnswer::Info(place) => is_stat(answer, &self.stat_pool[*place]),
+            RowAnswer::Names(lines) => is_listing(answer, lines),
+            _ => answer.is_same(&self.answer(at)),
+        }
+    }
+
+    /// Whether the request was answered this, which is kept in little room.
+    pub fn has_answer(&self, at: usize, answer: &CompactAnswer) -> bool
+        requires { at < length self.now.items }
+        ensures { (e : Entry) → IsTrue result ↔ (answer.now ≡ (slice_index_or self.now.items at e).answer) }
+    {
+        match &self.rows[at].answer {
+            RowAnswer::Names(lines) => has_lines(answer, lines),
+            _ => answer.is(&self.answer(at)),
+        }
+    }
+
+    /// The answer, where it has no lines.
+    pub fn answer(&self, at: usize) -> Answer
+        requires place { at < length self.now.items }
+        requires unlined { (e : Entry) → ¬ HasLines (slice_index_or self.now.items at e).answer }
+        ensures { (e : Entry) → result ≡ (slice_index_or self.now.items at e).answer }
+    {
+        match &self.rows[at].answer {
+            RowAnswer::Created(file) => Answer::Created(*file),
+            RowAnswer::Extended(count) => Answer::Extended(*count),
+            RowAnswer::Truncated(count) => Answer::Truncated(*count),
+            RowAnswer::Done => Answer::Done,
+            RowAnswer::Entered(version) => Answer::Entered(*version),
+            RowAnswer::Found(file, version) => Answer::Found(*file, *version),
+            RowAnswer::Removed(file, version) => Answer::Removed(*file, *version),
+            RowAnswer::Bytes(place) => Answer::Bytes(self.block_pool[*place]),
+            RowAnswer::Info(place) => Answer::Info(self.stat_pool[*place]),
+            // It has no lines.
+            RowAnswer::Names(_) => unreachable!(),
+        }
+    }
+
+    /// The answer, in memory of its own. Only the lines of a directory take any.
+    pub fn copy_answer(&self, at: usize) -> Result<Answer, AllocError>
+        requires { at < length self.now.items }
+        ensures ok { (e : Entry) → IfOk result (λ a. a ≡ (slice_index_or self.now.items at e).answer) }
+        ensures err { (e : Entry) → OnErr result (HasLines (slice_index_or self.now.items at e).answer) }
+    {
+        match &self.rows[at].answer {
+            RowAnswer::Names(lines) => match lines.copy() {
+                Ok(copy) => Ok(Answer::Names(copy)),
+                Err(error) => Err(error),
+            },
+            _ => Ok(self.answer(at)),
+        }
+    }
+
+    /// The entry, in memory of its own.
+    pub fn copy(&self, at: usize) -> Result<Entry, AllocError>
+        requires { at < length self.now.items }
+        ensures { (e : Entry) → IfOk result (λ copy. copy ≡ slice_index_or self.now.items at e) }
+    {
+        let request = CompactRequest::of(self.allocator(), &self.request(at).get())?;
+        let answer = self.copy_answer(at)?;
+        Ok(Entry {
+            session: self.session(at),
+            nth: self.nth(at),
+            who: self.who(at),
+            request,
+            answer,
+        })
+    }
+
+    /// Where the list has its memory.
+    pub(crate) fn allocator(&self) -> Global {
+        *self.rows.allocator()
+    }
+
+    /// The session of an entry.
+    pub fn session(&self, at: usize) -> u16
+        requires { at < length self.now.items }
+        ensures { (e : Entry) → result ≡ (slice_index_or self.now.items at e).session }
+    {
+        self.rows[at].session
+    }
+}
