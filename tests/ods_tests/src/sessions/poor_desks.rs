@@ -15,9 +15,7 @@ use crate::volumes::sample_of;
 use ods_base::Image;
 use ods_request::{Answer, CompactAnswer, CompactRequest, Entry, Refusal, Request};
 use ods_script::parse_script;
-use ods_share::{
-    Action, Call, Desk, Naming, SettleFault, ViewFault, Viewer, settle,
-};
+use ods_share::{Action, Call, Desk, Naming, SettleFault, ViewFault, Viewer, settle};
 use ods_volume::{Entries, Volume};
 use std::alloc::Global;
 use std::marker::Brand;
@@ -87,10 +85,7 @@ fn is_as_noted(rt: &impl Abort, volume: &Volume, noted: &Noted) {
         volume.mounted().is(&noted.mounted),
         "the mounted image changed"
     );
-    assert!(rt;
-        holds(volume.entries(), &noted.entries),
-        "the list changed"
-    );
+    assert!(rt; holds(volume.entries(), &noted.entries), "the list changed");
 }
 
 /// Makes a request whose memory may be refused, and makes it again then.
