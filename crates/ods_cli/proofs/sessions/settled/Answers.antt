@@ -10,7 +10,7 @@ returns-clause-ok c = λ stamp each.
     let alike : c.as_slice.result.now ≡ printed_of c.args.ended.items = c.as_slice.ensures.value ∙ c.in_ok-calls.ensures.printed in
     served_to stamp c.args.scripts.now c.args.volume c.args.ended.items c.in_ok-calls.calls.items c.as_slice.result.now c.in_ok-report.report (string_bytes c.push_totals.new.text)
     c.is_lawful.ensures c.requires.some (sym c.args.ended.ok.0 ∙ c.requires.count) each c.in_ok-calls.ensures.calls alike c.in_ok-report.ensures.ok
-    (rw (c.in_ok-text.ensures, c.entries.ensures, c.free_count.ensures, c.number_count.ensures) at c.in_ok-push_totals.ensures)
+    (rw (c.in_ok-text.ensures, c.len.ensures, c.entries.ensures, c.free_count.ensures, c.number_count.ensures) at c.in_ok-push_totals.ensures)
 
 pub returns-in_err-calls-clause-err : goal.returns-in_err-calls-clause-err
 returns-in_err-calls-clause-err c = λ stamp each.
