@@ -126,3 +126,13 @@ build() {
     fi
     note_made "$before"
 }
+
+# Whether dist/ has this program, made of the sources as they stand.
+is_shipped_now() {
+    is_shipped "$(sums)"
+}
+
+# Whether dist/ has each program so.
+is_of_these_sources() {
+    each is_shipped_now
+}
