@@ -8,15 +8,9 @@ ghost use Rattle.ods_alloc.specs.Marks.{HasPlaces};
 ghost use Rattle.ods_space.specs.Disks.{drafted, header_drafted};
 
 use ods_base::FileId;
-use ods_header::{Header, Run, extension_block, file_sequence};
+use ods_header::{HEADER_POINTERS, Header, Run, extension_block, file_sequence};
 use ods_space::{Disk, Draft};
 use std::alloc::AllocError;
-
-/// How many pointers a header that is made here has room for.
-pub const HEADER_POINTERS: usize = 102;
-
-/// And so its room in words: a pointer takes two.
-pub const HEADER_ROOM: u32 = 204;
 
 /// Writes new extension headers of the file with this first header: each takes the next 102 of the runs and names
 /// the one behind it, and their segments follow this one. They are written in their order, and what stands in the place

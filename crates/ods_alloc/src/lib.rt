@@ -19,7 +19,6 @@ mod runs;
 mod words;
 mod zero;
 
-pub use chain::{HEADER_POINTERS, HEADER_ROOM};
 pub use counts::FreeCounts;
 pub use end::{CHAIN_HEADERS, ChainEnd};
 pub use extend::{extend_chain, extend_from};

@@ -43,7 +43,7 @@ fn split(text: &[u8]) -> Result<(&[u8], &[u8], &[u8]), NameFault>
 }
 
 /// The place of the first `byte`, or the length where there is none.
-fn place_of(byte: u8, bytes: &[u8]) -> usize
+pub fn place_of(byte: u8, bytes: &[u8]) -> usize
     ensures { IsPlace byte bytes.now result }
 {
     bytes.iter().position(|b| *b == byte).unwrap_or(bytes.len())

@@ -13,16 +13,13 @@ ghost use Rattle.ods_change.specs.Steps.{IsDraftFor};
 
 use crate::beginning::{Begun, Drafted, begin, layout_then};
 use crate::taking::take;
-use ods_alloc::{ChainEnd, FreeCounts, HEADER_ROOM, extend_from, zero_runs};
-use ods_base::{Block, FileId, Name, Uic};
+use ods_alloc::{ChainEnd, FreeCounts, extend_from, zero_runs};
+use ods_base::{Block, DIRECTORY_TYPE, FileId, Name, Uic};
 use ods_directory::with_mark;
-use ods_header::{Run, first_block};
+use ods_header::{HEADER_ROOM, Run, first_block};
 use ods_request::{Refusal, Stamp, new_ident};
 use ods_space::{Disk, Draft, sequence};
 use std::alloc::{AllocError, Global};
-
-/// The type of a directory, DIR.
-const DIRECTORY_TYPE: u16 = 6778;
 
 /// The draft that makes a file of the user, with its ID, or why that is refused. The file is entered nowhere. Where more numbers are
 /// needed than are free, INDEXF.SYS grows.
@@ -46,7 +43,7 @@ pub fn create(
     if count > 65535 {
         return Err(Refusal::BadCount);
     }
-    let taken = match take(alloc, disk, counts, 0, HEADER_ROOM, count) {
+    let taken = match take(alloc, disk, counts, 0, HEADER_ROOM as u32, count) {
         Ok(taken) => taken,
         Err(refusal) => return Err(refusal),
     };
@@ -124,7 +121,7 @@ fn new_file(
         blocks: 0,
         number,
         last: &header,
-        room: HEADER_ROOM,
+        room: HEADER_ROOM as u32,
     };
     let grown = extend_from(disk, number, &header, &end, blocks, others, runs, draft)?;
     Ok(grown)

@@ -9,10 +9,9 @@ ghost use Rattle.ods_change.specs.Taking.{HasPlacesFor, IsTakenBy, IsWhyNoPlaces
 ghost use Rattle.ods_space.specs.Disks.{header_on, on, seen};
 
 use ods_alloc::{
-    CHAIN_HEADERS, ChainEnd, FreeCounts, HEADER_POINTERS, SpaceFault, pick_blocks,
-    pick_open_numbers, runs_of_blocks,
+    CHAIN_HEADERS, ChainEnd, FreeCounts, SpaceFault, pick_blocks, pick_open_numbers, runs_of_blocks,
 };
-use ods_header::Run;
+use ods_header::{HEADER_POINTERS, Run};
 use ods_request::Refusal;
 use ods_space::{Disk, Layout, header_block, last_number};
 use std::alloc::{AllocError, Global};

@@ -4,17 +4,15 @@ ghost use Rattle.std.specs.List.{flat_map, range_with_len};
 ghost use Rattle.ods_cli.specs.Sample.{HasBits, IsSample, IsSampleBlock, IsSampleHeader, IsSampleHome, pointers_of, reserved, sample_attributes, sample_entry, sample_ident, starting};
 
 use arrayvec::ArrayVec;
-use ods_base::{Block, FileId, Uic, set_word, sum};
-use ods_header::{Header, Run, write_header};
+use ods_base::{Block, DIRECTORY_TYPE, FileId, Uic, set_word, sum};
+use ods_header::{HEADER_POINTERS, HEADER_ROOM, Header, Run, write_header};
 use std::alloc::{AllocError, Global};
 
 /// The protection of new files and of the reserved ones: the world may only read.
 const PROTECTION: u16 = 0o160000;
 
-/// The type words of `SYS` and `DIR`.
+/// The type SYS.
 const SYS: u16 = 31419;
-
-const DIR: u16 = 6778;
 
 /// A reserved file: its name, its type and what it maps.
 #[derive(Clone, Copy)]
@@ -110,7 +108,11 @@ fn reserved_file(number: u16) -> Reserved
         1 => ([14964, 8966, 0], SYS, Some(Run { lbn: 0, count: 19 })),
         2 => ([3580, 20856, 0], SYS, Some(Run { lbn: 19, count: 2 })),
         3 => ([3244, 3691, 0], SYS, None),
-        4 => ([49230, 49230, 0], DIR, Some(Run { lbn: 21, count: 1 })),
+        4 => (
+            [49230, 49230, 0],
+            DIRECTORY_TYPE,
+            Some(Run { lbn: 21, count: 1 }),
+        ),
         _ => ([5418, 14927, 0], SYS, None),
     };
     Reserved { name, ext, run }
@@ -142,13 +144,13 @@ fn header_block(number: u16) -> Block
         next_volume: 0,
         ident_offset: 23,
         map_offset: 46,
-        most_words: 204,
+        most_words: HEADER_ROOM,
         pointers: pointers_of(reserved_file(number).run),
     })
 }
 
 /// The pointers of a file that has one run, or none.
-fn pointers_of(run: Option<Run>) -> ArrayVec<Run, 102>
+fn pointers_of(run: Option<Run>) -> ArrayVec<Run, HEADER_POINTERS>
     ensures { result.items ≡ pointers_of run }
 {
     let mut pointers = ArrayVec::new();

@@ -1,5 +1,5 @@
 -- The pointers of a header as words of four bytes: how many blocks they name.
-use Rattle.std.proofs.Common.{◌≡◌, ℕ, zero, suc, ◌+◌, ◌*◌, ◌/◌, ◌%◌, ◌<◌, ◌≤◌, List, [], ◌∷◌, ◌++◌, length, get_or, take, drop, ap, ◌∙◌, arith}
+use Rattle.std.proofs.Common.{◌≡◌, ℕ, zero, suc, ◌+◌, ◌-◌, ◌*◌, ◌/◌, ◌%◌, ◌<◌, ◌≤◌, List, [], ◌∷◌, ◌++◌, length, get_or, take, drop, ap, ◌∙◌, arith}
 use Rattle.std.specs.List.{flat_map}
 use Rattle.std.specs.Simd.{first_chunks}
 use Rattle.std.proofs.lemmas.List.{append-nil, get_or-take, get_or-drop, length-append, length-drop, length-take-le, take_more}
@@ -55,11 +55,11 @@ module _ (b : List ℕ) (block : IsBlock b) (laid : IsLaidOut b) {bytes : List �
       ap (λ l. get_or (get_or l i []) j 0) front ∙ chunk_byte (length (take m (drop at bytes)) / 4) i j (take m (drop at bytes)) (omega (arith, within, count)) small
       ∙ get_or-take m (drop at bytes) (4 * i + j) 0 within_slice ∙ get_or-drop at bytes (4 * i + j) 0 ∙ ap (λ l. get_or l (at + (4 * i + j)) 0) same
 
-  -- the second byte of a piece is the count of its pointer, less one
+  -- the second byte of a piece is the count of its pointer, less one; where it stands it counts 256 times
   pub piece_more : (i x sum : ℕ) → i < length ps
       → x ≡ get_or (get_or ps i []) 0 0 + get_or (get_or ps i []) 1 0 * 256 + get_or (get_or ps i []) 2 0 * 65536 + get_or (get_or ps i []) 3 0 * 16777216
-      → sum + i ≡ length (flat_map run_blocks (take i (runs_of b)))
-      → sum + x / 256 % 256 + (i + 1) ≡ length (flat_map run_blocks (take (i + 1) (runs_of b)))
+      → sum + 256 * i ≡ 256 * length (flat_map run_blocks (take i (runs_of b)))
+      → sum + (x % 65536 - x % 65536 % 256) + 256 * (i + 1) ≡ 256 * length (flat_map run_blocks (take (i + 1) (runs_of b)))
   piece_more i x sum within is before =
       let b0 = piece_byte i 0 within (omega arith) in
       let b1 = piece_byte i 1 within (omega arith) in
@@ -70,8 +70,8 @@ module _ (b : List ℕ) (block : IsBlock b) (laid : IsLaidOut b) {bytes : List �
       let s2 = block.bytes (at + (4 * i + 2)) in
       let s3 = block.bytes (at + (4 * i + 3)) in
       let place : at + (4 * i + 1) ≡ 2 * map_word b + 11 + 4 * i = omega (arith, from) in
-      let counts : x / 256 % 256 ≡ byte b (at + (4 * i + 1)) = omega (arith, is, b0, b1, b2, b3, s0, s1, s2, s3) in
-      let own : x / 256 % 256 + 1 ≡ (run_at b i).count = ap (λ n. n + 1) (counts ∙ ap (byte b) place) in
+      let counts : x % 65536 - x % 65536 % 256 ≡ 256 * byte b (at + (4 * i + 1)) = omega (arith, is, b0, b1, b2, b3, s0, s1, s2, s3) in
+      let own : byte b (at + (4 * i + 1)) + 1 ≡ (run_at b i).count = ap (λ n. byte b n + 1) place in
       let many = pieces_are in
       let more = blocks_more b i (omega (arith, within, many)) in
-      omega (arith, before, own, more)
+      omega (arith, before, counts, own, more)

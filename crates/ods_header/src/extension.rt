@@ -4,6 +4,7 @@ ghost use Rattle.std.specs.List.{All};
 ghost use Rattle.ods_base.specs.Block.{IsBlock};
 ghost use Rattle.ods_header.specs.{Header.IsRun, Header.IsValidHeader, Header.header_of, Writing.AreZeros, Extension.IsExtensionOf, Extension.extension_of};
 
+use crate::header::{HEADER_POINTERS, HEADER_ROOM};
 use crate::{Header, Run, write_header};
 use arrayvec::ArrayVec;
 use ods_base::{Block, FileId};
@@ -39,14 +40,14 @@ pub fn extension_block(
         next_volume: 0,
         ident_offset: 23,
         map_offset: 46,
-        most_words: 204,
+        most_words: HEADER_ROOM,
         pointers,
     };
     write_header(&header)
 }
 
 /// These runs, in a header's own memory.
-fn copied(runs: &[Run]) -> ArrayVec<Run, 102>
+fn copied(runs: &[Run]) -> ArrayVec<Run, HEADER_POINTERS>
     requires { length runs.now ≤ 102 }
     ensures { result.items ≡ runs.now }
 {

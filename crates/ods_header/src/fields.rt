@@ -2,10 +2,7 @@
 ghost use Rattle.std.specs.Prelude.{◌≡◌};
 ghost use Rattle.ods_header.specs.Header.{IsLaidOut, number_of, sequence_of, owner_of, protection_of, user_char_of, system_char_of, attributes_of, ident_of, is_directory_header};
 
-use ods_base::{Block, Uic, word};
-
-/// The type DIR.
-const DIRECTORY: u16 = 6778;
+use ods_base::{Block, DIRECTORY_TYPE, Uic, word};
 
 /// H.FNUM: the number of a header.
 pub fn file_number(block: &Block) -> u16
@@ -78,5 +75,5 @@ pub fn is_directory(number: u16, block: &Block) -> bool
     requires { IsLaidOut block.now }
     ensures { result ≡ is_directory_header number block.now }
 {
-    number == 4 || (5 < number && word(block, block.byte(0) as usize + 3) == DIRECTORY)
+    number == 4 || (5 < number && word(block, block.byte(0) as usize + 3) == DIRECTORY_TYPE)
 }

@@ -3,6 +3,7 @@ ghost use Rattle.std.specs.Prelude.{◌≡◌};
 ghost use Rattle.ods_base.specs.Block.{IsBlock};
 ghost use Rattle.ods_header.specs.{First.first_header, Header.IsValidHeader, Header.header_of, Writing.AreZeros};
 
+use crate::header::HEADER_ROOM;
 use crate::{Header, write_header};
 use arrayvec::ArrayVec;
 use ods_base::{Block, FileId, Uic};
@@ -36,7 +37,7 @@ pub fn first_block(
         next_volume: 0,
         ident_offset: 23,
         map_offset: 46,
-        most_words: 204,
+        most_words: HEADER_ROOM,
         pointers: ArrayVec::new(),
     };
     write_header(&header)

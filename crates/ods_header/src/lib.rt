@@ -33,7 +33,7 @@ pub use fields::{
 };
 pub use find::find_home;
 pub use first::first_block;
-pub use header::{Header, HeaderFault, Run};
+pub use header::{HEADER_POINTERS, HEADER_ROOM, Header, HeaderFault, Run};
 pub use home::{Home, HomeFault};
 pub use line::{header_line, print_ident, push_owner};
 pub use map_area::{

@@ -1,24 +1,40 @@
 //! How many blocks the pointers of a header name, summed over words of four bytes.
 ghost use Rattle.std.specs.Prelude.{◌≡◌, ◌*◌, ◌≤◌, length};
-ghost use Rattle.ods_header.specs.Header.{IsLaidOut, blocks_of};
+ghost use Rattle.ods_header.specs.Header.{IsLaidOut, blocks_of, runs_of};
 
-use crate::map_area::used_words;
+use crate::header::HEADER_POINTERS;
+use crate::map_area::pointer_count;
 use ods_base::Block;
 
-/// How many blocks the retrieval pointers of a header name. The loop goes over the pointers as whole words, so that it becomes vector code.
+/// How many blocks the retrieval pointers of a header name. In a long chain most headers are full: they get a loop of their own, whose
+/// length is known when it is compiled.
 pub fn pointer_sum(header: &Block) -> u32
     requires { IsLaidOut header.now }
     ensures count { result ≡ length (blocks_of header.now) }
     ensures few { result ≤ 256 * 102 }
 {
+    let count = pointer_count(header);
+    if count == HEADER_POINTERS {
+        return sum_of(header, HEADER_POINTERS);
+    }
+    sum_of(header, count)
+}
+
+/// How many blocks the pointers of a header name that has so many. The loop goes over whole words, so that it becomes vector code.
+fn sum_of(header: &Block, count: usize) -> u32
+    requires layout { IsLaidOut header.now }
+    requires pointers { count ≡ length (runs_of header.now) }
+    ensures count { result ≡ length (blocks_of header.now) }
+    ensures few { result ≤ 256 * 102 }
+{
     let at = 2 * header.byte(1) as usize + 10;
-    let count = used_words(header) as usize / 2;
     let bytes = header.bytes();
     let (pointers, _) = bytes[at..at + 4 * count].as_chunks::<4>();
     let mut sum = 0;
-    // A pointer says its count less one.
+    // The second byte of a pointer is its count less one. It is added where it stands, as 256 times its value.
     for pointer in pointers {
-        sum += u32::from_le_bytes(*pointer) / 256 % 256;
+        let low = u32::from_le_bytes(*pointer) % 65536;
+        sum += low - low % 256;
     }
-    sum + count as u32
+    sum / 256 + count as u32
 }

@@ -8,17 +8,15 @@ ghost use Rattle.ods_init.specs.Blocks.{reserved_name, reserved_attributes, IsRe
 use crate::NewVolume;
 use crate::places::Places;
 use arrayvec::ArrayVec;
-use ods_base::{Block, FileId, Name};
-use ods_header::{Header, Run, write_header};
+use ods_base::{Block, DIRECTORY_TYPE, FileId, Name};
+use ods_header::{HEADER_POINTERS, HEADER_ROOM, Header, Run, write_header};
 use ods_request::new_ident;
 
 /// The protection of new files and of the reserved ones: the world may only read.
 pub const PROTECTION: u16 = 0o160000;
 
-/// The type words of `SYS` and `DIR`.
+/// The type SYS.
 const SYS: u16 = 31419;
-
-const DIR: u16 = 6778;
 
 /// The name of the reserved file of a number.
 pub fn reserved_name(number: u16) -> Name
@@ -28,7 +26,7 @@ pub fn reserved_name(number: u16) -> Name
         1 => Name::new([14964, 8966, 0], SYS),
         2 => Name::new([3580, 20856, 0], SYS),
         3 => Name::new([3244, 3691, 0], SYS),
-        4 => Name::new([49230, 49230, 0], DIR),
+        4 => Name::new([49230, 49230, 0], DIRECTORY_TYPE),
         _ => Name::new([5418, 14927, 0], SYS),
     }
 }
@@ -48,7 +46,7 @@ fn blocks_of(places: Places, number: u16) -> (u32, u32)
 }
 
 /// The pointers of a file whose blocks follow one another: each of 256 blocks, but the last.
-fn pointers_to(first: u32, count: u32) -> ArrayVec<Run, 102>
+fn pointers_to(first: u32, count: u32) -> ArrayVec<Run, HEADER_POINTERS>
     requires few { count ≤ 26112 }
     requires inside { first + count ≤ 2 ^ 20 }
     ensures runs { All IsRun result.items }
@@ -104,7 +102,7 @@ pub fn header_block(volume: &NewVolume, places: Places, number: u16) -> Block
         next_volume: 0,
         ident_offset: 23,
         map_offset: 46,
-        most_words: 204,
+        most_words: HEADER_ROOM,
         pointers: pointers_to(first, count),
     })
 }

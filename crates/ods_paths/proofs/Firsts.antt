@@ -4,7 +4,17 @@ use Rattle.std.specs.List.{position_or_len, before_first, after_first}
 use Rattle.std.proofs.lemmas.List.{take_rest}
 use Rattle.std.proofs.lemmas.List.Sums.{position_or_len_is}
 use Rattle.std.specs.Prelude.{◌-◌}
-use Rattle.ods_paths.specs.Numbers.{IsFirst}
+use Rattle.std.proofs.lemmas.Bool.{eq-eqb, ne_eqb}
+use Rattle.ods_base.specs.NameParts.{IsPlace}
+use Rattle.ods_paths.specs.Numbers.{IsFirst, is}
+
+-- the place of a byte is that of the first one that is it
+pub placed : (c : ℕ) (text : List ℕ) (n : ℕ) → IsPlace c text n → IsFirst (is c) text n
+placed c text n p = record {
+  within = p.within;
+  before = λ k below. ne_eqb _ _ (p.before k below);
+  found = λ there. eq-eqb _ _ (p.found there);
+}
 
 pub first_is : (p : ℕ → Bool) (text : List ℕ) (n : ℕ) → IsFirst p text n → position_or_len p text ≡ n
 first_is p text n f = position_or_len_is p text n 0 f.within f.before f.found

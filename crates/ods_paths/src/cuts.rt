@@ -1,11 +1,14 @@
 //! Texts that are cut in two.
 ghost use Rattle.std.specs.Prelude.{◌≡◌, ◌↔◌, IsTrue, MatchOption};
 ghost use Rattle.std.specs.List.{before_first, after_first, before_last, after_last};
-ghost use Rattle.ods_paths.specs.Numbers.{is, Has, Lacks, IsFirst};
+ghost use Rattle.ods_paths.specs.Numbers.{is, Has, Lacks};
+
+use ods_base::place_of;
 
 /// What stands before the first `byte`, and what stands behind it; `None` where there is none.
 pub(crate) fn cut_at(byte: u8, text: &[u8]) -> Option<(&[u8], &[u8])>
-    ensures { MatchOption result (Lacks byte text.now) (λ p. Has byte text.now × (p.0.now ≡ before_first (is byte) text.now) × (p.1.now ≡ after_first (is byte) text.now)) }
+    ensures { MatchOption result (Lacks byte text.now) (λ p. Has byte text.now
+        × (p.0.now ≡ before_first (is byte) text.now) × (p.1.now ≡ after_first (is byte) text.now)) }
 {
     let place = place_of(byte, text);
     if place == text.len() {
@@ -19,13 +22,6 @@ pub(crate) fn has_byte(byte: u8, text: &[u8]) -> bool
     ensures { IsTrue result ↔ Has byte text.now }
 {
     place_of(byte, text) < text.len()
-}
-
-/// The place of the first `byte`, or the length where there is none.
-fn place_of(byte: u8, text: &[u8]) -> usize
-    ensures { IsFirst (is byte) text.now result }
-{
-    text.iter().position(|b| *b == byte).unwrap_or(text.len())
 }
 
 /// What stands before the last `byte`, or nothing where there is none; and what stands behind it, or all.

@@ -5,12 +5,9 @@ ghost use Rattle.ods_plain.specs.Files.{body_of, file_of};
 
 use crate::files::{Body, File};
 use crate::names::Names;
-use ods_base::{Block, Name, Uic};
+use ods_base::{Block, DIRECTORY_TYPE, Name, Uic};
 use ods_request::{Stamp, new_ident};
 use std::alloc::{AllocError, Global};
-
-/// The type of a directory, DIR.
-const DIRECTORY_TYPE: u16 = 6778;
 
 /// The body of a new file: a directory with no name, or blocks of zeros.
 fn body(alloc: Global, name: &Name, blocks: u32) -> Result<Body, AllocError>
@@ -37,7 +34,14 @@ pub(crate) fn new_file(
     blocks: u32,
     stamp: &Stamp,
 ) -> Result<File, AllocError>
-    ensures { IfOk result (λ f. file_of f ≡ record { owner = who; protection = protection; user_char = 0; system_char = 0; ident = new_ident name.now version stamp.now; body = new_body name.now blocks }) }
+    ensures { IfOk result (λ f. file_of f ≡ record {
+      owner = who;
+      protection = protection;
+      user_char = 0;
+      system_char = 0;
+      ident = new_ident name.now version stamp.now;
+      body = new_body name.now blocks;
+    }) }
 {
     Ok(File {
         owner: who,

@@ -6,8 +6,7 @@ ghost use Rattle.ods_filing.specs.Led.{IsAsked, IsLed, IsObeyed};
 ghost use Rattle.ods_upkeep.specs.Kinds.{Copies};
 
 use crate::failure::Why;
-use crate::target::DIRECTORY;
-use ods_base::{FileId, Name, Pick};
+use ods_base::{DIRECTORY_TYPE, FileId, Name, Pick};
 use ods_filing::{Filing, NewFile, put_file};
 use ods_request::{Answer, Refusal, Request};
 
@@ -108,7 +107,7 @@ pub(crate) fn put_new(
 ) -> Result<(Filing, FileId), Why>
     ensures { IfOk result (λ made. IsLed Copies filing made.0) }
 {
-    if file.name.ext() == DIRECTORY {
+    if file.name.ext() == DIRECTORY_TYPE {
         return Err(Why::DirectoryType);
     }
     if file.version == 0 || file.version > 32_767 {

@@ -9,8 +9,8 @@ use crate::attributes::true_for;
 use crate::failure::{Failure, Why, of_path};
 use crate::found::Found;
 use crate::sources::sources;
-use crate::target::{DIRECTORY, Target, read_target};
-use ods_base::{FileId, Name, Uic, parse_name};
+use crate::target::{Target, read_target};
+use ods_base::{DIRECTORY_TYPE, FileId, Name, Uic, parse_name};
 use ods_files::{FileBody, FileFault, Form};
 use ods_filing::{Filing, NewFile};
 use ods_header::print_ident;
@@ -92,7 +92,7 @@ fn check(found: &Found, target: &Target, user: Uic) -> Result<Facts, Why> {
     if !permits(&user, &facts.owner, facts.protection, Right::Read) {
         return Err(Why::Request(Refusal::Denied));
     }
-    if new_name(found, target, &facts)?.ext() == DIRECTORY {
+    if new_name(found, target, &facts)?.ext() == DIRECTORY_TYPE {
         return Err(Why::DirectoryType);
     }
     Ok(facts)

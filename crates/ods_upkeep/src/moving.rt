@@ -10,8 +10,8 @@ use crate::failure::{Failure, Why, of_path};
 use crate::found::Found;
 use crate::names::is_directory_file;
 use crate::sources::sources;
-use crate::target::{DIRECTORY, Target};
-use ods_base::{Listed, Pick};
+use crate::target::Target;
+use ods_base::{DIRECTORY_TYPE, Listed, Pick};
 use ods_filing::Filing;
 use ods_mount::Mounted;
 use ods_paths::Versions;
@@ -65,9 +65,9 @@ fn check(alloc: Global, volume: &Mounted, found: &Found, target: &Target) -> Res
 
 /// Whether one of the types, that of the entry and the new one, is DIR.
 fn changes_type(entry: &Listed, target: &Target) -> bool {
-    let was = entry.name.ext() == DIRECTORY;
+    let was = entry.name.ext() == DIRECTORY_TYPE;
     let is = match &target.name {
-        Some(name) => name.ext() == DIRECTORY,
+        Some(name) => name.ext() == DIRECTORY_TYPE,
         None => was,
     };
     is != was
@@ -121,7 +121,7 @@ fn rename(filing: Filing, found: &Found, target: &Target) -> Result<Filing, Why>
     };
     let entry = place.entry;
     let name = target.name.unwrap_or(entry.name);
-    let (filing, version) = version_for(filing, target, name.ext() == DIRECTORY, found)?;
+    let (filing, version) = version_for(filing, target, name.ext() == DIRECTORY_TYPE, found)?;
     let filing = enter(filing, target.directory, name, version, entry.file)?;
     remove(filing, place.directory, entry.name, entry.version)
 }

@@ -9,11 +9,11 @@ use crate::copying::{begin, target_of};
 use crate::failure::{Failure, Why, of_path};
 use crate::found::find;
 use crate::names::Names;
-use crate::target::{DIRECTORY, Target, name_of};
+use crate::target::{Target, name_of};
 use crate::versions::Highest;
 use crate::written::{Written, write_host};
 use crate::{Asked, HostFile, PutForm};
-use ods_base::{FileId, Name, Pick};
+use ods_base::{DIRECTORY_TYPE, FileId, Name, Pick};
 use ods_filing::{Filing, NewFile};
 use ods_mount::Mounted;
 use ods_paths::Versions;
@@ -103,7 +103,7 @@ impl Putting {
             Some(name) => name,
             None => host_name(alloc, host.name)?,
         };
-        if name.ext() == DIRECTORY {
+        if name.ext() == DIRECTORY_TYPE {
             return Err(Why::DirectoryType);
         }
         let written = write_host(alloc, self.form, &self.like, host.bytes)?;

@@ -7,9 +7,6 @@ use ods_paths::{Files, Folder, Path, Versions, has_wildcard, parse_path};
 use ods_shell::{Kind, PathFault, facts_of, find_files};
 use std::alloc::Global;
 
-/// The type word of a directory, DIR.
-pub(crate) const DIRECTORY: u16 = 6_778;
-
 /// Where names go.
 #[derive(Drop)]
 pub(crate) struct Target {

@@ -7,13 +7,10 @@ ghost use Rattle.ods_space.specs.Disks.{on};
 
 use crate::ordering::listing;
 use crate::tables::{Entered, Line, Walk};
-use ods_base::Listed;
+use ods_base::{DIRECTORY_TYPE, Listed};
 use ods_header::{file_sequence, is_directory};
 use ods_space::{Disk, first_header};
 use std::alloc::{AllocError, Global};
-
-/// The type word of a directory, DIR.
-const DIRECTORY: u16 = 6_778;
 
 /// Goes through all lines below directory `start`. That one and the master directory count as entered.
 pub fn walk_from(alloc: Global, disk: &Disk<'_>, start: u16) -> Result<Walk, AllocError>
@@ -107,7 +104,7 @@ fn is_walked_into(disk: &Disk<'_>, is_entered: &[bool], entry: &Listed) -> bool
 pub fn names_directory(disk: &Disk<'_>, entry: &Listed) -> bool
     ensures { MatchBool result (on NamesDirectory disk.now entry.now) (¬ on NamesDirectory disk.now entry.now) }
 {
-    if entry.name.ext() != DIRECTORY {
+    if entry.name.ext() != DIRECTORY_TYPE {
         return false;
     }
     let Some(header) = first_header(disk, entry.file.number) else {
