@@ -1,5 +1,5 @@
 -- An Enter of a sound volume whose directory takes a block: what the blocks are then, and what they show.
-use Rattle.std.proofs.Common.{◌≡◌, ◌≢◌, ℕ, ◌+◌, ◌*◌, ◌≤◌, zero, refl, ap, sym, ◌∙◌, subst, cond, true, List, [], ◌∷◌, ◌++◌, length, get_or, Option, Some, None, arith, inl, inr}
+use Rattle.std.proofs.Common.{◌≡◌, ◌≢◌, ℕ, ◌+◌, ◌*◌, ◌%◌, ◌≤◌, zero, refl, ap, sym, ◌∙◌, subst, cond, true, List, [], ◌∷◌, ◌++◌, length, get_or, Option, Some, None, arith, inl, inr}
 use Rattle.std.specs.Prelude.{◌⊎◌, MatchOption, slice_set, unwrap_or, nat_le}
 use Rattle.std.proofs.lemmas.List.{length-append, length-map, length-take, map-append}
 use Rattle.std.specs.List.{Contains}
@@ -126,6 +126,10 @@ module _ {I : List (List ℕ)} {L : VolumeLayout} (S : IsSoundBy I L) {who : Uic
 
   behind : (new.slot.at ≡ 512 * length new.opened.blocks) × (new.slot.mark ≡ 512 * length new.opened.blocks + 16)
   behind = slot_behind new.opened.blocks new.opened.mark new.slot e.slot grows e.own.is.inside
+
+  -- the entry stands at the head of its block
+  pub at_the_head : new.slot.at % 512 ≡ 0
+  at_the_head = let at = behind.0 in omega (arith, at)
 
   pub moves : new.slot.mark ≢ new.opened.mark
   moves same = let inside = e.own.is.inside in let end = behind.1 in absurd (omega arith)

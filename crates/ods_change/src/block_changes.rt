@@ -9,6 +9,7 @@ ghost use Rattle.ods_space.specs.Disks.{on};
 
 use crate::drafts::{one_block, with_entry};
 use ods_base::{Block, FileId, Name, Pick, Uic};
+use ods_directory::NO_ENTRY;
 use ods_header::with_attributes;
 use ods_look::opening::{open_block, open_directory, open_plain};
 use ods_request::{Refusal, Right};
@@ -89,7 +90,7 @@ pub fn remove(
         Ok(entry) => entry,
         Err(_) => return Err(Refusal::NoSuchName),
     };
-    let (lbn, block) = with_entry(disk, dir.number, &opened, entry.2, [0; 16]);
+    let (lbn, block) = with_entry(disk, dir.number, &opened, entry.2, NO_ENTRY);
     match one_block(alloc, lbn, block) {
         Ok(draft) => Ok((draft, entry.0, entry.1)),
         Err(_) => Err(Refusal::NoMemory),

@@ -9,7 +9,7 @@ ghost use Rattle.ods_look.specs.Opening.{IsDirectoryAt};
 ghost use Rattle.ods_space.specs.Disks.{on};
 
 use ods_base::Block;
-use ods_directory::with_mark;
+use ods_directory::{entry_block, put_entry, with_mark};
 use ods_header::{attributes, with_attributes};
 use ods_look::opening::OpenDirectory;
 use ods_space::{Disk, Draft, locate_whole};
@@ -54,10 +54,10 @@ pub(crate) fn with_entry(
     ensures held { on Holds disk.now number (at / 512 + 1) result.0 }
     ensures block { result.1 ≡ with_bytes (block_at disk.now.image.now result.0) (at % 512) bytes }
 {
-    let vbn = (at / 512) as u32 + 1;
+    let vbn = entry_block(at) as u32 + 1;
     let lbn = locate_whole(disk, number, opened.header, vbn).unwrap();
     let mut block = *disk.image.block(lbn);
-    block.set_bytes((at % 512) as usize, &bytes);
+    put_entry(&mut block, at, &bytes);
     (lbn, block)
 }
 

@@ -13,7 +13,7 @@ use crate::entry::NewEntry;
 use crate::taking::take;
 use ods_alloc::{ChainEnd, FreeCounts, extend_from};
 use ods_base::{Block, FileId};
-use ods_directory::DirBlocks;
+use ods_directory::{DirBlocks, put_entry};
 use ods_header::Run;
 use ods_request::Refusal;
 use ods_space::{Disk, Draft};
@@ -92,8 +92,7 @@ fn with_block(
     ensures { IfOk result (λ made. drafted IsEntering disk.now draft dir entry.now (applied disk.now.image.now made) disk.now.layout.now) }
 {
     let mut block = Block::zeros();
-    let bytes = entry.bytes;
-    block.set_bytes(0, &bytes);
+    put_entry(&mut block, entry.slot.at, &entry.bytes);
     let count = entry.opened.blocks.count() + 1;
     let header = marked_header(entry.opened.header, entry.slot.mark, count);
     let first = disk.layout.place(dir.number).unwrap();

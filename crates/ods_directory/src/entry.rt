@@ -3,6 +3,7 @@ ghost use Rattle.std.specs.Prelude.{◌≡◌, ◌<◌};
 ghost use Rattle.ods_base.specs.Names.{is_of, version_of};
 ghost use Rattle.ods_directory.specs.Entry.{entry_in, is_used, is_good};
 
+use crate::place::ENTRY_WORDS;
 use ods_base::{Block, FileId, Name, word};
 
 /// How many words spell three characters in Radix-50.
@@ -16,7 +17,7 @@ pub fn is_used(block: &Block, k: usize) -> bool
     requires { k < 32 }
     ensures { result ≡ is_used (entry_in block.now k) }
 {
-    word(block, 8 * k) != 0
+    word(block, ENTRY_WORDS * k) != 0
 }
 
 /// The file that entry `k` of the block names.
@@ -24,8 +25,8 @@ pub fn file(block: &Block, k: usize) -> FileId
     requires { k < 32 }
     ensures { result ≡ (entry_in block.now k).file }
 {
-    let number = word(block, 8 * k);
-    let sequence = word(block, 8 * k + 1);
+    let number = word(block, ENTRY_WORDS * k);
+    let sequence = word(block, ENTRY_WORDS * k + 1);
     FileId { number, sequence }
 }
 
@@ -34,7 +35,7 @@ pub fn version(block: &Block, k: usize) -> u16
     requires { k < 32 }
     ensures { result ≡ version_of (entry_in block.now k).key }
 {
-    word(block, 8 * k + 7)
+    word(block, ENTRY_WORDS * k + 7)
 }
 
 /// Whether entry `k` of the block has this name.
@@ -43,10 +44,10 @@ pub fn is_of(block: &Block, k: usize, name: &Name) -> bool
     ensures { result ≡ is_of name.now (entry_in block.now k).key }
 {
     let words = name.words();
-    word(block, 8 * k + 3) == words[0]
-        && word(block, 8 * k + 4) == words[1]
-        && word(block, 8 * k + 5) == words[2]
-        && word(block, 8 * k + 6) == name.ext()
+    word(block, ENTRY_WORDS * k + 3) == words[0]
+        && word(block, ENTRY_WORDS * k + 4) == words[1]
+        && word(block, ENTRY_WORDS * k + 5) == words[2]
+        && word(block, ENTRY_WORDS * k + 6) == name.ext()
 }
 
 /// Whether entry `k` of the block is one that a used entry may be.
@@ -55,11 +56,11 @@ pub fn is_good(block: &Block, k: usize) -> bool
     ensures { result ≡ is_good (entry_in block.now k) }
 {
     let version = version(block, k);
-    word(block, 8 * k + 3) < WORDS
-        && word(block, 8 * k + 4) < WORDS
-        && word(block, 8 * k + 5) < WORDS
-        && word(block, 8 * k + 6) < WORDS
+    word(block, ENTRY_WORDS * k + 3) < WORDS
+        && word(block, ENTRY_WORDS * k + 4) < WORDS
+        && word(block, ENTRY_WORDS * k + 5) < WORDS
+        && word(block, ENTRY_WORDS * k + 6) < WORDS
         && 1 <= version
         && version <= LAST_VERSION
-        && word(block, 8 * k + 2) == 0
+        && word(block, ENTRY_WORDS * k + 2) == 0
 }

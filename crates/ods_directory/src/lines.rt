@@ -4,6 +4,7 @@ ghost use Rattle.std.specs.List.{All, range_with_len};
 ghost use Rattle.std.specs.List.Sorted.{IsPermutation};
 ghost use Rattle.ods_directory.specs.{Entry.IsGoodEntry, Entry.entry_in, Entry.is_used, Entry.used_entries, Lines.line_of, Lines.line_key, Lines.IsInOrder, Lines.HasTwinLines, Lines.HasNoTwinLines};
 
+use crate::place::ENTRY_WORDS;
 use crate::scan::entries_in;
 use crate::{DirBlocks, entry};
 use ods_base::{Block, Listed, Name, word};
@@ -52,12 +53,12 @@ fn line(block: &Block, k: usize) -> Listed
     ensures { result ≡ line_of (entry_in block.now k) }
 {
     let words = [
-        word(block, 8 * k + 3),
-        word(block, 8 * k + 4),
-        word(block, 8 * k + 5),
+        word(block, ENTRY_WORDS * k + 3),
+        word(block, ENTRY_WORDS * k + 4),
+        word(block, ENTRY_WORDS * k + 5),
     ];
     Listed {
-        name: Name::new(words, word(block, 8 * k + 6)),
+        name: Name::new(words, word(block, ENTRY_WORDS * k + 6)),
         version: entry::version(block, k),
         file: entry::file(block, k),
     }

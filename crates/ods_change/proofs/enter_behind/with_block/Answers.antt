@@ -9,7 +9,7 @@ use Rattle.ods_space.specs.Layout.{VolumeLayout}
 use Rattle.ods_change.specs.Entering.{IsEntryFor}
 use Rattle.ods_change.proofs.ChainEnds.{ends_asked}
 use Rattle.ods_change.proofs.GrowingChain.{has_headers}
-use Rattle.ods_change.proofs.GrowingDirectory.{IsGrowing, chain_ready, enter_behind, growing, headers_ready, one_taken, ready_is, walked_now}
+use Rattle.ods_change.proofs.GrowingDirectory.{IsGrowing, at_the_head, chain_ready, enter_behind, growing, headers_ready, one_taken, ready_is, walked_now}
 use Rattle.ods_change.proofs.enter_behind.with_block.Goals as goal
 use Rattle.ods_change.proofs.enter_behind.with_block.Goals.{In_ok-set-2}
 
@@ -20,6 +20,9 @@ bounds-blocks-0 c =
     let got = c.requires.taken headers e.own.is.lbns (has_headers e.own.is.held) in
     let one : length c.args.blocks.now ≡ 1 = ap length got.0 ∙ one_taken (applied c.args.disk.now.image.now c.args.draft) c.args.disk.now.layout.now headers got.2 in
     omega (arith, one)
+
+pub put_entry-requires : goal.put_entry-requires
+put_entry-requires c = let head = at_the_head c.requires.sound c.requires.entry.4 c.requires.grows in omega (arith, head)
 
 -- what stands in the draft before the chain grows
 module _ (c : In_ok-set-2) where
@@ -34,8 +37,8 @@ module _ (c : In_ok-set-2) where
 
   drafted : slice_set (slice_set I x (with_bytes zeros 0 c.args.entry.now.bytes)) c.unwrap-first.result c.marked_header-header.result ≡ applied c.args.disk.now.image.now c.set-2.new.self
   drafted =
-      ready_is c.args.disk.now.image.now x c.unwrap-first.result _ c.set_bytes.new.self c.marked_header-header.result c.args.draft c.set-2.new.self
-      (c.set_bytes.ensures.changed ∙ ap (λ z. with_bytes z 0 c.args.entry.now.bytes) c.zeros-block.ensures.value)
+      ready_is c.args.disk.now.image.now x c.unwrap-first.result _ c.put_entry.new.block c.marked_header-header.result c.args.draft c.set-2.new.self
+      (c.put_entry.ensures ∙ (λ i. with_bytes (c.zeros-block.ensures.value i) (at_the_head c.requires.sound c.requires.entry.4 c.requires.grows i) c.args.entry.now.bytes))
       (c.in_ok-set-2.ensures.ok ∙ ap (λ d. (c.unwrap-first.result, c.marked_header-header.result) ∷ d) c.in_ok-set.ensures.ok)
 
   -- and so the directory grows
