@@ -1,13 +1,13 @@
 //! Where a chain of headers ends: by a walk along a whole chain, or along one as a draft has it.
 ghost use Rattle.std.specs.Prelude.{◌≡◌, ◌≤◌, ℕ, List, length, IfSome, IfNone};
 ghost use Rattle.ods_header.specs.Header.{IsValidHeader};
-ghost use Rattle.ods_space.specs.{Chain.chain_blocks, Draft.applied, Files.IsLayoutOf, Files.IsWhole, Layout.header_at};
-ghost use Rattle.ods_space.specs.Disks.{header_on, on};
+ghost use Rattle.ods_space.specs.{Chain.chain_blocks, Files.IsLayoutOf, Files.IsWhole};
+ghost use Rattle.ods_space.specs.Disks.{drafted, header_drafted, header_on, on};
 ghost use Rattle.ods_alloc.specs.{Ends.EndsWhereDrafted, Ends.IsEndOf, Ends.IsHeaderAt, Ends.IsMeasured, Marks.HasPlaces};
 
-use ods_base::{Block, Image};
+use ods_base::Block;
 use ods_header::{is_valid_header, next_number, pointer_sum, room_words};
-use ods_space::{ChainHeaders, Disk, Draft, Layout};
+use ods_space::{ChainHeaders, Disk, Draft};
 
 /// The most headers that a chain may have: a segment number is a byte.
 pub const CHAIN_HEADERS: u32 = 256;
@@ -64,18 +64,19 @@ impl<'a> ChainEnd<'a> {
     }
 }
 
+/// A disk with a draft of changes: its blocks as the draft makes them.
+#[derive(Clone, Copy)]
+pub(crate) struct DraftedDisk<'a> {
+    pub(crate) disk: Disk<'a>,
+    pub(crate) draft: &'a Draft,
+}
+
 /// Where the chain with this first header ends, as a draft has it. Index bits are not looked at, so the chain may be one of
 /// any image with these headers.
-pub(crate) fn drafted_end<'a>(
-    image: &'a Image,
-    layout: &Layout,
-    number: u16,
-    first: &'a Block,
-    draft: &'a Draft,
-) -> ChainEnd<'a>
-    requires places { HasPlaces (length image.now) layout.now }
+pub(crate) fn drafted_end<'a>(seen: &DraftedDisk<'a>, number: u16, first: &'a Block) -> ChainEnd<'a>
+    requires places { HasPlaces (length seen.now.disk.image.now) seen.now.disk.layout.now }
     requires file { 2 ≤ number }
-    ensures { EndsWhereDrafted (applied image.now draft.now) layout.now number result }
+    ensures { drafted EndsWhereDrafted seen.now.disk seen.now.draft.now number result }
 {
     let mut blocks = 0;
     let mut room = 0;
@@ -83,7 +84,7 @@ pub(crate) fn drafted_end<'a>(
     let mut last = first;
     let mut next = number;
     for k in 0..CHAIN_HEADERS {
-        let Some(header) = valid_header(image, layout, next, draft) else {
+        let Some(header) = valid_header(seen, next) else {
             return ChainEnd {
                 headers: k,
                 blocks,
@@ -108,20 +109,15 @@ pub(crate) fn drafted_end<'a>(
 }
 
 /// The block of a header as a draft has it, where it has a place and is valid.
-pub(crate) fn valid_header<'a>(
-    image: &'a Image,
-    layout: &Layout,
-    number: u16,
-    draft: &'a Draft,
-) -> Option<&'a Block>
-    requires places { HasPlaces (length image.now) layout.now }
-    ensures some { IfSome result (λ header. IsHeaderAt (applied image.now draft.now) layout.now number header.now) }
-    ensures none { IfNone result (¬ IsValidHeader (header_at (applied image.now draft.now) layout.now number) number) }
+pub(crate) fn valid_header<'a>(seen: &DraftedDisk<'a>, number: u16) -> Option<&'a Block>
+    requires places { HasPlaces (length seen.now.disk.image.now) seen.now.disk.layout.now }
+    ensures some { IfSome result (λ header. drafted IsHeaderAt seen.now.disk seen.now.draft.now number header.now) }
+    ensures none { IfNone result (¬ IsValidHeader (header_drafted seen.now.disk seen.now.draft.now number) number) }
 {
-    let Some(lbn) = layout.place(number) else {
+    let Some(lbn) = seen.disk.layout.place(number) else {
         return None;
     };
-    let header = draft.block(image, lbn);
+    let header = seen.draft.block(seen.disk.image, lbn);
     if !is_valid_header(header, number) {
         return None;
     }

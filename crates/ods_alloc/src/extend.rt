@@ -7,7 +7,7 @@ ghost use Rattle.ods_space.specs.Disks.{drafted};
 
 use crate::ChainEnd;
 use crate::bitmap::{mark_blocks, mark_numbers};
-use crate::end::{drafted_end, valid_header};
+use crate::end::{DraftedDisk, drafted_end, valid_header};
 use crate::headers::write_headers;
 use crate::runs::runs_of_blocks;
 use ods_base::Block;
@@ -35,8 +35,9 @@ pub fn extend_chain(
         (ExtendsDrafted disk.now draft.old number chain blocks.now numbers.now draft.new) }
     ensures err { OnErr result (draft.new ≡ draft.old) }
 {
-    let first = valid_header(disk.image, disk.layout, number, draft).unwrap();
-    let end = drafted_end(disk.image, disk.layout, number, first, draft);
+    let seen = DraftedDisk { disk: *disk, draft };
+    let first = valid_header(&seen, number).unwrap();
+    let end = drafted_end(&seen, number, first);
     let runs = runs_of_blocks(alloc, blocks)?;
     let changed = draft.copy()?;
     let grown = extend_from(disk, number, first, &end, blocks, numbers, &runs, changed)?;

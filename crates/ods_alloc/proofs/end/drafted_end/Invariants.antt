@@ -7,5 +7,5 @@ use Rattle.ods_alloc.proofs.end.drafted_end.Given as goal
 
 abbrev pub invariant-loop-k : goal.invariant-loop-k
 invariant-loop-k l = (l.blocks ≤ 26112 * l.k)
-    × ((C : List (List ℕ)) (others all : List ℕ) → ((m : ℕ) → header_at C l.layout m ≡ header_at (applied l.image l.draft) l.layout m) → IsChain C l.layout l.number others all
-    → IsWalked (applied l.image l.draft) C l.layout l.number others all l.k l.end l.last l.next)
+    × ((C : List (List ℕ)) (others all : List ℕ) → ((m : ℕ) → header_at C l.seen.disk.layout.now m ≡ header_at (applied l.seen.disk.image.now l.seen.draft.now) l.seen.disk.layout.now m) → IsChain C l.seen.disk.layout.now l.number others all
+    → IsWalked (applied l.seen.disk.image.now l.seen.draft.now) C l.seen.disk.layout.now l.number others all l.k l.end l.last l.next)

@@ -9,17 +9,17 @@ use Rattle.ods_alloc.proofs.end.valid_header.Goals as goal
 use Rattle.ods_alloc.proofs.end.valid_header.Goals.{After-block-header}
 
 pub block-header-requires : goal.block-header-requires
-block-header-requires c = place_inside _ c.args.layout.now c.args.number c.in-Some.lbn c.requires.places (sym c.place.ensures ∙ c.in-Some.is)
+block-header-requires c = place_inside _ c.args.seen.now.disk.layout.now c.args.number c.in-Some.lbn c.requires.places (sym c.place.ensures ∙ c.in-Some.is)
 
 -- what is read is the header
-read : (c : After-block-header) → c.block-header.result.now ≡ header_at (applied c.args.image.now c.args.draft.now) c.args.layout.now c.args.number
+read : (c : After-block-header) → c.block-header.result.now ≡ header_at (applied c.args.seen.now.disk.image.now c.args.seen.now.draft.now) c.args.seen.now.disk.layout.now c.args.number
 read c =
-    let L = c.args.layout.now in
+    let L = c.args.seen.now.disk.layout.now in
     let found = sym c.place.ensures ∙ c.in-Some.is in
-    header_read c.args.image.now c.args.draft.now L c.args.number c.in-Some.lbn c.block-header.result.now (place_inside _ L c.args.number c.in-Some.lbn c.requires.places found) found c.block-header.ensures.value
+    header_read c.args.seen.now.disk.image.now c.args.seen.now.draft.now L c.args.number c.in-Some.lbn c.block-header.result.now (place_inside _ L c.args.number c.in-Some.lbn c.requires.places found) found c.block-header.ensures.value
 
 pub returns-in_default-clause-none : goal.returns-in_default-clause-none
-returns-in_default-clause-none c = λ valid. valid_has_place _ c.args.layout.now c.args.number valid (sym c.place.ensures ∙ c.in_default.is)
+returns-in_default-clause-none c = λ valid. valid_has_place _ c.args.seen.now.disk.layout.now c.args.number valid (sym c.place.ensures ∙ c.in_default.is)
 
 pub returns-then-not-is_valid_header-clause-none : goal.returns-then-not-is_valid_header-clause-none
 returns-then-not-is_valid_header-clause-none c = λ valid.
