@@ -34,10 +34,8 @@ use Rattle.ods_change.specs.Truncating.{IsCuttable}
 use Rattle.ods_change.proofs.KeptFields.{SaysTheSame, says_the_same}
 
 -- the checks of a Truncate, in their order
-abbrev pub truncate_rows : FileId → ℕ → Uic → Rows
-truncate_rows id count who f =
-    (is_reserved id, refusal.Reserved) ∷ (is_directory f.body, refusal.IsDirectory)
-    ∷ (nat_lt (length (blocks_of f.body)) count, refusal.BadCount) ∷ (is_denied f who right.Extend, refusal.Denied) ∷ []
+abbrev pub truncate_rows : ℕ → Uic → Rows
+truncate_rows count who f = (nat_lt (length (blocks_of f.body)) count, refusal.BadCount) ∷ (is_denied f who right.Extend, refusal.Denied) ∷ []
 
 -- how many blocks the file shows that has these
 pub shown_length : (I : List (List ℕ)) (L : VolumeLayout) (id : FileId) (lbns : List ℕ) → 5 < id.number → is_directory_header id.number (header_at I L id.number) ≡ false → length (blocks_of (file_shown I L id lbns).body) ≡ length lbns

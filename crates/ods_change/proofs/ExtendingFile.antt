@@ -35,10 +35,8 @@ use Rattle.ods_look.proofs.FileBodies.{no_directory, plain_body}
 use Rattle.ods_change.specs.Extending.{IsExtensible, IsGrownBy, SaysGrown}
 
 -- the checks of an Extend, in their order
-abbrev pub extend_rows : FileId → ℕ → Uic → Rows
-extend_rows id count who f =
-    (is_reserved id, refusal.Reserved) ∷ (is_directory f.body, refusal.IsDirectory)
-    ∷ (nat_lt 65535 count || (count == 0), refusal.BadCount) ∷ (is_denied f who right.Extend, refusal.Denied) ∷ []
+abbrev pub extend_rows : ℕ → Uic → Rows
+extend_rows count who f = (nat_lt 65535 count || (count == 0), refusal.BadCount) ∷ (is_denied f who right.Extend, refusal.Denied) ∷ []
 
 pub few_enough : (count : ℕ) → (nat_lt 65535 count || (count == 0)) ≡ false → count ≤ 65535
 few_enough count fine = elim (cases_lt 65535 count) [

@@ -2,10 +2,9 @@
 ghost use Rattle.std.specs.Prelude.{Some, ◌≡◌, ◌<◌, ◌==◌, ◌||◌, nat_lt, ℕ, List, IfOk, IfErr, MatchResult};
 ghost use Rattle.ods_alloc.specs.{Counts.counts_of, Ends.IsEndOf};
 ghost use Rattle.ods_base.specs.Image.{IsImage};
-ghost use Rattle.ods_header.specs.Header.{owner_of, protection_of};
 ghost use Rattle.ods_space.specs.Draft.{applied};
 ghost use Rattle.ods_mount.specs.Sound.{IsSoundBy};
-ghost use Rattle.ods_request.specs.{declared.answers.Answer.TheVariants.Extended, declared.requests.Request.TheVariants.Extend, Rights.permits};
+ghost use Rattle.ods_request.specs.{declared.answers.Answer.TheVariants.Extended, declared.requests.Request.TheVariants.Extend};
 ghost use Rattle.ods_state.specs.{Change.IsFaultBy, Ends.IsKnownIn, Served.IsRefusalOf};
 ghost use Rattle.ods_change.specs.{Extending.IsExtensible, Extending.IsGrownBy, Extending.IsWanted};
 ghost use Rattle.ods_space.specs.Disks.{drafted, header_drafted, header_on, on, seen};
@@ -16,9 +15,9 @@ use crate::known_end::{grown_end, known_end};
 use crate::taking::{Taken, take};
 use ods_alloc::{ChainEnd, FreeCounts, extend_from, zero_runs};
 use ods_base::{Block, FileId, Uic};
-use ods_header::{is_directory, owner, protection, without_contiguous};
-use ods_look::opening::named_header;
-use ods_request::{Refusal, Right, permits};
+use ods_header::without_contiguous;
+use ods_look::opening::{is_granted, plain_header};
+use ods_request::{Refusal, Right};
 use ods_space::{Disk, Draft};
 use ods_state::KnownEnd;
 use std::alloc::{AllocError, Global};
@@ -34,19 +33,14 @@ fn open_to_extend<'a>(
     ensures ok { IfOk result (λ block. on IsExtensible disk.now who file count × (block.now ≡ header_on disk.now file.number)) }
     ensures err { IfErr result (on IsFaultBy disk.now who (Extend file count)) }
 {
-    let Some(block) = named_header(disk, file) else {
-        return Err(Refusal::NoSuchFile);
+    let block = match plain_header(disk, file, 5) {
+        Ok(block) => block,
+        Err(refusal) => return Err(refusal),
     };
-    if file.number <= 5 {
-        return Err(Refusal::Reserved);
-    }
-    if is_directory(file.number, block) {
-        return Err(Refusal::IsDirectory);
-    }
     if is_bad_count(count) {
         return Err(Refusal::BadCount);
     }
-    if !may_extend(block, who) {
+    if !is_granted(block, who, Right::Extend) {
         return Err(Refusal::Denied);
     }
     Ok(block)
@@ -57,13 +51,6 @@ fn is_bad_count(count: u32) -> bool
     ensures { result ≡ (nat_lt 65535 count || (count == 0)) }
 {
     65535 < count || count == 0
-}
-
-/// Whether the protection in this first header grants the user the right to extend.
-pub(crate) fn may_extend(header: &Block, who: Uic) -> bool
-    ensures { result ≡ permits who (owner_of header.now) (protection_of header.now) Right.Extend }
-{
-    permits(&who, &owner(header), protection(header), Right::Extend)
 }
 
 /// This draft with more changes, by which a file whose chain ends so takes these blocks and numbers. The blocks become zeros, and the

@@ -1,6 +1,5 @@
 //! A Truncate: its checks, and the draft by which the file keeps its first blocks and gives the others back.
 ghost use Rattle.std.specs.Prelude.{◌≡◌, ◌<◌, ◌≤◌, nat_lt, ℕ, List, length, IfOk, IfErr, MatchResult};
-ghost use Rattle.ods_header.specs.Header.{owner_of, protection_of};
 ghost use Rattle.ods_space.specs.{Draft.applied, Chain.IsChain, Files.HasBlocks, Files.IsFile, Files.IsLayoutOf, Files.IsWhole};
 ghost use Rattle.ods_mount.specs.Sound.{IsSoundBy};
 ghost use Rattle.ods_request.specs.{declared.answers.Answer.TheVariants.Truncated, declared.requests.Request.TheVariants.Truncate};
@@ -9,12 +8,11 @@ ghost use Rattle.ods_change.specs.Truncating.{IsCutPlace, IsCuttable};
 ghost use Rattle.ods_space.specs.Disks.{header_on, on};
 
 use crate::delete_file::delete_headers;
-use crate::extend_file::may_extend;
 use ods_alloc::mark_free;
 use ods_base::{Block, FileId, Uic};
-use ods_header::{cut_header, is_directory, pointer_sum};
-use ods_look::opening::named_header;
-use ods_request::Refusal;
+use ods_header::{cut_header, pointer_sum};
+use ods_look::opening::{is_granted, plain_header};
+use ods_request::{Refusal, Right};
 use ods_space::{ChainHeaders, Disk, Draft, count_whole, push_header};
 use std::alloc::{AllocError, Global};
 
@@ -53,19 +51,14 @@ fn open_to_truncate<'a>(
     ensures ok { IfOk result (λ first. on IsCuttable disk.now who file count × (first.now ≡ header_on disk.now file.number)) }
     ensures err { IfErr result (on IsFaultBy disk.now who (Truncate file count)) }
 {
-    let Some(first) = named_header(disk, file) else {
-        return Err(Refusal::NoSuchFile);
+    let first = match plain_header(disk, file, 5) {
+        Ok(first) => first,
+        Err(refusal) => return Err(refusal),
     };
-    if file.number <= 5 {
-        return Err(Refusal::Reserved);
-    }
-    if is_directory(file.number, first) {
-        return Err(Refusal::IsDirectory);
-    }
     if has_fewer(disk, file.number, first, count) {
         return Err(Refusal::BadCount);
     }
-    if !may_extend(first, who) {
+    if !is_granted(first, who, Right::Extend) {
         return Err(Refusal::Denied);
     }
     Ok(first)

@@ -21,10 +21,17 @@ use Rattle.ods_look.specs.declared.opening.OpenDirectory.{OpenDirectory}
 abbrev pub Rows : Type 0
 Rows = File → List (Bool × Refusal)
 
--- what a request on a plain file checks before the rows of its own: the number is above the reserved ones, the file is no directory, the user has the right
+-- what a request on a plain file checks first: the number is above the reserved ones, and the file is no directory
+abbrev pub kind_checks : FileId → ℕ → Rows → Rows
+kind_checks id reserved rest f = (nat_le id.number reserved, refusal.Reserved) ∷ (is_directory f.body, refusal.IsDirectory) ∷ rest f
+
+-- the row of a right that the user has to have
+abbrev pub right_check : Uic → Right → Rows → Rows
+right_check who r rest f = (is_denied f who r, refusal.Denied) ∷ rest f
+
+-- and what it checks where the user's right comes next, before the rows of its own
 abbrev pub plain_checks : FileId → ℕ → Uic → Right → Rows → Rows
-plain_checks id reserved who r rest f =
-    (nat_le id.number reserved, refusal.Reserved) ∷ (is_directory f.body, refusal.IsDirectory) ∷ (is_denied f who r, refusal.Denied) ∷ rest f
+plain_checks id reserved who r rest = kind_checks id reserved (right_check who r rest)
 
 -- what a request on a directory checks before the rows of its own: it is a directory, and the user has the right
 abbrev pub directory_checks : Uic → Right → Rows → Rows
@@ -51,6 +58,15 @@ pub record PassesChecks (I : List (List ℕ)) (L : VolumeLayout) (id : FileId) (
 -- by the catalogue that the blocks show, the checks end in this refusal, whatever the other rows are
 abbrev pub IsRefusedByChecks : List (List ℕ) → VolumeLayout → FileId → (Rows → Rows) → Refusal → Type 0
 IsRefusedByChecks I L id checks f = (C : Catalogue) (rest : Rows) → ShowsBy I L C → on_file (map.get C.files id) (checks rest) ≡ Some f
+
+-- the file is plain, and its number is above the reserved ones
+pub record IsPlainFile (I : List (List ℕ)) (L : VolumeLayout) (id : FileId) (reserved : ℕ) : Type 0 where
+  pub file : IsFileId I L id
+  pub number : reserved < id.number
+  pub kind : is_directory_header id.number (header_at I L id.number) ≡ false
+  pub lbns : List ℕ
+  pub held : HasBlocks I L id.number lbns
+  pub passes : (C : Catalogue) → ShowsBy I L C → PassesChecks I L id lbns (kind_checks id reserved) C
 
 -- the file is plain, and passes the checks
 pub record IsOpenPlain (I : List (List ℕ)) (L : VolumeLayout) (id : FileId) (reserved : ℕ) (who : Uic) (r : Right) : Type 0 where

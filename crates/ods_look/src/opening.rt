@@ -4,7 +4,7 @@ ghost use Rattle.ods_header.specs.Header.{is_directory_header, owner_of, protect
 ghost use Rattle.ods_space.specs.{Files.IsFile};
 ghost use Rattle.ods_mount.specs.Sound.{IsSoundBy};
 ghost use Rattle.ods_request.specs.Rights.{permits};
-ghost use Rattle.ods_look.specs.Opening.{plain_checks, directory_checks, IsFileId, IsRefusedByChecks, IsRefusedBlock, IsOpenPlain, IsOpenBlock, IsDirectoryAt, IsOpenDirectory};
+ghost use Rattle.ods_look.specs.Opening.{kind_checks, plain_checks, directory_checks, IsFileId, IsPlainFile, IsRefusedByChecks, IsRefusedBlock, IsOpenPlain, IsOpenBlock, IsDirectoryAt, IsOpenDirectory};
 ghost use Rattle.ods_space.specs.Disks.{header_on, on};
 
 use crate::blocks::DirectoryBlocks;
@@ -34,6 +34,24 @@ pub fn is_granted(header: &Block, who: Uic, right: Right) -> bool
     permits(&who, &owner(header), protection(header), right)
 }
 
+/// The first header of a plain file with a number above the reserved ones, or the first fault.
+pub fn plain_header<'a>(disk: &Disk<'a>, file: FileId, reserved: u16) -> Result<&'a Block, Refusal>
+    requires { on IsSoundBy disk.now }
+    ensures ok { IfOk result (λ block. on IsPlainFile disk.now file reserved × (block.now ≡ header_on disk.now file.number)) }
+    ensures err { IfErr result (on IsRefusedByChecks disk.now file (kind_checks file reserved)) }
+{
+    let Some(block) = named_header(disk, file) else {
+        return Err(Refusal::NoSuchFile);
+    };
+    if file.number <= reserved {
+        return Err(Refusal::Reserved);
+    }
+    if is_directory(file.number, block) {
+        return Err(Refusal::IsDirectory);
+    }
+    Ok(block)
+}
+
 /// The first header of a plain file with a number above the reserved ones, where the user has this right; or the first fault.
 pub fn open_plain<'a>(
     disk: &Disk<'a>,
@@ -47,15 +65,10 @@ pub fn open_plain<'a>(
     ensures ok { IfOk result (λ block. on IsOpenPlain disk.now file reserved who right × (block.now ≡ header_on disk.now file.number)) }
     ensures err { IfErr result (on IsRefusedByChecks disk.now file (plain_checks file reserved who right)) }
 {
-    let Some(block) = named_header(disk, file) else {
-        return Err(Refusal::NoSuchFile);
+    let block = match plain_header(disk, file, reserved) {
+        Ok(block) => block,
+        Err(refusal) => return Err(refusal),
     };
-    if file.number <= reserved {
-        return Err(Refusal::Reserved);
-    }
-    if is_directory(file.number, block) {
-        return Err(Refusal::IsDirectory);
-    }
     if !is_granted(block, who, right) {
         return Err(Refusal::Denied);
     }

@@ -1,56 +1,33 @@
-use Rattle.ods_header.specs.Header.{is_directory_header}
-use Rattle.std.proofs.Common.{true, false, ap, sym, ◌∙◌, refl, Some}
-use borrow.Author.Tests.{lt-leb, le-leb}
-use Rattle.ods_request.specs.declared.refusals.Refusal.TheVariants as refusal
-use Rattle.ods_request.specs.Faults.{first_of}
-use Rattle.ods_look.specs.Opening.{file_shown, plain_checks}
+use Rattle.std.proofs.Common.{true, false, ◌∙◌, refl}
+use Rattle.ods_look.specs.Opening.{right_check}
 use Rattle.ods_look.proofs.Rows.{holds, passes}
-use Rattle.ods_look.proofs.FilesFound.{no_such_file, found_there, checked, kind_seen, right_seen}
+use Rattle.ods_look.proofs.FilesFound.{right_seen}
 use Rattle.ods_look.proofs.opening.open_plain.Goals as goal
 
-pub returns-in_default-clause-err : goal.returns-in_default-clause-err
-returns-in_default-clause-err c = λ C rest shown. no_such_file c.args.disk.now.image.now c.args.disk.now.layout.now C shown c.args.file c.in_default.ensures.none _
-
-pub returns-then-file-reserved-clause-err : goal.returns-then-file-reserved-clause-err
-returns-then-file-reserved-clause-err c = λ C rest shown.
-    let is = c.in-Some.ensures.some.0 in
-    checked shown c.args.file is (c.requires.sound.chains c.args.file.number is.0) (plain_checks c.args.file c.args.reserved c.args.who c.args.right rest) (Some refusal.Reserved)
-    (holds _ (le-leb c.args.file.number c.args.reserved c.if-file-reserved.true))
-
-pub returns-then-is_directory-clause-err : goal.returns-then-is_directory-clause-err
-returns-then-is_directory-clause-err c = λ C rest shown.
-    let known = c.in-Some.ensures.some in
-    let whole = c.requires.sound.chains c.args.file.number known.0.0 in
-    checked shown c.args.file known.0 whole (plain_checks c.args.file c.args.reserved c.args.who c.args.right rest) (Some refusal.IsDirectory)
-    (passes _ (lt-leb c.args.file.number c.args.reserved c.if-file-reserved.false)
-    (holds _ (kind_seen c.args.file known.1 whole c.is_directory.result true c.is_directory.ensures c.if-is_directory.true)))
+pub returns-in-Err-clause-err : goal.returns-in-Err-clause-err
+returns-in-Err-clause-err c = λ C rest shown. c.in-Err.ensures.err C (right_check c.args.who c.args.right rest) shown
 
 pub returns-then-not-is_granted-clause-err : goal.returns-then-not-is_granted-clause-err
 returns-then-not-is_granted-clause-err c = λ C rest shown.
-    let known = c.in-Some.ensures.some in
-    let whole = c.requires.sound.chains c.args.file.number known.0.0 in
-    checked shown c.args.file known.0 whole (plain_checks c.args.file c.args.reserved c.args.who c.args.right rest) (Some refusal.Denied)
-    (passes _ (lt-leb c.args.file.number c.args.reserved c.if-file-reserved.false)
-    (passes _ (kind_seen c.args.file known.1 whole c.is_directory.result false c.is_directory.ensures c.if-is_directory.false)
-    (holds _ (right_seen c.args.file known.1 whole c.args.who c.args.right c.is_granted.result false c.is_granted.ensures c.if-not-is_granted.true))))
+    let known = c.in-Ok.ensures.ok in
+    (known.0.passes C shown).left (right_check c.args.who c.args.right rest)
+    ∙ holds _ (right_seen c.args.file known.1 (known.0.lbns, known.0.held) c.args.who c.args.right c.is_granted.result false c.is_granted.ensures c.if-not-is_granted.true)
 
 pub returns-clause-ok : goal.returns-clause-ok
 returns-clause-ok c =
-    let id = c.args.file in
-    let known = c.in-Some.ensures.some in
-    let whole = c.requires.sound.chains id.number known.0.0 in (
+    let known = c.in-Ok.ensures.ok in
+    let plain = known.0 in (
       record {
-        file = known.0;
-        number = c.if-file-reserved.false;
-        kind = ap (is_directory_header id.number) (sym known.1) ∙ sym c.is_directory.ensures ∙ c.if-is_directory.false;
-        lbns = whole.0;
-        held = whole.1;
+        file = plain.file;
+        number = plain.number;
+        kind = plain.kind;
+        lbns = plain.lbns;
+        held = plain.held;
         passes = λ C shown. record {
-          there = found_there shown id known.0 whole;
-          left = λ rest. checked shown id known.0 whole (plain_checks id c.args.reserved c.args.who c.args.right rest) (first_of (rest (file_shown c.args.disk.now.image.now c.args.disk.now.layout.now id whole.0)))
-              (passes _ (lt-leb id.number c.args.reserved c.if-file-reserved.false)
-              (passes _ (kind_seen id known.1 whole c.is_directory.result false c.is_directory.ensures c.if-is_directory.false)
-              (passes _ (right_seen id known.1 whole c.args.who c.args.right c.is_granted.result true c.is_granted.ensures c.if-not-is_granted.false) refl)));
+          there = (plain.passes C shown).there;
+          left = λ rest.
+              (plain.passes C shown).left (right_check c.args.who c.args.right rest)
+              ∙ passes _ (right_seen c.args.file known.1 (plain.lbns, plain.held) c.args.who c.args.right c.is_granted.result true c.is_granted.ensures c.if-not-is_granted.false) refl;
         };
       },
       known.1,
