@@ -127,7 +127,8 @@ fn push_places(
     requires home { IsHomeAt disk.now.image.now home_lbn }
     requires whole { on HasBlocks disk.now number lbns.now }
     ensures adds { OnOk result (Adds (on IsLineOf disk.now) faults.old.items faults.new.items) }
-    ensures places { OnOk result ((k : ℕ) → on IsIndexFault disk.now (IndexFault.HeldPlace k number) → Contains faults.new.items (FaultLine.Index (IndexFault.HeldPlace k number))) }
+    ensures places { OnOk result ((k : ℕ) → on IsIndexFault disk.now (IndexFault.HeldPlace k number)
+        → Contains faults.new.items (FaultLine.Index (IndexFault.HeldPlace k number))) }
 {
     // An image has few blocks, and so has a chain.
     let _ = disk.image.len();

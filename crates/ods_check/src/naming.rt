@@ -99,7 +99,9 @@ fn push_lines(
     requires lines { All (on HasName disk.now directory) lines.now }
     requires room { 65536 ≤ 64 * length named.old }
     ensures adds { OnOk result (Adds (on IsFound disk.now) findings.old.items findings.new.items) }
-    ensures names { OnOk result ((i : ℕ) (line : Line) → slice_get lines.now i ≡ Some line → ¬ on IsIdOfFile disk.now line.file → Contains findings.new.items (Finding.NamesNone directory line)) }
+    ensures names { OnOk result ((i : ℕ) (line : Line) → slice_get lines.now i ≡ Some line
+        → ¬ on IsIdOfFile disk.now line.file
+        → Contains findings.new.items (Finding.NamesNone directory line)) }
     ensures named { OnOk result (IsSetOf (λ n. (has named.old n ≡ true) ⊎ ((i : ℕ) × on NamesAt disk.now lines.now i n)) named.new) }
     ensures room { length named.new ≡ length named.old }
 {

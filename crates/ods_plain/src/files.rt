@@ -204,7 +204,15 @@ impl File {
 
     /// What is shown of the file. A count that its answer has no room for is want of memory.
     pub(crate) fn stat(&self, id: FileId) -> Result<Stat, AllocError>
-        ensures { IfOk result (λ stat. stat ≡ record { file = id; ident = self.now.ident; owner = self.now.owner; protection = self.now.protection; user_char = self.now.user_char; system_char = self.now.system_char; kind = kind_of (body_of self.now.body) }) }
+        ensures { IfOk result (λ stat. stat ≡ record {
+          file = id;
+          ident = self.now.ident;
+          owner = self.now.owner;
+          protection = self.now.protection;
+          user_char = self.now.user_char;
+          system_char = self.now.system_char;
+          kind = kind_of (body_of self.now.body);
+        }) }
     {
         Ok(Stat {
             file: id,

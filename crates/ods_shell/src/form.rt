@@ -155,7 +155,8 @@ impl<'a> Contents<'a> {
     /// Writes all of it, in order. After a fault the writer has taken so many of the bytes.
     pub fn write_to<W: Write>(&self, writer: &mut W) -> Result<(), WriteFault>
         ensures ok { OnOk result ((bytes : List ℕ) → ContentsAre self.now bytes → Appends (W.contents writer.old) (W.contents writer.new) bytes) }
-        ensures err { IfErr result (λ fault. (bytes : List ℕ) → ContentsAre self.now bytes → TookBytes (W.contents writer.old) (W.contents writer.new) bytes fault.written) }
+        ensures err { IfErr result (λ fault. (bytes : List ℕ) → ContentsAre self.now bytes
+            → TookBytes (W.contents writer.old) (W.contents writer.new) bytes fault.written) }
     {
         match self {
             Contents::Lines(text) => write_bytes(writer, text),

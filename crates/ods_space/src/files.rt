@@ -148,7 +148,8 @@ fn survey_whole(disk: &Disk<'_>, number: u16, wanted: u32) -> Option<Survey>
 /// What the chain of a file has: how many blocks, the one with the index `wanted`, counted from 0, and one that the image lacks.
 fn survey(disk: &Disk<'_>, number: u16, wanted: u32) -> Option<Survey>
     requires { on IsLayoutOf disk.now }
-    ensures some { IfSome result (λ s. (others : List ℕ) × (blocks : List ℕ) × on IsChain disk.now number others blocks × IsSurveyOf (length disk.now.image.now) wanted s blocks) }
+    ensures some { IfSome result (λ s. (others : List ℕ) × (blocks : List ℕ)
+        × on IsChain disk.now number others blocks × IsSurveyOf (length disk.now.image.now) wanted s blocks) }
     ensures none { IfNone result ((others blocks : List ℕ) → ¬ on IsChain disk.now number others blocks) }
 {
     // An image has few blocks, and so has a chain.

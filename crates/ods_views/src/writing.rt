@@ -51,7 +51,8 @@ pub fn add_change<J: Naming>(
     change: Change,
 ) -> Result<DeskWriter<J>, DeskWriter<J>>
     requires { drop writer.behind writer.log.items ≡ [] }
-    ensures { MatchResult result (λ w. (w.desk ≡ writer.desk) × (drop w.behind w.log.items ≡ change ∷ [])) (λ w. (w.desk ≡ writer.desk) × (drop w.behind w.log.items ≡ [])) }
+    ensures { MatchResult result (λ w. (w.desk ≡ writer.desk) × (drop w.behind w.log.items ≡ change ∷ []))
+        (λ w. (w.desk ≡ writer.desk) × (drop w.behind w.log.items ≡ [])) }
 {
     let mut writer = writer;
     match writer.append(change) {
