@@ -1,6 +1,6 @@
 //! Answers as replies and calls keep them: in place, but for a block and for what is shown of a file, which are in a box.
-ghost use Rattle.std.specs.Prelude.{◌≡◌, ◌↔◌, IsTrue, IfOk, OnErr, true};
-ghost use Rattle.ods_request.specs.{CompactAnswer.is_long, AnswerForms.answer_in};
+ghost use Rattle.std.specs.Prelude.{◌≡◌, ◌↔◌, ◌⊎◌, IsTrue, IfOk, OnErr, true};
+ghost use Rattle.ods_request.specs.{CompactAnswer.is_long, AnswerForms.answer_in, Lines.HasLines};
 
 use crate::answers::{Answer, Listing, Stat};
 use ods_base::{Block, FileId};
@@ -59,6 +59,26 @@ impl CompactAnswer {
         Ok(CompactAnswer { form })
     }
 
+    /// An equal answer, in memory of its own. Only a block, a stat and the lines of a directory take memory.
+    pub fn copy(&self, alloc: Global) -> Result<CompactAnswer, AllocError>
+        ensures ok { IfOk result (λ copy. copy ≡ self.now) }
+        ensures err { OnErr result ((is_long self.now ≡ true) ⊎ HasLines self.now) }
+    {
+        let form = match &self.form {
+            AnswerForm::Created(id) => AnswerForm::Created(*id),
+            AnswerForm::Extended(count) => AnswerForm::Extended(*count),
+            AnswerForm::Truncated(count) => AnswerForm::Truncated(*count),
+            AnswerForm::Done => AnswerForm::Done,
+            AnswerForm::Entered(version) => AnswerForm::Entered(*version),
+            AnswerForm::Found(file, version) => AnswerForm::Found(*file, *version),
+            AnswerForm::Removed(file, version) => AnswerForm::Removed(*file, *version),
+            AnswerForm::Bytes(block) => AnswerForm::Bytes(block_in_a_box(alloc, block)?),
+            AnswerForm::Names(lines) => AnswerForm::Names(lines.copy()?),
+            AnswerForm::Info(stat) => AnswerForm::Info(Box::new(alloc, **stat)?),
+        };
+        Ok(CompactAnswer { form })
+    }
+
     /// The form in which the answer is kept, to be read where it lies.
     pub fn form(&self) -> &AnswerForm
         ensures { answer_in result.now ≡ self.now }
@@ -91,7 +111,7 @@ impl CompactAnswer {
 }
 
 /// A block in a box. It stands by itself, so that what has no block does not pay for one.
-pub(crate) fn block_in_a_box(alloc: Global, block: &Block) -> Result<Box<Block>, AllocError>
+fn block_in_a_box(alloc: Global, block: &Block) -> Result<Box<Block>, AllocError>
     ensures { IfOk result (λ kept. kept.value ≡ block.now) }
 {
     let kept = Box::new(alloc, *block)?;

@@ -1,23 +1,25 @@
-//! Requests as lists keep them: in place, but for the block of a Write, which is in a box.
+//! Requests as lists keep them: in place, but for the block of a Write, which several may share.
 ghost use Rattle.std.specs.Prelude.{◌≡◌, ◌↔◌, IsTrue, IfOk, OnErr, true};
-ghost use Rattle.ods_request.specs.CompactRequest.{has_block};
+ghost use Rattle.std.specs.Arc.{arc_value};
+ghost use Rattle.ods_request.specs.{CompactRequest.has_block, RequestForms.request_in};
 
-use crate::compact_answer::block_in_a_box;
 use crate::requests::Request;
 use crate::stamps::Stamp;
 use ods_base::{Block, FileId, Name, Pick};
 use std::alloc::{AllocError, Global};
 use std::marker::Model;
+use std::sync::Arc;
 
-/// A request in little room: 40 bytes, and a box for the block of a Write alone. A contract sees the request.
+/// A request in little room: 40 bytes, and memory for the block of a Write alone, which equal requests
+/// may share. A contract sees the request.
 #[derive(Drop, Debug)]
 pub struct CompactRequest {
     form: RequestForm,
 }
 
-/// How a request is kept: as it is, with a block in a box.
+/// How a request is kept: as it is, with a block that may be shared.
 #[derive(Drop, PartialEq, Eq, Debug)]
-enum RequestForm {
+pub enum RequestForm {
     Create {
         name: Name,
         version: u16,
@@ -58,7 +60,7 @@ enum RequestForm {
     Write {
         file: FileId,
         vbn: u32,
-        block: Box<Block>,
+        block: Arc<Block, Global>,
     },
     List {
         dir: FileId,
@@ -83,6 +85,13 @@ impl Model for CompactRequest {
 }
 
 impl CompactRequest {
+    /// The request that this form is of. It takes no memory.
+    pub fn new(form: RequestForm) -> CompactRequest
+        ensures { result ≡ request_in form }
+    {
+        CompactRequest { form }
+    }
+
     /// The request in little room. Only a Write takes memory.
     pub fn of(alloc: Global, request: &Request) -> Result<CompactRequest, AllocError>
         ensures ok { IfOk result (λ c. c ≡ request.now) }
@@ -124,11 +133,62 @@ impl CompactRequest {
             } => RequestForm::Write {
                 file,
                 vbn,
-                block: block_in_a_box(alloc, block)?,
+                block: block_to_share(alloc, block)?,
             },
             Request::List { dir } => RequestForm::List { dir },
             Request::Stat { file } => RequestForm::Stat { file },
             Request::SetUser { file, attributes } => RequestForm::SetUser { file, attributes },
+        };
+        Ok(CompactRequest { form })
+    }
+
+    /// The same request once more; a Write's block is shared. It takes no memory, and fails only where
+    /// the block has as many owners as can be counted.
+    pub fn share(&self) -> Result<CompactRequest, AllocError>
+        ensures ok { IfOk result (λ c. c ≡ self.now) }
+        ensures err { OnErr result (has_block self.now ≡ true) }
+    {
+        let form = match self.form {
+            RequestForm::Create {
+                name,
+                version,
+                blocks,
+                stamp,
+            } => RequestForm::Create {
+                name,
+                version,
+                blocks,
+                stamp,
+            },
+            RequestForm::Extend { file, blocks } => RequestForm::Extend { file, blocks },
+            RequestForm::Truncate { file, blocks } => RequestForm::Truncate { file, blocks },
+            RequestForm::Delete { file } => RequestForm::Delete { file },
+            RequestForm::Enter {
+                dir,
+                name,
+                version,
+                file,
+            } => RequestForm::Enter {
+                dir,
+                name,
+                version,
+                file,
+            },
+            RequestForm::LookUp { dir, name, pick } => RequestForm::LookUp { dir, name, pick },
+            RequestForm::Remove { dir, name, pick } => RequestForm::Remove { dir, name, pick },
+            RequestForm::Read { file, vbn } => RequestForm::Read { file, vbn },
+            RequestForm::Write {
+                file,
+                vbn,
+                ref block,
+            } => RequestForm::Write {
+                file,
+                vbn,
+                block: Arc::try_clone(block)?,
+            },
+            RequestForm::List { dir } => RequestForm::List { dir },
+            RequestForm::Stat { file } => RequestForm::Stat { file },
+            RequestForm::SetUser { file, attributes } => RequestForm::SetUser { file, attributes },
         };
         Ok(CompactRequest { form })
     }
@@ -210,6 +270,14 @@ impl CompactRequest {
     {
         self.get().is_same(request)
     }
+}
+
+/// A block that can be shared. It stands by itself, so that what has no block does not pay for one.
+fn block_to_share(alloc: Global, block: &Block) -> Result<Arc<Block, Global>, AllocError>
+    ensures { IfOk result (λ shared. arc_value shared ≡ block.now) }
+{
+    let shared = Arc::new(alloc, *block)?;
+    Ok(shared)
 }
 
 impl PartialEq for CompactRequest {

@@ -13,7 +13,7 @@ mod stamps;
 
 pub use answers::{Answer, Entry, Kind, Listing, Stat};
 pub use compact_answer::{AnswerForm, CompactAnswer};
-pub use compact_request::CompactRequest;
+pub use compact_request::{CompactRequest, RequestForm};
 pub use idents::new_ident;
 pub use laws::{
     answer_is_determined, answer_is_step, answers_agree, created_is_new, default_stays,

@@ -44,3 +44,4 @@ pub mod GivenBack
 pub mod ShownWithout
 pub mod CutChain
 pub mod CutOff
+pub mod EndsKept
