@@ -1,5 +1,5 @@
 -- A Write of a sound volume: what the blocks are then, and what they show.
-use Rattle.std.proofs.Common.{◌≡◌, ◌≢◌, ℕ, ◌-◌, ◌<◌, None, refl, ap, sym, ◌∙◌, subst, List, [], arith}
+use Rattle.std.proofs.Common.{◌≡◌, ◌≢◌, ℕ, ◌-◌, ◌<◌, Option, None, refl, ap, sym, ◌∙◌, subst, List, [], arith}
 use Rattle.std.specs.Prelude.{slice_set, unwrap_or}
 use Rattle.std.proofs.lemmas.List.{length-set, get_or-set_other}
 use Rattle.ods_base.specs.declared.file_id.FileId.{FileId}
@@ -16,8 +16,11 @@ use Rattle.ods_request.specs.Catalogue.{Catalogue, Plain}
 use Rattle.ods_request.specs.Faults.{fault_of}
 use Rattle.ods_request.specs.Steps.{after, answer_of, put, file_at, no_file, with_body, written}
 use Rattle.ods_state.specs.Contents.{file_of, body_of, ShowsBy}
+use Rattle.ods_state.specs.declared.known_end.KnownEnd.{KnownEnd}
+use Rattle.ods_state.specs.Ends.{IsKnownIn}
 use Rattle.ods_state.specs.Served.{IsStepOf}
 use Rattle.ods_state.proofs.BlockShown as block
+use Rattle.ods_state.proofs.EndsKept.{block_keeps_ends}
 use Rattle.ods_state.proofs.Served.{carried_is_step, lacks_nothing}
 use Rattle.ods_look.specs.Opening.{IsOpenPlain}
 use Rattle.ods_look.proofs.FileBodies.{plain_body, no_directory, other_contents}
@@ -74,3 +77,7 @@ module _ {I : List (List ℕ)} {L : VolumeLayout} (S : IsSoundBy I L) {who : Uic
         moves = block.nothing_moves I L S id vbn x b h one two three five;
         elsewhere = (length-set I x b, λ y untouched. get_or-set_other I x y b [] (λ e. untouched (subst (λ z. Holds I L n vbn z) (sym e) h)));
       })
+
+  -- and what is noted of where a file's chain ends stays true
+  pub write_keeps_ends : (end : Option KnownEnd) → IsKnownIn I L end → IsKnownIn (slice_set I x b) L end
+  write_keeps_ends = block_keeps_ends I L S n vbn x b h (other 1 (omega arith)) (other 2 (omega arith)) (other 3 (omega arith)) (other 5 (omega arith))

@@ -1,5 +1,6 @@
 //! The requests that change one block, with their checks: a Write, a SetUser, and a Remove.
-ghost use Rattle.std.specs.Prelude.{MatchResult};
+ghost use Rattle.std.specs.Prelude.{IfOk, MatchResult};
+ghost use Rattle.ods_change.specs.Steps.{KeepsEnds};
 ghost use Rattle.ods_mount.specs.Sound.{IsSoundBy};
 ghost use Rattle.ods_request.specs.{declared.answers.Answer.TheVariants.Done, declared.answers.Answer.TheVariants.Removed};
 ghost use Rattle.ods_request.specs.{declared.requests.Request.TheVariants.Write as WriteRequest, declared.requests.Request.TheVariants.SetUser, declared.requests.Request.TheVariants.Remove};
@@ -16,7 +17,8 @@ use ods_request::{Refusal, Right};
 use ods_space::{Disk, Draft};
 use std::alloc::Global;
 
-/// The draft that puts other bytes into a block of a file, counted from 1, or why that is refused.
+/// The draft that puts other bytes into a block of a file, counted from 1, or why that is refused. No chain of headers changes, so what is
+/// noted of where one ends stays true.
 pub fn write(
     alloc: Global,
     disk: &Disk<'_>,
@@ -26,7 +28,8 @@ pub fn write(
     block: &Block,
 ) -> Result<Draft, Refusal>
     requires { on IsSoundBy disk.now }
-    ensures { MatchResult result
+    ensures known { IfOk result (KeepsEnds disk.now) }
+    ensures step { MatchResult result
         (λ draft. on IsStepOf disk.now who (WriteRequest file vbn block.now) Done (applied disk.now.image.now draft) disk.now.layout.now)
         (on IsRefusalOf disk.now who (WriteRequest file vbn block.now)) }
 {
