@@ -3,3 +3,4 @@ pub mod Serving
 pub mod Sampled
 pub mod Printing
 pub mod Parsing
+pub mod Parts

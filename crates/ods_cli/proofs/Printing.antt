@@ -1,7 +1,8 @@
 -- Sessions that printed their replies: the outcomes that stand behind what they gave back.
-use Rattle.std.proofs.Common.{◌≡◌, ℕ, ◌+◌, zero, suc, List, [], ◌∷◌, ◌++◌, length, refl, sym, ap, ◌∙◌, arith}
+use Rattle.std.proofs.Common.{◌≡◌, ℕ, ◌+◌, zero, suc, List, [], ◌∷◌, ◌++◌, length, refl, sym, ap, ◌∙◌, arith, append_assoc}
 use Rattle.std.specs.Prelude.{codes}
 use Rattle.std.specs.Fmt.{decimal}
+use Rattle.std.specs.String.{string_bytes}
 use Rattle.std.specs.declared.alloc.Global.{Global}
 use Rattle.std.specs.declared.vec.Vec.{Vec}
 use Rattle.ods_share.specs.declared.keeping.Ended.{Ended}
@@ -13,9 +14,9 @@ use Rattle.ods_share.specs.Keeping.{EachEnded, IsEnded}
 use Rattle.ods_share.specs.Scripts.{EachOutcome, IsOutcome}
 use Rattle.ods_share.specs.Settles.{Calls}
 use Rattle.ods_script.specs.declared.printed.Printed.{Printed}
-use Rattle.ods_script.specs.Printing.{ArePrinted, printed_text}
+use Rattle.ods_script.specs.Printing.{ArePrinted}
 use Rattle.ods_script.specs.Texts.{session_text, sessions_text}
-use Rattle.ods_cli.specs.Printed.{calls_kept, printed_of}
+use Rattle.ods_cli.specs.Printed.{calls_kept, printed_of, printed_text, session_line}
 use Rattle.ods_cli.specs.Serve.{calls_in}
 
 -- these replies as a list in memory, as long as the script's
@@ -42,6 +43,12 @@ each_more : (M : List (List ℕ)) (stamp : List ℕ) (s : Script) (ss : List Scr
 each_more M stamp s ss o os first rest zero d e lt = first
 each_more M stamp s ss o os first rest (suc k) d e lt = rest k d e (omega (arith, lt))
 
+-- the line of a session before a text
+line_first : (k : ℕ) (t : List ℕ) → session_line k ++ t ≡ codes "session " ++ decimal k ++ 10 ∷ t
+line_first k t =
+    append_assoc (codes "session ") (decimal k ++ 10 ∷ []) t
+    ∙ ap (λ (l : List ℕ). codes "session " ++ l) (append_assoc (decimal k) (10 ∷ []) t)
+
 -- one session more at the front
 one_more : (M : List (List ℕ)) (stamp : List ℕ) (s : Script) (ss : List Script) (e : Ended Printed) (es : List (Ended Printed)) → IsEnded ArePrinted M stamp s.commands.items e → Behind M stamp ss es →
     Behind M stamp (s ∷ ss) (e ∷ es)
@@ -51,7 +58,8 @@ one_more M stamp s ss e es first rest = record {
   each = each_more M stamp s ss (outcome_behind s e first.replies first.kept.0) rest.outcomes (is_behind M stamp s e first) rest.each;
   calls = ap (λ (cs : List Calls). e.calls ∷ cs) rest.calls;
   text = λ k.
-      ap (λ (t : List ℕ). (codes "session " ++ decimal k ++ 10 ∷ t) ++ printed_text (k + 1) (printed_of es)) first.kept.1
+      ap (λ (t : List ℕ). t ++ printed_text (k + 1) (printed_of es))
+      (line_first k (string_bytes e.kept.text) ∙ ap (λ (t : List ℕ). codes "session " ++ decimal k ++ 10 ∷ t) first.kept.1)
       ∙ ap (λ (t : List ℕ). session_text k s first.replies ++ t) (rest.text (k + 1));
 }
 

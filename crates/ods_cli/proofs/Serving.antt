@@ -1,10 +1,7 @@
 -- Runs that serve scripts, from what was read to what is written.
-use Rattle.std.proofs.Common.{◌≡◌, ◌≤◌, ◌+◌, ℕ, List, [], ◌∷◌, ◌++◌, length, Option, Some, None, true, false, refl, sym, subst, inl, inr, arith, ◌∙◌}
-use Rattle.std.specs.Prelude.{Result, Ok, Err, IfOk, IfErr, OnOk, IsOkUnless, MatchResult, is_err}
-use Rattle.std.specs.Io.KnownBytes.{Appends}
+use Rattle.std.proofs.Common.{◌≡◌, ◌≤◌, ℕ, List, [], ◌∷◌, ◌++◌, length, Option, Some, None, refl, sym, subst, inl, inr, arith, ◌∙◌}
+use Rattle.std.specs.Prelude.{Result, Ok, Err, IfOk, IsOkUnless, MatchResult}
 use Rattle.std.proofs.KnownBytes.{Keeps-refl}
-use Rattle.ods_base.specs.Image.{TookBytes}
-use Rattle.ods_base.specs.declared.faults.WriteFault.{WriteFault}
 use Rattle.ods_space.specs.Free.{free_blocks, free_numbers}
 use Rattle.ods_space.specs.Layout.{VolumeLayout}
 use Rattle.ods_mount.specs.Sound.{IsSoundBy}
@@ -16,10 +13,11 @@ use Rattle.ods_share.specs.declared.keeping.Ended.{Ended}
 use Rattle.ods_share.specs.declared.script.Script.{Script}
 use Rattle.ods_share.specs.declared.settlement.Report.{Report}
 use Rattle.ods_script.specs.declared.printed.Printed.{Printed}
-use Rattle.ods_script.specs.Printing.{ArePrinted, printed_text}
+use Rattle.ods_script.specs.Printing.{ArePrinted}
 use Rattle.ods_cli.specs.Reply.{AreImageBytes, IsReplyFault}
 use Rattle.ods_cli.specs.Serve.{AreSound, AreRefused, EndsServe, EndsWriting, IsFaultOf, IsRefusedWith, IsReportFault, IsServedTo, IsServingFault, IsSoundImage, IsUntouched, Wrote, totals_text, wrote}
-use Rattle.ods_cli.specs.Printed.{calls_kept, printed_of}
+use Rattle.ods_cli.specs.Printed.{calls_kept, printed_of, printed_text}
+use Rattle.ods_cli.specs.Writing.{IsCut}
 use Rattle.ods_cli.specs.declared.fault.ServeFault.{ServeFault}
 use Rattle.ods_cli.specs.declared.fault.ServeFault.TheVariants as fault
 use Rattle.ods_cli.proofs.Printing.{Behind, behind}
@@ -29,18 +27,6 @@ use Rattle.ods_cli.proofs.Replies.{most_of_image}
 pub untouched : {W : Type 0} (contents : W → Option (List ℕ)) (o : Option W) → IsUntouched (wrote contents o o)
 untouched contents None = tt
 untouched contents (Some w) = Keeps-refl (contents w)
-
--- where writing failed a first part of the text is written
-pub cut_text : {A : Type 0} (r : Result A WriteFault) (old new : Option (List ℕ)) (bytes text : List ℕ) → bytes ≡ text → is_err r ≡ true →
-    IfErr r (λ f. TookBytes old new bytes f.written) → (count : ℕ) × TookBytes old new text count
-cut_text (Ok u) old new bytes text same e took = cc
-cut_text (Err f) old new bytes text same e took = (f.written, subst (λ (t : List ℕ). TookBytes old new t f.written) same took)
-
--- else all of it is
-pub whole_text : {A : Type 0} (r : Result A WriteFault) (old new : Option (List ℕ)) (bytes text : List ℕ) → bytes ≡ text → is_err r ≡ false →
-    OnOk r (Appends old new bytes) → Appends old new text
-whole_text (Ok u) old new bytes text same e wrote = subst (λ (t : List ℕ). Appends old new t) same wrote
-whole_text (Err f) old new bytes text same e wrote = cc
 
 -- a volume whose list is settled was served so
 pub served_to : (stamp : List ℕ) (scripts : List Script) (v : State) (es : List (Ended Printed)) (lists : List Calls) (printed : List Printed) (r : Report) (text : List ℕ) →
@@ -105,6 +91,12 @@ unserved_to stamp scripts I L r text none sound entries of_session lines =
       lines = lines;
       unchanged = λ _. refl;
     })
+
+-- a run whose writing failed is cut, and has no image
+pub cut_short : (report : Report) (text : List ℕ) (J : List (List ℕ)) (replies : Wrote) (out : Option Wrote) (f : ServeFault) →
+    IsCut replies.old replies.new text f → IsUntouched out → EndsWriting report text J replies out (Err f)
+cut_short report text J replies out f cut same =
+    let P : ServeFault → Type 0 = λ e. EndsWriting report text J replies out (Err e) in subst P (sym cut.0) (cut.1, same)
 
 -- a report that goes out as it is has no more entries
 pub within : (r : Result Report ServeFault) (said : Report) (limit : ℕ) → IfOk r (λ x. x ≡ said) → said.entries ≤ limit → IfOk r (λ x. x.entries ≤ limit)

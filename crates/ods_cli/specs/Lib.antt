@@ -9,3 +9,4 @@ pub mod Serve
 pub mod Sample
 pub mod ScriptText
 pub mod Printed
+pub mod Writing

@@ -4,12 +4,13 @@ ghost use Rattle.std.specs.String.{string_bytes};
 ghost use Rattle.std.specs.Io.KnownBytes.{Consumes};
 ghost use Rattle.ods_base.specs.{Image.image_bytes, declared.faults.WriteFault.WriteFault};
 ghost use Rattle.ods_share.specs.Scripts.{CanBeRun};
-ghost use Rattle.ods_cli.specs.{Serve.EndsServe, Serve.EndsWriting, Serve.IsRefusedWith, Serve.GotAll, Serve.GotPart, Serve.wrote, declared.fault.ServeFault.TheVariants.WriteOut};
+ghost use Rattle.ods_cli.specs.{Printed.said_text, Serve.EndsServe, Serve.EndsWriting, Serve.IsRefusedWith, Serve.GotAll, Serve.GotPart, Serve.wrote, declared.fault.ServeFault.TheVariants.WriteOut};
 
 use crate::ServeFault;
 use crate::reply::NoImage;
 use crate::sessions::{Said, serve_all, unserved};
 use crate::sound::sound_image;
+use crate::writing::write_said;
 use ods_base::{Image, write_bytes};
 use ods_request::Stamp;
 use ods_share::{Gate, Report, Script};
@@ -74,21 +75,21 @@ fn refuse<W: Write>(replies: &mut W, no_image: &NoImage) -> ServeFault
     }
 }
 
-/// Writes the replies and the totals, and then the image, if there is a writer for it.
+/// Writes the replies and the totals, and then the image, if there is a writer for it. It wants no memory, so a run that has too little
+/// ends before its first byte.
 fn deliver<W: Write, O: Write>(
     said: Said,
     image: &Image,
     replies: &mut W,
     out: &mut Option<O>,
 ) -> Result<Report, ServeFault>
-    ensures ends { EndsWriting said.report (string_bytes said.text) image.now
+    requires { length said.printed.items ≤ 8 }
+    ensures ends { EndsWriting said.report (said_text said) image.now
         (record { old = W.contents replies.old; new = W.contents replies.new }) (wrote O.contents out.old out.new) result }
     ensures report { IfOk result (λ r. r ≡ said.report) }
     ensures kept { is_some out.new ≡ is_some out.old }
 {
-    if write_bytes(replies, said.text.as_bytes()).is_err() {
-        return Err(ServeFault::Write);
-    }
+    write_said(replies, &said)?;
     write_image(image, out)?;
     Ok(said.report)
 }

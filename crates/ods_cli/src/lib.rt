@@ -12,6 +12,7 @@ mod script_text;
 mod sessions;
 mod sound;
 mod words;
+mod writing;
 
 pub use endings::{WRONG_WORDS, status};
 pub use engine::{Options, serve};

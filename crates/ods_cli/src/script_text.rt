@@ -14,6 +14,10 @@ use std::thread::{Threads, map_vec};
 /// How many bytes a script has at most.
 const MOST_BYTES: usize = 1_048_576;
 
+/// How many bytes are asked for in one read: a script of the most bytes is some 16 calls of the system then, where pieces of 4 KiB
+/// would be 256, one script behind another.
+const PIECE_BYTES: usize = 65_536;
+
 /// Why a script is not read.
 #[derive(Clone, Copy, Debug, PartialEq, Eq)]
 pub enum ScriptFault {
@@ -41,7 +45,7 @@ pub fn read_script<R: Read>(alloc: Global, reader: &mut R) -> Result<Script, Scr
     ensures read { (bytes : List ℕ) × Consumes (R.remaining reader.old) (R.remaining reader.new) bytes
         × MatchResult result (λ s. IsScriptOf bytes (R.remaining reader.new) s.commands.items) (IsScriptFault bytes) }
 {
-    let mut piece = [0u8; 4096];
+    let mut piece = [0u8; PIECE_BYTES];
     let text = read_text(alloc, reader, &mut piece)?;
     Ok(parse_script(alloc, text.as_slice())?)
 }
@@ -51,7 +55,7 @@ pub fn read_script_text<R: Read>(alloc: Global, reader: &mut R) -> Result<Vec<u8
     ensures { (bytes : List ℕ) × Consumes (R.remaining reader.old) (R.remaining reader.new) bytes
         × MatchResult result (λ text. IsTextOf bytes (R.remaining reader.new) text.items) (IsScriptFault bytes) }
 {
-    let mut piece = [0u8; 4096];
+    let mut piece = [0u8; PIECE_BYTES];
     read_text(alloc, reader, &mut piece)
 }
 

@@ -1,17 +1,17 @@
-//! The sessions of a run on a sound image: what they make of it, and the text of what they are replied.
-ghost use Rattle.std.specs.Prelude.{◌≡◌, ◌≤◌, ◌++◌, ℕ, List, [], All, length, vec_len, IfOk, IfErr, OnOk};
+//! The sessions of a run on a sound image: what they make of it, and what is said of that.
+ghost use Rattle.std.specs.Prelude.{◌≡◌, ◌≤◌, ℕ, List, All, length, vec_len, IfOk, IfErr};
 ghost use Rattle.std.specs.String.{string_bytes};
 ghost use Rattle.ods_space.specs.Free.{free_blocks, free_numbers};
 ghost use Rattle.ods_share.specs.{Keeping.EachEnded, Scripts.CanBeRun, Settles.AreLengths, Settles.IsSettled};
 ghost use Rattle.ods_script.specs.Printing.{ArePrinted};
 ghost use Rattle.ods_cli.specs.Serve.{IsServedTo, IsServingFault, IsReportFault, totals_text};
-ghost use Rattle.ods_cli.specs.Printed.{calls_kept, printed_of};
+ghost use Rattle.ods_cli.specs.Printed.{calls_kept, printed_of, said_text};
 
 use crate::ServeFault;
 use crate::engine::Options;
 use ods_alloc::{free_count, number_count};
 use ods_mount::Mounted;
-use ods_script::{Printed, join_printed};
+use ods_script::Printed;
 use ods_share::{
     Call, Ended, Gate, Report, RunFault, Script, SettleFault, run_keeping, settle_mounted,
 };
@@ -24,8 +24,10 @@ use std::thread::Threads;
 #[derive(Drop)]
 pub(crate) struct Said {
     pub(crate) report: Report,
-    /// The replies of each session and the totals.
-    pub(crate) text: String,
+    /// What each session printed.
+    pub(crate) printed: Vec<Printed>,
+    /// How many entries the list has, and how many blocks and file numbers are free.
+    pub(crate) totals: String,
 }
 
 /// What came of the scripts.
@@ -44,18 +46,23 @@ pub(crate) fn unserved(
 ) -> Result<Said, AllocError>
     requires { length scripts.now ≡ 0 }
     ensures none { IfOk result (λ s. s.report.entries ≡ 0) }
-    ensures served { (stamp : List ℕ) → IfOk result (λ s. IsServedTo stamp scripts.now mounted.now.image mounted.now.image s.report (string_bytes s.text)) }
+    ensures served { (stamp : List ℕ) → IfOk result (λ s. IsServedTo stamp scripts.now mounted.now.image mounted.now.image s.report (said_text s)) }
+    ensures few { IfOk result (λ s. length s.printed.items ≤ 8) }
 {
-    let mut text = String::new(alloc);
     let disk = mounted.disk();
     let blocks = free_count(&disk);
     let numbers = number_count(&disk);
-    push_totals(&mut text, 0, blocks, numbers)?;
+    let totals = print_totals(alloc, 0, blocks, numbers)?;
     let report = Report {
         entries: 0,
         of_session: Vec::new(alloc),
     };
-    Ok(Said { report, text })
+    let printed = Vec::new(alloc);
+    Ok(Said {
+        report,
+        printed,
+        totals,
+    })
 }
 
 /// Runs the scripts on a sound image, and settles the volume's list with them.
@@ -72,7 +79,8 @@ pub(crate) fn serve_all<G: Gate + Sync, R: Threads + Wait + Sync>(
     requires some { 1 ≤ length scripts.now }
     requires few { length scripts.now ≤ 8 }
     requires can { All (λ s. CanBeRun s.commands.items) scripts.now }
-    ensures ok { IfOk result (λ s. IsServedTo options.stamp scripts.now mounted.image s.volume.image s.said.report (string_bytes s.said.text)) }
+    ensures ok { IfOk result (λ s. IsServedTo options.stamp scripts.now mounted.image s.volume.image s.said.report (said_text s.said)) }
+    ensures few { IfOk result (λ s. length s.said.printed.items ≤ 8) }
     ensures limit { IfOk result (λ s. s.said.report.entries ≤ options.limit) }
     ensures err { IfErr result (IsServingFault options.stamp scripts.now mounted.image options.limit) }
 {
@@ -86,7 +94,7 @@ pub(crate) fn serve_all<G: Gate + Sync, R: Threads + Wait + Sync>(
     }
 }
 
-/// The replies and the totals, where the volume's list is that of the sessions.
+/// What is said of the run, where the volume's list is that of the sessions.
 fn settled(
     alloc: Global,
     volume: Volume,
@@ -98,7 +106,8 @@ fn settled(
     requires few { length scripts.now ≤ 8 }
     requires count { vec_len ended ≡ length scripts.now }
     ensures ok { (stamp : List ℕ) → EachEnded ArePrinted volume.mounted stamp scripts.now ended.items →
-        IfOk result (λ s. IsServedTo stamp scripts.now volume.mounted s.volume.image s.said.report (string_bytes s.said.text)) }
+        IfOk result (λ s. IsServedTo stamp scripts.now volume.mounted s.volume.image s.said.report (said_text s.said)) }
+    ensures few { IfOk result (λ s. length s.said.printed.items ≤ 8) }
     ensures limit { IfOk result (λ s. s.said.report.entries ≤ limit) }
     ensures err { (stamp : List ℕ) → EachEnded ArePrinted volume.mounted stamp scripts.now ended.items →
         IfErr result (IsServingFault stamp scripts.now volume.mounted limit) }
@@ -106,19 +115,22 @@ fn settled(
     volume.is_lawful();
     let (calls, printed) = parted(alloc, ended)?;
     let report = report_of(alloc, &volume, calls, limit)?;
-    let mut text = join_printed(alloc, printed.as_slice())?;
-    push_totals(
-        &mut text,
+    let totals = print_totals(
+        alloc,
         volume.entries().len(),
         volume.free_count(),
         volume.number_count(),
     )?;
-    let said = Said { report, text };
+    let said = Said {
+        report,
+        printed,
+        totals,
+    };
     Ok(Served { volume, said })
 }
 
 /// The report, where the volume's list is these calls, and no longer than the limit, which no promise of a run says. The calls are let go
-/// then, so that the text of the replies can have their memory.
+/// then: nothing that is written stands on them.
 fn report_of(
     alloc: Global,
     volume: &Volume,
@@ -162,14 +174,16 @@ fn parted(
     Ok((calls, printed))
 }
 
-/// Appends the totals: how many entries the list has, and how many blocks and file numbers are free.
-fn push_totals(
-    text: &mut String,
+/// The totals: how many entries the list has, and how many blocks and file numbers are free.
+fn print_totals(
+    alloc: Global,
     entries: usize,
     blocks: u32,
     numbers: u32,
-) -> Result<(), AllocError>
-    ensures { OnOk result (string_bytes text.new ≡ string_bytes text.old ++ totals_text entries blocks numbers) }
+) -> Result<String, AllocError>
+    ensures { IfOk result (λ text. string_bytes text ≡ totals_text entries blocks numbers) }
 {
-    write!(text, "list {entries}\nfree {blocks}\nnumbers {numbers}\n")
+    let mut text = String::new(alloc);
+    write!(text, "list {entries}\nfree {blocks}\nnumbers {numbers}\n")?;
+    Ok(text)
 }

@@ -1,6 +1,5 @@
 -- What is printed of sessions that print their replies themselves.
-use Rattle.std.specs.Prelude.{◌≡◌, ℕ, ◌+◌, List, [], ◌∷◌, ◌++◌, length, codes}
-use Rattle.std.specs.Fmt.{decimal}
+use Rattle.std.specs.Prelude.{◌≡◌, List, length}
 use Rattle.std.specs.String.{string_bytes}
 use Rattle.ods_share.specs.declared.outcome.Reply.{Reply}
 use Rattle.ods_share.specs.declared.script.Command.{Command}
@@ -10,12 +9,3 @@ use Rattle.ods_script.specs.Texts.{replies_text}
 -- these are the replies to the commands, one for each, as they are printed
 abbrev pub ArePrinted : List Command → List Reply → Printed → Type 0
 ArePrinted cs rs p = (length rs ≡ length cs) × (string_bytes p.text ≡ replies_text cs rs)
-
--- session k, and what it printed
-abbrev pub printed_session : ℕ → Printed → List ℕ
-printed_session k p = codes "session " ++ decimal k ++ 10 ∷ string_bytes p.text
-
--- the sessions from session k on, in order
-abbrev pub printed_text : ℕ → List Printed → List ℕ
-printed_text k [] = []
-printed_text k (p ∷ ps) = printed_session k p ++ printed_text (k + 1) ps

@@ -19,6 +19,6 @@ mod verbs;
 
 pub use laws::{cuts_at_first, versions_are_versions};
 pub use lines::parse_line;
-pub use printed::{Printed, join_printed};
+pub use printed::Printed;
 pub use replies::{push_reply, sessions_text};
 pub use scripts::parse_script;

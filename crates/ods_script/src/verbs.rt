@@ -9,6 +9,7 @@ use crate::spelled::Spelled;
 use ods_base::{Block, Uic};
 use ods_share::{Action, Ask, Id, Look};
 use std::alloc::{AllocError, Global};
+use std::sync::Arc;
 
 /// The word that a command begins with.
 #[derive(Clone, Copy, Debug, PartialEq, Eq)]
@@ -133,14 +134,15 @@ pub(crate) fn read_behind(alloc: Global, verb: Verb, args: &[u8]) -> Result<Acti
     }
 }
 
-/// The WRITE that the words spell, with its block in a box. It stands by itself, so that no other command pays for a block.
+/// The WRITE that the words spell, with a block that can be shared. It stands by itself, so that no
+/// other command pays for a block.
 fn read_write(alloc: Global, args: &[u8]) -> Result<Action, AllocError>
     ensures { IfOk result (λ a. IsTheOne (Behind the_write args.now) (said a)) }
 {
     let Some((file, written)) = <(Id, (u32, Block))>::read(args) else {
         return Ok(Action::Bad);
     };
-    let Ok(block) = Box::new(alloc, written.1) else {
+    let Ok(block) = Arc::new(alloc, written.1) else {
         return Err(AllocError);
     };
     Ok(Action::Submit(Ask::Write {

@@ -6,3 +6,4 @@ pub mod Rooms
 pub mod Runs
 pub mod Settled
 pub mod Entering
+pub mod Submitted

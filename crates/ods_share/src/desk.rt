@@ -3,12 +3,12 @@
 ghost use Rattle.std.specs.Prelude.{◌≡◌, ◌<◌, ◌≤◌, All, length, vec_len, IfOk, IfErr, IsErr, OnErr, Err, Some, None};
 ghost use Rattle.ods_request.specs.{declared.refusals.Refusal.Refusal, Catalogue.Catalogue, Faults.fault_of, Lists.Begins};
 ghost use Rattle.ods_state.specs.{Version.IsPresent, Version.IsLawful, Wants.Lacks, Outcome.Accepts, Outcome.CanBeAsked, Outcome.IsLawfulPlan, Outcome.entry_of};
-ghost use Rattle.ods_share.specs.Desks.{IsDeskReason};
+ghost use Rattle.ods_share.specs.Desks.{IsDeskReason, IsSubmitted};
 ghost use Rattle.ods_views.specs.Viewers.{newly};
 
 use crate::storing::store;
 use ods_base::{NoMemory, Uic};
-use ods_request::{Answer, Refusal, Request};
+use ods_request::{Answer, CompactRequest, Refusal, Request};
 use ods_views::{
     Change, DeskWriter, Naming, Told, Viewer, add_change, entry_count, make_viewers, open_writer,
     publish_change,
@@ -123,6 +123,27 @@ impl<J: Naming> Desk<J> {
         match self.volume.prepare(session, nth, who, request) {
             Ok(prepared) => self.apply_and_show(rt, prepared),
             Err(refusal) => (Err(refusal), self.tell()),
+        }
+    }
+
+    /// Makes a request as [`Desk::submit`] does. The list shares a Write's block with the request that
+    /// is given.
+    pub fn submit_shared<R: Wait>(
+        &mut self,
+        rt: &R,
+        session: u16,
+        nth: u32,
+        who: Uic,
+        request: &CompactRequest,
+    ) -> (Result<Answer, Refusal>, Told<J>)
+        requires { CanBeAsked request.now }
+        ensures submitted { IsSubmitted self.old session nth who request.now result.0 self.new }
+        ensures told { result.1 ≡ self.new.entries }
+        ensures grown { Begins self.old.entries result.1 }
+    {
+        match self.volume.prepare_shared(session, nth, who, request) {
+            Ok(planned) => self.apply_and_show(rt, planned),
+            Err(fault) => (Err(fault), self.tell()),
         }
     }
 

@@ -1,5 +1,7 @@
 //! Scripts as values: what the lines of a session's script command.
 use ods_base::{Block, FileId, Name, Pick, Uic};
+use std::alloc::Global;
+use std::sync::Arc;
 
 /// A file in a command: its ID, or `$`, which stands for the ID that the session was last answered by a Create, a LookUp or a Remove.
 #[derive(Clone, Copy, PartialEq, Eq, Debug)]
@@ -52,8 +54,9 @@ pub enum Ask {
     Write {
         file: Id,
         vbn: u32,
-        /// In a box, so that other commands stay small.
-        block: Box<Block>,
+        /// Shared with the list and the call that come of the command, so that it stands once. Other
+        /// commands stay small.
+        block: Arc<Block, Global>,
     },
     List {
         dir: Id,

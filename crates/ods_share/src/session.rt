@@ -11,7 +11,7 @@ use crate::keeping::{Ended, Keep, reserve};
 use crate::outcome::{Call, Reply};
 use crate::script::{Action, Command};
 use ods_base::{FileId, Uic};
-use ods_request::{CompactAnswer, CompactRequest, Query, Request, Stamp};
+use ods_request::{CompactAnswer, CompactRequest, Query, Stamp};
 use ods_views::{Naming, ViewFault, Viewer};
 use std::alloc::{AllocError, Global};
 use std::hint::spin_loop;
@@ -45,31 +45,32 @@ impl<J: Naming, G: Gate, R: Wait> Session<'_, J, G, R> {
         &self,
         nth: u32,
         who: Uic,
-        request: &Request,
+        request: CompactRequest,
         calls: &mut Vec<Call>,
     ) -> Result<Reply, AllocError>
-        requires can { CanBeAsked request.now }
+        requires can { CanBeAsked request }
         requires room { length calls.old.items < vec_capacity calls.old }
-        ensures tells { IfOk result (λ r. IsReply J.mounted nth who request.now r calls.old.items calls.new.items) }
+        ensures tells { IfOk result (λ r. IsReply J.mounted nth who request r calls.old.items calls.new.items) }
         ensures few { IfOk result (λ _. length calls.new.items ≤ length calls.old.items + 1) }
         ensures capacity { vec_capacity calls.new ≡ vec_capacity calls.old }
     {
         let mut guard = take(self.rt, self.desk);
         self.gate.held(self.number, nth);
         guard.is_of_its_name();
-        let (result, _told) = guard.submit(self.rt, self.number, nth, who, *request);
+        let (result, _told) = guard.submit_shared(self.rt, self.number, nth, who, &request);
         MutexGuard::unlock(guard);
         match result {
             Ok(answer) => {
                 // The call and the reply both keep the answer.
-                let compact = CompactAnswer::of(self.alloc, answer.copy()?)?;
+                let answer = CompactAnswer::of(self.alloc, answer)?;
+                let replied = answer.copy(self.alloc)?;
                 calls.push_reserved(Call {
                     nth,
                     who,
-                    request: CompactRequest::of(self.alloc, request)?,
-                    answer: CompactAnswer::of(self.alloc, answer)?,
+                    request,
+                    answer,
                 });
-                Ok(Reply::Got(compact))
+                Ok(Reply::Got(replied))
             }
             Err(refusal) => Ok(Reply::No(refusal)),
         }
@@ -95,10 +96,10 @@ impl<J: Naming, G: Gate, R: Wait> Session<'_, J, G, R> {
                 Ok(Reply::User)
             }
             Action::Submit(ask) => {
-                let meant = request_for(self.stamp, context.last, ask);
-                let Some(request) = &meant else {
+                let Some(meant) = request_for(self.stamp, context.last, ask) else {
                     return Ok(Reply::Bad);
                 };
+                let request = meant?;
                 let reply = self.submit(command.nth, context.who, request, calls)?;
                 if let Reply::Got(answer) = &reply {
                     context.last = last_from(context.last, answer);
@@ -140,9 +141,9 @@ impl<J: Naming, G: Gate, R: Wait> Session<'_, J, G, R> {
         Ok(())
     }
 
-    /// Obeys a script, from its first command on, as user [1,1], with a viewer of its own. The list of calls gets all its room before; what
-    /// may want memory afterwards is what the desk takes, the copy of a directory's names, the boxes of long answers and of Writes, and what
-    /// is kept of the replies.
+    /// Obeys a script, from its first command on, as user [1,1], with a viewer of its own. The list of
+    /// calls gets all its room before; what may want memory afterwards is what the desk takes, the copy
+    /// of a directory's names, the boxes of long answers, and what is kept of the replies.
     pub(crate) fn sit<K: Keep>(
         &self,
         viewer: Viewer<J>,

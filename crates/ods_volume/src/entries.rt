@@ -262,12 +262,12 @@ impl Entries {
         }
     }
 
-    /// The entry, in memory of its own.
+    /// The entry, in memory of its own, but for the block of a Write, which is shared.
     pub fn copy(&self, at: usize) -> Result<Entry, AllocError>
         requires { at < length self.now.items }
         ensures { (e : Entry) → IfOk result (λ copy. copy ≡ slice_index_or self.now.items at e) }
     {
-        let request = CompactRequest::of(self.allocator(), &self.request(at).get())?;
+        let request = self.request(at).share()?;
         let answer = self.copy_answer(at)?;
         Ok(Entry {
             session: self.session(at),

@@ -1,5 +1,5 @@
 //! A request that is accepted, before its change is made.
-ghost use Rattle.std.specs.Prelude.{◌≡◌, IfOk, OnErr, true};
+ghost use Rattle.std.specs.Prelude.{◌≡◌, IfSome, IfOk, OnErr, true};
 ghost use Rattle.ods_request.specs.{Lines.HasLines, Table.takes_memory};
 ghost use Rattle.ods_volume.specs.Kept.{AreLinesOf};
 
@@ -49,12 +49,21 @@ pub(crate) fn lines_of(answer: &Answer) -> Result<Option<Listing>, AllocError>
     }
 }
 
-/// The request as the list keeps it. Only a Write takes memory for that.
-pub(crate) fn kept(alloc: Global, request: &Request) -> Result<CompactRequest, AllocError>
+/// The request as the list keeps it: a share of the form that is given, where one is. Only a Write
+/// takes memory for that, or gives its block one owner more.
+pub(crate) fn kept(
+    alloc: Global,
+    request: &Request,
+    shared: Option<&CompactRequest>,
+) -> Result<CompactRequest, AllocError>
+    requires { IfSome shared (λ s. s.now ≡ request.now) }
     ensures ok { IfOk result (λ kept. kept ≡ request.now) }
     ensures err { OnErr result (takes_memory request.now ≡ true) }
 {
-    CompactRequest::of(alloc, request)
+    match shared {
+        Some(shared) => shared.share(),
+        None => CompactRequest::of(alloc, request),
+    }
 }
 
 impl Prepared {

@@ -1,13 +1,13 @@
 //! What a request would do, with all the memory that it takes. Here alone the calls of the layers below are made that answer a
 //! request or draft its change.
-ghost use Rattle.std.specs.Prelude.{◌≡◌, ◌≢◌, ◌<◌, false, true, length, MatchResult, IfOk, IfErr, OnErr, IsErr, Some};
+ghost use Rattle.std.specs.Prelude.{◌≡◌, ◌≢◌, ◌<◌, false, true, length, MatchResult, IfOk, IfErr, IfSome, OnErr, IsErr, Some};
 ghost use Rattle.ods_alloc.specs.Counts.{AreCountsAfter, counts_of};
 ghost use Rattle.ods_space.specs.{Draft.applied, Layout.VolumeLayout};
 ghost use Rattle.ods_mount.specs.Sound.{IsSoundBy};
 ghost use Rattle.ods_request.specs.{declared.refusals.Refusal.Refusal, declared.requests.Request.TheVariants.List as Lines, Catalogue.Catalogue, Faults.fault_of, Queries.request_of, Table.only_looks, Table.takes_memory};
 ghost use Rattle.ods_state.specs.{Version.IsPresent, Wants.Lacks, Served.IsStepOf, Served.IsRefusalOf, Ends.IsKnownIn, Outcome.CanBeAsked, Outcome.IsReason, Outcome.IsLawfulPlan, Outcome.entry_of};
 ghost use Rattle.ods_change.specs.Steps.{IsDraftFor, IsKnownThen};
-ghost use Rattle.ods_volume.specs.Made.{answer_of, end_of};
+ghost use Rattle.ods_volume.specs.{Made.answer_of, Made.end_of, Preparing.IsPrepared};
 ghost use Rattle.ods_space.specs.Disks.{on, seen};
 
 use crate::planned::{Prepared, kept, lines_of};
@@ -16,7 +16,7 @@ use ods_alloc::FreeCounts;
 use ods_base::{FileId, Uic};
 use ods_change::{Drafted, create, delete, enter, extend, remove, set_user, truncate, write};
 use ods_look::{list, look_into};
-use ods_request::{Answer, Entry, Query, Refusal, Request};
+use ods_request::{Answer, CompactRequest, Entry, Query, Refusal, Request};
 use ods_space::{Disk, Draft};
 use ods_state::KnownEnd;
 use std::alloc::{AllocError, Global};
@@ -66,12 +66,15 @@ fn list_only(
     }
 }
 
-/// What a change is answered; of an Extend, where the chain of its file ends then, with the count of its blocks. No such answer has a block or lines, so this is small and cheap to hand on.
+/// What a change is answered; of an Extend, where the chain of its file ends then, with the count of
+/// its blocks. A Write stands apart from what else is done, since it changes no chain. No such answer
+/// has a block or lines, so this is small and cheap to hand on.
 #[derive(Clone, Copy)]
 pub(crate) enum Made {
     Created(FileId),
     Extended(KnownEnd),
     Truncated(u32),
+    Written,
     Done,
     Entered(u16),
     Removed(FileId, u16),
@@ -85,18 +88,20 @@ fn put_answer(answer: &mut Answer, made: Made)
         Made::Created(file) => *answer = Answer::Created(file),
         Made::Extended(end) => *answer = Answer::Extended(end.blocks),
         Made::Truncated(count) => *answer = Answer::Truncated(count),
-        Made::Done => *answer = Answer::Done,
+        Made::Written | Made::Done => *answer = Answer::Done,
         Made::Entered(version) => *answer = Answer::Entered(version),
         Made::Removed(file, version) => *answer = Answer::Removed(file, version),
     }
 }
 
-/// What is noted after a change of where a file's chain ends. What was noted before need not be true any more.
-fn end_of(made: &Made) -> Option<KnownEnd>
-    ensures { result ≡ end_of made.now }
+/// What is noted after a change of where a file's chain ends. A Write changes no chain, so what was
+/// noted before stays; after the others it need not be true any more.
+fn end_of(known: &Option<KnownEnd>, made: &Made) -> Option<KnownEnd>
+    ensures { result ≡ end_of known.now made.now }
 {
     match made {
         Made::Extended(end) => Some(*end),
+        Made::Written => *known,
         _ => None,
     }
 }
@@ -115,7 +120,8 @@ fn change(
     requires sound { on IsSoundBy disk.now }
     requires counts { counts.now ≡ seen counts_of disk.now }
     requires known { on IsKnownIn disk.now known.now }
-    ensures end { IfOk result (λ p. IsKnownThen disk.now p.1.draft p.1.places.items (end_of p.0)) }
+    ensures end { IfOk result
+        (λ p. IsKnownThen disk.now p.1.draft p.1.places.items (end_of known.now p.0)) }
     ensures step { MatchResult result (λ p. IsDraftFor disk.now who request.now (answer_of p.0) p.1.draft p.1.places.items)
         (on IsRefusalOf disk.now who request.now) }
 {
@@ -156,7 +162,7 @@ fn change(
         },
         Request::Write { file, vbn, block } => {
             match write(alloc, disk, who, *file, *vbn, block) {
-                Ok(draft) => Ok((Made::Done, Drafted::still(alloc, draft))),
+                Ok(draft) => Ok((Made::Written, Drafted::still(alloc, draft))),
                 Err(refusal) => Err(refusal),
             }
         }
@@ -206,7 +212,7 @@ fn carry_out(
     }
     match change(alloc, disk, counts, who, request, known) {
         Ok((made, drafted)) => {
-            let end = end_of(&made);
+            let end = end_of(known, &made);
             put_answer(answer, made);
             Ok((drafted, end))
         }
@@ -256,6 +262,38 @@ impl Volume {
         // LookUp, Read and Stat are never refused for want of memory.
         ensures memory { takes_memory request ≡ false → result ≢ Err Refusal.NoMemory }
     {
+        self.plan(session, nth, who, &request, None)
+    }
+
+    /// What a request would do, as [`Volume::prepare`] says. The list is to share a Write's block with
+    /// the request that is given.
+    pub fn prepare_shared(
+        &self,
+        session: u16,
+        nth: u32,
+        who: Uic,
+        request: &CompactRequest,
+    ) -> Result<Prepared, Refusal>
+        // A version that is given is 1 to 32,767.
+        requires { CanBeAsked request.now }
+        ensures { IsPrepared self.now session nth who request.now result }
+    {
+        self.plan(session, nth, who, &request.get(), Some(request))
+    }
+
+    /// What a request would do. The list is to get a share of its other form, where that is given.
+    fn plan(
+        &self,
+        session: u16,
+        nth: u32,
+        who: Uic,
+        request: &Request,
+        shared: Option<&CompactRequest>,
+    ) -> Result<Prepared, Refusal>
+        requires asked { CanBeAsked request.now }
+        requires same { IfSome shared (λ s. s.now ≡ request.now) }
+        ensures { IsPrepared self.now session nth who request.now result }
+    {
         if self.entries.len() >= self.limit as usize {
             return Err(Refusal::ListFull);
         }
@@ -270,20 +308,20 @@ impl Volume {
             &disk,
             &self.counts,
             who,
-            &request,
+            request,
             &self.end,
             &mut answer,
         ) {
             Ok(carried) => carried,
             Err(refusal) => return Err(refusal),
         };
-        let Ok(counts) = counts_after(&self.counts, &disk, &request, &drafted.draft) else {
+        let Ok(counts) = counts_after(&self.counts, &disk, request, &drafted.draft) else {
             return Err(Refusal::NoMemory);
         };
         let Ok(lines) = lines_of(&answer) else {
             return Err(Refusal::NoMemory);
         };
-        let Ok(kept) = kept(alloc, &request) else {
+        let Ok(kept) = kept(alloc, request, shared) else {
             return Err(Refusal::NoMemory);
         };
         Ok(Prepared {

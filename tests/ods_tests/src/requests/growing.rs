@@ -201,6 +201,45 @@ fn extension_headers_are_given_back(rt: HostRuntime) -> Result<(), Fail> {
     gives_back(&rt, rt.alloc(), &mut two_in_turn(&rt, rt.alloc())?)
 }
 
+/// FIRST gets a block more, so that it has so many, and it is written; so is the block of SECOND.
+fn append_block(rt: &impl Abort, it: &mut Trial, blocks: u32) -> Result<(), Fail> {
+    let grown = Ok(Answer::Extended(blocks));
+    ask_quickly(rt, it, USER, &extend(FIRST, 1), &grown)?;
+    ask_quickly(rt, it, USER, &write_a(FIRST, blocks), &Ok(Answer::Done))?;
+    ask_quickly(rt, it, USER, &write_a(SECOND, 1), &Ok(Answer::Done))
+}
+
+/// P.DAT has 104 blocks in two headers, and both files have what was written.
+fn is_appended(rt: &impl Abort, alloc: Global, it: &mut Trial) -> Result<(), Fail> {
+    same_catalogue(rt, alloc, it)?;
+    has_totals(rt, it, (314, 385, 8));
+    let rows = [
+        (read(FIRST, 1), bytes(letter_a())),
+        (read(FIRST, 104), bytes(letter_a())),
+        (read(SECOND, 1), bytes(letter_a())),
+    ];
+    plays(rt, alloc, it, &rows)?;
+    let first = header_of(it.volume.image(), 6)?;
+    assert!(rt; first.next == id(8, 1) && first.runs().len() == 102);
+    let second = header_of(it.volume.image(), 8)?;
+    assert!(rt; second.next == id(0, 0) && second.runs().len() == 2);
+    Ok(())
+}
+
+/// A file grows by a block at a time, and is written between: no Write moves where its chain ends.
+#[test]
+fn blocks_are_appended_and_written(rt: HostRuntime) -> Result<(), Fail> {
+    let rows = [
+        (create(&rt, dat(b'P'), 0), made(6, 1)),
+        (create(&rt, dat(b'Q'), 1), made(7, 1)),
+    ];
+    let mut it = played(&rt, rt.alloc(), 512, &rows)?;
+    for blocks in 1..105 {
+        append_block(&rt, &mut it, blocks)?;
+    }
+    is_appended(&rt, rt.alloc(), &mut it)
+}
+
 /// What is shown of C.DAT when it has two blocks: it is contiguous no more.
 fn grown_stat(attributes: [u8; 32]) -> Stat {
     let mut stat = contiguous_stat(attributes);

@@ -5,8 +5,9 @@ use crate::persons::{
     FIRST, MASTER, SECOND, a_txt, b_txt, index_stat, letter_a, other_attributes, reserved_lines,
 };
 use ods_base::Pick;
-use ods_request::{Answer, CompactAnswer, CompactRequest, Request};
+use ods_request::{Answer, CompactAnswer, CompactRequest, Request, RequestForm};
 use std::alloc::Global;
+use std::sync::Arc;
 use std::test::Fail;
 
 /// How many of the answers take no memory where they are kept in little room.
@@ -40,6 +41,7 @@ fn compact_answers_are_their_answers(rt: HostRuntime) -> Result<(), Fail> {
             assert!(rt; SHORT <= k, "{answer:?} wanted memory");
             return Err("memory for a long answer".into());
         };
+        assert!(rt; compact.copy(alloc)? == compact, "{answer:?}");
         for (j, other) in answers.iter().enumerate() {
             let is_same = compact == CompactAnswer::of(alloc, other.copy()?)?;
             assert!(rt;
@@ -107,6 +109,7 @@ fn compact_requests_are_their_requests(rt: HostRuntime) -> Result<(), Fail> {
     for (k, request) in requests.iter().enumerate() {
         let compact = CompactRequest::of(alloc, request)?;
         assert!(rt; compact.get() == *request, "{request:?}");
+        assert!(rt; compact.share()? == compact, "{request:?}");
         for (j, other) in requests.iter().enumerate() {
             let is_same = compact == CompactRequest::of(alloc, other)?;
             assert!(rt;
@@ -115,5 +118,28 @@ fn compact_requests_are_their_requests(rt: HostRuntime) -> Result<(), Fail> {
             );
         }
     }
+    Ok(())
+}
+
+#[test]
+fn shared_write_outlives_what_it_is_shared_with(rt: HostRuntime) -> Result<(), Fail> {
+    let alloc = rt.alloc();
+    let block = Arc::new(alloc, letter_a())?;
+    let first = CompactRequest::new(RequestForm::Write {
+        file: FIRST,
+        vbn: 1,
+        block: Arc::try_clone(&block)?,
+    });
+    let second = first.share()?;
+    assert!(rt; Arc::strong_count(&block) == 3);
+    drop(first);
+    assert!(rt; Arc::strong_count(&block) == 2);
+    drop(block);
+    let written = Request::Write {
+        file: FIRST,
+        vbn: 1,
+        block: letter_a(),
+    };
+    assert!(rt; second.is(&written));
     Ok(())
 }

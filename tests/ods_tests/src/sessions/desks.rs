@@ -2,7 +2,7 @@
 ghost use Rattle.std.specs.Prelude.{◌≡◌, []};
 ghost use Rattle.ods_state.specs.Outcome.{CanBeAsked};
 
-use super::requests::block_viewed;
+use super::requests::{block_viewed, block_written};
 use super::runs::{two_file_volume, two_files, volume_of};
 use crate::persons::{FIRST, NONE, USER};
 use ods_base::FileId;
@@ -73,6 +73,62 @@ fn desk_tells_how_long_its_list_is(rt: HostRuntime) -> Result<(), Fail> {
     let volume = two_file_volume(&rt, alloc, 4_096)?;
     let volume = tells::<Brand, _>(&rt, alloc, volume)?;
     assert!(rt; volume.entries().len() == 1);
+    Ok(())
+}
+
+/// Makes a Write and a Read of session 1, of which the list keeps a share, and a Write that is refused.
+fn shares<J: Naming, R: Abort + Wait>(rt: &R, alloc: Global, volume: Volume) -> Result<Volume, Fail>
+    requires mounted { volume.mounted ≡ J.mounted }
+    requires opening { volume.entries ≡ J.opening }
+{
+    let written = CompactRequest::of(alloc, &block_written(1))?;
+    let read = CompactRequest::of(alloc, &first_block(FIRST))?;
+    let refused = CompactRequest::of(alloc, &block_written(70_000))?;
+    let Ok((mut desk, _)) = Desk::<J>::new(rt, alloc, volume, 1) else {
+        return Err("memory for a desk".into());
+    };
+    let (result, told) = desk.submit_shared(rt, 1, 1, USER, &written);
+    assert!(rt;
+        result == Ok(Answer::Done) && told.entries() == 1,
+        "{result:?}"
+    );
+    let (result, told) = desk.submit_shared(rt, 1, 2, USER, &read);
+    assert!(rt; matches!(result, Ok(Answer::Bytes(_))) && told.entries() == 2);
+    let (result, told) = desk.submit_shared(rt, 1, 3, USER, &refused);
+    assert!(rt;
+        result == Err(Refusal::NoSuchBlock) && told.entries() == 2,
+        "{result:?}"
+    );
+    let entries = desk.volume().entries();
+    assert!(rt; *entries.request(0) == written && *entries.request(1) == read);
+    Ok(desk.close(rt))
+}
+
+#[test]
+fn list_shares_the_requests_of_its_callers(rt: HostRuntime) -> Result<(), Fail> {
+    let alloc = rt.alloc();
+    let volume = two_file_volume(&rt, alloc, 4_096)?;
+    let volume = shares::<Brand, _>(&rt, alloc, volume)?;
+    assert!(rt; volume.entries().request(0).is(&block_written(1)));
+    Ok(())
+}
+
+/// A Write that is prepared as a share is done as it would be by itself, and a full list is refused first.
+#[test]
+fn volume_shares_a_write_that_it_prepared(rt: HostRuntime) -> Result<(), Fail> {
+    let alloc = rt.alloc();
+    let mut volume = two_file_volume(&rt, alloc, 1)?;
+    let written = CompactRequest::of(alloc, &block_written(1))?;
+    let Ok(prepared) = volume.prepare_shared(1, 1, USER, &written) else {
+        return Err("a write that is accepted".into());
+    };
+    assert!(rt; volume.entries().is_empty());
+    assert!(rt; volume.apply(prepared) == Answer::Done);
+    drop(written);
+    assert!(rt; volume.entries().request(0).is(&block_written(1)));
+    let refused = CompactRequest::of(alloc, &block_written(70_000))?;
+    let planned = volume.prepare_shared(1, 2, USER, &refused);
+    assert!(rt; matches!(planned, Err(Refusal::ListFull)));
     Ok(())
 }
 

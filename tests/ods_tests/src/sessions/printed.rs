@@ -1,6 +1,6 @@
 //! Replies that sessions print as they give them, beside those that are printed behind a run.
 use super::runs::{Open, Ran, stamp, two_file_volume, two_ran, two_scripts};
-use ods_script::{Printed, join_printed, sessions_text};
+use ods_script::{Printed, sessions_text};
 use ods_share::{Ended, Outcome, Reply, run_keeping};
 use std::alloc::{AllocError, Global};
 use std::test::Fail;
@@ -14,13 +14,16 @@ fn replies_of(alloc: Global, outcomes: Vec<Outcome>) -> Result<Vec<Vec<Reply>>, 
     Ok(all)
 }
 
-/// What each session printed.
-fn printed_of(alloc: Global, ended: Vec<Ended<Printed>>) -> Result<Vec<Printed>, AllocError> {
-    let mut all = Vec::new(alloc);
+/// What the sessions printed, each behind its line.
+fn printed_text(alloc: Global, ended: Vec<Ended<Printed>>) -> Result<String, AllocError> {
+    let mut text = String::new(alloc);
+    let mut number: u16 = 1;
     for one in ended {
-        all.push(one.kept)?;
+        write!(text, "session {number}\n")?;
+        text.push_str(one.kept.text.as_str())?;
+        number += 1;
     }
-    Ok(all)
+    Ok(text)
 }
 
 #[test]
@@ -42,7 +45,7 @@ fn printed_at_once_or_behind_the_run(rt: HostRuntime) -> Result<(), Fail> {
         return Err("threads, and memory".into());
     };
     assert_eq!(rt; volume.entries().len(), 5);
-    let at_once = join_printed(alloc, &printed_of(alloc, ended)?)?;
+    let at_once = printed_text(alloc, ended)?;
     assert!(rt; at_once.as_str() == behind.as_str());
     assert!(rt; behind.as_str().starts_with("session 1\n"));
     Ok(())

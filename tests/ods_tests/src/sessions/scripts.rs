@@ -7,6 +7,7 @@ use crate::persons::MASTER;
 use ods_base::{Block, FileId, Name, Pick};
 use ods_share::{Action, Ask, Command, Id, Script};
 use std::alloc::{AllocError, Global};
+use std::sync::Arc;
 use std::test::Fail;
 
 /// A script with no command.
@@ -72,7 +73,7 @@ pub fn write(alloc: Global, file: FileId, vbn: u32, block: Block) -> Result<Acti
     ensures { IfOk result CanBeObeyed }
 {
     let file = Id::Given(file);
-    let block = Box::new(alloc, block)?;
+    let block = Arc::new(alloc, block)?;
     Ok(Action::Submit(Ask::Write { file, vbn, block }))
 }
 
@@ -175,6 +176,6 @@ pub fn write_last(alloc: Global, vbn: u32, block: Block) -> Result<Action, Alloc
     ensures { IfOk result CanBeObeyed }
 {
     let file = Id::Last;
-    let block = Box::new(alloc, block)?;
+    let block = Arc::new(alloc, block)?;
     Ok(Action::Submit(Ask::Write { file, vbn, block }))
 }

@@ -1,22 +1,17 @@
-use Rattle.std.proofs.Common.{◌≡◌, true, false, refl}
-use Rattle.std.specs.Prelude.{is_err}
-use Rattle.std.specs.String.{string_bytes}
-use Rattle.ods_cli.proofs.Serving.{cut_text, untouched, whole_text}
+use Rattle.std.proofs.Common.{refl}
+use Rattle.std.proofs.lemmas.Result.{err_from_is_err_and}
+use Rattle.ods_cli.specs.Printed.{said_text}
+use Rattle.ods_cli.specs.Serve.{wrote}
+use Rattle.ods_cli.proofs.Serving.{cut_short, untouched}
 use Rattle.ods_cli.proofs.engine.deliver.Goals as goal
 
-pub returns-then-is_err-clause-ends : goal.returns-then-is_err-clause-ends
-returns-then-is_err-clause-ends g c =
-    let e : is_err c.write_bytes.result ≡ true = cc in (
-      cut_text c.write_bytes.result (g.W.Write.contents c.args.replies.now) (g.W.Write.contents c.write_bytes.new.writer) c.as_bytes.result.now (string_bytes c.args.said.text)
-          c.as_bytes.ensures.value e c.write_bytes.ensures.err,
-      untouched g.O.Write.contents c.args.out.now,
-    )
+pub returns-in_err-write_said-clause-ends : goal.returns-in_err-write_said-clause-ends
+returns-in_err-write_said-clause-ends g c =
+    let contents = g.W.Write.contents in
+    let p = err_from_is_err_and c.from_residual.result c.from_residual.ensures.1 in
+    rw (p.1, p.2)
+    (cut_short c.args.said.report (said_text c.args.said) c.args.image.now (record { old = contents c.args.replies.now; new = contents c.write_said.new.writer })
+    (wrote g.O.Write.contents c.args.out.now c.args.out.now) c.in_err-write_said.field-0.0 c.in_err-write_said.ensures.err (untouched g.O.Write.contents c.args.out.now))
 
 pub returns-clause-ends : goal.returns-clause-ends
-returns-clause-ends g c =
-    let e : is_err c.write_bytes.result ≡ false = cc in (
-      refl,
-      whole_text c.write_bytes.result (g.W.Write.contents c.args.replies.now) (g.W.Write.contents c.write_bytes.new.writer) c.as_bytes.result.now (string_bytes c.args.said.text)
-          c.as_bytes.ensures.value e c.write_bytes.ensures.ok,
-      c.in_ok-write_image.ensures.ok,
-    )
+returns-clause-ends g c = (refl, c.in_ok-write_said.ensures.ok, c.in_ok-write_image.ensures.ok)

@@ -1,5 +1,6 @@
 use Rattle.std.specs.String.{string_bytes}
 use Rattle.std.proofs.lemmas.Result.{err_from_is_err_and}
+use Rattle.ods_cli.specs.Printed.{said_text}
 use Rattle.ods_cli.specs.Serve.{wrote}
 use Rattle.ods_cli.specs.declared.fault.ServeFault.TheVariants.{NoMemory}
 use Rattle.ods_cli.proofs.Serving.{delivered, failed, turned_away, untouched, within}
@@ -24,7 +25,7 @@ returns-then-is_empty-clause-ends g c =
       told.1,
       delivered c.args.options.stamp c.args.scripts.now c.args.options.limit told.0 (g.I.Read.remaining c.sound_image.new.reader)
           (record { old = g.W.Write.contents c.args.replies.now; new = g.W.Write.contents c.deliver.new.replies }) (wrote g.O.Write.contents c.args.out.now c.deliver.new.out)
-          c.in-Ok.mounted.image c.in-Ok.mounted.image said.report (string_bytes said.text) c.deliver.result told.2 (c.in_ok-said-in-Ok.ensures.served c.args.options.stamp)
+          c.in-Ok.mounted.image c.in-Ok.mounted.image said.report (said_text said) c.deliver.result told.2 (c.in_ok-said-in-Ok.ensures.served c.args.options.stamp)
           (rw c.image.ensures.value at c.deliver.ensures.ends),
     )
 
@@ -48,7 +49,7 @@ returns-in_ok-served-in-Ok-clause-ends g c =
       told.1,
       delivered c.args.options.stamp c.args.scripts.now c.args.options.limit told.0 (g.I.Read.remaining c.sound_image.new.reader)
           (record { old = g.W.Write.contents c.args.replies.now; new = g.W.Write.contents c.deliver-in-Ok.new.replies }) (wrote g.O.Write.contents c.args.out.now c.deliver-in-Ok.new.out)
-          c.in-Ok.mounted.image served.volume.image served.said.report (string_bytes served.said.text) c.deliver-in-Ok.result told.2 c.in_ok-served-in-Ok.ensures.ok
+          c.in-Ok.mounted.image served.volume.image served.said.report (said_text served.said) c.deliver-in-Ok.result told.2 c.in_ok-served-in-Ok.ensures.ok
           (rw c.image-in-Ok.ensures.value at c.deliver-in-Ok.ensures.ends),
     )
 

@@ -1,6 +1,8 @@
-use Rattle.std.proofs.Common.{◌≡◌, refl, length}
+use Rattle.std.proofs.Common.{◌≡◌, ◌∙◌, List, ◌++◌, ap, refl, length}
 use Rattle.std.specs.String.{string_bytes}
 use Rattle.ods_space.specs.Free.{free_blocks, free_numbers}
+use Rattle.ods_script.specs.declared.printed.Printed.{Printed}
+use Rattle.ods_cli.specs.Printed.{printed_text}
 use Rattle.ods_cli.proofs.Serving.{unserved_to}
 use Rattle.ods_cli.proofs.sessions.unserved.Goals as goal
 
@@ -10,6 +12,9 @@ returns-clause-served c = λ stamp.
     rw (c.disk-disk.ensures.image, c.disk-disk.ensures.layout) at c.free_count-blocks.ensures in
     let numbers : c.number_count-numbers.result ≡ length (free_numbers c.args.mounted.now.image c.args.mounted.now.layout) =
     rw (c.disk-disk.ensures.image, c.disk-disk.ensures.layout) at c.number_count-numbers.ensures in
+    let text : printed_text 1 c.new-printed.result.items ++ string_bytes c.in_ok-totals.totals ≡ string_bytes c.in_ok-totals.totals =
+    ap (λ (ps : List Printed). printed_text 1 ps ++ string_bytes c.in_ok-totals.totals) c.new-printed.ensures.items in
     unserved_to stamp c.args.scripts.now c.args.mounted.now.image c.args.mounted.now.layout (record { entries = 0; of_session = c.new.result })
-    (string_bytes c.push_totals.new.text) c.requires (rw (c.disk-disk.ensures.image, c.disk-disk.ensures.layout) at c.disk-disk.ensures.sound) refl c.new.ensures.items
-    (rw (c.new-text.ensures.bytes, blocks, numbers) at c.in_ok-push_totals.ensures)
+    (printed_text 1 c.new-printed.result.items ++ string_bytes c.in_ok-totals.totals) c.requires
+    (rw (c.disk-disk.ensures.image, c.disk-disk.ensures.layout) at c.disk-disk.ensures.sound) refl c.new.ensures.items
+    (text ∙ rw (blocks, numbers) at c.in_ok-totals.ensures)

@@ -1,4 +1,7 @@
-use Rattle.std.proofs.Common.{subst}
+use Rattle.std.proofs.Common.{[], sym, subst}
+use Rattle.ods_space.specs.Draft.{applied}
+use Rattle.ods_space.specs.Layout.{with_places}
+use Rattle.ods_state.specs.Ends.{IsKnownIn}
 use Rattle.ods_state.specs.Outcome.{CanBeAsked}
 use Rattle.ods_change.proofs.StillLayout.{step_still}
 use Rattle.ods_volume.proofs.Arms.{no_other, refused_as, step_as}
@@ -10,10 +13,19 @@ unreachable-requires c =
     c.in_default.not-Write c.in_default.not-SetUser c.in_default.not-Remove
 
 pub returns-in-Ok-write-clause-step : goal.returns-in-Ok-write-clause-step
-returns-in-Ok-write-clause-step c = step_as c.in-Write.is (step_still c.still-in-Ok-write.result c.still-in-Ok-write.ensures.draft c.still-in-Ok-write.ensures.places c.in-Ok-write.ensures)
+returns-in-Ok-write-clause-step c = step_as c.in-Write.is (step_still c.still-in-Ok-write.result c.still-in-Ok-write.ensures.draft c.still-in-Ok-write.ensures.places c.in-Ok-write.ensures.step)
+
+-- what was noted is true still
+pub returns-in-Ok-write-clause-end : goal.returns-in-Ok-write-clause-end
+returns-in-Ok-write-clause-end c =
+    let I = c.args.disk.now.image.now in
+    let L = c.args.disk.now.layout.now in
+    let end = c.args.known.now in
+    subst (λ l. IsKnownIn (applied I c.still-in-Ok-write.result.draft) (with_places L l) end) (sym c.still-in-Ok-write.ensures.places)
+    (subst (λ d. IsKnownIn (applied I d) (with_places L []) end) (sym c.still-in-Ok-write.ensures.draft) (c.in-Ok-write.ensures.known end c.requires.known))
 
 pub returns-in-Err-write-clause-step : goal.returns-in-Err-write-clause-step
-returns-in-Err-write-clause-step c = refused_as c.args.who c.in-Err-write.refusal c.in-Write.is c.in-Err-write.ensures
+returns-in-Err-write-clause-step c = refused_as c.args.who c.in-Err-write.refusal c.in-Write.is c.in-Err-write.ensures.step
 
 pub returns-in-Ok-set_user-clause-step : goal.returns-in-Ok-set_user-clause-step
 returns-in-Ok-set_user-clause-step c = step_as c.in-SetUser.is (step_still c.still-in-Ok-set_user.result c.still-in-Ok-set_user.ensures.draft c.still-in-Ok-set_user.ensures.places c.in-Ok-set_user.ensures)
