@@ -1,0 +1,8 @@
+"""That the rows of this folder run."""
+from fs_room import equal
+from fs_rows import row
+
+
+@row
+def sound_volume_is_sound(room):
+    equal(room.run("disk", "check"), (0, b"sound\n", b""), "check")
