@@ -11,6 +11,7 @@ mod telling;
 
 use changing::Host;
 use commands::{Seen, run_command};
+use fs_host::hold_streams;
 use fs_words::{WordsFault, parse_words};
 use ods_shell::Status;
 use std::io::IsTerminal;
@@ -18,6 +19,11 @@ use std::process::ExitCode;
 use std::{env, io};
 
 fn main(rt: HostRuntime) -> ExitCode {
+    // They live until `main` returns, so that no file that is opened is a stream.
+    let Some(_streams) = hold_streams(&rt) else {
+        let _ = eprintln!(rt; "f11fs: /dev/null cannot be opened");
+        return ExitCode::from(Status::Host.code());
+    };
     ExitCode::from(run(
         &rt,
         Seen {
