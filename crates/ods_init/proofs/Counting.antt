@@ -1,18 +1,31 @@
 -- The storage control block, word by word.
-use Rattle.std.proofs.Common.{◌≡◌, ℕ, ◌+◌, ◌*◌, ◌/◌, ◌%◌, ◌<◌, ◌≤◌, min, List, length, refl, sym, ap, subst, ◌∙◌, inl, inr, arith}
+use Rattle.std.proofs.Common.{◌≡◌, ℕ, ◌+◌, ◌*◌, ◌/◌, ◌%◌, ◌<◌, ◌≤◌, List, length, refl, sym, ap, subst, ◌∙◌, inl, inr, arith}
 use Rattle.std.proofs.lemmas.Bool.{cases_lt}
-use Rattle.ods_base.specs.Block.{IsBlock, byte, word, with_word}
-use Rattle.ods_base.proofs.Blocks.{byte-with_word_before, word-with_word}
+use Rattle.ods_base.specs.Block.{IsBlock, byte, word, with_word, zeros}
+use Rattle.ods_base.proofs.Blocks.{byte-with_word_before, byte-zeros, word-with_word}
+use Rattle.ods_header.specs.Writing.{AreZeros}
 use Rattle.ods_init.specs.declared.places.Places.{Places}
 use Rattle.ods_init.specs.declared.volume.NewVolume.{NewVolume}
 use Rattle.ods_init.specs.Blocks.{IsControlBlock, counted, first_in, free_in}
+use Rattle.ods_init.proofs.HomeBuilt.{byte-with_word_behind}
 
 -- the first i blocks of the bitmap are counted
 pub record AreCounted (V : NewVolume) (P : Places) (b : List ℕ) (i : ℕ) : Type 0 where
   pub block : IsBlock b
-  pub count : byte b 3 ≡ min P.map_blocks 255
+  pub count : byte b 3 ≡ P.map_blocks % 256
   pub free : (k : ℕ) → k < i → word b (2 + 2 * k) ≡ free_in V P (4096 * k)
   pub first : (k : ℕ) → k < i → word b (3 + 2 * k) ≡ first_in P (4096 * k)
+  pub before : AreZeros b 0 3
+  pub behind : AreZeros b (4 + 4 * i) 512
+
+-- a byte before two words that are set, and one behind them
+byte_before : (b c d : List ℕ) (at x y i : ℕ) → c ≡ with_word b at x → d ≡ with_word c (at + 1) y → i < 2 * at → byte d i ≡ byte b i
+byte_before b c d at x y i e g low =
+    ap (λ (l : List ℕ). byte l i) g ∙ byte-with_word_before c (at + 1) y i (omega arith) ∙ ap (λ (l : List ℕ). byte l i) e ∙ byte-with_word_before b at x i low
+
+byte_behind : (b c d : List ℕ) (at x y i : ℕ) → c ≡ with_word b at x → d ≡ with_word c (at + 1) y → 2 * at + 4 ≤ i → byte d i ≡ byte b i
+byte_behind b c d at x y i e g high =
+    ap (λ (l : List ℕ). byte l i) g ∙ byte-with_word_behind c (at + 1) y i (omega arith) ∙ ap (λ (l : List ℕ). byte l i) e ∙ byte-with_word_behind b at x i (omega arith)
 
 -- a word before two that are set
 word_kept : (b c d : List ℕ) (at x y k : ℕ) → c ≡ with_word b at x → d ≡ with_word c (at + 1) y → k < at → word d k ≡ word b k
@@ -35,8 +48,8 @@ second_word : (c d : List ℕ) (at y : ℕ) → length c ≡ 512 → at < 255 �
 second_word c d at y size low g = ap (λ (l : List ℕ). word l (at + 1)) g ∙ word-with_word c (at + 1) y (omega arith)
 
 -- no block is counted
-pub none_counted : (V : NewVolume) (P : Places) (b c : List ℕ) (x : ℕ) → IsBlock b → IsBlock c → c ≡ with_word b 1 x → x ≡ 256 * min P.map_blocks 255 → AreCounted V P c 0
-none_counted V P b c x old block e is =
+pub none_counted : (V : NewVolume) (P : Places) (b c : List ℕ) (x : ℕ) → b ≡ zeros → IsBlock b → IsBlock c → c ≡ with_word b 1 x → x ≡ 256 * (P.map_blocks % 256) → AreCounted V P c 0
+none_counted V P b c x zero old block e is =
     let whole : word c 1 ≡ x = ap (λ (l : List ℕ). word l 1) e ∙ word-with_word b 1 x (omega (arith, old.size)) in
     let low : byte c 2 < 256 = block.bytes 2 in
     record {
@@ -44,6 +57,11 @@ none_counted V P b c x old block e is =
       count = omega arith;
       free = λ k below. absurd (omega arith);
       first = λ k below. absurd (omega arith);
+      before = λ k from below. elim (cases_lt k 2) [
+        | inl lower ↦ ap (λ (l : List ℕ). byte l k) e ∙ byte-with_word_before b 1 x k (omega arith) ∙ ap (λ (l : List ℕ). byte l k) zero ∙ byte-zeros k
+        | inr here ↦ ap (λ (j : ℕ). byte c j) (let two : k ≡ 2 = omega arith in two) ∙ (let none : byte c 2 ≡ 0 = omega arith in none)
+      ];
+      behind = λ k from below. ap (λ (l : List ℕ). byte l k) e ∙ byte-with_word_behind b 1 x k (omega arith) ∙ ap (λ (l : List ℕ). byte l k) zero ∙ byte-zeros k;
     }
 
 -- one more
@@ -69,6 +87,8 @@ one_more_counted V P b c d i x y few mid block e g is_x is_y old =
             let here : i ≡ k = omega arith in
             ap (λ (n : ℕ). word d (3 + 2 * n)) (sym here) ∙ ap (λ (n : ℕ). word d n) (sym behind) ∙ second_word c d (2 + 2 * i) y mid.size (omega arith) h ∙ is_y ∙ ap (λ (n : ℕ). first_in P (4096 * n)) here
       ];
+      before = λ k from below. byte_before b c d (2 + 2 * i) x y k e h (omega arith) ∙ old.before k from below;
+      behind = λ k from below. byte_behind b c d (2 + 2 * i) x y k e h (omega arith) ∙ old.behind k (omega arith) below;
     }
 
 -- and the size of the volume behind them
@@ -86,4 +106,8 @@ all_counted V P b c d i n x y is few last mid e g is_x is_y old =
       free = λ k below. kept (2 + 2 * k) (omega (arith, is)) ∙ old.free k (omega (arith, is));
       first = λ k below. kept (3 + 2 * k) (omega (arith, is)) ∙ old.first k (omega (arith, is));
       size = subst (λ (m : ℕ). 65536 * word d (2 + 2 * m) + word d (3 + 2 * m) ≡ V.blocks) is whole;
+      before = λ k from below. byte_before b c d (2 + 2 * n) x y k e g (omega arith) ∙ old.before k from below;
+      behind = λ k from below.
+          let high_enough : 8 + 4 * n ≤ k = subst (λ (m : ℕ). 8 + 4 * m ≤ k) (sym is) from in
+          byte_behind b c d (2 + 2 * n) x y k e g (omega arith) ∙ old.behind k (omega arith) below;
     }

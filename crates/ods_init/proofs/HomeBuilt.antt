@@ -1,19 +1,21 @@
 -- The home block, by the steps that make it.
 use Rattle.std.proofs.Common.{◌≡◌, ℕ, suc, zero, ◌+◌, ◌*◌, ◌/◌, ◌%◌, ◌<◌, ◌≤◌, List, length, refl, sym, ap, ◌∙◌, arith}
-use Rattle.std.specs.Prelude.{codes}
+use Rattle.std.proofs.lemmas.List.{get_or-set_other}
+use Rattle.std.specs.Prelude.{codes, slice_set}
 use Rattle.ods_base.specs.declared.file_id.Uic.{Uic}
 use Rattle.ods_base.specs.Block.{IsBlock, byte, word, sum_of, with_bytes, with_word, zeros}
-use Rattle.ods_base.proofs.Blocks.{byte-with_bytes, byte-with_bytes_before, byte-with_word_before, word-with_word, sum_of_same}
+use Rattle.ods_base.proofs.Blocks.{byte-with_bytes, byte-with_bytes_before, byte-with_bytes_behind, byte-with_word_before, byte-zeros, word-with_word, sum_of_same}
 use Rattle.ods_header.proofs.Ranges.{range_is}
 use Rattle.ods_init.specs.declared.places.Places.{Places}
 use Rattle.ods_init.specs.declared.volume.NewVolume.{NewVolume}
 use Rattle.ods_init.specs.HomeBytes.{front_bytes, middle_bytes, end_bytes}
+use Rattle.ods_init.specs.Label.{zero_padded}
 use Rattle.ods_init.specs.Blocks.{IsNewHome, protection}
 
 -- the steps: each block from the one before it
-pub record AreHomeSteps (label stamp : List ℕ) (owner : Uic) (size files : ℕ) (b0 b1 b2 b3 b4 b5 b6 b7 : List ℕ) (first second : ℕ) : Type 0 where
+pub record AreHomeSteps (name label stamp : List ℕ) (owner : Uic) (size files : ℕ) (b0 b1 b2 b3 b4 b5 b6 b7 : List ℕ) (first second : ℕ) : Type 0 where
   pub s0 : b0 ≡ with_bytes zeros 0 (front_bytes size files)
-  pub s1 : b1 ≡ with_bytes b0 14 label
+  pub s1 : b1 ≡ with_bytes b0 14 name
   pub s2 : b2 ≡ with_bytes b1 30 (middle_bytes owner)
   pub one : first ≡ sum_of b2 29
   pub s3 : b3 ≡ with_word b2 29 first
@@ -30,13 +32,19 @@ pub record AreHomeSteps (label stamp : List ℕ) (owner : Uic) (size files : ℕ
   pub k5 : IsBlock b5
   pub k6 : IsBlock b6
   pub k7 : IsBlock b7
+  pub name_size : length name ≡ 12
   pub label_size : length label ≡ 12
   pub stamp_size : length stamp ≡ 13
+
+-- a byte behind a word that is set
+pub byte-with_word_behind : (b : List ℕ) (k w i : ℕ) → 2 * k + 2 ≤ i → byte (with_word b k w) i ≡ byte b i
+byte-with_word_behind b k w i above =
+    get_or-set_other (slice_set b (2 * k) (w % 256)) (2 * k + 1) i (w / 256) 0 (λ e. absurd (omega arith)) ∙ get_or-set_other b (2 * k) i (w % 256) 0 (λ e. absurd (omega arith))
 
 at : (b c : List ℕ) (i : ℕ) → c ≡ b → byte c i ≡ byte b i
 at b c i e = ap (λ (x : List ℕ). byte x i) e
 
-module _ {label stamp : List ℕ} {owner : Uic} {size files : ℕ} {b0 b1 b2 b3 b4 b5 b6 b7 : List ℕ} {first second : ℕ} (s : AreHomeSteps label stamp owner size files b0 b1 b2 b3 b4 b5 b6 b7 first second) where
+module _ {name label stamp : List ℕ} {owner : Uic} {size files : ℕ} {b0 b1 b2 b3 b4 b5 b6 b7 : List ℕ} {first second : ℕ} (s : AreHomeSteps name label stamp owner size files b0 b1 b2 b3 b4 b5 b6 b7 first second) where
   last : (i : ℕ) → i < 510 → byte b7 i ≡ byte b6 i
   last i low = at _ b7 i s.s7 ∙ byte-with_word_before b6 255 second i (omega arith)
 
@@ -59,15 +67,15 @@ module _ {label stamp : List ℕ} {owner : Uic} {size files : ℕ} {b0 b1 b2 b3 
   in_front i low =
       before_sum i (omega arith)
       ∙ at _ b2 i s.s2 ∙ byte-with_bytes_before b1 (middle_bytes owner) 30 i (omega (arith, s.k1.size)) (omega arith)
-      ∙ at _ b1 i s.s1 ∙ byte-with_bytes_before b0 label 14 i (omega (arith, s.k0.size)) low
+      ∙ at _ b1 i s.s1 ∙ byte-with_bytes_before b0 name 14 i (omega (arith, s.k0.size)) low
       ∙ at _ b0 i s.s0 ∙ byte-with_bytes zeros (front_bytes size files) 0 i i (omega arith) (omega arith) low
 
-  in_label : (j : ℕ) → j < length label → byte b7 (14 + j) ≡ byte label j
-  in_label j low =
-      let few : j < 12 = omega (arith, s.label_size) in
+  in_name : (j : ℕ) → j < length name → byte b7 (14 + j) ≡ byte name j
+  in_name j low =
+      let few : j < 12 = omega (arith, s.name_size) in
       before_sum (14 + j) (omega arith)
       ∙ at _ b2 (14 + j) s.s2 ∙ byte-with_bytes_before b1 (middle_bytes owner) 30 (14 + j) (omega (arith, s.k1.size)) (omega arith)
-      ∙ at _ b1 (14 + j) s.s1 ∙ byte-with_bytes b0 label 14 (14 + j) j (omega (arith, s.k0.size)) (omega arith) low
+      ∙ at _ b1 (14 + j) s.s1 ∙ byte-with_bytes b0 name 14 (14 + j) j (omega (arith, s.k0.size)) (omega arith) low
 
   in_label_again : (j : ℕ) → j < length label → byte b7 (472 + j) ≡ byte label j
   in_label_again j low =
@@ -81,6 +89,34 @@ module _ {label stamp : List ℕ} {owner : Uic} {size files : ℕ} {b0 b1 b2 b3 
 
   in_format : (j : ℕ) → j < 12 → byte b7 (496 + j) ≡ byte end_bytes (12 + j)
   in_format j low = last (496 + j) (omega arith) ∙ at _ b6 (496 + j) s.s6 ∙ byte-with_bytes b5 end_bytes 484 (496 + j) (12 + j) (omega (arith, s.k5.size)) (omega arith) (omega arith)
+
+  in_end : (j : ℕ) → j < 24 → byte b7 (484 + j) ≡ byte end_bytes j
+  in_end j low = last (484 + j) (omega arith) ∙ at _ b6 (484 + j) s.s6 ∙ byte-with_bytes b5 end_bytes 484 (484 + j) j (omega (arith, s.k5.size)) (omega arith) (omega arith)
+
+  -- the bytes that no step writes
+  zero_front : (i : ℕ) → 14 ≤ i → byte b0 i ≡ 0
+  zero_front i high = at _ b0 i s.s0 ∙ byte-with_bytes_behind zeros (front_bytes size files) 0 i (omega arith) (omega arith) ∙ byte-zeros i
+
+  zero_label : (i : ℕ) → 26 ≤ i → byte b1 i ≡ 0
+  zero_label i high = at _ b1 i s.s1 ∙ byte-with_bytes_behind b0 name 14 i (omega (arith, s.k0.size)) (omega (arith, s.name_size)) ∙ zero_front i (omega arith)
+
+  zero_behind_label : (i : ℕ) → 26 ≤ i → i < 30 → byte b7 i ≡ 0
+  zero_behind_label i high low =
+      before_sum i (omega arith) ∙ at _ b2 i s.s2 ∙ byte-with_bytes_before b1 (middle_bytes owner) 30 i (omega (arith, s.k1.size)) low ∙ zero_label i high
+
+  zero_stamp : (i : ℕ) → 73 ≤ i → byte b4 i ≡ 0
+  zero_stamp i high =
+      at _ b4 i s.s4 ∙ byte-with_bytes_behind b3 stamp 60 i (omega (arith, s.k3.size)) (omega (arith, s.stamp_size))
+      ∙ at _ b3 i s.s3 ∙ byte-with_word_behind b2 29 first i (omega arith)
+      ∙ at _ b2 i s.s2 ∙ byte-with_bytes_behind b1 (middle_bytes owner) 30 i (omega (arith, s.k1.size)) (omega arith) ∙ zero_label i (omega arith)
+
+  zero_behind_stamp : (i : ℕ) → 73 ≤ i → i < 472 → byte b7 i ≡ 0
+  zero_behind_stamp i high low = before_label i low ∙ zero_stamp i high
+
+  zero_behind_end : (i : ℕ) → 508 ≤ i → i < 510 → byte b7 i ≡ 0
+  zero_behind_end i high low =
+      last i low ∙ at _ b6 i s.s6 ∙ byte-with_bytes_behind b5 end_bytes 484 i (omega (arith, s.k5.size)) (omega arith)
+      ∙ at _ b5 i s.s5 ∙ byte-with_bytes_behind b4 label 472 i (omega (arith, s.k4.size)) (omega (arith, s.label_size)) ∙ zero_stamp i (omega arith)
 
   format_at : (j : ℕ) → j < 12 → byte end_bytes (12 + j) ≡ byte (codes "DECFILE11A  ") j
   format_at zero low = refl
@@ -128,8 +164,8 @@ module _ {label stamp : List ℕ} {owner : Uic} {size files : ℕ} {b0 b1 b2 b3 
       ∙ s.two ∙ sum_of_same b6 b7 255 (λ i low. sym (last i (omega arith)))
 
   -- it is the home block of the volume
-  pub home_is : (V : NewVolume) (P : Places) → 1 ≤ size → 1 ≤ files → size ≡ P.index_bitmap_size → files ≡ P.most_files → V.label ≡ label → V.stamp ≡ stamp → V.owner ≡ owner → IsNewHome V P b7
-  home_is V P some many es ef el et eo = record {
+  pub home_is : (V : NewVolume) (P : Places) → 1 ≤ size → 1 ≤ files → size ≡ P.index_bitmap_size → files ≡ P.most_files → zero_padded V.label ≡ name → V.label ≡ label → V.stamp ≡ stamp → V.owner ≡ owner → IsNewHome V P b7
+  home_is V P some many es ef en el et eo = record {
     home = record {
       index_bitmap_size = omega (arith, ibsz, some);
       max_files = omega (arith, fmax, many);
@@ -145,8 +181,14 @@ module _ {label stamp : List ℕ} {owner : Uic} {size files : ℕ} {b0 b1 b2 b3 
       max_files = (fmax ∙ ef) i;
       protection = dfpr i;
     };
-    label = range_is b7 label 14 26 (omega (arith, s.label_size)) (omega (arith, s.k7.size)) in_label ∙ sym el;
+    label = range_is b7 name 14 26 (omega (arith, s.name_size)) (omega (arith, s.k7.size)) in_name ∙ sym en;
     label_again = range_is b7 label 472 484 (omega (arith, s.label_size)) (omega (arith, s.k7.size)) in_label_again ∙ sym el;
     owner = word_in 15 owner.member owner.group (in_middle 30 0 (omega arith) (omega arith)) (in_middle 31 1 (omega arith) (omega arith)) ∙ ap (λ (x : Uic). x.member + 256 * x.group) (sym eo);
+    front =
+        range_is b7 (front_bytes size files) 0 14 refl (omega (arith, s.k7.size)) (λ j low. let same : 0 + j ≡ j = omega arith in ap (λ (i : ℕ). byte b7 i) same ∙ in_front j low)
+        ∙ ap (λ (n : ℕ). front_bytes n files) es ∙ ap (λ (n : ℕ). front_bytes P.index_bitmap_size n) ef;
+    middle = range_is b7 (middle_bytes owner) 30 58 refl (omega (arith, s.k7.size)) (λ j low. in_middle (30 + j) j refl low) ∙ ap middle_bytes (sym eo);
+    end = range_is b7 end_bytes 484 508 refl (omega (arith, s.k7.size)) in_end;
+    rest = (zero_behind_label, zero_behind_stamp, zero_behind_end);
     stamp = range_is b7 stamp 60 73 (omega (arith, s.stamp_size)) (omega (arith, s.k7.size)) in_stamp ∙ sym et;
   }

@@ -2,10 +2,10 @@
 use Rattle.std.proofs.Common.{◌≡◌, ◌≢◌, ℕ, ◌+◌, ◌-◌, ◌<◌, ◌≤◌, true, List, map, length, sym, ap, ◌∙◌, inl, inr, arith, length-append, length-set}
 use Rattle.std.proofs.lemmas.Bool.{and_from, cases_eq, cases_lt, le-leb}
 use Rattle.std.proofs.lemmas.List.{length-map, get_or-map, ext_get_or, get_or-append_right, get_or_append_left, get_or-replicate, get_or-set_other, get_or-set_same, length-replicate}
-use Rattle.std.specs.Prelude.{IsTrue, replicate, slice_index, slice_set}
+use Rattle.std.specs.Prelude.{IsTrue, ◌==◌, if◌then◌else◌, replicate, slice_index, slice_set}
 use Rattle.std.specs.List.{list_all}
 use Rattle.std.specs.Char.{to_ascii_uppercase}
-use Rattle.ods_init.specs.Label.{IsLabel, is_label_character, is_label_text, label_of}
+use Rattle.ods_init.specs.Label.{IsLabel, is_label_character, is_label_text, label_of, zero_padded}
 
 -- the first i characters are made, spaces stand behind them
 pub record IsPartOf (text own : List ℕ) (i : ℕ) : Type 0 where
@@ -54,3 +54,11 @@ text_is_good text some few good = and_from _ _ (le-leb 1 (length text) some) (an
 
 pub label_made : (text own : List ℕ) (i : ℕ) → length text ≤ i → i ≤ length text → 1 ≤ length text → length text ≤ 12 → list_all is_label_character text ≡ true → IsPartOf text own i → IsLabel own
 label_made text own i done within some few good made = record { size = made.size; text = text; good = text_is_good text some few good; is = all_made text own i done within few made }
+
+-- the characters, a zero byte for each space
+pub padded_by : (text own : List ℕ) → length own ≡ length text → ((i : ℕ) → i < length text → slice_index own i ≡ (if slice_index text i == 32 then 0 else slice_index text i)) → own ≡ zero_padded text
+padded_by text own size each =
+    let pad : ℕ → ℕ = λ c. if c == 32 then 0 else c in
+    ext_get_or 0 own (zero_padded text)
+    (size ∙ sym (length-map text pad))
+    (λ i below. let low : i < length text = omega (arith, size) in each i low ∙ sym (get_or-map pad text i 0 0 low))

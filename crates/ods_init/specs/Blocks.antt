@@ -1,5 +1,5 @@
 -- What stands in the blocks of a new volume.
-use Rattle.std.specs.Prelude.{◌≡◌, ℕ, ◌+◌, ◌-◌, ◌*◌, ◌%◌, ◌<◌, ◌≤◌, ◌⊎◌, ◌&&◌, ◌==◌, nat_le, nat_lt, min, if◌then◌else◌, List, [], ◌∷◌, ◌++◌, length, replicate, slice_range}
+use Rattle.std.specs.Prelude.{◌≡◌, ℕ, ◌+◌, ◌-◌, ◌*◌, ◌%◌, ◌<◌, ◌≤◌, ◌⊎◌, ◌&&◌, ◌||◌, ◌==◌, nat_le, nat_lt, min, if◌then◌else◌, List, [], ◌∷◌, ◌++◌, length, replicate, slice_range}
 use Rattle.std.specs.List.{flat_map, range_with_len}
 use Rattle.ods_base.specs.Name.{RadName}
 use Rattle.ods_base.specs.Block.{byte, word, has_bit, with_bytes, zeros}
@@ -11,6 +11,8 @@ use Rattle.ods_header.specs.Writing.{AreZeros}
 use Rattle.ods_request.specs.Steps.{word_bytes, new_ident}
 use Rattle.ods_init.specs.declared.places.Places.{Places}
 use Rattle.ods_init.specs.declared.volume.NewVolume.{NewVolume}
+use Rattle.ods_init.specs.Label.{zero_padded}
+use Rattle.ods_init.specs.HomeBytes.{front_bytes, middle_bytes, end_bytes}
 use Rattle.ods_init.specs.Places.{first_of, count_of}
 
 -- what new files and the reserved ones deny: the world may only read
@@ -26,34 +28,54 @@ reserved_name n =
     else if n == 4 then record { words = 49230 ∷ 49230 ∷ 0 ∷ []; ext = 6778 }
     else record { words = 5418 ∷ 14927 ∷ 0 ∷ []; ext = 31419 }
 
--- the attributes of the master directory: records of 16 bytes, one block, of which 80 bytes are five names
-abbrev pub master_attributes : List ℕ
-master_attributes = flat_map word_bytes (1 ∷ 16 ∷ 0 ∷ 1 ∷ 0 ∷ 1 ∷ 80 ∷ []) ++ replicate 18 0
+-- The attributes of a file of records of one size: F.RTYP 1, F.RATT 0, F.RSIZ, F.HIBK, F.EFBK and F.FFBY. Below 65,536 blocks the high words are 0.
+abbrev pub fixed_attributes : ℕ → ℕ → ℕ → ℕ → List ℕ
+fixed_attributes record_size blocks end_block end_byte = flat_map word_bytes (1 ∷ record_size ∷ 0 ∷ blocks ∷ 0 ∷ end_block ∷ end_byte ∷ []) ++ replicate 18 0
 
--- the attributes of the reserved file of this number
-abbrev pub reserved_attributes : ℕ → List ℕ
-reserved_attributes n = if n == 4 then master_attributes else replicate 32 0
+-- those of the master directory: records of 16 bytes, one block, of which 80 bytes are five names
+abbrev pub master_attributes : List ℕ
+master_attributes = fixed_attributes 16 1 1 80
+
+-- the attributes of the reserved file of this number, of so many blocks: of INDEXF.SYS and BITMAP.SYS each block is a record, and all are in use
+abbrev pub reserved_attributes : ℕ → ℕ → List ℕ
+reserved_attributes n blocks =
+    if (n == 1) || (n == 2) then fixed_attributes 512 blocks (blocks + 1) 0
+    else if n == 4 then master_attributes
+    else replicate 32 0
+
+-- UC.CON of H.UCHA, 200 octal: the blocks of BITMAP.SYS follow one another
+abbrev pub reserved_characteristics : ℕ → ℕ
+reserved_characteristics n = if n == 2 then 128 else 0
 
 -- the fields of its header, its pointers aside: sequence number n, version 1, the volume's owner and stamp, no next header
-abbrev pub reserved_header : NewVolume → ℕ → Header
-reserved_header V n = first_header (record { number = n; sequence = n }) V.owner protection (reserved_attributes n) (new_ident (reserved_name n) 1 V.stamp)
+abbrev pub reserved_header : NewVolume → Places → ℕ → Header
+reserved_header V P n =
+    let first = first_header (record { number = n; sequence = n }) V.owner protection (reserved_attributes n (count_of P n)) (new_ident (reserved_name n) 1 V.stamp) in
+    record first { user_char = reserved_characteristics n }
 
 -- b is that header: valid, with these fields, and its pointers name the blocks of the file
 pub record IsReservedHeader (V : NewVolume) (P : Places) (n : ℕ) (b : List ℕ) : Type 0 where
   pub valid : IsValidHeader b n
-  pub fields : header_of b ≡ record (reserved_header V n) { pointers = record { items = runs_of b } }
+  pub fields : header_of b ≡ record (reserved_header V P n) { pointers = record { items = runs_of b } }
   pub blocks : blocks_of b ≡ range_with_len (first_of P n) (count_of P n)
   pub rest : AreZeros b (102 + 4 * length (runs_of b)) 510
 
--- b is the home block: the fields that the volume is read by, and those that its people see
+-- b is the home block, byte by byte: the fields that the volume is read by, and those that its people see
 pub record IsNewHome (V : NewVolume) (P : Places) (b : List ℕ) : Type 0 where
   pub home : IsHome b
   pub fields : home_of b ≡ record { index_bitmap_size = P.index_bitmap_size; index_bitmap_lbn = 2; max_files = P.most_files; protection = protection }
-  -- H.VNAM and H.INDN: the label
-  pub label : slice_range b 14 26 ≡ V.label
+  -- H.VNAM: the label, zero bytes behind it
+  pub label : slice_range b 14 26 ≡ zero_padded V.label
+  -- H.INDN: the label, spaces behind it
   pub label_again : slice_range b 472 484 ≡ V.label
   -- H.VOWN: the owner
   pub owner : word b 15 ≡ V.owner.member + 256 * V.owner.group
+  -- what stands before the label, from the owner on, and behind the other label
+  pub front : slice_range b 0 14 ≡ front_bytes P.index_bitmap_size P.most_files
+  pub middle : slice_range b 30 58 ≡ middle_bytes V.owner
+  pub end : slice_range b 484 508 ≡ end_bytes
+  -- all else but the sums is zeros
+  pub rest : AreZeros b 26 30 × AreZeros b 73 472 × AreZeros b 508 510
   -- H.VDAT: when it was made
   pub stamp : slice_range b 60 73 ≡ V.stamp
 
@@ -73,12 +95,15 @@ first_in P from = min (P.master + 1 - from) 4096 % 4096
 abbrev pub counted : ℕ → ℕ
 counted map_blocks = if nat_le map_blocks 126 then map_blocks else 0
 
--- b is the storage control block: how many blocks the bitmap has (at most what a byte says); by each that is counted, how many blocks are free and the first of them; the size of the volume
+-- b is the storage control block: how many blocks the bitmap has (the low byte of that count); by each that is counted, how many blocks are free and the first of them; the size of the volume
 pub record IsControlBlock (V : NewVolume) (P : Places) (b : List ℕ) : Type 0 where
-  pub count : byte b 3 ≡ min P.map_blocks 255
+  pub count : byte b 3 ≡ P.map_blocks % 256
   pub free : (k : ℕ) → k < counted P.map_blocks → word b (2 + 2 * k) ≡ free_in V P (4096 * k)
   pub first : (k : ℕ) → k < counted P.map_blocks → word b (3 + 2 * k) ≡ first_in P (4096 * k)
   pub size : 65536 * word b (2 + 2 * counted P.map_blocks) + word b (3 + 2 * counted P.map_blocks) ≡ V.blocks
+  -- all else is zeros
+  pub before : AreZeros b 0 3
+  pub behind : AreZeros b (8 + 4 * counted P.map_blocks) 512
 
 -- the bytes of a block that begins with these, and has zeros behind them
 abbrev pub starting : List ℕ → List ℕ

@@ -1,5 +1,5 @@
 -- Labels of volumes: 12 characters.
-use Rattle.std.specs.Prelude.{◌≡◌, IsTrue, ℕ, ◌-◌, Bool, ◌&&◌, ◌||◌, ◌==◌, nat_le, List, ◌++◌, map, length, replicate}
+use Rattle.std.specs.Prelude.{◌≡◌, IsTrue, ℕ, ◌-◌, Bool, ◌&&◌, ◌||◌, ◌==◌, nat_le, if◌then◌else◌, List, ◌++◌, map, length, replicate}
 use Rattle.std.specs.List.{list_all}
 use Rattle.std.specs.Char.{to_ascii_uppercase, is_ascii_alphanumeric}
 
@@ -14,6 +14,10 @@ is_label_text text = nat_le 1 (length text) && (nat_le (length text) 12 && list_
 -- its characters as capitals, and spaces up to 12
 abbrev pub label_of : List ℕ → List ℕ
 label_of text = map to_ascii_uppercase text ++ replicate (12 - length text) 32
+
+-- the label with zero bytes in place of the spaces behind it, which no other character is
+abbrev pub zero_padded : List ℕ → List ℕ
+zero_padded label = map (λ c. if c == 32 then 0 else c) label
 
 -- what each label is: 12 characters, which some text gives
 pub record IsLabel (label : List ℕ) : Type 0 where

@@ -1,5 +1,5 @@
 //! The storage control block, by which RSX knows the bitmap behind it.
-ghost use Rattle.std.specs.Prelude.{◌≡◌, ◌≤◌, ◌<◌, ◌^◌, min};
+ghost use Rattle.std.specs.Prelude.{◌≡◌, ◌≤◌, ◌<◌, ◌^◌};
 ghost use Rattle.ods_init.specs.Blocks.{IsControlBlock, counted, first_in, free_in};
 
 use crate::NewVolume;
@@ -9,7 +9,7 @@ use ods_base::{Block, set_word};
 /// The most blocks of a bitmap for which the control block has two words each.
 const MOST_COUNTED: u32 = 126;
 
-/// The storage control block: how many blocks the bitmap has, for each the count of free blocks and the first of them, and the size of
+/// The storage control block: how many blocks the bitmap has, in a byte the low one of that count, for each the count of free blocks and the first of them, and the size of
 /// the volume, the high word first. Where the bitmap has more than 126 blocks, nothing stands between.
 pub fn control_block(volume: &NewVolume, places: Places) -> Block
     requires map { places.map_blocks ≤ 256 }
@@ -19,7 +19,7 @@ pub fn control_block(volume: &NewVolume, places: Places) -> Block
 {
     let count = counted_blocks(places.map_blocks);
     let mut block = Block::zeros();
-    set_word(&mut block, 1, 256 * places.map_blocks.min(255) as u16);
+    set_word(&mut block, 1, 256 * (places.map_blocks % 256) as u16);
     for k in 0..count {
         let first = (places.master + 1).saturating_sub(4_096 * k).min(4_096);
         let end = volume.blocks.saturating_sub(4_096 * k).min(4_096);

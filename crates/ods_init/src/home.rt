@@ -18,7 +18,7 @@ pub fn home_block(volume: &NewVolume, places: Places) -> Block
         0,
         &front(places.index_bitmap_size as u16, places.most_files as u16),
     );
-    block.set_bytes(14, volume.label.text());
+    block.set_bytes(14, &volume.label.zero_padded());
     block.set_bytes(30, &middle(volume.owner));
     let first = sum(&block, 29);
     set_word(&mut block, 29, first);

@@ -1,7 +1,7 @@
 //! Labels of volumes.
 ghost use Rattle.std.specs.Prelude.{◌≡◌, IsTrue, length, SomeIff};
 ghost use Rattle.std.specs.List.{list_all};
-ghost use Rattle.ods_init.specs.Label.{is_label_character, is_label_text, label_of, IsLabel};
+ghost use Rattle.ods_init.specs.Label.{is_label_character, is_label_text, label_of, zero_padded, IsLabel};
 
 use std::marker::Model;
 
@@ -47,6 +47,13 @@ impl Label {
         ensures label { IsLabel self.now }
     {
         &self.text
+    }
+
+    /// The characters, with zero bytes in place of the spaces behind them.
+    pub(crate) fn zero_padded(&self) -> [u8; 12]
+        ensures { result ≡ zero_padded self.now }
+    {
+        self.text.map(|c| if c == b' ' { 0 } else { c })
     }
 }
 

@@ -3,7 +3,7 @@ ghost use Rattle.std.specs.Prelude.{◌≡◌, ◌+◌, ◌*◌, ◌^◌, ◌≤
 ghost use Rattle.std.specs.List.{All, flat_map, range_with_len};
 ghost use Rattle.ods_header.specs.Header.{IsRun, run_blocks};
 ghost use Rattle.ods_init.specs.Places.{first_of, count_of};
-ghost use Rattle.ods_init.specs.Blocks.{reserved_name, reserved_attributes, IsReservedHeader};
+ghost use Rattle.ods_init.specs.Blocks.{reserved_name, fixed_attributes, reserved_attributes, reserved_characteristics, IsReservedHeader};
 
 use crate::NewVolume;
 use crate::places::Places;
@@ -62,17 +62,49 @@ fn pointers_to(first: u32, count: u32) -> ArrayVec<Run, HEADER_POINTERS>
     pointers
 }
 
-/// The attributes of a reserved file. The master directory has records of 16 bytes, one block, and five names.
-fn attributes_of(number: u16) -> [u8; 32]
-    ensures { result ≡ reserved_attributes number }
+/// The attributes of a file of records of one size: F.RTYP 1, F.RSIZ, F.HIBK, F.EFBK and F.FFBY.
+fn fixed_attributes(record_size: u16, blocks: u16, end_block: u16, end_byte: u16) -> [u8; 32]
+    ensures { result ≡ fixed_attributes record_size blocks end_block end_byte }
 {
-    if number != 4 {
-        return [0; 32];
-    }
+    let (size, blocks) = (record_size.to_le_bytes(), blocks.to_le_bytes());
+    let (block, byte) = (end_block.to_le_bytes(), end_byte.to_le_bytes());
     [
-        1, 0, 16, 0, 0, 0, 1, 0, 0, 0, 1, 0, 80, 0, 0, 0, 0, 0, 0, 0, 0, 0, 0, 0, 0, 0, 0, 0, 0, 0,
-        0, 0,
+        1, 0, size[0], size[1], 0, 0, blocks[0], blocks[1], 0, 0, block[0], block[1], byte[0],
+        byte[1], 0, 0, 0, 0, 0, 0, 0, 0, 0, 0, 0, 0, 0, 0, 0, 0, 0, 0,
     ]
+}
+
+/// The attributes of a reserved file. The blocks of INDEXF.SYS and BITMAP.SYS are records, all in use; the master directory has records of 16
+/// bytes, one block, and five names.
+fn attributes_of(places: Places, number: u16) -> [u8; 32]
+    requires map { places.map_blocks ≤ 256 }
+    requires index { places.control ≤ 26112 }
+    ensures { result ≡ reserved_attributes number (count_of places number) }
+{
+    match number {
+        1 => block_attributes(places.control),
+        2 => block_attributes(1 + places.map_blocks),
+        4 => fixed_attributes(16, 1, 1, 80),
+        _ => [0; 32],
+    }
+}
+
+/// The attributes of a file of so many blocks, each of which is a record.
+fn block_attributes(blocks: u32) -> [u8; 32]
+    requires { blocks ≤ 26112 }
+    ensures { result ≡ fixed_attributes 512 blocks (blocks + 1) 0 }
+{
+    fixed_attributes(512, blocks as u16, blocks as u16 + 1, 0)
+}
+
+/// H.UCHA of a reserved file: UC.CON for BITMAP.SYS, whose blocks follow one another.
+fn characteristics_of(number: u16) -> u8
+    ensures { result ≡ reserved_characteristics number }
+{
+    match number {
+        2 => 0o200,
+        _ => 0,
+    }
 }
 
 /// The header of a reserved file.
@@ -90,9 +122,9 @@ pub fn header_block(volume: &NewVolume, places: Places, number: u16) -> Block
         },
         owner: volume.owner,
         protection: PROTECTION,
-        user_char: 0,
+        user_char: characteristics_of(number),
         system_char: 0,
-        attributes: attributes_of(number),
+        attributes: attributes_of(places, number),
         ident: new_ident(&reserved_name(number), 1, &volume.stamp),
         segment: 0,
         next: FileId {

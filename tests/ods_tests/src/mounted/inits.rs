@@ -92,9 +92,22 @@ fn control_blocks(rt: HostRuntime) -> Result<(), Fail> {
 }
 
 #[test]
+fn attributes_of_bitmaps(rt: HostRuntime) -> Result<(), Fail> {
+    let image = made(rt.alloc(), 40, 1)??;
+    // INDEXF.SYS has 19 blocks, BITMAP.SYS 2, records of 512 bytes, each with its end behind the last; only BITMAP.SYS is marked as contiguous.
+    let index = [1, 0, 0, 2, 0, 0, 19, 0, 0, 0, 20, 0, 0, 0, 0, 0];
+    let bitmap = [1, 0, 0, 2, 0, 0, 2, 0, 0, 0, 3, 0, 0, 0, 0, 0];
+    assert!(&rt; &image.block(3).bytes()[14..30] == index.as_slice());
+    assert!(&rt; &image.block(4).bytes()[14..30] == bitmap.as_slice());
+    assert!(&rt; image.block(3).bytes()[12] == 0);
+    assert!(&rt; image.block(4).bytes()[12] == 0o200);
+    Ok(())
+}
+
+#[test]
 fn labels_and_defaults(rt: HostRuntime) -> Result<(), Fail> {
     let image = made(rt.alloc(), 40, 1)??;
-    assert!(&rt; &image.block(1).bytes()[14..26] == b"RSX         ".as_slice());
+    assert!(&rt; &image.block(1).bytes()[14..26] == b"RSX\0\0\0\0\0\0\0\0\0".as_slice());
     assert!(&rt;
         &image.block(1).bytes()[472..508] == b"RSX                     DECFILE11A  ".as_slice()
     );

@@ -1,10 +1,10 @@
-use Rattle.std.proofs.Common.{◌*◌, ℕ, ap, refl, arith}
+use Rattle.std.proofs.Common.{refl, arith}
 use Rattle.ods_init.proofs.Counting.{none_counted, one_more_counted, all_counted}
 use Rattle.ods_init.proofs.control.control_block.Goals as goal
 
 pub loop-k-init : goal.loop-k-init
 loop-k-init c =
-    none_counted c.args.volume.now c.args.places c.zeros-block.result c.set_word.new.block _ c.zeros-block.ensures.block c.set_word.ensures.stays c.set_word.ensures.changed (ap (λ (n : ℕ). 256 * n) c.min.ensures)
+    none_counted c.args.volume.now c.args.places c.zeros-block.result c.set_word.new.block _ c.zeros-block.ensures.value c.zeros-block.ensures.block c.set_word.ensures.stays c.set_word.ensures.changed refl
 
 pub loop-k-preserved : goal.loop-k-preserved
 loop-k-preserved c =
