@@ -1,6 +1,6 @@
 /* Fails one call of a program that opens, reads, writes or starts a thread: the one with the number in FAIL; with SHORT set, that call moves one byte
    instead, where it is to move several. With SAVES set, calls that sync, lock, seek, name and own files, and say what they are, are counted too.
-   It writes which call it was to the file FAILED. For LD_PRELOAD: see tests/faults and tests/fs_faults. */
+   What is asked of /proc is not counted, since it changes from run to run. It writes which call it was to the file FAILED. For LD_PRELOAD: see tests/faults and tests/fs_faults. */
 #define _GNU_SOURCE
 #include <dlfcn.h>
 #include <errno.h>
@@ -33,6 +33,12 @@ static int is_it(const char *what, long of) {
     return 1;
 }
 
+/* Whether a path is one of /proc. */
+static int is_process(const char *path) { return !strncmp(path, "/proc", 5); }
+
+/* Whether a path is one that a program opens only to hold the places of the standard streams. */
+static int is_held(const char *path) { return !strcmp(path, "/dev/null") || !strcmp(path, "/"); }
+
 /* Reads or writes, or fails, or moves one byte. */
 static ssize_t moved(long call, const char *what, int file, const void *bytes, size_t count) {
     if (is_it(what, file)) {
@@ -57,7 +63,7 @@ int open(const char *path, int flags, ...) {
     va_start(more, flags);
     mode = flags & O_CREAT ? va_arg(more, int) : 0;
     va_end(more);
-    if (!getenv("SHORT") && is_it("open", flags & O_ACCMODE)) {
+    if (!getenv("SHORT") && !is_process(path) && is_it(is_held(path) ? "hold" : "open", flags & O_ACCMODE)) {
         errno = EACCES;
         return -1;
     }
@@ -88,12 +94,14 @@ int link(const char *from, const char *to) { return saves("link", 0) ? -1 : sysc
 
 int unlink(const char *path) { return saves("unlink", 0) ? -1 : syscall(SYS_unlink, path); }
 
-int chown(const char *path, uid_t user, gid_t group) { return saves("chown", 0) ? -1 : syscall(SYS_chown, path, user, group); }
+int fchown(int file, uid_t user, gid_t group) { return saves("fchown", file) ? -1 : syscall(SYS_fchown, file, user, group); }
 
 int fchmod(int file, mode_t mode) { return saves("fchmod", file) ? -1 : syscall(SYS_fchmod, file, mode); }
 
 int statx(int at, const char *path, int flags, unsigned mask, struct statx *found) {
-    return saves("statx", 0) ? -1 : syscall(SYS_statx, at, path, flags, mask, found);
+    return !is_process(path) && saves("statx", 0) ? -1 : syscall(SYS_statx, at, path, flags, mask, found);
 }
 
-ssize_t readlink(const char *path, char *text, size_t room) { return saves("readlink", 0) ? -1 : syscall(SYS_readlink, path, text, room); }
+ssize_t readlink(const char *path, char *text, size_t room) {
+    return !is_process(path) && saves("readlink", 0) ? -1 : syscall(SYS_readlink, path, text, room);
+}

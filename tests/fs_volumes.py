@@ -1,5 +1,5 @@
 """The volumes that tests/fs runs the program on, and what is spoiled in some of them."""
-from fs_image import BLOCK, INDEX_BLOCKS, ZEROS, Volume, attributes, changed, sequenced, variable
+from fs_image import BLOCK, BLOCKS, INDEX_BLOCKS, ZEROS, Volume, attributes, changed, sequenced, variable
 
 TASK = bytes(i % 251 for i in range(700))
 SPOILT = variable(b"good") + b"\x32\x00short"
@@ -33,10 +33,10 @@ def odd_volume():
     return it
 
 
-def plain_volume(notes=b"first", numbers=(6, 9), **more):
+def plain_volume(notes=b"first", numbers=(6, 9), blocks=BLOCKS, **more):
     """A sound volume: a directory, two text files and a binary one."""
     folder, text = numbers
-    it = Volume()
+    it = Volume(blocks)
     it.directory(4, "000000.DIR;1", ("000000.DIR;1", 4, 4), ("001002.DIR;1", folder, 1), ("INDEXF.SYS;1", 1, 1), ("BITMAP.SYS;1", 2, 2),
                  ("BADBLK.SYS;1", 3, 3), ("CORIMG.SYS;1", 5, 5))
     it.directory(folder, "001002.DIR;1", ("NOTES.TXT;1", text, 1), ("OTHER.TXT;1", 10, 1), ("TASK.TSK;3", 12, 1))

@@ -6,6 +6,7 @@ mod headers;
 mod out_file;
 mod served;
 
+use fs_host::hold_streams;
 use headers::print_header;
 use ods_cli::{Run, ServeFault, WRONG_WORDS, WordsFault, parse_words, run_for};
 use served::{ServedFault, serve_bare, serve_words};
@@ -16,6 +17,11 @@ use std::thread::Threads;
 use std::{env, io};
 
 fn main(rt: HostRuntime) -> ExitCode {
+    // They live until `main` returns, so that no file that is opened is a stream.
+    let Some(_streams) = hold_streams(&rt) else {
+        let _ = eprintln!(rt; "f11: /dev/null cannot be opened");
+        return ExitCode::from(ServeFault::Read.status());
+    };
     match run(&rt) {
         Ok(code) => code,
         Err(fault) => {

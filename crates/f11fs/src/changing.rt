@@ -1,15 +1,16 @@
 //! The commands that change a volume: put, cp, mv, rm, mkdir, rmdir and truncate.
+use crate::early::Early;
 use crate::putting::put;
 use crate::telling::told;
-use fs_host::{Locked, SaveFault, stamp_of_now, write_new};
-use fs_reads::{Stop, send, volume_of};
-use fs_words::{Change, Words};
+use fs_host::{Locked, SaveFault, Shown, Unfinished, stamp_of_now, write_new};
+use fs_reads::{Stop, say_extent, send, volume_of};
+use fs_words::{Change, Saving, Words};
 use ods_base::Uic;
 use ods_mount::Mounted;
 use ods_shell::Status;
 use ods_upkeep::{
-    Asked, Failure, Removal, copy_files, make_directories, move_names, remove_directories,
-    remove_files, truncate_file,
+    Asked, Failure, Removal, copy_files, is_below_another, make_directories, move_names,
+    remove_directories, remove_files, truncate_file,
 };
 use std::fs::File;
 use std::io::Input;
@@ -43,10 +44,14 @@ pub fn change_image<'a, R: Host>(
     words: &Words<'a>,
     change: Change<'a>,
 ) -> Result<Status, Stop<'a>> {
+    let mut early = Early::of(rt, words.image);
+    early.read_words(rt, words)?;
     let (mut locked, volume) = locked_volume(rt, words)?;
     let asked = asked(rt, words)?;
-    let changed = changed(rt, volume, &asked, words, change)?;
-    finish(rt, words, &mut locked, &changed)
+    let changed = changed(rt, volume, &asked, words, change, &mut early)?;
+    match finish(rt, words, &mut locked, &changed)? {
+        Finished::Told(status) | Finished::Saved(status) => Ok(status),
+    }
 }
 
 /// The volume of the image, which is locked.
@@ -55,18 +60,30 @@ pub fn locked_volume<'a, R: Host>(
     words: &Words<'a>,
 ) -> Result<(Locked, Mounted), Stop<'a>> {
     let writes = words.saving.out.is_none() && !words.saving.only_tells;
-    let mut locked = match Locked::of(rt, words.image, writes) {
+    let mut locked = match Locked::of(rt, words.image, writes, words.force) {
         Ok(locked) => locked,
         Err(fault) => return Err(not_saved(rt, words.image, fault)),
     };
-    let volume = volume_of(rt, words.image, locked.read(rt.alloc()))?;
+    let image = locked.read(rt.alloc(), words.blocks);
+    say_extent(rt, words.image, locked.extent(), false);
+    let volume = volume_of(rt, words.image, image)?;
     Ok((locked, volume))
 }
 
 /// The line of an image that is not locked or saved.
 pub fn not_saved<'a, R: Eprint>(rt: &R, path: &str, fault: SaveFault) -> Stop<'a> {
+    let path = Shown(path);
     let _ = eprintln!(rt; "f11fs: {path}: {fault}");
     Stop::Said(Status::Host)
+}
+
+/// How a run of changes ended, where nothing failed.
+#[derive(Clone, Copy)]
+pub enum Finished {
+    /// It was told what would change, or nothing has changed.
+    Told(Status),
+    /// The changed image is saved.
+    Saved(Status),
 }
 
 /// Who asks for changes, and the time that new files get.
@@ -93,46 +110,65 @@ pub fn finish<'a, R: Host>(
     words: &Words<'a>,
     locked: &mut Locked,
     volume: &Mounted,
-) -> Result<Status, Stop<'a>> {
+) -> Result<Finished, Stop<'a>> {
     let image = volume.image();
     if words.saving.only_tells {
-        let before = volume_of(rt, words.image, locked.read_again(rt.alloc()))?;
-        let text = told(rt, &before, volume)?;
-        return send(rt, text.as_str());
+        let before = volume_of(rt, words.image, locked.read_again(rt.alloc(), words.blocks))?;
+        let text = told(rt, &before, volume, words.json)?;
+        return Ok(Finished::Told(send(rt, text.as_str())?));
     }
     if let Some(out) = words.saving.out {
-        return match write_new(rt, out, image, None) {
-            Ok(()) => Ok(Status::Done),
+        return match write_new(rt, out, image, locked.behind(), locked.mode()) {
+            Ok(wanting) => Ok(Finished::Saved(saved(rt, out, wanting))),
             Err(fault) => Err(not_saved(rt, out, fault)),
         };
     }
     if locked.is(image) {
-        return Ok(Status::Done);
+        return Ok(Finished::Told(Status::Done));
     }
-    match locked.save(
-        rt,
-        rt.alloc(),
-        image,
-        words.saving.backup,
-        words.saving.break_links,
-    ) {
-        Ok(()) => Ok(Status::Done),
+    if locked.is_short() && !words.force {
+        let path = Shown(words.image);
+        let _ = eprintln!(rt;
+            "f11fs: {path}: the image is shorter than its volume; --force writes it whole"
+        );
+        return Err(Stop::Said(Status::Refused));
+    }
+    let Saving {
+        backup,
+        break_links,
+        ..
+    } = words.saving;
+    match locked.save(rt, image, backup, break_links) {
+        Ok(wanting) => Ok(Finished::Saved(saved(rt, words.image, wanting))),
         Err(fault) => Err(not_saved(rt, words.image, fault)),
     }
 }
 
+/// The status of an image that is saved; what is wanting is said.
+pub fn saved<R: Eprint>(rt: &R, path: &str, wanting: Option<Unfinished>) -> Status {
+    match wanting {
+        None => Status::Done,
+        Some(remark) => {
+            let path = Shown(path);
+            let _ = eprintln!(rt; "f11fs: {path}: {remark}");
+            Status::Host
+        }
+    }
+}
+
 /// The volume with the change that the words ask for.
-pub fn changed<'a, R: Files + Input + AllocGlobal + Eprint>(
+pub fn changed<'a, R: Files<File = File> + AllocGlobal + Eprint>(
     rt: &R,
     volume: Mounted,
     asked: &Asked,
     words: &Words<'a>,
     change: Change<'a>,
+    early: &mut Early,
 ) -> Result<Mounted, Stop<'a>> {
     let alloc = rt.alloc();
     let paths = words.paths.as_slice();
     let done = match change {
-        Change::Put(how) => return put(rt, volume, asked, paths, how, words.quiet),
+        Change::Put(how) => return put(rt, volume, asked, words, how, early),
         Change::Cp => match paths.split_last() {
             Some((to, paths)) => copy_files(alloc, volume, asked, paths, *to),
             None => return Err(Stop::Said(Status::Words)),
@@ -151,8 +187,8 @@ pub fn changed<'a, R: Files + Input + AllocGlobal + Eprint>(
             };
             remove_files(alloc, volume, asked, paths, removal)
         }
-        Change::Mkdir { names } => {
-            make_directories(alloc, volume, asked, paths, names.unwrap_or(0))
+        Change::Mkdir { names, owner } => {
+            make_directories(alloc, volume, asked, paths, names.unwrap_or(0), owner)
         }
         Change::Rmdir => remove_directories(alloc, volume, asked, paths),
         Change::Truncate { bytes } => match paths.first() {
@@ -161,14 +197,34 @@ pub fn changed<'a, R: Files + Input + AllocGlobal + Eprint>(
         },
     };
     match done {
-        Ok(changed) => Ok(changed),
+        Ok(changed) => {
+            if matches!(change, Change::Mkdir { .. }) {
+                say_nested(rt, words);
+            }
+            Ok(changed)
+        }
         Err(failure) => Err(failed(rt, &failure)),
+    }
+}
+
+/// Says of each directory that would lie below another than the master directory that RSX has none such.
+fn say_nested<R: AllocGlobal + Eprint>(rt: &R, words: &Words<'_>) {
+    if words.quiet {
+        return;
+    }
+    for path in &words.paths {
+        if is_below_another(rt.alloc(), *path) {
+            let path = Shown(*path);
+            let _ = eprintln!(rt;
+                "f11fs: {path}: RSX knows directories in the master directory alone"
+            );
+        }
     }
 }
 
 /// The line of a change that is refused.
 pub fn failed<'a, R: Eprint>(rt: &R, failure: &Failure) -> Stop<'a> {
-    let path = failure.path.as_str();
+    let path = Shown(failure.path.as_str());
     let why = &failure.why;
     let _ = eprintln!(rt; "f11fs: {path}: {why}");
     Stop::Said(failure.status())

@@ -1,17 +1,22 @@
 //! Commands in a file of the host, one a line: obeyed one after another on the volume in memory; then the image is saved, once.
-use crate::changing::{Host, asked, changed, finish, locked_volume};
-use crate::putting::host_bytes;
-use fs_host::Collecting;
+use crate::changing::{Finished, Host, asked, changed, finish, locked_volume};
+use crate::early::Early;
+use crate::lines::{Line, no_memory, words_of, wrong};
+use fs_host::{Collecting, HostFault, Noting, Shown, read_host, read_some};
 use fs_reads::{Progress, Stop, check_image, ended, obey};
-use fs_words::{Action, Change, LineFault, Words, WordsFault, line_words, parse_words};
+use fs_words::{Action, Change, Words, WordsFault, parse_line};
 use ods_base::write_bytes;
 use ods_mount::Mounted;
 use ods_shell::Status;
 use ods_upkeep::Asked;
 use std::cell::RefCell;
+use std::fs::File;
 use std::io;
 use std::io::Input;
 use std::rt::{Clock, Files};
+
+/// The most bytes of a file of commands.
+const MOST: u64 = 1_048_576;
 
 /// Obeys the commands in this file. A refusal ends the run, and nothing is saved; with `keep_going` the refused command has done nothing.
 pub fn obey_file<'a, R: Host>(
@@ -20,30 +25,135 @@ pub fn obey_file<'a, R: Host>(
     file: &'a str,
     keep_going: bool,
 ) -> Result<Status, Stop<'a>> {
-    let bytes = host_bytes(rt, file)?;
+    let bytes = commands_in(rt, file)?;
     let Ok(text) = str::from_utf8(bytes.as_slice()) else {
+        let file = Shown(file);
         let _ = eprintln!(rt; "f11fs: {file}: no UTF-8 text");
         return Err(Stop::Said(Status::Words));
     };
-    let (mut locked, mut volume) = locked_volume(rt, words)?;
+    let text = text.strip_prefix('\u{feff}').unwrap_or(text);
+    let mut early = Early::of(rt, words.image);
+    read_early(rt, words, text, &mut early)?;
+    let (mut locked, volume) = locked_volume(rt, words)?;
     let asked = asked(rt, words)?;
     let printed = RefCell::new(Vec::new(rt.alloc()));
+    let run = Run {
+        asked,
+        outer: words,
+        file,
+        keep_going,
+    };
+    let obeyed = obey_lines(rt, &run, &printed, volume, text, &mut early);
+    let done = match obeyed {
+        Ok((volume, status)) => match finish(rt, words, &mut locked, &volume) {
+            Ok(Finished::Told(told)) => Ok((status.or(told), false)),
+            Ok(Finished::Saved(saved)) => Ok((status.or(saved), true)),
+            Err(stop) => Err(stop),
+        },
+        Err(stop) => Err(stop),
+    };
+    let written = write_printed(rt, printed.into_inner().as_slice());
+    match (done, written) {
+        (Err(stop), _) => Err(stop),
+        (Ok((status, _)), Ok(())) => Ok(status),
+        (Ok((_, true)), Err(why)) => {
+            let _ = eprintln!(rt; "f11fs: the image is saved; writing failed: {why}");
+            Err(Stop::Said(Status::Host))
+        }
+        (Ok((_, false)), Err(why)) => Err(Stop::Unwritten(why)),
+    }
+}
+
+/// What is the same for each line of a run.
+#[derive(Clone, Copy)]
+struct Run<'r, 'a> {
+    /// Who asks, and the time of new files, where a line says none.
+    asked: Asked,
+    /// The words of the run.
+    outer: &'r Words<'a>,
+    file: &'a str,
+    keep_going: bool,
+}
+
+/// The bytes of a file of commands, or of standard input.
+fn commands_in<'a, R: Host>(rt: &R, file: &'a str) -> Result<Vec<u8>, Stop<'a>> {
+    let read = if file == "-" {
+        read_some(rt.alloc(), &mut rt.reader(), MOST)
+    } else {
+        read_host(rt, file, MOST)
+    };
+    match read {
+        Ok(bytes) => Ok(bytes),
+        Err(HostFault::TooLarge) => {
+            let file = Shown(file);
+            let _ = eprintln!(rt; "f11fs: {file}: a file of commands has at most {MOST} bytes");
+            Err(Stop::Said(Status::Words))
+        }
+        Err(fault) => Err(Stop::Unread(file, fault)),
+    }
+}
+
+/// Reads the pipes and devices that the lines put. A line with a fault is passed over here: it is said when its turn comes.
+fn read_early<'a, R: Host>(
+    rt: &R,
+    outer: &Words<'_>,
+    text: &str,
+    early: &mut Early,
+) -> Result<(), Stop<'a>> {
+    for line in text.lines() {
+        read_line_early(rt, outer, line, early)?;
+    }
+    Ok(())
+}
+
+/// Reads the pipes and devices that a line puts.
+fn read_line_early<'a, R: Host>(
+    rt: &R,
+    outer: &Words<'_>,
+    line: &str,
+    early: &mut Early,
+) -> Result<(), Stop<'a>> {
+    let words = match words_of(rt.alloc(), line) {
+        Line::Words(words) => words,
+        Line::Open | Line::NoMemory => return Ok(()),
+    };
+    match parse_line(rt.alloc(), outer.image, words.as_slice()) {
+        Ok(Some(own)) => {
+            if reads_input(outer, &own) {
+                return Ok(());
+            }
+            early.read_words(rt, &own)
+        }
+        Ok(None) | Err(_) => Ok(()),
+    }
+}
+
+/// Obeys the lines: the volume afterwards, and how they ended.
+fn obey_lines<'a, R: Host>(
+    rt: &R,
+    run: &Run<'_, '_>,
+    printed: &RefCell<Vec<u8>>,
+    volume: Mounted,
+    text: &str,
+    early: &mut Early,
+) -> Result<(Mounted, Status), Stop<'a>> {
+    let mut volume = volume;
     let mut status = Status::Done;
     let mut number = 0usize;
     for line in text.lines() {
         number = number.saturating_add(1);
         let one = Collecting {
             rt,
-            printed: &printed,
-            file,
+            printed,
+            file: run.file,
             line: number,
         };
-        let kept = if keep_going {
+        let kept = if run.keep_going {
             Some(volume.copy()?)
         } else {
             None
         };
-        let (next, done) = obey_line(&one, volume, &asked, words, line);
+        let (next, done) = obey_line(&one, volume, run, line, early);
         status = status.or(done);
         volume = match (next, kept) {
             (Some(next), None) if done == Status::Done || done == Status::Found => next,
@@ -52,30 +162,35 @@ pub fn obey_file<'a, R: Host>(
             _ => return Err(Stop::Said(done)),
         };
     }
-    let saved = finish(rt, words, &mut locked, &volume)?;
-    match write_bytes(&mut io::writer(rt), printed.into_inner().as_slice()) {
-        Ok(()) => Ok(status.or(saved)),
-        Err(_) => Err(Stop::Write),
+    Ok((volume, status))
+}
+
+/// Writes what the commands printed.
+fn write_printed<R: Print>(rt: &R, printed: &[u8]) -> Result<(), HostFault> {
+    let mut output = io::writer(rt);
+    let mut noting = Noting::new(&mut output);
+    match write_bytes(&mut noting, printed) {
+        Ok(()) => Ok(()),
+        Err(_) => Err(noting.why()),
     }
 }
 
 /// Obeys the command in a line: the volume afterwards, unless a change of it was refused, and how it ended.
-fn obey_line<R: Files + Clock + Input + AllocGlobal + Print + Eprint>(
+fn obey_line<R: Files<File = File> + Clock + Input + AllocGlobal + Print + Eprint>(
     rt: &R,
     volume: Mounted,
-    asked: &Asked,
-    outer: &Words<'_>,
+    run: &Run<'_, '_>,
     line: &str,
+    early: &mut Early,
 ) -> (Option<Mounted>, Status) {
-    let words = match words_of(rt, outer.image, line) {
-        Ok(words) => words,
-        Err(status) => return (Some(volume), status),
+    let words = match words_of(rt.alloc(), line) {
+        Line::Words(words) => words,
+        Line::Open => return (Some(volume), wrong(rt, "error: a quote is not closed")),
+        Line::NoMemory => return (Some(volume), no_memory(rt)),
     };
-    if words.len() < 2 {
-        return (Some(volume), Status::Done);
-    }
-    match parse_words(rt.alloc(), words.as_slice()) {
-        Ok(own) => obey_words(rt, volume, asked, outer, own),
+    match parse_line(rt.alloc(), run.outer.image, words.as_slice()) {
+        Ok(Some(own)) => obey_words(rt, volume, run, own, early),
+        Ok(None) => (Some(volume), Status::Done),
         Err(WordsFault::Help(text)) => {
             let status = match print!(rt; "{text}") {
                 Ok(()) => Status::Done,
@@ -84,44 +199,8 @@ fn obey_line<R: Files + Clock + Input + AllocGlobal + Print + Eprint>(
             (Some(volume), status)
         }
         Err(WordsFault::Wrong(text)) => (Some(volume), wrong(rt, text.as_str())),
-        Err(WordsFault::NoMemory) => (Some(volume), wrong(rt, "f11fs: no memory").or(Status::Host)),
+        Err(WordsFault::NoMemory) => (Some(volume), no_memory(rt)),
     }
-}
-
-/// A line about a command that is not obeyed.
-fn wrong<R: Eprint>(rt: &R, text: &str) -> Status {
-    let _ = eprintln!(rt; "{text}");
-    Status::Words
-}
-
-/// The words of a line, behind the path of the image.
-fn words_of<R: AllocGlobal + Eprint>(
-    rt: &R,
-    image: &str,
-    line: &str,
-) -> Result<Vec<String>, Status> {
-    match all_words(rt, image, line) {
-        Ok(words) => Ok(words),
-        Err(LineFault::Open) => Err(wrong(rt, "error: a quote is not closed")),
-        Err(LineFault::NoMemory) => {
-            let _ = eprintln!(rt; "f11fs: no memory");
-            Err(Status::Host)
-        }
-    }
-}
-
-/// The path of the image, and the words of a line.
-fn all_words<R: AllocGlobal>(rt: &R, image: &str, line: &str) -> Result<Vec<String>, LineFault> {
-    let mut words = Vec::new(rt.alloc());
-    if words.push(String::from_str(rt.alloc(), image)?).is_err() {
-        return Err(LineFault::NoMemory);
-    }
-    for word in line_words(rt.alloc(), line)? {
-        if words.push(word).is_err() {
-            return Err(LineFault::NoMemory);
-        }
-    }
-    Ok(words)
 }
 
 /// Whether a `put` wants the standard input that has the commands.
@@ -131,31 +210,28 @@ fn reads_input(outer: &Words<'_>, own: &Words<'_>) -> bool {
 }
 
 /// Obeys a command. What its line does not say of users, stamps and forms is as in the words of the run.
-fn obey_words<R: Files + Clock + Input + AllocGlobal + Print + Eprint>(
+fn obey_words<R: Files<File = File> + Clock + Input + AllocGlobal + Print + Eprint>(
     rt: &R,
     volume: Mounted,
-    asked: &Asked,
-    outer: &Words<'_>,
+    run: &Run<'_, '_>,
     own: Words<'_>,
+    early: &mut Early,
 ) -> (Option<Mounted>, Status) {
     let mut own = own;
     if !own.saving.says_nothing() {
-        return (
-            Some(volume),
-            wrong(rt, "error: how the image is saved is said before IMAGE"),
-        );
+        let text = "error: how the image is saved is said before IMAGE";
+        return (Some(volume), wrong(rt, text));
     }
     let asked = Asked {
-        user: own.user.unwrap_or(asked.user),
-        stamp: own.stamp.unwrap_or(asked.stamp),
+        user: own.user.unwrap_or(run.asked.user),
+        stamp: own.stamp.unwrap_or(run.asked.stamp),
     };
-    own.user = match own.user {
-        Some(user) => Some(user),
-        None => outer.user,
-    };
+    let outer = run.outer;
+    own.user = own.user.or(outer.user);
     own.force = own.force || outer.force;
     own.json = own.json || outer.json;
     own.quiet = own.quiet || outer.quiet;
+    own.saving.only_tells = outer.saving.only_tells;
     match own.action {
         Action::Change(Change::Put(_)) if reads_input(outer, &own) => {
             (
@@ -163,7 +239,7 @@ fn obey_words<R: Files + Clock + Input + AllocGlobal + Print + Eprint>(
                 wrong(rt, "error: standard input has the commands"),
             )
         }
-        Action::Change(change) => match changed(rt, volume, &asked, &own, change) {
+        Action::Change(change) => match changed(rt, volume, &asked, &own, change, early) {
             Ok(volume) => (Some(volume), Status::Done),
             Err(stop) => (None, ended(rt, Err(stop))),
         },
@@ -177,7 +253,6 @@ fn obey_words<R: Files + Clock + Input + AllocGlobal + Print + Eprint>(
                 wrong(rt, "error: no command for a file of commands"),
             )
         }
-        Action::Get { .. } if outer.saving.only_tells => (Some(volume), Status::Done),
         _ => {
             let done = obey(rt, &volume, &own, &mut Progress::none());
             (Some(volume), ended(rt, done))

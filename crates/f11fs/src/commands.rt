@@ -5,6 +5,7 @@ use crate::making::init_image;
 use fs_reads::{Progress, Stop, check, ended, obey, rescue, volume_at};
 use fs_words::{Action, Words};
 use ods_shell::Status;
+use std::fs::File;
 use std::rt::Files;
 use std::time::Clock;
 
@@ -19,7 +20,7 @@ pub struct Seen {
 pub fn run_command<R: Host>(rt: &R, words: &Words<'_>, seen: Seen) -> Status {
     let mut progress = Progress::begin(rt, shows_progress(words, seen));
     let done = match words.action {
-        Action::Check { all } => check(rt, words.image, all, words.json),
+        Action::Check { all } => check(rt, words.image, words.blocks, all, words.json),
         Action::Rescue { text } => rescue(rt, words, text, &mut progress),
         Action::Change(change) => change_image(rt, words, change),
         Action::Init {
@@ -42,11 +43,12 @@ fn shows_progress(words: &Words<'_>, seen: Seen) -> bool {
 }
 
 /// Does what the words ask for on a sound volume.
-fn on_volume<'a, R: Files + Clock + AllocGlobal + Print + Eprint>(
+fn on_volume<'a, R: Files<File = File> + Clock + AllocGlobal + Print + Eprint>(
     rt: &R,
     words: &Words<'a>,
     progress: &mut Progress,
 ) -> Result<Status, Stop<'a>> {
-    let volume = volume_at(rt, words.image)?;
+    let tells_behind = matches!(words.action, Action::Df) && !words.quiet;
+    let volume = volume_at(rt, words.image, words.blocks, tells_behind)?;
     obey(rt, &volume, words, progress)
 }

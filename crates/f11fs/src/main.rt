@@ -5,6 +5,8 @@
 mod changing;
 mod command_files;
 mod commands;
+mod early;
+mod lines;
 mod making;
 mod putting;
 mod telling;
@@ -13,6 +15,7 @@ use changing::Host;
 use commands::{Seen, run_command};
 use fs_host::hold_streams;
 use fs_words::{WordsFault, parse_words};
+use lines::{no_memory, wrong};
 use ods_shell::Status;
 use std::io::IsTerminal;
 use std::process::ExitCode;
@@ -21,7 +24,6 @@ use std::{env, io};
 fn main(rt: HostRuntime) -> ExitCode {
     // They live until `main` returns, so that no file that is opened is a stream.
     let Some(_streams) = hold_streams(&rt) else {
-        let _ = eprintln!(rt; "f11fs: /dev/null cannot be opened");
         return ExitCode::from(Status::Host.code());
     };
     ExitCode::from(run(
@@ -39,7 +41,7 @@ fn run<R: Host>(rt: &R, seen: Seen) -> Status {
     let args = match env::args(rt) {
         Ok(args) => args,
         Err(error) if error.kind() == io::ErrorKind::InvalidData => {
-            return wrong(rt, "error: a word is no UTF-8 text");
+            return no_text(rt);
         }
         Err(_) => return no_memory(rt),
     };
@@ -57,14 +59,32 @@ fn run<R: Host>(rt: &R, seen: Seen) -> Status {
     }
 }
 
-/// One line about wrong words.
-fn wrong(rt: &impl Eprint, line: &str) -> Status {
-    let _ = eprintln!(rt; "{line}");
-    Status::Words
+/// The longest word that a host gives.
+const WORD: usize = 131_072;
+
+/// A line about the first word that is no UTF-8 text, with its number; the first word behind the program's name is word 1.
+fn no_text<R: Host>(rt: &R) -> Status {
+    match spoiled_word(rt) {
+        Some(number) => {
+            let _ = eprintln!(rt; "error: word {number} is no UTF-8 text");
+            Status::Words
+        }
+        None => wrong(rt, "error: a word is no UTF-8 text"),
+    }
 }
 
-/// A line that memory ran out.
-fn no_memory(rt: &impl Eprint) -> Status {
-    let _ = eprintln!(rt; "f11fs: no memory");
-    Status::Host
+/// The number of the first word that is no UTF-8 text.
+fn spoiled_word<R: Host>(rt: &R) -> Option<usize> {
+    let Ok(mut word) = vec![in rt.alloc(); 0; WORD] else {
+        return None;
+    };
+    for number in 1..usize::MAX {
+        let Ok(count) = rt.arg(number, word.as_mut_slice()) else {
+            return None;
+        };
+        if str::from_utf8(word.get(..count)?).is_err() {
+            return Some(number);
+        }
+    }
+    None
 }

@@ -1,45 +1,43 @@
 //! `put`: files of the host, put into a volume.
 use crate::changing::failed;
+use crate::early::{Early, hosts};
+use fs_host::{HostFault, Shown, read_host};
 use fs_reads::Stop;
-use fs_words::PutWords;
+use fs_words::{PutWords, Words};
 use ods_mount::Mounted;
-use ods_shell::Status;
+use ods_records::{NearText, why_no_text};
+use ods_shell::{Status, space_of};
 use ods_upkeep::{Asked, HostFile, PutForm, Putting};
 use std::fs;
-use std::io::{Input, Read};
+use std::fs::File;
 use std::rt::Files;
 
 /// `put`: with two words or more the last is the path on the volume.
-pub fn put<'a, R: Files + Input + AllocGlobal + Eprint>(
+pub fn put<'a, R: Files<File = File> + AllocGlobal + Eprint>(
     rt: &R,
     volume: Mounted,
     asked: &Asked,
-    words: &[&'a str],
+    words: &Words<'a>,
     how: PutWords<'a>,
-    quiet: bool,
+    early: &mut Early,
 ) -> Result<Mounted, Stop<'a>> {
-    let (hosts, to) = match words.split_last() {
-        Some((last, hosts)) if !hosts.is_empty() => (hosts, Some(*last)),
-        _ => (words, None),
+    let hosts = hosts(words.paths.as_slice());
+    let to = match words.paths.last() {
+        Some(last) if hosts.len() < words.paths.len() => Some(*last),
+        _ => None,
     };
     if to.is_none() && hosts.iter().any(|host| *host == "-") {
         let _ = eprintln!(rt; "f11fs: -: standard input wants a PATH");
         return Err(Stop::Said(Status::Words));
     }
-    let form = if how.text {
-        PutForm::Text
-    } else if how.binary {
-        PutForm::Binary
-    } else {
-        PutForm::ByContents
-    };
+    let room = u64::from(space_of(&volume).free).saturating_mul(512);
     let begun = Putting::begin(
         rt.alloc(),
         volume,
         asked,
         to,
         hosts.len() > 1,
-        form,
+        form_of(&how),
         how.like,
         how.replace,
     );
@@ -48,24 +46,64 @@ pub fn put<'a, R: Files + Input + AllocGlobal + Eprint>(
         Err(failure) => return Err(failed(rt, &failure)),
     };
     for host in hosts {
-        let bytes = host_bytes(rt, *host)?;
-        let file = HostFile {
-            name: last_part(*host),
-            bytes: bytes.as_slice(),
-        };
-        match putting.put(&file) {
-            Ok((next, remark)) => {
-                if let Some(remark) = remark {
-                    if !quiet {
-                        let _ = eprintln!(rt; "f11fs: {host}: {}", remark.as_str());
-                    }
-                }
-                putting = next;
-            }
-            Err(failure) => return Err(failed(rt, &failure)),
+        let bytes = host_bytes(rt, *host, room, early)?;
+        putting = put_one(rt, putting, *host, bytes.as_slice(), words.quiet)?;
+        if how.says_no_form() && !words.quiet {
+            say_near(rt, *host, bytes.as_slice());
         }
     }
     Ok(putting.end())
+}
+
+/// The form that the words say.
+fn form_of(how: &PutWords<'_>) -> PutForm {
+    if how.text {
+        PutForm::Text
+    } else if how.binary {
+        PutForm::Binary
+    } else {
+        PutForm::ByContents
+    }
+}
+
+/// Puts the bytes of a host file; what is to be remarked is said.
+fn put_one<'a, R: Eprint>(
+    rt: &R,
+    putting: Putting,
+    host: &'a str,
+    bytes: &[u8],
+    quiet: bool,
+) -> Result<Putting, Stop<'a>> {
+    let file = HostFile {
+        name: last_part(host),
+        bytes,
+    };
+    match putting.put(&file) {
+        Ok((next, remark)) => {
+            if let Some(remark) = remark {
+                if !quiet {
+                    let host = Shown(host);
+                    let _ = eprintln!(rt; "f11fs: {host}: {}", remark.as_str());
+                }
+            }
+            Ok(next)
+        }
+        Err(failure) => Err(failed(rt, &failure)),
+    }
+}
+
+/// Says of bytes that lack one thing to be put as a text what that is.
+fn say_near<R: Eprint>(rt: &R, host: &str, bytes: &[u8]) {
+    let Some(near) = why_no_text(bytes) else {
+        return;
+    };
+    let host = Shown(host);
+    let way = if near == NearText::LongLine {
+        ""
+    } else {
+        "; -t makes records"
+    };
+    let _ = eprintln!(rt; "f11fs: {host}: put as bytes, since {near}{way}");
 }
 
 /// The last part of the path of a host file.
@@ -76,20 +114,39 @@ fn last_part(path: &str) -> &str {
     }
 }
 
-/// The bytes of a file of the host, or of standard input.
-pub fn host_bytes<'a, R: Files + Input + AllocGlobal + Eprint>(
+/// The bytes of a host file, at most as many as there is room for on the volume. No form of a file has fewer bytes than the host file.
+fn host_bytes<'a, R: Files<File = File> + AllocGlobal + Eprint>(
     rt: &R,
     path: &'a str,
+    room: u64,
+    early: &mut Early,
 ) -> Result<Vec<u8>, Stop<'a>> {
-    if path != "-" {
-        return match fs::read(rt, path) {
-            Ok(bytes) => Ok(bytes),
-            Err(_) => Err(Stop::Read(path)),
-        };
+    let read = match early.take(path) {
+        Some(read) => read,
+        None => read_host(rt, path, room),
+    };
+    match read {
+        Ok(bytes) if bytes.len() as u64 > room => Err(too_large(rt, path, room)),
+        Ok(bytes) => Ok(bytes),
+        Err(HostFault::TooLarge) => Err(too_large(rt, path, room)),
+        Err(fault) => Err(Stop::Unread(path, fault)),
     }
-    let mut bytes = Vec::new(rt.alloc());
-    match rt.reader().read_to_end(&mut bytes) {
-        Ok(_) => Ok(bytes),
-        Err(_) => Err(Stop::Read(path)),
-    }
+}
+
+/// That a host file is larger than the room on the volume.
+fn too_large<'a, R: Files + Eprint>(rt: &R, path: &'a str, room: u64) -> Stop<'a> {
+    let size = match fs::metadata(rt, path) {
+        Ok(found) if found.is_file() => Some(found.len()),
+        _ => None,
+    };
+    let shown = Shown(path);
+    let _ = match size {
+        Some(size) => eprintln!(rt;
+            "f11fs: {shown}: VolumeFull: it has {size} bytes, and the free blocks of the volume hold {room}"
+        ),
+        None => eprintln!(rt;
+            "f11fs: {shown}: VolumeFull: it has more bytes than the {room} that the free blocks of the volume hold"
+        ),
+    };
+    Stop::Said(Status::Refused)
 }

@@ -1,10 +1,12 @@
 //! A runtime for a command among others: what it prints is kept until the run's end, and its faults say the line where it stands.
+use crate::shown::Shown;
 use std::alloc::Allocator;
 use std::cell::RefCell;
 use std::fmt::Display;
-use std::fs::{Metadata, OpenOptions};
+use std::fs::{Metadata, OpenOptions, Permissions};
 use std::io;
 use std::io::Input;
+use std::path::PathBuf;
 use std::rt::{Clock, Files};
 use std::time::Duration;
 
@@ -39,12 +41,12 @@ impl<R: AllocGlobal> Print for Collecting<'_, R> {
 
 impl<R: Eprint> Eprint for Collecting<'_, R> {
     fn eprint<D: Display + Drop>(&self, value: D) -> io::Result<()> {
-        let (file, line) = (self.file, self.line);
+        let (file, line) = (Shown(self.file), self.line);
         self.rt.eprint(format_args!("{file}:{line}: {value}"))
     }
 
     fn eprintln<D: Display + Drop>(&self, value: D) -> io::Result<()> {
-        let (file, line) = (self.file, self.line);
+        let (file, line) = (Shown(self.file), self.line);
         self.rt.eprintln(format_args!("{file}:{line}: {value}"))
     }
 }
@@ -130,5 +132,17 @@ impl<R: Files> Files for Collecting<'_, R> {
 
     fn remove_dir_all<B: Allocator>(&self, alloc: B, path: &str) -> io::Result<()> {
         self.rt.remove_dir_all(alloc, path)
+    }
+
+    fn read_link<B: Allocator>(&self, alloc: B, path: &str) -> io::Result<PathBuf<B>> {
+        self.rt.read_link(alloc, path)
+    }
+
+    fn hard_link(&self, original: &str, link: &str) -> io::Result<()> {
+        self.rt.hard_link(original, link)
+    }
+
+    fn set_permissions(&self, path: &str, mode: Permissions) -> io::Result<()> {
+        self.rt.set_permissions(path, mode)
     }
 }

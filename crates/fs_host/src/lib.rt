@@ -1,17 +1,33 @@
-//! The host of `f11fs`: images that are locked, changed and saved whole, the local time, and what commands print until a run's end.
+//! The host of `f11fs`: images that are locked, changed and saved whole, new files, the streams, the local time, and what commands print until a
+//! run's end.
 #![tactic(auto)]
 
 mod collecting;
 mod comparing_bytes;
+mod containers;
 mod faults;
+mod host_fault;
+mod in_use;
 mod local_time;
+mod names;
+mod new_file;
+mod noting;
+mod reading;
 mod saving;
+mod shown;
 mod streams;
 mod writing;
 
 pub use collecting::Collecting;
-pub use faults::SaveFault;
+pub use containers::{Extent, volume_in};
+pub use faults::{SaveFault, Unfinished};
+pub use host_fault::HostFault;
+pub use in_use::Holder;
 pub use local_time::stamp_of_now;
+pub use new_file::NewFile;
+pub use noting::Noting;
+pub use reading::{read_host, read_some};
 pub use saving::Locked;
+pub use shown::Shown;
 pub use streams::hold_streams;
 pub use writing::write_new;

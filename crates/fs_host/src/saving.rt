@@ -1,14 +1,22 @@
 //! Images of the host that are changed: locked before they are read, and saved whole under their name or not at all.
 use crate::comparing_bytes::has_bytes;
-use crate::faults::SaveFault;
-use crate::writing::write_new;
+use crate::containers::{Extent, volume_in};
+use crate::faults::{SaveFault, Unfinished};
+use crate::host_fault::HostFault;
+use crate::in_use::holder_of;
+use crate::names::{followed, hidden};
+use crate::new_file::NewFile;
+use crate::writing::{fill, unsynced};
 use ods_base::{Image, ImageError};
-use std::alloc::{AllocError, Global};
+use std::alloc::Global;
 use std::fs;
 use std::fs::{File, Metadata, OpenOptions, TryLockError};
 use std::io::{ErrorKind, Seek, SeekFrom};
-use std::os::unix::fs::MetadataExt;
-use std::rt::Files;
+use std::os::unix::fs::{FileTypeExt, MetadataExt, fchown};
+use std::rt::{Clock, Files};
+
+/// The bits of a mode that say who may do what.
+const MODE_BITS: u32 = 0o7777;
 
 /// By what it is seen whether a file is another one, or was written to.
 #[derive(Clone, Copy, PartialEq, Eq)]
@@ -30,101 +38,156 @@ impl Mark {
             nanoseconds: file.mtime_nsec(),
         }
     }
+
+    /// Whether this is the file, whatever its bytes.
+    fn is_of(&self, file: &Metadata) -> bool {
+        self.device == file.dev() && self.node == file.ino()
+    }
 }
 
-/// An image that no other run of this program changes while this value is there.
+/// An image that no other run of this program changes while this value is there. It is open only for reading.
 #[derive(Drop)]
 pub struct Locked {
     file: File,
-    /// Its path, with no link in it.
+    /// Its path, with no link at its end.
     path: String,
     mark: Mark,
+    /// The bits of its mode.
+    mode: u32,
+    /// Whether another process may have it open.
+    force: bool,
+    /// What stands behind the volume that was read, and what is to be said of it.
+    behind: Vec<u8>,
+    extent: Option<Extent>,
 }
 
 impl Locked {
-    /// Locks the image at this path, for a change that `writes` it or one that leaves it as it is.
-    pub fn of<R: Files<File = File> + AllocGlobal>(
+    /// Locks the image at this path, for a change that `writes` it or one that leaves it as it is. One that is written is refused where
+    /// another process has it open, unless by `force`; it has to be a plain file, and the other may be a block device.
+    pub fn of<R: Files<File = File> + Clock + AllocGlobal + Clone + Drop>(
         rt: &R,
         path: &str,
         writes: bool,
+        force: bool,
     ) -> Result<Locked, SaveFault> {
-        let Ok(whole) = fs::canonicalize(rt, path) else {
-            return Err(SaveFault::Read);
+        let path = match followed(rt, path) {
+            Ok(path) => path,
+            Err(fault) => return Err(SaveFault::Read(fault)),
         };
-        let path = String::from_str(rt.alloc(), whole.as_path().to_string_lossy())?;
-        match fs::metadata(rt, path.as_str()) {
-            Ok(metadata) if metadata.is_file() => {}
-            Ok(_) => return Err(SaveFault::NotPlain),
-            Err(_) => return Err(SaveFault::Read),
-        }
-        let mut options = OpenOptions::new();
-        options.read(true).write(writes);
-        let file = match options.open(rt, path.as_str()) {
-            Ok(file) => file,
-            Err(error) if error.kind() == ErrorKind::PermissionDenied && writes => {
-                return Err(SaveFault::Denied);
-            }
-            Err(_) => return Err(SaveFault::Read),
-        };
+        let file = opened(rt, path.as_str(), writes)?;
         match file.try_lock() {
             Ok(()) => {}
             Err(TryLockError::WouldBlock) => return Err(SaveFault::Held),
-            Err(TryLockError::Error(_)) => return Err(SaveFault::Lock),
+            Err(TryLockError::Error(error)) => return Err(SaveFault::Lock(HostFault::of(&error))),
         }
-        let Ok(metadata) = file.metadata() else {
-            return Err(SaveFault::Read);
+        let metadata = match file.metadata() {
+            Ok(metadata) => metadata,
+            Err(error) => return Err(SaveFault::Read(HostFault::of(&error))),
         };
         let locked = Locked {
             file,
             path,
             mark: Mark::of(&metadata),
+            mode: metadata.mode() & MODE_BITS,
+            force: force || !writes,
+            behind: Vec::new(rt.alloc()),
+            extent: None,
         };
         // Who had the lock before may have put another file under this name.
-        locked.found(rt)?;
+        locked.ask_alone(rt)?;
         Ok(locked)
     }
 
-    /// The image that was locked.
-    pub fn read(&mut self, alloc: Global) -> Result<Image, ImageError> {
-        Image::read_from(alloc, &mut self.file)
+    /// The volume in the image that was locked, of so many blocks where a number is given.
+    pub fn read(&mut self, alloc: Global, given: Option<u32>) -> Result<Image, ImageError> {
+        match volume_in(alloc, &mut self.file, given) {
+            Ok(contained) => {
+                self.extent = Extent::of(&contained);
+                self.behind = contained.behind;
+                Ok(contained.image)
+            }
+            Err(fault) => Err(fault),
+        }
     }
 
-    /// The image once more.
-    pub fn read_again(&mut self, alloc: Global) -> Result<Image, ImageError> {
+    /// The volume once more.
+    pub fn read_again(&mut self, alloc: Global, given: Option<u32>) -> Result<Image, ImageError> {
         match self.file.seek(SeekFrom::Start(0)) {
-            Ok(_) => self.read(alloc),
+            Ok(_) => self.read(alloc, given),
             Err(_) => Err(ImageError::ReadFailed),
         }
     }
 
-    /// Whether the file has the bytes of this image.
+    /// What is to be said of an image that is longer or shorter than its volume.
+    pub fn extent(&self) -> Option<Extent> {
+        self.extent
+    }
+
+    /// Whether the image is shorter than its volume.
+    pub fn is_short(&self) -> bool {
+        match &self.extent {
+            Some(extent) => extent.is_short(),
+            None => false,
+        }
+    }
+
+    /// What stands behind the volume.
+    pub fn behind(&self) -> &[u8] {
+        self.behind.as_slice()
+    }
+
+    /// Whether the file has the bytes of this volume, and those that stood behind it.
     pub fn is(&mut self, image: &Image) -> bool {
-        has_bytes(&mut self.file, image)
+        let is_short = self.is_short();
+        has_bytes(&mut self.file, image, self.behind.as_slice(), is_short)
+    }
+
+    /// The bits of its mode, as `write_new` takes them.
+    pub fn mode(&self) -> Option<u32> {
+        Some(self.mode)
     }
 
     /// What the host says of the file under this name, which is the one that was locked, and as it was then.
     fn found<R: Files>(&self, rt: &R) -> Result<Metadata, SaveFault> {
-        match fs::metadata(rt, self.path.as_str()) {
+        match fs::symlink_metadata(rt, self.path.as_str()) {
             Ok(metadata) if Mark::of(&metadata) == self.mark => Ok(metadata),
             Ok(_) => Err(SaveFault::Changed),
             Err(_) => Err(SaveFault::Changed),
         }
     }
 
-    /// Saves the image under the name of the one that was locked: a new file beside it gets its owner and mode and the new bytes, is
-    /// read back, and takes its name. After a failure that file is gone, and the old image is there.
-    pub fn save<R: Files<File = File>>(
+    /// That the file is as it was, and no other process has it open.
+    fn ask_alone<R: Files<File = File> + Clock + AllocGlobal + Clone + Drop>(
         &self,
         rt: &R,
-        alloc: Global,
+    ) -> Result<(), SaveFault> {
+        let found = self.found(rt)?;
+        if self.force {
+            return Ok(());
+        }
+        match holder_of(rt, &found) {
+            Some(holder) => Err(SaveFault::InUse(holder)),
+            None => Ok(()),
+        }
+    }
+
+    /// Saves the image under the name of the one that was locked: a new file beside it gets its owner and mode and the new bytes, is
+    /// read back, and takes its name. After a failure that file is gone, and the old image is there. What it gives is to be said, and
+    /// the image is saved.
+    pub fn save<R: Files<File = File> + Clock + AllocGlobal + Clone + Drop>(
+        &self,
+        rt: &R,
         image: &Image,
         backup: bool,
         break_links: bool,
-    ) -> Result<(), SaveFault> {
+    ) -> Result<Option<Unfinished>, SaveFault> {
+        self.found(rt)?;
+        self.drop_name(rt, "old")?;
+        self.drop_name(rt, "new")?;
         let old = self.found(rt)?;
-        let kept = format!(in alloc; "{}~", self.path.as_str())?;
+        let kept = format!(in rt.alloc(); "{}~", self.path.as_str())?;
         // A backup is a second name where a run was ended by force just behind it.
-        let most = if self.is_kept(rt, kept.as_str()) {
+        let most = if self.is_named(rt, kept.as_str()) {
             2
         } else {
             1
@@ -132,63 +195,59 @@ impl Locked {
         if !break_links && old.nlink() > most {
             return Err(SaveFault::Links);
         }
-        let new = self.beside(alloc, "new")?;
-        // Under the lock nobody makes this file: one that is there was left by a run that was ended by force.
-        let _ = fs::remove_file(rt, new.as_str());
-        match write_new(rt, new.as_str(), image, Some(&old)) {
-            Ok(()) => {}
-            Err(SaveFault::IsThere) => return Err(SaveFault::Make),
-            Err(fault) => return Err(fault),
-        }
-        let done = self.rename(rt, alloc, new.as_str(), kept.as_str(), backup);
+        let mut new = match NewFile::begin(rt, self.path.as_str(), Some(old.mode() & MODE_BITS)) {
+            Ok(new) => new,
+            Err(fault) => return Err(SaveFault::Make(fault)),
+        };
+        let done = self.prepare(rt, new.file(), &old, image, backup, kept.as_str());
         if done.is_err() {
-            let _ = fs::remove_file(rt, new.as_str());
+            new.give_up(rt);
+            done?;
+            return Err(SaveFault::Changed);
         }
-        done
+        match new.finish(rt, true) {
+            Ok(()) => Ok(unsynced(rt, self.path.as_str())),
+            Err(fault) => Err(SaveFault::Rename(fault)),
+        }
     }
 
-    /// Whether the backup's name is one of the image.
-    fn is_kept<R: Files>(&self, rt: &R, kept: &str) -> bool {
-        match fs::symlink_metadata(rt, kept) {
-            Ok(found) => found.dev() == self.mark.device && found.ino() == self.mark.node,
+    /// Takes away a hidden name of the image that a run left which was ended by force.
+    fn drop_name<R: Files + AllocGlobal>(&self, rt: &R, word: &str) -> Result<(), SaveFault> {
+        let name = hidden(rt.alloc(), self.path.as_str(), word)?;
+        if self.is_named(rt, name.as_str()) {
+            let _ = fs::remove_file(rt, name.as_str());
+        }
+        Ok(())
+    }
+
+    /// Whether this is a name of the image.
+    fn is_named<R: Files>(&self, rt: &R, name: &str) -> bool {
+        match fs::symlink_metadata(rt, name) {
+            Ok(found) => self.mark.is_of(&found),
             Err(_) => false,
         }
     }
 
-    /// The path of a file beside the image, for this use.
-    fn beside(&self, alloc: Global, word: &str) -> Result<String, AllocError> {
-        let (folder, name) = self.parts();
-        format!(in alloc; "{folder}/.{name}.f11fs-{word}")
-    }
-
-    /// The folder, and the name in it.
-    fn parts(&self) -> (&str, &str) {
-        match self.path.as_str().rsplit_once('/') {
-            Some(parts) => parts,
-            None => (".", self.path.as_str()),
-        }
-    }
-
-    /// Gives the new file the image's name.
-    fn rename<R: Files<File = File>>(
+    /// Makes the new file what the image is to be, and keeps the old one where that is asked for; then only the name is wanting.
+    fn prepare<R: Files<File = File> + Clock + AllocGlobal + Clone + Drop>(
         &self,
         rt: &R,
-        alloc: Global,
-        new: &str,
-        kept: &str,
+        new: &mut File,
+        old: &Metadata,
+        image: &Image,
         backup: bool,
+        kept: &str,
     ) -> Result<(), SaveFault> {
-        self.found(rt)?;
+        give_owner(new, old)?;
+        fill(new, image, self.behind.as_slice())?;
+        self.ask_alone(rt)?;
         if backup {
-            self.keep(rt, self.beside(alloc, "old")?.as_str(), kept)?;
-        }
-        if fs::rename(rt, new, self.path.as_str()).is_err() {
-            return Err(SaveFault::Rename);
-        }
-        // That the name lasts is the folder's matter; a folder that may not be read is not synced.
-        let (folder, _) = self.parts();
-        if let Ok(folder) = fs::open(rt, if folder.is_empty() { "/" } else { folder }) {
-            let _ = folder.sync_all();
+            self.keep(
+                rt,
+                hidden(rt.alloc(), self.path.as_str(), "old")?.as_str(),
+                kept,
+            )?;
+            self.found(rt)?;
         }
         Ok(())
     }
@@ -196,15 +255,59 @@ impl Locked {
     /// Gives the old image a second name, by way of `linked`, so that an older backup is there until then.
     fn keep<R: Files>(&self, rt: &R, linked: &str, kept: &str) -> Result<(), SaveFault> {
         let _ = fs::remove_file(rt, linked);
-        if fs::hard_link(rt, self.path.as_str(), linked).is_err() {
-            return Err(SaveFault::Backup);
+        if let Err(error) = fs::hard_link(rt, self.path.as_str(), linked) {
+            return Err(SaveFault::Backup(HostFault::of(&error)));
+        }
+        if !self.is_named(rt, linked) {
+            let _ = fs::remove_file(rt, linked);
+            return Err(SaveFault::Changed);
         }
         let done = fs::rename(rt, linked, kept);
         // Where both were names of one file already the host leaves both.
         let _ = fs::remove_file(rt, linked);
         match done {
             Ok(()) => Ok(()),
-            Err(_) => Err(SaveFault::Backup),
+            Err(error) => Err(SaveFault::Backup(HostFault::of(&error))),
         }
+    }
+}
+
+/// The file at this path, open for reading. That it may be written is asked by another descriptor, which is closed at once.
+fn opened<R: Files<File = File>>(rt: &R, path: &str, writes: bool) -> Result<File, SaveFault> {
+    match fs::symlink_metadata(rt, path) {
+        Ok(found) if found.is_file() => {}
+        Ok(found) if found.file_type().is_block_device() && !writes => {}
+        Ok(_) => return Err(SaveFault::NotPlain),
+        Err(error) => return Err(SaveFault::Read(HostFault::of(&error))),
+    }
+    if writes {
+        let mut options = OpenOptions::new();
+        options.write(true);
+        match options.open(rt, path) {
+            Ok(_) => {}
+            Err(error) if error.kind() == ErrorKind::PermissionDenied => {
+                return Err(SaveFault::Denied);
+            }
+            Err(error) => return Err(SaveFault::Write(HostFault::of(&error))),
+        }
+    }
+    match fs::open(rt, path) {
+        Ok(file) => Ok(file),
+        Err(error) => Err(SaveFault::Read(HostFault::of(&error))),
+    }
+}
+
+/// Gives a new file the owner of the old one. It is asked only where it matters: most users may give none away.
+fn give_owner(new: &File, old: &Metadata) -> Result<(), SaveFault> {
+    let own = match new.metadata() {
+        Ok(own) => own,
+        Err(error) => return Err(SaveFault::Mode(HostFault::of(&error))),
+    };
+    if own.uid() == old.uid() && own.gid() == old.gid() {
+        return Ok(());
+    }
+    match fchown(new, Some(old.uid()), Some(old.gid())) {
+        Ok(()) => Ok(()),
+        Err(error) => Err(SaveFault::Mode(HostFault::of(&error))),
     }
 }

@@ -1,66 +1,77 @@
 //! Images written to files of the host that are not there before.
 use crate::comparing_bytes::has_bytes;
-use crate::faults::SaveFault;
+use crate::faults::{SaveFault, Unfinished};
+use crate::host_fault::HostFault;
+use crate::names::parts;
+use crate::new_file::NewFile;
+use crate::noting::Noting;
 use ods_base::Image;
+use ods_container::write_contained;
 use std::fs;
-use std::fs::{File, Metadata, OpenOptions};
+use std::fs::File;
 use std::io::ErrorKind;
-use std::os::unix::fs::{MetadataExt, OpenOptionsExt, chown};
 use std::rt::Files;
 
-/// Writes an image to a file that is not there before, with the owner and mode of another where one is said, and reads it back. After a
-/// failure the file is gone.
-pub fn write_new<R: Files<File = File>>(
+/// Writes an image, and what stands behind it, to a file that is not there before, with this mode where one is said, and reads it back.
+/// After a failure there is no such file.
+pub fn write_new<R: Files<File = File> + AllocGlobal>(
     rt: &R,
     path: &str,
     image: &Image,
-    like: Option<&Metadata>,
-) -> Result<(), SaveFault> {
-    let mut options = OpenOptions::new();
-    options.read(true).write(true).create_new(true);
-    if like.is_some() {
-        options.mode(0o600);
+    behind: &[u8],
+    mode: Option<u32>,
+) -> Result<Option<Unfinished>, SaveFault> {
+    // The host says it again where the file takes its name; here nothing has been done yet.
+    if fs::symlink_metadata(rt, path).is_ok() {
+        return Err(SaveFault::IsThere);
     }
-    let mut file = match options.open(rt, path) {
-        Ok(file) => file,
-        Err(error) if error.kind() == ErrorKind::AlreadyExists => return Err(SaveFault::IsThere),
-        Err(_) => return Err(SaveFault::Make),
+    let mut new = match NewFile::begin(rt, path, mode) {
+        Ok(new) => new,
+        Err(fault) => return Err(SaveFault::Make(fault)),
     };
-    let done = fill(rt, path, &mut file, image, like);
-    if done.is_err() {
-        let _ = fs::remove_file(rt, path);
+    if let Err(fault) = fill(new.file(), image, behind) {
+        new.give_up(rt);
+        return Err(fault);
     }
-    done
+    match new.finish(rt, false) {
+        Ok(()) => Ok(unsynced(rt, path)),
+        Err(HostFault::Left) => Ok(Some(Unfinished::Left)),
+        Err(HostFault::IsThere) => Err(SaveFault::IsThere),
+        Err(fault) => Err(SaveFault::Rename(fault)),
+    }
 }
 
-/// Gives a new file its owner, mode and bytes.
-fn fill<R: Files>(
-    rt: &R,
-    path: &str,
-    file: &mut File,
-    image: &Image,
-    like: Option<&Metadata>,
-) -> Result<(), SaveFault> {
-    if let Some(like) = like {
-        let Ok(own) = file.metadata() else {
-            return Err(SaveFault::Mode);
-        };
-        // Who owns a file is asked only where it matters: most users may give none away.
-        if (own.uid() != like.uid() || own.gid() != like.gid())
-            && chown(rt, path, Some(like.uid()), Some(like.gid())).is_err()
-        {
-            return Err(SaveFault::Mode);
-        }
-        if file.set_permissions(like.permissions()).is_err() {
-            return Err(SaveFault::Mode);
-        }
+/// Gives a new file the bytes of an image with these behind them, which are read back.
+pub fn fill(file: &mut File, image: &Image, behind: &[u8]) -> Result<(), SaveFault> {
+    let mut noting = Noting::new(file);
+    if write_contained(&mut noting, image, behind).is_err() {
+        return Err(SaveFault::Write(noting.why()));
     }
-    if image.write_to(file).is_err() || file.sync_all().is_err() {
-        return Err(SaveFault::Write);
+    if let Err(error) = file.sync_all() {
+        return Err(SaveFault::Write(HostFault::of(&error)));
     }
-    if has_bytes(file, image) {
+    if has_bytes(file, image, behind, false) {
         Ok(())
     } else {
         Err(SaveFault::Differs)
+    }
+}
+
+/// Syncs the folder of this path, so that the name lasts; what is to be said where that fails.
+pub fn unsynced<R: Files<File = File>>(rt: &R, path: &str) -> Option<Unfinished> {
+    let (folder, _) = parts(path);
+    let done = match fs::open(rt, folder) {
+        Ok(folder) => folder.sync_all(),
+        Err(error) => Err(error),
+    };
+    match done {
+        Ok(()) => None,
+        // A file system that does not sync folders.
+        Err(error)
+            if matches!(
+                error.kind(),
+                ErrorKind::InvalidInput | ErrorKind::Unsupported
+            ) => { None }
+        Err(error) => Some(Unfinished::Unsynced(HostFault::of(&error))),
     }
 }

@@ -2,37 +2,45 @@
 ghost use Rattle.ods_space.specs.Files.{IsLayoutOf};
 ghost use Rattle.ods_space.specs.Disks.{on};
 
-use crate::stop::{Stop, send};
-use crate::volume::{VolumeFault, open_image};
+use crate::output::Output;
+use crate::stop::{Stop, send, stop_at_own_output};
+use crate::volume::{VolumeFault, no_volume, open_image, say_extent};
+use fs_host::Extent;
 use ods_base::Image;
-use ods_check::{Checked, FaultLine, Finding, check_all, findings};
-use ods_mount::MountFault;
+use ods_check::{MOST_LINES, are_all_read, check_all, check_first, count_findings, findings};
 use ods_shell::{Status, number_object, spoiled_records, text_object};
 use ods_space::{Disk, last_number, sequence};
 use std::alloc::{AllocError, Global};
+use std::fs::File;
 use std::rt::Files;
 
 /// `check` of the image at this path.
-pub fn check<'a, R: Files + AllocGlobal + Print>(
+pub fn check<'a, R: Files<File = File> + AllocGlobal + Print + Eprint>(
     rt: &R,
     path: &'a str,
+    given: Option<u32>,
     all: bool,
     json: bool,
 ) -> Result<Status, Stop<'a>> {
-    match open_image(rt, path) {
-        Ok(image) => check_image(rt, &image, all, json),
-        Err(VolumeFault::Read) => Err(Stop::Read(path)),
-        Err(VolumeFault::NoMemory) => Err(Stop::NoMemory),
-        Err(fault) => {
-            let mut text = format!(in rt.alloc(); "{fault}")?;
-            if json {
-                text = text_object(rt.alloc(), "fault", text.as_str())?;
-            } else {
-                text.push('\n')?;
-            }
-            send(rt, text.as_str())?;
+    stop_at_own_output(rt, path)?;
+    match open_image(rt, path, given) {
+        Ok((image, extent)) => {
+            say_extent(rt, path, extent, true);
+            check_with(
+                rt,
+                &image,
+                extent.filter(|extent| extent.is_short()),
+                all,
+                json,
+            )
+        }
+        Err(VolumeFault::Image(refusal, _)) => {
+            let mut output = Output::new(rt.alloc(), json);
+            output.say(rt, "fault", refusal)?;
+            output.end(rt)?;
             Ok(Status::Found)
         }
+        Err(fault) => Err(no_volume(path, fault)),
     }
 }
 
@@ -43,146 +51,183 @@ pub fn check_image<'a, R: AllocGlobal + Print>(
     all: bool,
     json: bool,
 ) -> Result<Status, Stop<'a>> {
-    let checked = check_all(rt.alloc(), image)?;
-    let mut lines = Vec::new(rt.alloc());
-    if let Some(layout) = &checked.layout {
-        let all_read = !checked.faults.iter().any(is_of_names);
-        let disk = Disk { image, layout };
-        add_findings(rt.alloc(), &disk, all_read, &mut lines)?;
-        add_spoiled(rt.alloc(), &disk, &mut lines)?;
-    }
-    if checked.faults.is_empty() && lines.is_empty() {
-        return send(
-            rt,
-            if json {
-                "{\"answer\":\"sound\"}\n"
-            } else {
-                "sound\n"
-            },
-        );
-    }
-    let text = if json {
-        objects(rt.alloc(), &checked, &lines, all)?
-    } else if all {
-        all_lines(rt.alloc(), &checked, &lines)?
+    check_with(rt, image, None, all, json)
+}
+
+/// `check` of an image, with one finding more where it is shorter than its volume.
+fn check_with<'a, R: AllocGlobal + Print>(
+    rt: &R,
+    image: &Image,
+    short: Option<Extent>,
+    all: bool,
+    json: bool,
+) -> Result<Status, Stop<'a>> {
+    if all {
+        tell_all(rt, image, short, json)
     } else {
-        first_lines(rt.alloc(), &checked, lines.len())?
-    };
+        tell_first(rt, image, short, json)
+    }
+}
+
+/// The words of an image on which nothing is found.
+fn tell_sound<'a, R: Print>(rt: &R, json: bool) -> Result<Status, Stop<'a>> {
+    send(
+        rt,
+        if json {
+            "{\"answer\":\"sound\"}\n"
+        } else {
+            "sound\n"
+        },
+    )
+}
+
+/// The fault that a mount answers, and how many findings there are.
+fn tell_first<'a, R: AllocGlobal + Print>(
+    rt: &R,
+    image: &Image,
+    short: Option<Extent>,
+    json: bool,
+) -> Result<Status, Stop<'a>> {
+    let alloc = rt.alloc();
+    let first = check_first(alloc, image)?;
+    let mut count = u64::from(short.is_some());
+    if let Some(layout) = &first.layout {
+        let disk = Disk { image, layout };
+        count = count.saturating_add(count_all(alloc, &disk)?);
+    }
+    let mut text = String::new(alloc);
+    if let Some(fault) = &first.answer {
+        let line = format!(in alloc; "{fault}")?;
+        if json {
+            text.push_str(text_object(alloc, "fault", line.as_str())?.as_str())?;
+        } else {
+            text.push_str(line.as_str())?;
+            text.push('\n')?;
+        }
+    } else if count == 0 {
+        return tell_sound(rt, json);
+    }
+    if json {
+        text.push_str(number_object(alloc, "findings", count)?.as_str())?;
+    } else {
+        push_count(&mut text, count)?;
+    }
     send(rt, text.as_str())?;
     Ok(Status::Found)
 }
 
-/// Whether the fault is one of a directory's names, so that these are not read.
-fn is_of_names(fault: &FaultLine) -> bool {
-    matches!(
-        fault,
-        FaultLine::Plain(MountFault::BadDirectory(_) | MountFault::DuplicateName(_))
-    )
-}
-
-/// Adds a line for each finding. Where some directory is not read, a file that no other names may be named there: it is not said to be
-/// named by none.
-fn add_findings(
-    alloc: Global,
-    disk: &Disk<'_>,
-    all_read: bool,
-    lines: &mut Vec<String>,
-) -> Result<(), AllocError>
+/// How many findings there are, and files whose records are not whole.
+fn count_all(alloc: Global, disk: &Disk<'_>) -> Result<u64, AllocError>
     requires { on IsLayoutOf disk.now }
 {
-    for finding in &findings(alloc, disk)? {
-        if all_read || !is_lost(finding) {
-            add(lines, format!(in alloc; "{finding}")?)?;
-        }
-    }
-    Ok(())
-}
-
-/// Whether the finding is a file that no directory names.
-fn is_lost(finding: &Finding) -> bool {
-    matches!(finding, Finding::LostFile(_))
-}
-
-/// Adds a line for each file above 2 whose records are not whole.
-fn add_spoiled(alloc: Global, disk: &Disk<'_>, lines: &mut Vec<String>) -> Result<(), AllocError>
-    requires { on IsLayoutOf disk.now }
-{
+    let all_read = are_all_read(alloc, disk)?;
+    let mut count = count_findings(alloc, disk, all_read)?;
     for number in 3..=last_number(disk.layout) {
-        if let Some(fault) = spoiled_records(alloc, disk, number)? {
-            let sequence = sequence(disk, number);
-            add(
-                lines,
-                format!(in alloc; "file {number},{sequence}: {fault}")?,
-            )?;
+        if spoiled_records(alloc, disk, number)?.is_some() {
+            count = count.saturating_add(1);
         }
     }
-    Ok(())
+    Ok(count)
 }
 
-/// Adds a line.
-fn add(lines: &mut Vec<String>, line: String) -> Result<(), AllocError> {
-    match lines.push(line) {
-        Ok(()) => Ok(()),
-        Err(_) => Err(AllocError),
+/// Appends a line that says how many findings there are.
+fn push_count(text: &mut String, count: u64) -> Result<(), AllocError> {
+    match count {
+        0 => Ok(()),
+        1 => text.push_str("1 finding that a mount does not refuse; check --all lists it\n"),
+        _ => {
+            writeln!(
+                text,
+                "{count} findings that a mount does not refuse; check --all lists them"
+            )?;
+            Ok(())
+        }
     }
 }
 
-/// A line for each fault, and for each finding.
-fn all_lines(alloc: Global, checked: &Checked, found: &[String]) -> Result<String, AllocError> {
-    let mut text = String::new(alloc);
-    for fault in &checked.faults {
-        writeln!(text, "{fault}")?;
+/// A line for each fault, and for each finding, as they are found; behind the most of a kind how many more there are.
+fn tell_all<'a, R: AllocGlobal + Print>(
+    rt: &R,
+    image: &Image,
+    short: Option<Extent>,
+    json: bool,
+) -> Result<Status, Stop<'a>> {
+    let mut output = Output::new(rt.alloc(), json);
+    if let Some(short) = short {
+        output.say(rt, "finding", short)?;
     }
-    if checked.faults.iter().any(is_of_names) {
-        text.push_str(
-            "files that no directory names are not listed, since a directory is not read\n",
+    let checked = check_all(rt.alloc(), image)?;
+    for fault in checked.faults.kept() {
+        output.say(rt, "fault", *fault)?;
+    }
+    output.say_more(rt, "more_faults", checked.faults.more(), "faults")?;
+    let sharing = checked.sharing.more();
+    output.say_more(
+        rt,
+        "more_sharing",
+        sharing,
+        "files that share blocks with files before them",
+    )?;
+    if let Some(layout) = &checked.layout {
+        let disk = Disk { image, layout };
+        tell_findings(rt, &disk, &mut output)?;
+        tell_spoiled(rt, &disk, &mut output)?;
+    }
+    if output.is_empty() {
+        return tell_sound(rt, json);
+    }
+    output.end(rt)?;
+    Ok(Status::Found)
+}
+
+/// A line for each finding. Where some directory is not read, a file that no other names may be named there: it is not said to be named by
+/// none.
+fn tell_findings<'a, R: AllocGlobal + Print>(
+    rt: &R,
+    disk: &Disk<'_>,
+    output: &mut Output,
+) -> Result<Status, Stop<'a>>
+    requires { on IsLayoutOf disk.now }
+{
+    let all_read = are_all_read(rt.alloc(), disk)?;
+    if !all_read {
+        output.say(
+            rt,
+            "remark",
+            "files that no directory names are not listed, since a directory is not read",
         )?;
     }
-    for line in found {
-        writeln!(text, "{}", line.as_str())?;
+    let found = findings(rt.alloc(), disk, MOST_LINES, all_read)?;
+    for finding in found.kept() {
+        output.say(rt, "finding", *finding)?;
     }
-    Ok(text)
+    output.say_more(rt, "more_findings", found.more(), "findings")
 }
 
-/// An object for each fault, and for each finding; without `all` the fault that a mount answers, and how many findings there are.
-fn objects(
-    alloc: Global,
-    checked: &Checked,
-    found: &[String],
-    all: bool,
-) -> Result<String, AllocError> {
-    let mut text = String::new(alloc);
-    if !all {
-        if let Some(fault) = &checked.answer {
-            let line = format!(in alloc; "{fault}")?;
-            text.push_str(text_object(alloc, "fault", line.as_str())?.as_str())?;
+/// A line for each file above 2 whose records are not whole.
+fn tell_spoiled<'a, R: AllocGlobal + Print>(
+    rt: &R,
+    disk: &Disk<'_>,
+    output: &mut Output,
+) -> Result<Status, Stop<'a>>
+    requires { on IsLayoutOf disk.now }
+{
+    let mut count = 0u64;
+    for number in 3..=last_number(disk.layout) {
+        if let Some(fault) = spoiled_records(rt.alloc(), disk, number)? {
+            count = count.saturating_add(1);
+            if count <= u64::from(MOST_LINES) {
+                let sequence = sequence(disk, number);
+                let line = format!(in rt.alloc(); "file {number},{sequence}: {fault}")?;
+                output.say(rt, "finding", line.as_str())?;
+            }
         }
-        text.push_str(number_object(alloc, "findings", found.len() as u64)?.as_str())?;
-        return Ok(text);
     }
-    for fault in &checked.faults {
-        let line = format!(in alloc; "{fault}")?;
-        text.push_str(text_object(alloc, "fault", line.as_str())?.as_str())?;
-    }
-    for line in found {
-        text.push_str(text_object(alloc, "finding", line.as_str())?.as_str())?;
-    }
-    Ok(text)
-}
-
-/// The fault that a mount answers, and how many findings there are.
-fn first_lines(alloc: Global, checked: &Checked, count: usize) -> Result<String, AllocError> {
-    let mut text = String::new(alloc);
-    if let Some(fault) = &checked.answer {
-        writeln!(text, "{fault}")?;
-    }
-    match count {
-        0 => {}
-        1 => text.push_str("1 finding that a mount does not refuse; check --all lists it\n")?,
-        _ => writeln!(
-            text,
-            "{count} findings that a mount does not refuse; check --all lists them"
-        )?,
-    }
-    Ok(text)
+    let more = count.saturating_sub(u64::from(MOST_LINES));
+    output.say_more(
+        rt,
+        "more_spoiled",
+        more,
+        "files whose records are not whole",
+    )
 }

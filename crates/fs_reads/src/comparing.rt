@@ -13,6 +13,7 @@ use ods_shell::{
 };
 use std::alloc::{AllocError, Global};
 use std::cmp::Ordering;
+use std::fs::File;
 use std::rt::Files;
 use std::time::Clock;
 
@@ -24,7 +25,7 @@ pub struct Known {
 }
 
 /// `cmp` with the image at the first path.
-pub(crate) fn compare_all<'a, R: Files + Clock + AllocGlobal + Print + Eprint>(
+pub(crate) fn compare_all<'a, R: Files<File = File> + Clock + AllocGlobal + Print + Eprint>(
     rt: &R,
     volume: &Mounted,
     words: &Words<'a>,
@@ -34,7 +35,7 @@ pub(crate) fn compare_all<'a, R: Files + Clock + AllocGlobal + Print + Eprint>(
     let Some(path) = words.paths.first() else {
         return Ok(Status::Words);
     };
-    let other = volume_at(rt, *path)?;
+    let other = volume_at(rt, *path, None, false)?;
     let ours = all_known(rt, volume, words.user)?;
     let theirs = all_known(rt, &other, words.user)?;
     let mut text = String::new(rt.alloc());

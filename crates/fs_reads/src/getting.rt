@@ -1,15 +1,17 @@
 //! `get`: files of a volume, written to files of the host.
 use crate::closed::closed_to;
-use crate::printing::{Reader, add_named, cat_file, readable, refused};
+use crate::host_files::{Written, could_write, write_host};
+use crate::printing::{Reader, add_named, cat_file, contents_of, readable, refused};
 use crate::progress::Progress;
-use crate::stop::Stop;
+use crate::stop::{Stop, send};
+use fs_host::{HostFault, Shown};
 use fs_words::Words;
 use ods_mount::Mounted;
-use ods_shell::{Contents, Status, Target, Versioned, Wanted, open_contents};
+use ods_shell::{Contents, Status, Target, Versioned, Wanted, pair_object};
 use std::alloc::AllocError;
+use std::collections::BTreeSet;
 use std::fs;
-use std::fs::OpenOptions;
-use std::io::ErrorKind;
+use std::fs::File;
 use std::os::unix::fs::MetadataExt;
 use std::rt::Files;
 use std::time::Clock;
@@ -25,19 +27,24 @@ enum Place<'a> {
     File(&'a str),
 }
 
-/// How files are written: in which form, whether their names have their versions, whether files of the host may be replaced, and who reads.
+/// How files are written.
 #[derive(Clone, Copy)]
 struct How<'a> {
     /// The path of the image, which no file is written onto.
     image: &'a str,
     wanted: Wanted,
+    /// Whether their names have their versions.
     with_versions: bool,
+    /// Whether files of the host may be replaced.
     force: bool,
+    /// Whether nothing is written, and it is told what would be.
+    only_tells: bool,
+    json: bool,
     reader: Reader,
 }
 
 /// `get`: the files that the paths name, to a target; where none is said the last word is it, of two or more.
-pub(crate) fn get<'a, R: Files + Clock + AllocGlobal + Print + Eprint>(
+pub(crate) fn get<'a, R: Files<File = File> + Clock + AllocGlobal + Print + Eprint>(
     rt: &R,
     volume: &Mounted,
     words: &Words<'a>,
@@ -55,6 +62,7 @@ pub(crate) fn get<'a, R: Files + Clock + AllocGlobal + Print + Eprint>(
         Some(target) if is_folder(rt, target) => Place::Folder(target),
         Some(target) => {
             if paths.len() > 1 {
+                let target = Shown(target);
                 let _ = eprintln!(rt; "f11fs: {target}: no folder");
                 return Err(Stop::Said(Status::Words));
             }
@@ -74,6 +82,8 @@ pub(crate) fn get<'a, R: Files + Clock + AllocGlobal + Print + Eprint>(
         wanted,
         with_versions,
         force: words.force,
+        only_tells: words.saving.only_tells,
+        json: words.json,
         reader: Reader::of(words),
     };
     Ok(status.or(get_all(rt, volume, &all, place, how, progress)?))
@@ -96,7 +106,7 @@ fn is_folder<R: Files>(rt: &R, path: &str) -> bool {
 }
 
 /// Gets these files.
-fn get_all<'a, R: Files + Clock + AllocGlobal + Print + Eprint>(
+fn get_all<'a, R: Files<File = File> + Clock + AllocGlobal + Print + Eprint>(
     rt: &R,
     volume: &Mounted,
     targets: &[Target],
@@ -106,15 +116,17 @@ fn get_all<'a, R: Files + Clock + AllocGlobal + Print + Eprint>(
 ) -> Result<Status, Stop<'a>> {
     if let Place::File(path) = place {
         if targets.len() > 1 {
+            let path = Shown(path);
             let _ = eprintln!(rt; "f11fs: {path}: no folder");
             return Err(Stop::Said(Status::Words));
         }
     }
     let versions = Versioned::of(rt.alloc(), targets)?;
-    let mut written = Vec::new(rt.alloc());
+    let mut written = BTreeSet::new(rt.alloc());
     let mut status = Status::Done;
     for (before, target) in targets.iter().enumerate() {
         let done = match place {
+            Place::Output if how.only_tells => get_file(rt, volume, target, "-", how)?,
             Place::Output => cat_file(rt, volume, target, how.wanted, how.reader)?,
             Place::File(path) => get_file(rt, volume, target, path, how)?,
             Place::Folder(folder) => {
@@ -132,36 +144,30 @@ fn get_all<'a, R: Files + Clock + AllocGlobal + Print + Eprint>(
 }
 
 /// Gets one file into a folder, under a name that is none of those that were written.
-fn get_into<'a, R: Files + AllocGlobal + Eprint>(
+fn get_into<'a, R: Files<File = File> + AllocGlobal + Print + Eprint>(
     rt: &R,
     volume: &Mounted,
     target: &Target,
     folder: &str,
     name: String,
     how: How<'_>,
-    written: &mut Vec<String>,
+    written: &mut BTreeSet<String>,
 ) -> Result<Status, Stop<'a>> {
     let path = format!(in rt.alloc(); "{folder}/{}", name.as_str())?;
-    // Without --force the host says itself that a file is there.
-    if how.force
-        && written
-            .iter()
-            .any(|before| before.as_str() == name.as_str())
-    {
-        let path = path.as_str();
-        let from = target.path.as_str();
+    if written.contains(&name) && (how.force || how.only_tells) {
+        let (from, path) = (target.path.as_str(), Shown(path.as_str()));
         let _ = eprintln!(rt; "f11fs: {from}: {path} has been written by this command");
         return Ok(Status::Host);
     }
     let done = get_file(rt, volume, target, path.as_str(), how)?;
-    if written.push(name).is_err() {
+    if done == Status::Done && written.insert(name).is_err() {
         return Err(Stop::NoMemory);
     }
     Ok(done)
 }
 
 /// Gets one file into a file of the host. A file that is refused, and a file of the host that is there, are said, and no fault of the command.
-fn get_file<'a, R: Files + AllocGlobal + Eprint>(
+fn get_file<'a, R: Files<File = File> + AllocGlobal + Print + Eprint>(
     rt: &R,
     volume: &Mounted,
     target: &Target,
@@ -172,21 +178,67 @@ fn get_file<'a, R: Files + AllocGlobal + Eprint>(
     let Some(facts) = readable(rt, target, how.reader) else {
         return Ok(Status::Refused);
     };
-    match open_contents(rt.alloc(), volume, facts.file.number, how.wanted) {
-        Ok(contents) => {
-            // Without --force nothing that is there is written onto.
-            if how.force && is_same_file(rt, host, how.image) {
-                return Ok(is_image(rt, path, host));
-            }
-            Ok(write_host(rt, path, &contents, host, how))
-        }
+    match contents_of(rt, volume, path, facts, how.wanted, how.reader) {
+        Ok(contents) => keep(rt, path, &contents, host, how),
         Err(fault) => refused(rt, path, fault),
     }
 }
 
-/// The line where a file would be written onto the image.
-fn is_image<R: Eprint>(rt: &R, path: &str, host: &str) -> Status {
-    let _ = eprintln!(rt; "f11fs: {path}: {host} is the image");
+/// Writes what is got out of a file into one of the host, or tells it; how it ended is said.
+fn keep<'a, R: Files<File = File> + AllocGlobal + Print + Eprint>(
+    rt: &R,
+    path: &str,
+    contents: &Contents<'_>,
+    host: &str,
+    how: How<'_>,
+) -> Result<Status, Stop<'a>> {
+    if host != "-" && is_same_file(rt, host, how.image) {
+        let host = Shown(host);
+        let _ = eprintln!(rt; "f11fs: {path}: {host} is the image");
+        return Ok(Status::Host);
+    }
+    let written = if !how.only_tells {
+        write_host(rt, contents, host, how.force)
+    } else if host == "-" {
+        Written::Done
+    } else {
+        could_write(rt, host, how.force)
+    };
+    if written == Written::Done && how.only_tells {
+        return tell(rt, path, host, how.json);
+    }
+    Ok(said(rt, path, host, written))
+}
+
+/// A line, or an object, for a file that would be got.
+fn tell<'a, R: AllocGlobal + Print>(
+    rt: &R,
+    path: &str,
+    host: &str,
+    json: bool,
+) -> Result<Status, Stop<'a>> {
+    let line = if json {
+        pair_object(rt.alloc(), "get", path, "to", host)?
+    } else {
+        let host = Shown(host);
+        format!(in rt.alloc(); "get {path} to {host}\n")?
+    };
+    send(rt, line.as_str())
+}
+
+/// The line where a file could not be written, and the status.
+fn said<R: Eprint>(rt: &R, path: &str, host: &str, written: Written) -> Status {
+    let host = Shown(host);
+    let _ = match written {
+        Written::Done => return Status::Done,
+        Written::IsThere => { eprintln!(rt; "f11fs: {path}: {host} is there; --force replaces it") }
+        Written::Unmade(why) => eprintln!(rt; "f11fs: {path}: {host} cannot be made: {why}"),
+        Written::Failed(HostFault::Left) => eprintln!(rt;
+            "f11fs: {path}: {host}: {}",
+            HostFault::Left
+        ),
+        Written::Failed(why) => eprintln!(rt; "f11fs: {path}: writing {host} failed: {why}"),
+    };
     Status::Host
 }
 
@@ -195,47 +247,5 @@ fn is_same_file<R: Files>(rt: &R, one: &str, other: &str) -> bool {
     match (fs::metadata(rt, one), fs::metadata(rt, other)) {
         (Ok(one), Ok(other)) => one.dev() == other.dev() && one.ino() == other.ino(),
         _ => false,
-    }
-}
-
-/// Writes what is got out of a file into a file of the host, which is made anew.
-fn write_host<R: Files + Eprint>(
-    rt: &R,
-    path: &str,
-    contents: &Contents<'_>,
-    host: &str,
-    how: How<'_>,
-) -> Status {
-    let mut options = OpenOptions::new();
-    options.write(true);
-    if how.force {
-        options.create(true).truncate(true);
-    } else {
-        options.create_new(true);
-    }
-    let mut file = match options.open(rt, host) {
-        Ok(file) => file,
-        Err(error) if error.kind() == ErrorKind::AlreadyExists => {
-            if is_same_file(rt, host, how.image) {
-                return is_image(rt, path, host);
-            }
-            let _ = eprintln!(rt; "f11fs: {path}: {host} is there; --force replaces it");
-            return Status::Host;
-        }
-        Err(_) => {
-            let _ = eprintln!(rt; "f11fs: {path}: {host} cannot be made");
-            return Status::Host;
-        }
-    };
-    match contents.write_to(&mut file) {
-        Ok(()) => Status::Done,
-        Err(_) => {
-            // A part of a file is not to be taken for the whole; where it was asked for by force it may be no file that can go.
-            if !how.force {
-                let _ = fs::remove_file(rt, host);
-            }
-            let _ = eprintln!(rt; "f11fs: {path}: writing {host} failed");
-            Status::Host
-        }
     }
 }

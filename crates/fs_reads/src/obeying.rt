@@ -6,20 +6,22 @@ use crate::listing::ls;
 use crate::printing::cat;
 use crate::progress::Progress;
 use crate::showing::stat;
-use crate::stop::{Stop, send};
+use crate::stop::{Stop, send, stop_at_own_output};
 use fs_words::{Action, Words};
 use ods_mount::Mounted;
 use ods_shell::{Status, space_lines, space_object, space_of};
+use std::fs::File;
 use std::rt::Files;
 use std::time::Clock;
 
 /// Does what a command asks for on a volume.
-pub fn obey<'a, R: Files + Clock + AllocGlobal + Print + Eprint>(
+pub fn obey<'a, R: Files<File = File> + Clock + AllocGlobal + Print + Eprint>(
     rt: &R,
     volume: &Mounted,
     words: &Words<'a>,
     progress: &mut Progress,
 ) -> Result<Status, Stop<'a>> {
+    stop_at_own_output(rt, words.image)?;
     match words.action {
         Action::Ls { columns, below } => ls(rt, volume, words, columns, below),
         Action::Find { lost } => find(rt, volume, words, lost),

@@ -1,11 +1,13 @@
 //! `cat`: files of a volume, written to standard output.
 use crate::closed::{closed_to, say_closed};
+use crate::forms::get_contents;
 use crate::stop::Stop;
+use fs_host::{Noting, Shown};
 use fs_words::Words;
 use ods_base::Uic;
 use ods_mount::Mounted;
 use ods_request::{Right, permits};
-use ods_shell::{Facts, FormFault, PathFault, Status, Target, Wanted, open_contents, open_targets};
+use ods_shell::{Contents, Facts, FormFault, PathFault, Status, Target, Wanted, open_targets};
 use std::io;
 
 /// Who reads, and whether remarks that are no faults are left out.
@@ -64,6 +66,7 @@ pub(crate) fn add_named<'a, R: AllocGlobal + Eprint>(
         }
         Err(PathFault::NoMemory) => Err(Stop::NoMemory),
         Err(fault) => {
+            let path = Shown(path);
             let _ = eprintln!(rt; "f11fs: {path}: {fault}");
             Ok(fault.status())
         }
@@ -82,16 +85,40 @@ pub(crate) fn cat_file<'a, R: AllocGlobal + Print + Eprint>(
     let Some(facts) = readable(rt, target, reader) else {
         return Ok(Status::Refused);
     };
-    match open_contents(rt.alloc(), volume, facts.file.number, wanted) {
-        Ok(contents) => match contents.write_to(&mut io::writer(rt)) {
-            Ok(()) => Ok(Status::Done),
-            Err(_) => Err(Stop::Write),
-        },
+    match contents_of(rt, volume, path, facts, wanted, reader) {
+        Ok(contents) => {
+            let mut output = io::writer(rt);
+            let mut noting = Noting::new(&mut output);
+            match contents.write_to(&mut noting) {
+                Ok(()) => Ok(Status::Done),
+                Err(_) => Err(Stop::Unwritten(noting.why())),
+            }
+        }
         Err(fault) => refused(rt, path, fault),
     }
 }
 
-/// What is known of a file that may be read. That it is no file, may not be read, or does not say where it ends, is said.
+/// What is got out of a file. That its bytes are got, since its records are no text, is said.
+pub(crate) fn contents_of<'a, R: AllocGlobal + Eprint>(
+    rt: &R,
+    volume: &'a Mounted,
+    path: &str,
+    facts: &Facts,
+    wanted: Wanted,
+    reader: Reader,
+) -> Result<Contents<'a>, FormFault> {
+    match get_contents(rt.alloc(), volume, facts, wanted) {
+        Ok(got) => {
+            if got.is_no_text && !reader.quiet {
+                let _ = eprintln!(rt; "f11fs: {path}: records that are no text, got as bytes");
+            }
+            Ok(got.contents)
+        }
+        Err(fault) => Err(fault),
+    }
+}
+
+/// What is known of a file that may be read. That it is no file, or may not be read, is said.
 pub(crate) fn readable<'a, R: Eprint>(
     rt: &R,
     target: &'a Target,

@@ -2,28 +2,39 @@
 ghost use Rattle.ods_space.specs.Files.{IsLayoutOf};
 ghost use Rattle.ods_space.specs.Disks.{on};
 
+use crate::host_files::{Written, write_host};
 use crate::progress::Progress;
-use crate::stop::Stop;
-use crate::volume::VolumeFault;
+use crate::rescue_folder::take_folder;
+use crate::rescue_image::whole_blocks;
+use crate::stop::{Stop, send, stop_at_own_output};
+use fs_host::{HostFault, Shown};
 use fs_words::Words;
-use ods_base::{FileId, Image, ImageError};
-use ods_check::{Finding, check_all, findings};
-use ods_shell::{Contents, Rescued, Status, open_rescued};
+use ods_base::FileId;
+use ods_check::{Finding, bad_headers, check_first};
+use ods_shell::{Contents, Rescued, Status, open_rescued, pair_object, text_object};
 use ods_space::{Disk, last_number};
-use std::fs;
-use std::fs::OpenOptions;
-use std::io::ErrorKind;
+use std::collections::BTreeSet;
+use std::fs::File;
 use std::rt::Files;
 use std::time::Clock;
 
 /// The number from which on files are no reserved ones.
 const FIRST: u16 = 6;
 
-/// The bytes of a block.
-const BLOCK: usize = 512;
+/// How files are copied.
+#[derive(Clone, Copy)]
+struct How<'a> {
+    /// The folder of the host that they are written to.
+    folder: &'a str,
+    /// Whether records become lines where they are whole.
+    text: bool,
+    /// Whether nothing is written, and it is told what would be.
+    only_tells: bool,
+    json: bool,
+}
 
 /// `rescue` into the folder of the first word.
-pub fn rescue<'a, R: Files + Clock + AllocGlobal + Print + Eprint>(
+pub fn rescue<'a, R: Files<File = File> + Clock + AllocGlobal + Print + Eprint>(
     rt: &R,
     words: &Words<'a>,
     text: bool,
@@ -33,160 +44,200 @@ pub fn rescue<'a, R: Files + Clock + AllocGlobal + Print + Eprint>(
     let Some(folder) = words.paths.first() else {
         return Ok(Status::Words);
     };
-    let (image, rest) = whole_blocks(rt, path)?;
+    let how = How {
+        folder: *folder,
+        text,
+        only_tells: words.saving.only_tells,
+        json: words.json,
+    };
+    stop_at_own_output(rt, path)?;
+    let (image, rest) = whole_blocks(rt, path, words.blocks)?;
     let mut status = Status::Done;
     if rest > 0 {
-        say(
-            rt,
-            format!(in rt.alloc();
-                "{path}: {rest} bytes behind the last whole block are left"
-            )?.as_str(),
-        )?;
+        say_rest(rt, path, rest, how.json)?;
         status = Status::Found;
     }
-    let checked = check_all(rt.alloc(), &image)?;
-    if let Some(fault) = &checked.answer {
-        say(rt, format!(in rt.alloc(); "{path}: {fault}")?.as_str())?;
+    let first = check_first(rt.alloc(), &image)?;
+    if let Some(fault) = &first.answer {
+        let fault = format!(in rt.alloc(); "{fault}")?;
+        say_fault(rt, path, fault.as_str(), how.json)?;
     }
-    let Some(layout) = &checked.layout else {
+    let Some(layout) = &first.layout else {
         return Ok(Status::Found);
     };
-    make_folder(rt, *folder)?;
+    take_folder(rt, how.folder, how.only_tells)?;
     let disk = Disk {
         image: &image,
         layout,
     };
-    for number in FIRST..=last_number(layout) {
-        status = status.or(rescue_file(rt, &disk, number, *folder, text)?);
-        progress.show(rt, u64::from(number), u64::from(last_number(layout)));
+    Ok(status.or(rescue_all(rt, &disk, how, progress)?))
+}
+
+/// Copies each file, and says of which numbers there is no header.
+fn rescue_all<'a, R: Files<File = File> + Clock + AllocGlobal + Print + Eprint>(
+    rt: &R,
+    disk: &Disk<'_>,
+    how: How<'_>,
+    progress: &mut Progress,
+) -> Result<Status, Stop<'a>>
+    requires { on IsLayoutOf disk.now }
+{
+    let mut taken = BTreeSet::new(rt.alloc());
+    let mut status = Status::Done;
+    let last = last_number(disk.layout);
+    for number in FIRST..=last {
+        status = status.or(rescue_file(rt, disk, number, how, &mut taken)?);
+        progress.show(rt, u64::from(number), u64::from(last));
     }
-    for finding in &findings(rt.alloc(), &disk)? {
-        if let Finding::BadHeader(_, _) = finding {
-            say(rt, format!(in rt.alloc(); "left: {finding}")?.as_str())?;
+    for finding in bad_headers(rt.alloc(), disk, u32::MAX)?.kept() {
+        if let Finding::BadHeader(number, why) = finding {
+            let file = format!(in rt.alloc(); "file number {number}")?;
+            let why = format!(in rt.alloc(); "is marked as used and has no header: {why}")?;
+            let line = format!(in rt.alloc(); "left: {finding}\n")?;
+            say_left(rt, file.as_str(), why.as_str(), line.as_str(), how.json)?;
             status = status.or(Status::Found);
         }
     }
     Ok(status)
 }
 
-/// The image of the whole blocks at this path, and how many bytes stand behind them.
-fn whole_blocks<'a, R: Files + AllocGlobal>(
+/// A line of bytes that are no whole block.
+fn say_rest<'a, R: AllocGlobal + Print>(
     rt: &R,
-    path: &'a str,
-) -> Result<(Image, usize), Stop<'a>> {
-    let Ok(bytes) = fs::read(rt, path) else {
-        return Err(Stop::Read(path));
+    path: &str,
+    rest: u64,
+    json: bool,
+) -> Result<Status, Stop<'a>> {
+    let path = Shown(path);
+    let line = format!(in rt.alloc();
+        "{path}: {rest} bytes behind the last whole block are left\n"
+    )?;
+    let what = format!(in rt.alloc(); "{rest} bytes behind the last whole block")?;
+    say_left(
+        rt,
+        what.as_str(),
+        "they are no whole block",
+        line.as_str(),
+        json,
+    )
+}
+
+/// A line of the fault that a mount answers.
+fn say_fault<'a, R: AllocGlobal + Print>(
+    rt: &R,
+    path: &str,
+    fault: &str,
+    json: bool,
+) -> Result<Status, Stop<'a>> {
+    let line = if json {
+        text_object(rt.alloc(), "fault", fault)?
+    } else {
+        let path = Shown(path);
+        format!(in rt.alloc(); "{path}: {fault}\n")?
     };
-    let rest = bytes.len() % BLOCK;
-    let mut whole = &bytes[..bytes.len() - rest];
-    match Image::read_from(rt.alloc(), &mut whole) {
-        Ok(image) => Ok((image, rest)),
-        Err(ImageError::NoMemory) => Err(Stop::NoMemory),
-        Err(ImageError::ReadFailed) => Err(Stop::Read(path)),
-        Err(refusal) => Err(Stop::Image(path, VolumeFault::Image(refusal))),
-    }
+    send(rt, line.as_str())
 }
 
-/// Makes the folder, or takes one that is there and empty.
-fn make_folder<'a, R: Files + AllocGlobal + Eprint>(
+/// A line, or an object, for what is left.
+fn say_left<'a, R: AllocGlobal + Print>(
     rt: &R,
-    folder: &'a str,
-) -> Result<(), Stop<'a>> {
-    match fs::create_dir(rt, folder) {
-        Ok(()) => Ok(()),
-        Err(error) if error.kind() == ErrorKind::AlreadyExists && is_made_anew(rt, folder) => Ok(
-            (),
-        ),
-        Err(_) => {
-            let _ = eprintln!(rt; "f11fs: {folder}: an empty folder, or none, is wanted there");
-            Err(Stop::Said(Status::Host))
-        }
+    what: &str,
+    why: &str,
+    line: &str,
+    json: bool,
+) -> Result<Status, Stop<'a>> {
+    if json {
+        let object = pair_object(rt.alloc(), "left", what, "why", why)?;
+        return send(rt, object.as_str());
     }
-}
-
-/// Whether there was an empty folder of this name, in whose place there is a new one. The host takes none away that is not empty.
-fn is_made_anew<R: Files>(rt: &R, folder: &str) -> bool {
-    fs::remove_dir(rt, folder).is_ok() && fs::create_dir(rt, folder).is_ok()
-}
-
-/// Writes a line to standard output.
-fn say<'a, R: Print>(rt: &R, line: &str) -> Result<(), Stop<'a>> {
-    match println!(rt; "{line}") {
-        Ok(()) => Ok(()),
-        Err(_) => Err(Stop::Write),
-    }
+    send(rt, line)
 }
 
 /// Copies the file with this number, where its own chain is whole.
-fn rescue_file<'a, R: Files + AllocGlobal + Print + Eprint>(
+fn rescue_file<'a, R: Files<File = File> + AllocGlobal + Print + Eprint>(
     rt: &R,
     disk: &Disk<'_>,
     number: u16,
-    folder: &str,
-    text: bool,
+    how: How<'_>,
+    taken: &mut BTreeSet<String>,
 ) -> Result<Status, Stop<'a>>
     requires { on IsLayoutOf disk.now }
 {
-    match open_rescued(rt.alloc(), disk, number, text)? {
+    match open_rescued(rt.alloc(), disk, number, how.text)? {
         Rescued::Nothing => Ok(Status::Done),
         Rescued::Broken(file, fault) => {
-            say(
-                rt,
-                format!(in rt.alloc();
-                    "left: file {},{}: {fault}",
-                    file.number, file.sequence
-                )?.as_str(),
-            )?;
+            let what = format!(in rt.alloc(); "file {},{}", file.number, file.sequence)?;
+            let why = format!(in rt.alloc(); "{fault}")?;
+            let line = format!(in rt.alloc(); "left: {}: {fault}\n", what.as_str())?;
+            say_left(rt, what.as_str(), why.as_str(), line.as_str(), how.json)?;
             Ok(Status::Found)
         }
-        Rescued::Whole(file, name, contents) => { keep(rt, folder, file, name.as_str(), &contents) }
+        Rescued::Whole(file, name, contents) => keep(rt, how, file, name, &contents, taken),
     }
 }
 
 /// Writes what is got out of a file into a new file of the folder, under its name, or with its ID behind that where the name is taken.
-fn keep<'a, R: Files + AllocGlobal + Print + Eprint>(
+fn keep<'a, R: Files<File = File> + AllocGlobal + Print + Eprint>(
     rt: &R,
-    folder: &str,
+    how: How<'_>,
     file: FileId,
-    name: &str,
+    name: String,
     contents: &Contents<'_>,
+    taken: &mut BTreeSet<String>,
 ) -> Result<Status, Stop<'a>> {
-    if keep_as(rt, folder, name, contents)? {
-        return Ok(Status::Done);
+    let name = if taken.contains(&name) {
+        format!(in rt.alloc(); "{} #{},{}", name.as_str(), file.number, file.sequence)?
+    } else {
+        name
+    };
+    let path = format!(in rt.alloc(); "{}/{}", how.folder, name.as_str())?;
+    if how.only_tells {
+        tell(rt, file, path.as_str(), how.json)?;
+    } else {
+        let written = write_host(rt, contents, path.as_str(), false);
+        if written != Written::Done {
+            return Err(not_written(rt, path.as_str(), written));
+        }
+        let line = if how.json {
+            text_object(rt.alloc(), "rescued", name.as_str())?
+        } else {
+            format!(in rt.alloc(); "{}\n", name.as_str())?
+        };
+        send(rt, line.as_str())?;
     }
-    let other = format!(in rt.alloc(); "{name} #{},{}", file.number, file.sequence)?;
-    if keep_as(rt, folder, other.as_str(), contents)? {
-        return Ok(Status::Done);
+    match taken.insert(name) {
+        Ok(_) => Ok(Status::Done),
+        Err(_) => Err(Stop::NoMemory),
     }
-    Err(not_written(rt, folder, other.as_str()))
 }
 
-/// Whether the file was written under this name, and said; not, where the name is taken.
-fn keep_as<'a, R: Files + AllocGlobal + Print + Eprint>(
+/// A line, or an object, for a file that would be written.
+fn tell<'a, R: AllocGlobal + Print>(
     rt: &R,
-    folder: &str,
-    name: &str,
-    contents: &Contents<'_>,
-) -> Result<bool, Stop<'a>> {
-    let path = format!(in rt.alloc(); "{folder}/{name}")?;
-    let mut options = OpenOptions::new();
-    options.write(true).create_new(true);
-    let mut file = match options.open(rt, path.as_str()) {
-        Ok(file) => file,
-        Err(error) if error.kind() == ErrorKind::AlreadyExists => return Ok(false),
-        Err(_) => return Err(not_written(rt, folder, name)),
+    file: FileId,
+    path: &str,
+    json: bool,
+) -> Result<Status, Stop<'a>> {
+    let from = format!(in rt.alloc(); "#{},{}", file.number, file.sequence)?;
+    let line = if json {
+        pair_object(rt.alloc(), "rescue", from.as_str(), "to", path)?
+    } else {
+        let path = Shown(path);
+        format!(in rt.alloc(); "rescue {} to {path}\n", from.as_str())?
     };
-    if contents.write_to(&mut file).is_err() {
-        // A part of a file is not to be taken for the whole.
-        let _ = fs::remove_file(rt, path.as_str());
-        return Err(not_written(rt, folder, name));
-    }
-    say(rt, name)?;
-    Ok(true)
+    send(rt, line.as_str())
 }
 
 /// The line of a file that is not written.
-fn not_written<'a, R: Eprint>(rt: &R, folder: &str, name: &str) -> Stop<'a> {
-    let _ = eprintln!(rt; "f11fs: {folder}/{name}: writing failed");
+fn not_written<'a, R: Eprint>(rt: &R, path: &str, written: Written) -> Stop<'a> {
+    let path = Shown(path);
+    let _ = match written {
+        Written::Done => Ok(()),
+        Written::IsThere => eprintln!(rt; "f11fs: {path}: it is there"),
+        Written::Failed(HostFault::Left) => eprintln!(rt; "f11fs: {path}: {}", HostFault::Left),
+        Written::Unmade(why) | Written::Failed(why) => {
+            eprintln!(rt; "f11fs: {path}: writing failed: {why}")
+        }
+    };
     Stop::Said(Status::Host)
 }

@@ -1,97 +1,178 @@
 //! The volume of an image in a file.
+use crate::looks::{Look, looks_like};
 use crate::stop::Stop;
-use ods_base::{Image, ImageError};
+use fs_host::{Extent, HostFault, Noting, Shown, read_some, volume_in};
+use ods_base::{Coded, Image, ImageError};
 use ods_mount::{MountFault, Mounted, mount};
+use ods_shell::{Advice, remedy};
 use std::fs;
+use std::fs::File;
+use std::io::Read;
 use std::rt::Files;
 use thiserror::Error;
+
+/// Of how many bytes it is seen what a file looks like.
+const FRONT: u64 = 1024;
 
 /// Why there is no volume.
 #[derive(Clone, Copy, Debug, PartialEq, Eq, Error)]
 pub enum VolumeFault {
     /// The file is not there, or reading it failed.
-    #[error("reading failed")]
-    Read,
+    #[error("reading failed: {0}")]
+    Read(HostFault),
     #[error("no memory")]
     NoMemory,
-    /// The bytes are no image.
+    /// The bytes are no image; and what they look like.
     #[error("{0}")]
-    Image(ImageError),
-    /// The image is no sound volume.
+    Image(ImageError, Option<Look>),
+    /// The image is no sound volume; and what it looks like where it has no home block.
     #[error("{0}")]
-    Volume(MountFault),
+    Volume(MountFault, Option<Look>),
 }
 
-/// The image at this path.
-pub(crate) fn open_image<R: Files + AllocGlobal>(rt: &R, path: &str) -> Result<Image, VolumeFault> {
-    let Ok(mut file) = fs::open(rt, path) else {
-        return Err(VolumeFault::Read);
-    };
-    read(Image::read_from(rt.alloc(), &mut file))
-}
+impl VolumeFault {
+    /// Why the refusal comes, and what one can do.
+    pub fn advice(&self) -> Option<Advice> {
+        match self {
+            VolumeFault::Read(_) | VolumeFault::NoMemory => None,
+            VolumeFault::Image(refusal, _) => remedy(refusal.name()),
+            VolumeFault::Volume(fault, _) => remedy(fault.name()),
+        }
+    }
 
-/// The image that was read, or why there is none.
-fn read(image: Result<Image, ImageError>) -> Result<Image, VolumeFault> {
-    match image {
-        Ok(image) => Ok(image),
-        Err(ImageError::ReadFailed) => Err(VolumeFault::Read),
-        Err(ImageError::NoMemory) => Err(VolumeFault::NoMemory),
-        Err(refusal) => Err(VolumeFault::Image(refusal)),
+    /// What the bytes look like.
+    pub fn look(&self) -> Option<Look> {
+        match self {
+            VolumeFault::Read(_) | VolumeFault::NoMemory => None,
+            VolumeFault::Image(_, look) | VolumeFault::Volume(_, look) => *look,
+        }
     }
 }
 
-/// The volume of the image at this path.
-fn open_volume<R: Files + AllocGlobal>(rt: &R, path: &str) -> Result<Mounted, VolumeFault> {
-    match open_image(rt, path) {
-        Ok(image) => mount_image(rt, image),
-        Err(fault) => Err(fault),
-    }
-}
-
-/// The volume of an image that was read.
-fn mounted<R: AllocGlobal>(
+/// The volume in the image at this path, of so many blocks where a number is given, and what is to be said of an image that is longer or
+/// shorter than it.
+pub(crate) fn open_image<R: Files<File = File> + AllocGlobal>(
     rt: &R,
-    image: Result<Image, ImageError>,
-) -> Result<Mounted, VolumeFault> {
-    match read(image) {
-        Ok(image) => mount_image(rt, image),
-        Err(fault) => Err(fault),
+    path: &str,
+    given: Option<u32>,
+) -> Result<(Image, Option<Extent>), VolumeFault> {
+    let mut file = match fs::open(rt, path) {
+        Ok(file) => file,
+        Err(error) => return Err(VolumeFault::Read(HostFault::of(&error))),
+    };
+    let mut noting = Noting::new(&mut file);
+    match volume_in(rt.alloc(), &mut noting, given) {
+        Ok(contained) => {
+            let extent = Extent::of(&contained);
+            Ok((contained.image, extent))
+        }
+        Err(fault) => Err(not_read(rt, path, fault, noting.why())),
     }
 }
 
-/// The volume of an image.
-fn mount_image<R: AllocGlobal>(rt: &R, image: Image) -> Result<Mounted, VolumeFault> {
+/// Says of an image that it is shorter than its volume; and where `tells_behind` that it is longer, which is no fault.
+pub fn say_extent<R: Eprint>(rt: &R, path: &str, extent: Option<Extent>, tells_behind: bool) {
+    match extent {
+        Some(extent) if tells_behind || extent.is_short() => {
+            let path = Shown(path);
+            let _ = eprintln!(rt; "f11fs: {path}: {extent}");
+        }
+        _ => {}
+    }
+}
+
+/// Why there is no image; `why` reading failed, if it did.
+pub(crate) fn not_read<R: Files<File = File> + AllocGlobal>(
+    rt: &R,
+    path: &str,
+    fault: ImageError,
+    why: HostFault,
+) -> VolumeFault {
+    match fault {
+        ImageError::ReadFailed => VolumeFault::Read(why),
+        ImageError::NoMemory => VolumeFault::NoMemory,
+        refusal => VolumeFault::Image(refusal, look_at(rt, path)),
+    }
+}
+
+/// What the plain file at this path looks like.
+pub(crate) fn look_at<R: Files<File = File> + AllocGlobal>(rt: &R, path: &str) -> Option<Look> {
+    let Ok(found) = fs::metadata(rt, path) else {
+        return None;
+    };
+    if !found.is_file() {
+        return None;
+    }
+    let Ok(mut file) = fs::open(rt, path) else {
+        return None;
+    };
+    match read_some(rt.alloc(), &mut file.by_ref().take(FRONT), FRONT) {
+        Ok(bytes) => looks_like(&bytes, found.len()),
+        Err(_) => None,
+    }
+}
+
+/// The volume of an image that was read from this path.
+fn mount_image<R: Files<File = File> + AllocGlobal>(
+    rt: &R,
+    path: &str,
+    image: Image,
+) -> Result<Mounted, VolumeFault> {
     match mount(rt.alloc(), image) {
         Ok(volume) => Ok(volume),
         Err((_, MountFault::NoMemory)) => Err(VolumeFault::NoMemory),
-        Err((_, fault)) => Err(VolumeFault::Volume(fault)),
+        Err((_, MountFault::NoHome)) => {
+            Err(VolumeFault::Volume(MountFault::NoHome, look_at(rt, path)))
+        }
+        Err((_, fault)) => Err(VolumeFault::Volume(fault, None)),
     }
 }
 
-/// The volume of the image at this path; that an image is refused is said.
-pub fn volume_at<'a, R: Files + AllocGlobal>(rt: &R, path: &'a str) -> Result<Mounted, Stop<'a>> {
-    match open_volume(rt, path) {
-        Ok(volume) => Ok(volume),
+/// The volume of the image at this path, of so many blocks where a number is given; that an image is refused is said, and that it is shorter than
+/// its volume, or where `tells_behind` longer.
+pub fn volume_at<'a, R: Files<File = File> + AllocGlobal + Eprint>(
+    rt: &R,
+    path: &'a str,
+    given: Option<u32>,
+    tells_behind: bool,
+) -> Result<Mounted, Stop<'a>> {
+    match open_image(rt, path, given) {
+        Ok((image, extent)) => {
+            say_extent(rt, path, extent, tells_behind);
+            mounted(rt, path, image)
+        }
         Err(fault) => Err(no_volume(path, fault)),
     }
 }
 
 /// The volume of an image that was read from this path; that it is refused is said.
-pub fn volume_of<'a, R: AllocGlobal>(
+pub fn volume_of<'a, R: Files<File = File> + AllocGlobal>(
     rt: &R,
     path: &'a str,
     image: Result<Image, ImageError>,
 ) -> Result<Mounted, Stop<'a>> {
-    match mounted(rt, image) {
+    match image {
+        Ok(image) => mounted(rt, path, image),
+        Err(fault) => Err(no_volume(path, not_read(rt, path, fault, HostFault::Unknown))),
+    }
+}
+
+/// The volume of an image.
+fn mounted<'a, R: Files<File = File> + AllocGlobal>(
+    rt: &R,
+    path: &'a str,
+    image: Image,
+) -> Result<Mounted, Stop<'a>> {
+    match mount_image(rt, path, image) {
         Ok(volume) => Ok(volume),
         Err(fault) => Err(no_volume(path, fault)),
     }
 }
 
 /// Why there is no volume at this path.
-fn no_volume<'a>(path: &'a str, fault: VolumeFault) -> Stop<'a> {
+pub(crate) fn no_volume<'a>(path: &'a str, fault: VolumeFault) -> Stop<'a> {
     match fault {
-        VolumeFault::Read => Stop::Read(path),
+        VolumeFault::Read(why) => Stop::Unread(path, why),
         VolumeFault::NoMemory => Stop::NoMemory,
         fault => Stop::Image(path, fault),
     }

@@ -1,6 +1,9 @@
 //! The words of the commands that change a volume, and of how the image is saved.
-use crate::words::{flag, paths};
+use crate::said::{Said, user_of, wrong};
+use crate::verbs::Verb;
+use crate::words::{WordsFault, flag, paths};
 use clap::{Arg, ArgMatches, Command, value_parser};
+use ods_base::Uic;
 use std::alloc::{AllocError, Global};
 
 /// A command that changes a volume. Its paths stand in the words.
@@ -11,12 +14,20 @@ pub enum Change<'a> {
     Cp,
     Mv,
     /// Removes names with their files: the entry alone where `entry_alone`, the highest version where `newest`.
-    Rm { entry_alone: bool, newest: bool },
-    /// Makes directories with room for this many names, where a number is said.
-    Mkdir { names: Option<u32> },
+    Rm {
+        entry_alone: bool,
+        newest: bool,
+    },
+    /// Makes directories with room for this many names, where a number is said, and of this owner, where one is.
+    Mkdir {
+        names: Option<u32>,
+        owner: Option<Uic>,
+    },
     Rmdir,
     /// Cuts a file behind this many bytes.
-    Truncate { bytes: u64 },
+    Truncate {
+        bytes: u64,
+    },
 }
 
 /// How files are put.
@@ -30,6 +41,13 @@ pub struct PutWords<'a> {
     pub like: Option<&'a str>,
     /// The file of that name is replaced.
     pub replace: bool,
+}
+
+impl PutWords<'_> {
+    /// Whether the words say no form, so that each file is put by its contents.
+    pub fn says_no_form(&self) -> bool {
+        !self.text && !self.binary && self.like.is_none()
+    }
 }
 
 /// How a changed image is saved.
@@ -52,102 +70,88 @@ impl Saving<'_> {
     }
 }
 
-/// How the words say that a changed image is saved: those before the command, and its own.
-pub fn how_saved<'a>(matches: &ArgMatches<'a>, own: &ArgMatches<'a>) -> Saving<'a> {
+/// How the words say that a changed image is saved. What `-o` says of a `get` is its target.
+pub(crate) fn how_saved<'a>(said: &Said<'_, '_, 'a>, verb: Verb) -> Saving<'a> {
     Saving {
-        out: match own.get_str("out") {
-            Some(out) => Some(out),
-            None => matches.get_str("out"),
+        out: if verb == Verb::Get {
+            None
+        } else {
+            said.text("out")
         },
-        backup: own.get_flag("backup"),
-        only_tells: own.get_flag("only_tells"),
-        break_links: own.get_flag("break_links"),
+        backup: said.flag("backup"),
+        only_tells: said.flag("only_tells"),
+        break_links: said.flag("break_links"),
     }
 }
 
-/// The change of this name.
-pub fn change_of<'a>(name: &str, own: &ArgMatches<'a>) -> Option<Change<'a>> {
-    match name {
-        "put" => Some(Change::Put(PutWords {
+/// The change that the words of a command ask for.
+pub(crate) fn change_of<'a>(
+    alloc: Global,
+    verb: Verb,
+    own: &ArgMatches<'a>,
+) -> Result<Option<Change<'a>>, WordsFault> {
+    let change = match verb {
+        Verb::Put => Change::Put(PutWords {
             text: own.get_flag("text"),
             binary: own.get_flag("binary"),
             like: own.get_str("like"),
             replace: own.get_flag("replace"),
-        })),
-        "cp" => Some(Change::Cp),
-        "mv" => Some(Change::Mv),
-        "rm" => Some(Change::Rm {
+        }),
+        Verb::Cp => Change::Cp,
+        Verb::Mv => Change::Mv,
+        Verb::Rm => Change::Rm {
             entry_alone: own.get_flag("entry"),
             newest: own.get_flag("newest"),
-        }),
-        "mkdir" => Some(Change::Mkdir {
+        },
+        Verb::Mkdir => Change::Mkdir {
             names: own.get_one::<u32>("names"),
-        }),
-        "rmdir" => Some(Change::Rmdir),
-        "truncate" => Some(Change::Truncate {
-            bytes: own.get_one::<u64>("bytes")?,
-        }),
-        _ => None,
+            owner: owner_of(alloc, own)?,
+        },
+        Verb::Rmdir => Change::Rmdir,
+        Verb::Truncate => match own.get_one::<u64>("bytes") {
+            Some(bytes) => Change::Truncate { bytes },
+            None => return Ok(None),
+        },
+        _ => return Ok(None),
+    };
+    Ok(Some(change))
+}
+
+/// The owner that `--owner` says.
+fn owner_of(alloc: Global, own: &ArgMatches<'_>) -> Result<Option<Uic>, WordsFault> {
+    let Some(text) = own.get_str("owner") else {
+        return Ok(None);
+    };
+    match user_of(text) {
+        Some(owner) => Ok(Some(owner)),
+        None => Err(wrong(alloc, text, "is no owner, as [1,2]")?),
     }
 }
 
-/// The command line with the words of changes.
-pub fn with_changes<'a>(alloc: Global, command: Command<'a>) -> Result<Command<'a>, AllocError> {
-    let file = Arg::new(alloc, "commands")
-        .short('f')
-        .long("commands")
-        .value_name("FILE")
-        .help("Obey the commands in FILE, one a line; - is standard input");
-    let keep_going = flag(
-        alloc,
-        "keep_going",
-        "With -f: go on past commands that are refused",
-    )
-    .long("keep-going");
-    with_saving(alloc, command)?
-        .arg(file)?
-        .arg(keep_going)?
-        .arg(out(alloc))?
-        .subcommand(put(alloc)?)?
-        .subcommand(cp(alloc)?)?
-        .subcommand(mv(alloc)?)?
-        .subcommand(rm(alloc)?)?
-        .subcommand(mkdir(alloc)?)?
-        .subcommand(rmdir(alloc)?)?
-        .subcommand(truncate(alloc)?)?
-        .subcommand(init(alloc)?)
+/// The words of a command that changes a volume, or makes one; none of another.
+pub(crate) fn change_command<'a>(
+    alloc: Global,
+    verb: Verb,
+) -> Result<Option<Command<'a>>, AllocError> {
+    match verb {
+        Verb::Put => Ok(Some(put(alloc)?)),
+        Verb::Cp => Ok(Some(cp(alloc)?)),
+        Verb::Mv => Ok(Some(mv(alloc)?)),
+        Verb::Rm => Ok(Some(rm(alloc)?)),
+        Verb::Mkdir => Ok(Some(mkdir(alloc)?)),
+        Verb::Rmdir => Ok(Some(rmdir(alloc)?)),
+        Verb::Truncate => Ok(Some(truncate(alloc)?)),
+        Verb::Init => Ok(Some(init(alloc)?)),
+        _ => Ok(None),
+    }
 }
 
-/// The command line with the options that may stand anywhere.
-fn with_saving<'a>(alloc: Global, command: Command<'a>) -> Result<Command<'a>, AllocError> {
-    let stamp = Arg::new(alloc, "stamp")
-        .long("stamp")
-        .value_name("STAMP")
-        .help("The time of new files, as 24NOV85093000");
-    let backup = flag(alloc, "backup", "Keep the old image as IMAGE~").long("backup");
-    let only_tells = flag(
-        alloc,
-        "only_tells",
-        "Write no image, and tell what would change",
-    )
-    .short('n');
-    let break_links = flag(
-        alloc,
-        "break_links",
-        "Change an image with several names (hard links) under this one alone",
-    )
-    .long("break-links");
-    command
-        .arg(stamp.global(true))?
-        .arg(backup.global(true))?
-        .arg(only_tells.global(true))?
-        .arg(break_links.global(true))
-}
-
-fn out<'a>(alloc: Global) -> Arg<'a> {
-    Arg::new(alloc, "out").short('o').value_name("FILE").help(
-        "Write the changed image to FILE, which is not there, and leave IMAGE as it is",
-    )
+/// `--owner`.
+fn owner<'a>(alloc: Global, help: &'a str) -> Arg<'a> {
+    Arg::new(alloc, "owner")
+        .long("owner")
+        .value_name("OWNER")
+        .help(help)
 }
 
 fn put<'a>(alloc: Global) -> Result<Command<'a>, AllocError> {
@@ -166,7 +170,6 @@ fn put<'a>(alloc: Global) -> Result<Command<'a>, AllocError> {
         .arg(binary.conflicts_with("like")?)?
         .arg(like)?
         .arg(flag(alloc, "replace", "In place of the file of that name").long("replace"))?
-        .arg(out(alloc))?
         .arg(paths(alloc, true))
 }
 
@@ -174,7 +177,6 @@ fn cp<'a>(alloc: Global) -> Result<Command<'a>, AllocError> {
     Command::new(alloc, "cp")
         .override_usage("f11fs IMAGE cp [OPTIONS] PATH.. PATH")
         .about("Copies files within the volume")
-        .arg(out(alloc))?
         .arg(paths(alloc, true).num_args(2..))
 }
 
@@ -182,7 +184,6 @@ fn mv<'a>(alloc: Global) -> Result<Command<'a>, AllocError> {
     Command::new(alloc, "mv")
         .override_usage("f11fs IMAGE mv [OPTIONS] PATH.. PATH")
         .about("Moves names within the volume; the name in a file's header stays")
-        .arg(out(alloc))?
         .arg(paths(alloc, true).num_args(2..))
 }
 
@@ -197,7 +198,6 @@ fn rm<'a>(alloc: Global) -> Result<Command<'a>, AllocError> {
             "The highest version, where a path says none",
         )
         .long("newest"))?
-        .arg(out(alloc))?
         .arg(paths(alloc, true))
 }
 
@@ -208,10 +208,13 @@ fn mkdir<'a>(alloc: Global) -> Result<Command<'a>, AllocError> {
         .value_parser(value_parser!(u32))
         .help("With room for N names");
     Command::new(alloc, "mkdir")
-        .override_usage("f11fs IMAGE mkdir [OPTIONS] [--names N] DIR..")
+        .override_usage("f11fs IMAGE mkdir [OPTIONS] [--names N] [--owner OWNER] DIR..")
         .about("Makes directories")
         .arg(names)?
-        .arg(out(alloc))?
+        .arg(owner(
+            alloc,
+            "The owner of the directories; with none that of [1,2] is [1,2], and of others who asks",
+        ))?
         .arg(paths(alloc, true))
 }
 
@@ -219,7 +222,6 @@ fn rmdir<'a>(alloc: Global) -> Result<Command<'a>, AllocError> {
     Command::new(alloc, "rmdir")
         .override_usage("f11fs IMAGE rmdir [OPTIONS] DIR..")
         .about("Removes directories that are empty")
-        .arg(out(alloc))?
         .arg(paths(alloc, true))
 }
 
@@ -236,17 +238,15 @@ fn truncate<'a>(alloc: Global) -> Result<Command<'a>, AllocError> {
     Command::new(alloc, "truncate")
         .override_usage("f11fs IMAGE truncate [OPTIONS] PATH BYTES")
         .about("Cuts a file")
-        .arg(out(alloc))?
         .arg(path)?
         .arg(bytes)
 }
 
 fn init<'a>(alloc: Global) -> Result<Command<'a>, AllocError> {
-    let blocks = Arg::new(alloc, "blocks")
-        .value_name("BLOCKS")
+    let size = Arg::new(alloc, "size")
+        .value_name("SIZE")
         .required(true)
-        .value_parser(value_parser!(u32))
-        .help("The blocks of the volume, 40 at least");
+        .help(SIZE_HELP);
     let files = Arg::new(alloc, "files")
         .long("files")
         .value_name("N")
@@ -258,9 +258,14 @@ fn init<'a>(alloc: Global) -> Result<Command<'a>, AllocError> {
         "The volume's label: at most 12 of A to Z, 0 to 9 and dots",
     );
     Command::new(alloc, "init")
-        .override_usage("f11fs IMAGE init [-n] [--files N] [--label L] BLOCKS")
+        .override_usage("f11fs IMAGE init [OPTIONS] [--files N] [--label L] SIZE")
         .about("Makes the image of an empty volume; IMAGE is not there")
         .arg(files)?
         .arg(label)?
-        .arg(blocks)
+        .arg(size)
 }
+
+/// What the help of `init` says of sizes.
+const SIZE_HELP: &str =
+    "The blocks of the volume, 40 at least, or a device: RX01 494, RX02 988, RX50 800, RK05 4800, RL01 10240, RL02 20480,
+RK06 27126, RK07 53790, RM03 131680, RP04 171798, RP06 340670, RM05 500384, RA81 891072";

@@ -26,7 +26,7 @@ enum Stand {
     Quoted(char),
 }
 
-/// The words of a line: spaces and tabs part them, what stands in `'` or `"` holds together, and `#` where a word would begin opens a remark.
+/// The words of a line, without its line feed or carriage return and line feed: spaces and tabs part them, what stands in `'` or `"` holds together, and `#` where a word would begin opens a remark.
 pub fn line_words(alloc: Global, line: &str) -> Result<Vec<String>, LineFault> {
     let mut words = Vec::new(alloc);
     let mut word = String::new(alloc);
@@ -60,7 +60,7 @@ fn after(stand: Stand, letter: char) -> Stand {
         Stand::Quoted(quote) if letter != quote => stand,
         Stand::Quoted(_) => Stand::Within,
         _ if letter == '\'' || letter == '"' => Stand::Quoted(letter),
-        _ if letter == ' ' || letter == '\t' || letter == '\r' => Stand::Between,
+        _ if letter == ' ' || letter == '\t' => Stand::Between,
         _ => Stand::Within,
     }
 }

@@ -1,7 +1,13 @@
-//! The words of the command line: `f11fs [OPTIONS] IMAGE COMMAND [WORD..]`.
-use crate::change_words::{Change, Saving, change_of, how_saved, with_changes};
-use clap::error::ErrorKind;
-use clap::{Arg, ArgAction, ArgMatches, Command, Error, value_parser};
+//! What the words of a command line, or of a line in a file of commands, ask for.
+use crate::change_words::{Change, Saving, change_of, how_saved};
+use crate::command::{command_matches, first_matches, rest_of, told};
+use crate::days::is_true_day;
+use crate::devices::device_blocks;
+use crate::hints::{before_image, no_command, wanting};
+use crate::options::{CHOICES, Choice, prints_only_plans, serves};
+use crate::said::{Said, user_of, wrong};
+use crate::verbs::Verb;
+use clap::{Arg, ArgAction, ArgMatches};
 use ods_base::Uic;
 use ods_request::Stamp;
 use ods_shell::{Columns, Wanted};
@@ -28,6 +34,8 @@ pub struct Words<'a> {
     pub stamp: Option<Stamp>,
     /// How a changed image is saved.
     pub saving: Saving<'a>,
+    /// How many blocks the volume has, whatever the image says.
+    pub blocks: Option<u32>,
 }
 
 /// A command.
@@ -87,7 +95,7 @@ pub enum Action<'a> {
 pub enum WordsFault {
     /// The help was asked for; this is its text, with its last line feed.
     Help(String),
-    /// The words are wrong; this is one line that says how, with no line feed.
+    /// The words are wrong; these are a line or two that say how, with no line feed at the end.
     Wrong(String),
     NoMemory,
 }
@@ -100,96 +108,177 @@ impl From<AllocError> for WordsFault {
 
 /// What the words after the program's name ask for.
 pub fn parse_words<'a, S: AsStr>(alloc: Global, words: &'a [S]) -> Result<Words<'a>, WordsFault> {
-    match matches(alloc, words) {
-        Ok(matches) => found_words(alloc, &matches),
-        Err(error) => Err(told(alloc, &error)?),
-    }
-}
-
-/// What the words ask for, by what clap found in them.
-fn found_words<'a>(alloc: Global, matches: &ArgMatches<'a>) -> Result<Words<'a>, WordsFault> {
-    let Some(image) = matches.get_str("image") else {
-        return Err(missing(alloc)?);
+    let before = match first_matches(alloc, words, true) {
+        Ok(before) => before,
+        Err(error) => return Err(told(alloc, &error, words)?),
     };
-    let (action, own) = match (matches.subcommand(), matches.get_str("commands")) {
-        (Some((name, own)), None) => match action_of(name, own, matches.get_str("out")) {
-            Some(action) => (action, own),
-            None => return Err(missing(alloc)?),
+    let rest = rest_of(&before, words);
+    let Some(image) = before.get_str("image") else {
+        return Err(wanting(alloc, words.is_empty())?);
+    };
+    let word = rest.first();
+    match (before.get_str("commands"), word) {
+        (Some(file), None) => file_words(alloc, image, file, &before),
+        (None, Some(word)) => match Verb::named(word.as_str()) {
+            Some(verb) => obeyed_words(alloc, image, verb, rest, Some(&before)),
+            None => Err(before_image(alloc, image, word.as_str())?),
         },
-        (None, Some(file)) => {
-            let keep_going = matches.get_flag("keep_going");
-            (Action::Commands { file, keep_going }, matches)
-        }
-        (None, None) => return Err(missing(alloc)?),
+        (None, None) => Err(wanting(alloc, false)?),
         (Some(_), Some(_)) => {
             let text = "error: commands stand in FILE or behind IMAGE, not in both";
-            return Err(WordsFault::Wrong(String::from_str(alloc, text)?));
+            Err(WordsFault::Wrong(String::from_str(alloc, text)?))
         }
+    }
+}
+
+/// What the words of a line in a file of commands for this image ask for; None where there is no word. The line has no word for the image.
+pub fn parse_line<'a, S: AsStr>(
+    alloc: Global,
+    image: &'a str,
+    words: &'a [S],
+) -> Result<Option<Words<'a>>, WordsFault> {
+    if words.is_empty() {
+        return Ok(None);
+    }
+    let before = match first_matches(alloc, words, false) {
+        Ok(before) => before,
+        Err(error) => return Err(told(alloc, &error, words)?),
     };
-    let user = match own.get_str("user") {
-        Some(text) => match user_of(text) {
-            Some(user) => Some(user),
-            None => return Err(WordsFault::Wrong(format!(in alloc;
-                "error: '{text}' is no user, as [1,2]"
-            )?)),
+    if before.get_str("commands").is_some() {
+        let text = "error: no command for a file of commands";
+        return Err(WordsFault::Wrong(String::from_str(alloc, text)?));
+    }
+    let rest = rest_of(&before, words);
+    let Some(name) = rest.first() else {
+        return Err(wanting(alloc, false)?);
+    };
+    match Verb::named(name.as_str()) {
+        Some(verb) => match obeyed_words(alloc, image, verb, rest, Some(&before)) {
+            Ok(words) => Ok(Some(words)),
+            Err(fault) => Err(fault),
         },
-        None => None,
+        None => Err(no_command(alloc, name.as_str())?),
+    }
+}
+
+/// What the words ask for that name a file of commands.
+fn file_words<'a>(
+    alloc: Global,
+    image: &'a str,
+    file: &'a str,
+    before: &ArgMatches<'a>,
+) -> Result<Words<'a>, WordsFault> {
+    let said = Said {
+        before: Some(before),
+        own: None,
     };
-    let stamp = match own.get_str("stamp") {
-        Some(text) => match Stamp::parse(text.as_bytes()) {
-            Some(stamp) => Some(stamp),
-            None => return Err(WordsFault::Wrong(format!(in alloc;
-                "error: '{text}' is no stamp, as 24NOV85093000"
-            )?)),
-        },
-        None => None,
+    let keep_going = said.flag("keep_going");
+    let action = Action::Commands { file, keep_going };
+    found_words(alloc, image, Verb::File, action, &said)
+}
+
+/// What a command asks for, by its words and those before it. The first word is its name.
+fn obeyed_words<'a, S: AsStr>(
+    alloc: Global,
+    image: &'a str,
+    verb: Verb,
+    words: &'a [S],
+    before: Option<&ArgMatches<'a>>,
+) -> Result<Words<'a>, WordsFault> {
+    let own = match command_matches(alloc, verb, words.get(1..).unwrap_or(&[])) {
+        Ok(own) => own,
+        Err(error) => return Err(told(alloc, &error, words)?),
     };
+    let said = Said {
+        before,
+        own: Some(&own),
+    };
+    let action = match action_of(alloc, verb, &own, said.text("out"))? {
+        Some(action) => action,
+        None => return Err(wanting(alloc, false)?),
+    };
+    found_words(alloc, image, verb, action, &said)
+}
+
+/// What the words ask for, whose command is known.
+fn found_words<'a>(
+    alloc: Global,
+    image: &'a str,
+    verb: Verb,
+    action: Action<'a>,
+    said: &Said<'_, '_, 'a>,
+) -> Result<Words<'a>, WordsFault> {
+    refuse_idle(alloc, verb, said)?;
     Ok(Words {
-        user,
-        stamp,
-        saving: how_saved(matches, own),
         image,
         action,
-        paths: texts(alloc, own, "path")?,
-        force: own.get_flag("force"),
-        json: own.get_flag("json"),
-        quiet: own.get_flag("quiet"),
+        paths: said.texts(alloc, "path")?,
+        force: said.flag("force"),
+        json: said.flag("json"),
+        quiet: said.flag("quiet"),
+        user: said_user(alloc, said)?,
+        stamp: said_stamp(alloc, said)?,
+        saving: how_saved(said, verb),
+        blocks: said.number("blocks"),
     })
 }
 
-/// The user that a text says, as `[1,2]` or `1,2`, in octal.
-fn user_of(text: &str) -> Option<Uic> {
-    let within = match text.strip_prefix('[') {
-        Some(rest) => rest.strip_suffix(']')?,
-        None => text,
+/// That each option that was said does something for the command.
+fn refuse_idle(alloc: Global, verb: Verb, said: &Said<'_, '_, '_>) -> Result<(), WordsFault> {
+    for choice in &CHOICES {
+        // A parse gives an option without a value the text `false` where it was not said.
+        let is_said = match choice.value(None) {
+            Some(_) => said.text(choice.id()).is_some(),
+            None => said.flag(choice.id()),
+        };
+        if is_said && !serves(*choice, verb) {
+            return Err(idle(alloc, *choice, verb, "")?);
+        }
+    }
+    if said.flag("json") && prints_only_plans(verb) && !said.flag("only_tells") {
+        return Err(idle(alloc, Choice::Json, verb, " without -n")?);
+    }
+    Ok(())
+}
+
+/// The line of an option that does nothing for a command.
+fn idle(alloc: Global, choice: Choice, verb: Verb, more: &str) -> Result<WordsFault, AllocError> {
+    let (option, name) = (choice.word(), verb.name());
+    Ok(WordsFault::Wrong(format!(in alloc; "error: {option} does nothing for {name}{more}")?))
+}
+
+/// The user that `-u` says.
+fn said_user(alloc: Global, said: &Said<'_, '_, '_>) -> Result<Option<Uic>, WordsFault> {
+    let Some(text) = said.text("user") else {
+        return Ok(None);
     };
-    let (group, member) = within.split_once(',')?;
-    Some(Uic {
-        group: octal(group)?,
-        member: octal(member)?,
-    })
-}
-
-/// The number that octal digits spell, at most 377.
-fn octal(digits: &str) -> Option<u8> {
-    if !digits.as_bytes().iter().all(|digit| digit.is_ascii_digit()) {
-        return None;
-    }
-    match u8::from_str_radix(digits, 8) {
-        Ok(number) => Some(number),
-        Err(_) => None,
+    match user_of(text) {
+        Some(user) => Ok(Some(user)),
+        None => Err(wrong(alloc, text, "is no user, as [1,2]")?),
     }
 }
 
-/// The line where a command is wanting.
-fn missing(alloc: Global) -> Result<WordsFault, AllocError> {
-    Ok(WordsFault::Wrong(String::from_str(alloc, "error: a command is wanting")?))
+/// The time that `--stamp` says.
+fn said_stamp(alloc: Global, said: &Said<'_, '_, '_>) -> Result<Option<Stamp>, WordsFault> {
+    let Some(text) = said.text("stamp") else {
+        return Ok(None);
+    };
+    match Stamp::parse(text.as_bytes()) {
+        Some(stamp) if is_true_day(&stamp) => Ok(Some(stamp)),
+        Some(_) => Err(wrong(alloc, text, "is no day and time that there is")?),
+        None => Err(wrong(alloc, text, "is no stamp, as 24NOV85093000")?),
+    }
 }
 
-/// The command of this name; `out` was said before it.
-fn action_of<'a>(name: &str, own: &ArgMatches<'a>, out: Option<&'a str>) -> Option<Action<'a>> {
-    match name {
-        "ls" => Some(Action::Ls {
+/// What a command does; `out` is what `-o` says.
+fn action_of<'a>(
+    alloc: Global,
+    verb: Verb,
+    own: &ArgMatches<'a>,
+    out: Option<&'a str>,
+) -> Result<Option<Action<'a>>, WordsFault> {
+    let action = match verb {
+        Verb::Ls => Action::Ls {
             columns: Columns {
                 long: own.get_flag("long"),
                 ids: own.get_flag("ids"),
@@ -197,41 +286,53 @@ fn action_of<'a>(name: &str, own: &ArgMatches<'a>, out: Option<&'a str>) -> Opti
                 empty: false,
             },
             below: own.get_flag("below"),
-        }),
-        "find" => Some(Action::Find {
+        },
+        Verb::Find => Action::Find {
             lost: own.get_flag("lost"),
-        }),
-        "stat" => Some(Action::Stat),
-        "cat" => Some(Action::Cat(wanted(own))),
-        "get" => Some(Action::Get {
+        },
+        Verb::Stat => Action::Stat,
+        Verb::Cat => Action::Cat(wanted(own)),
+        Verb::Get => Action::Get {
             wanted: wanted(own),
-            target: match own.get_str("target") {
-                Some(target) => Some(target),
-                None => out,
-            },
-        }),
-        "df" => Some(Action::Df),
-        "du" => Some(Action::Du {
+            target: out,
+        },
+        Verb::Df => Action::Df,
+        Verb::Du => Action::Du {
             top: own.get_one::<u32>("top"),
-        }),
-        "check" => Some(Action::Check {
+        },
+        Verb::Check => Action::Check {
             all: own.get_flag("all"),
-        }),
-        "rescue" => Some(Action::Rescue {
+        },
+        Verb::Rescue => Action::Rescue {
             text: own.get_flag("text"),
-        }),
-        "cmp" => Some(Action::Cmp {
+        },
+        Verb::Cmp => Action::Cmp {
             all: own.get_flag("all"),
-        }),
-        "init" => Some(Action::Init {
-            blocks: own.get_one::<u32>("blocks")?,
+        },
+        Verb::Init => Action::Init {
+            blocks: size_of(alloc, own)?,
             files: own.get_one::<u32>("files"),
             label: own.get_str("label"),
-        }),
-        _ => match change_of(name, own) {
-            Some(change) => Some(Action::Change(change)),
-            None => None,
         },
+        _ => match change_of(alloc, verb, own)? {
+            Some(change) => Action::Change(change),
+            None => return Ok(None),
+        },
+    };
+    Ok(Some(action))
+}
+
+/// How many blocks a new volume has, by their number or by the name of a device.
+fn size_of(alloc: Global, own: &ArgMatches<'_>) -> Result<u32, WordsFault> {
+    let text = own.get_str("size").unwrap_or("");
+    match (device_blocks(text), text.parse::<u32>()) {
+        (Some(blocks), _) => Ok(blocks),
+        (None, Ok(blocks)) => Ok(blocks),
+        (None, Err(_)) => Err(wrong(
+            alloc,
+            text,
+            "is no number of blocks, and no device that init --help names",
+        )?),
     }
 }
 
@@ -248,252 +349,16 @@ fn wanted(own: &ArgMatches<'_>) -> Wanted {
     }
 }
 
-/// The texts of the words of this kind.
-fn texts<'a>(alloc: Global, own: &ArgMatches<'a>, id: &str) -> Result<Vec<&'a str>, AllocError> {
-    let mut texts = Vec::new(alloc);
-    if let Some(given) = own.get_strs(id) {
-        texts.extend_from_slice(given)?;
-    }
-    Ok(texts)
-}
-
-/// What clap finds in the words.
-fn matches<'a, S: AsStr>(alloc: Global, words: &'a [S]) -> Result<ArgMatches<'a>, Error> {
-    let command = Command::new(alloc, "f11fs")
-        .about(
-            "Looks at volumes of RSX-11, Files-11 structure level 1, gets files out of them, and changes them",
-        )
-        .after_help(AFTER_HELP)
-        .version(VERSION)
-        .no_binary_name(true)
-        .disable_help_subcommand(true)
-        .arg(image(alloc))?
-        .arg(user(alloc).global(true))?
-        .arg(
-            flag(alloc, "force", "Files of the host may be replaced")
-                .long("force")
-                .global(true),
-        )?
-        .arg(
-            flag(alloc, "json", "Print JSON, an object a line")
-                .long("json")
-                .global(true),
-        )?
-        .arg(
-            flag(
-                alloc,
-                "quiet",
-                "Show no progress, and no remarks that are no faults",
-            )
-            .short('q')
-            .global(true),
-        )?
-        .subcommand(ls(alloc)?)?
-        .subcommand(find(alloc)?)?
-        .subcommand(stat(alloc)?)?
-        .subcommand(cat(alloc)?)?
-        .subcommand(get(alloc)?)?
-        .subcommand(
-            Command::new(alloc, "df")
-                .override_usage("f11fs IMAGE df")
-                .about("How much of the volume is used"),
-        )?
-        .subcommand(du(alloc)?)?
-        .subcommand(check(alloc)?)?
-        .subcommand(rescue(alloc)?)?
-        .subcommand(cmp(alloc)?)?;
-    with_changes(alloc, command)?.try_get_matches_from(words)
-}
-
-fn image<'a>(alloc: Global) -> Arg<'a> {
-    Arg::new(alloc, "image")
-        .value_name("IMAGE")
-        .required(true)
-        .help("The image of a volume")
-}
-
-fn user<'a>(alloc: Global) -> Arg<'a> {
-    Arg::new(alloc, "user").short('u').value_name("USER").help(
-        "Ask rights of this user, as [1,2]; with none, reads ask none and changes those of [1,1]",
-    )
-}
-
-pub fn flag<'a>(alloc: Global, id: &'a str, help: &'a str) -> Arg<'a> {
+/// An option without a value.
+pub(crate) fn flag<'a>(alloc: Global, id: &'a str, help: &'a str) -> Arg<'a> {
     Arg::new(alloc, id).action(ArgAction::SetTrue).help(help)
 }
 
-pub fn paths<'a>(alloc: Global, required: bool) -> Arg<'a> {
+/// The paths behind a command.
+pub(crate) fn paths<'a>(alloc: Global, required: bool) -> Arg<'a> {
     Arg::new(alloc, "path")
         .value_name("PATH")
         .num_args(0..)
         .required(required)
         .help("Paths, as '[1,2]NOTES.TXT;3' or 1,2/NOTES.TXT")
-}
-
-fn ls<'a>(alloc: Global) -> Result<Command<'a>, AllocError> {
-    Command::new(alloc, "ls")
-        .override_usage("f11fs IMAGE ls [-l] [-R] [-i] [PATH..]")
-        .about("Lists names")
-        .arg(flag(
-            alloc,
-            "long",
-            "ID, blocks, bytes, kind, owner, protection and date of each",
-        )
-        .short('l'))?
-        .arg(flag(alloc, "below", "All directories below too").short('R'))?
-        .arg(flag(alloc, "ids", "The ID of each").short('i'))?
-        .arg(paths(alloc, false))
-}
-
-fn find<'a>(alloc: Global) -> Result<Command<'a>, AllocError> {
-    Command::new(alloc, "find")
-        .override_usage("f11fs IMAGE find [--lost | PATH..]")
-        .about("Lists every file with its path, or - where no directory names it")
-        .arg(flag(alloc, "lost", "Only files that no directory names").long("lost"))?
-        .arg(paths(alloc, false).conflicts_with("lost")?)
-}
-
-fn stat<'a>(alloc: Global) -> Result<Command<'a>, AllocError> {
-    Command::new(alloc, "stat")
-        .override_usage("f11fs IMAGE stat PATH..")
-        .about("Shows what is known of files, one field a line")
-        .arg(paths(alloc, true))
-}
-
-fn cat<'a>(alloc: Global) -> Result<Command<'a>, AllocError> {
-    with_forms(
-        alloc,
-        Command::new(alloc, "cat")
-            .override_usage("f11fs IMAGE cat [OPTIONS] [-t|-b|--raw] PATH..")
-            .about("Writes files to standard output"),
-    )?
-    .arg(paths(alloc, true))
-}
-
-fn get<'a>(alloc: Global) -> Result<Command<'a>, AllocError> {
-    let target = Arg::new(alloc, "target")
-        .short('o')
-        .value_name("TARGET")
-        .help("The file or folder of the host to write to, or - for standard output");
-    with_forms(
-        alloc,
-        Command::new(alloc, "get")
-            .override_usage("f11fs IMAGE get [OPTIONS] [-t|-b|--raw] PATH.. [TARGET]")
-            .about("Writes files to the host"),
-    )?
-    .arg(target)?
-    .arg(paths(alloc, true))
-}
-
-fn du<'a>(alloc: Global) -> Result<Command<'a>, AllocError> {
-    let top = Arg::new(alloc, "top")
-        .long("top")
-        .value_name("N")
-        .value_parser(value_parser!(u32))
-        .help("The N largest files");
-    Command::new(alloc, "du")
-        .override_usage("f11fs IMAGE du [--top N]")
-        .about("How many blocks the files of each directory have")
-        .arg(top)
-}
-
-fn check<'a>(alloc: Global) -> Result<Command<'a>, AllocError> {
-    Command::new(alloc, "check")
-        .override_usage("f11fs IMAGE check [--all]")
-        .about("What is wrong with the volume")
-        .arg(flag(
-            alloc,
-            "all",
-            "Every fault that is looked for, and what a mount does not refuse",
-        )
-        .long("all"))
-}
-
-fn rescue<'a>(alloc: Global) -> Result<Command<'a>, AllocError> {
-    with_word(
-        alloc,
-        "rescue",
-        "Copies each file whose own chain is whole out of an image that may be refused",
-        "FOLDER",
-        "A folder of the host, which is made",
-    )?
-    .override_usage("f11fs IMAGE rescue [--text] FOLDER")
-    .arg(flag(alloc, "text", "Records as lines, where they are whole").long("text"))
-}
-
-fn cmp<'a>(alloc: Global) -> Result<Command<'a>, AllocError> {
-    with_word(
-        alloc,
-        "cmp",
-        "Which files differ from those of another image",
-        "IMAGE2",
-        "The other image",
-    )?
-    .override_usage("f11fs IMAGE cmp [--all] IMAGE2")
-    .arg(flag(alloc, "all", "IDs, dates, owners and protection too").long("all"))
-}
-
-/// A command with one word behind it.
-fn with_word<'a>(
-    alloc: Global,
-    name: &'a str,
-    about: &'a str,
-    word: &'a str,
-    help: &'a str,
-) -> Result<Command<'a>, AllocError> {
-    let word = Arg::new(alloc, "path")
-        .value_name(word)
-        .required(true)
-        .help(help);
-    Command::new(alloc, name).about(about).arg(word)
-}
-
-/// The command with the words for a form.
-fn with_forms<'a>(alloc: Global, command: Command<'a>) -> Result<Command<'a>, AllocError> {
-    let text = flag(alloc, "text", "Records as lines").short('t');
-    let binary = flag(alloc, "binary", "The bytes up to the end of file").short('b');
-    let raw = flag(alloc, "raw", "The bytes of all blocks").long("raw");
-    command
-        .arg(text.conflicts_with("binary")?.conflicts_with("raw")?)?
-        .arg(binary.conflicts_with("raw")?)?
-        .arg(raw)
-}
-
-/// What `--version` prints behind the name.
-const VERSION: &str = "1.0";
-
-/// What the help says behind the words.
-const AFTER_HELP: &str =
-    "A path is [1,2]NOTES.TXT;3, or without quotes 1,2/NOTES.TXT. [1,2] is the directory of a group and a member, [NAME] one
-of the master directory, [A.B] one in another, [0,0] or nothing the master directory, [...] all. No version is the
-highest, ;-1 the lowest, ;* all. * stands for any characters, ? for one. #6,1 is a file by its ID.
-
-A change is made whole or not at all. The image is locked, a new one is written beside it, read back, and takes its
-name; a link is followed. New files have the host's local time (TZ, else UTC), the year by its last two digits. In a FILE of
-commands there is one a line, of words as a shell has them: spaces part them, '..' and \"..\" hold together, and # behind
-a space begins a remark; the image is saved once, behind the last, and what is printed comes then.
-
-The status is 0; 1 where the image is refused; 2 for wrong words or a path that is none; 3 where reading, writing, locking or
-memory failed, or a file is there that must not be; 5 where a file or a change is refused; 6 where nothing is there;
-7 where check, rescue or cmp found something.";
-
-/// What is to be said where clap found no words of the program's.
-fn told(alloc: Global, error: &Error) -> Result<WordsFault, AllocError> {
-    match error.kind() {
-        ErrorKind::OutOfMemory => Ok(WordsFault::NoMemory),
-        ErrorKind::DisplayHelp | ErrorKind::DisplayVersion => {
-            Ok(WordsFault::Help(format!(in alloc; "{error}")?))
-        }
-        kind => {
-            let text = format!(in alloc; "{error}")?;
-            let mut lines = text.as_str().lines();
-            let mut line = String::from_str(alloc, lines.next().unwrap_or("error: wrong words"))?;
-            if kind == ErrorKind::MissingRequiredArgument {
-                // The second line has the word that is wanting.
-                line.push(' ')?;
-                line.push_str(lines.next().unwrap_or("").trim())?;
-            }
-            Ok(WordsFault::Wrong(line))
-        }
-    }
 }

@@ -22,7 +22,7 @@ pub record IsCounting (xs set : List ℕ) (stamp i : ℕ) (counted : List ℕ) (
   pub low : (b : ℕ) → slice_index counted b ≤ stamp
 
 -- what a list with one element more has
-last_or : (ys : List ℕ) (b k c : ℕ) → slice_get (ys ++ b ∷ []) k ≡ Some c → (slice_get ys k ≡ Some c) ⊎ ((k ≡ length ys) × (c ≡ b))
+pub last_or : (ys : List ℕ) (b k c : ℕ) → slice_get (ys ++ b ∷ []) k ≡ Some c → (slice_get ys k ≡ Some c) ⊎ ((k ≡ length ys) × (c ≡ b))
 last_or ys b k c at =
     let size = length-append ys (b ∷ []) in
     let within = slice_get_within (ys ++ b ∷ []) k c at in

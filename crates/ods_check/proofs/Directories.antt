@@ -27,7 +27,8 @@ use Rattle.ods_mount.proofs.Soundness.{all_at}
 use Rattle.ods_check.specs.declared.finding.Finding.{Finding}
 use Rattle.ods_check.specs.declared.finding.Finding.TheVariants.{NamesNone}
 use Rattle.ods_check.specs.Sets.{IsSetOf}
-use Rattle.ods_check.specs.Findings.{HasName, AreNames, IsIdOfFile, IsNumberOf, NamesAt, NamesFile, IsLostFile, id_at}
+use Rattle.ods_check.specs.Hidden.{HasHidden}
+use Rattle.ods_check.specs.Findings.{IsRead, IsHiding, HasName, AreNames, IsIdOfFile, IsNumberOf, NamesAt, NamesFile, IsLostFile, id_at}
 use Rattle.ods_check.proofs.StillTold.{TellsLine}
 use Rattle.ods_check.proofs.Noting.{set_as}
 
@@ -132,3 +133,27 @@ module _ (I : List (List ℕ)) (L : VolumeLayout) where
         let clash : false ≡ true = is ∙ named in
         absurd cc;
   }
+
+  -- a file without a list of blocks is no directory whose names are not read, nor one that hides entries
+  pub read_without : (n : ℕ) → ((blocks : List ℕ) → ¬ HasBlocks I L n blocks) → IsRead I L n
+  read_without n none = record { good = λ t. none t.1 t.2; distinct = λ t. none t.1 t.2 }
+
+  pub read_plain : (n : ℕ) → ¬ IsDirectoryFile I L n → IsRead I L n
+  read_plain n other = record { good = λ t. other t.0; distinct = λ t. other t.0 }
+
+  -- a directory is read
+  pub read_good : (n : ℕ) (blocks : List ℕ) → HasBlocks I L n blocks → IsDirectory (contents_of I blocks) (mark_at I L n blocks) → IsRead I L n
+  read_good n blocks own good =
+      let P : List ℕ → Type 0 = λ xs. IsDirectory (contents_of I xs) (mark_at I L n xs) in
+      record {
+        good = λ t. good_names (contents_of I t.1) (mark_at I L n t.1) (subst P (same_blocks I L n blocks t.1 own t.2) good) (inl t.3);
+        distinct = λ t. good_names (contents_of I t.1) (mark_at I L n t.1) (subst P (same_blocks I L n blocks t.1 own t.2) good) (inr t.3);
+      }
+
+  -- whether a directory with these blocks hides entries
+  pub hiding_is : (n : ℕ) (blocks : List ℕ) (b : Bool) → HasBlocks I L n blocks → IsDirectoryFile I L n → MatchBool b (HasHidden (contents_of I blocks) (mark_at I L n blocks)) (¬ HasHidden (contents_of I blocks) (mark_at I L n blocks))
+      → MatchBool b (IsHiding I L n) (¬ IsHiding I L n)
+  hiding_is n blocks true own file h = record { file = file; blocks = blocks; has = own; hidden = h }
+  hiding_is n blocks false own file none = λ t.
+      let P : List ℕ → Type 0 = λ xs. HasHidden (contents_of I xs) (mark_at I L n xs) in
+      none (subst P (same_blocks I L n t.blocks blocks t.has own) t.hidden)

@@ -78,18 +78,18 @@ module _ (I : List (List ℕ)) (L : VolumeLayout) where
         }
 
     -- what is told of a file stays told
-    module _ (P : FaultLine → Type 0) (old new : List FaultLine) (a : Adds P old new) where
-      still : (x : FaultLine) → Contains old x → Contains new x
+    module _ (P : FaultLine → Type 0) (old new : List FaultLine × ℕ) (a : Adds P old new) where
+      still : (x : FaultLine) → Contains old.0 x → Contains new.0 x
       still x = told_still P old new x a
 
-      pub told_whole_still : TellsWhole I L old n → TellsWhole I L new n
+      pub told_whole_still : TellsWhole I L old.0 n → TellsWhole I L new.0 n
       told_whole_still t = record {
         free = λ b h. still _ (t.free b h);
         places = λ k h. still _ (t.places k h);
         names = λ h. elim (t.names h) [ inl c ↦ inl (still _ c) | inr c ↦ inr (still _ c) ];
       }
 
-      pub told_file_still : TellsFile I L old n → TellsFile I L new n
+      pub told_file_still : TellsFile I L old.0 n → TellsFile I L new.0 n
       told_file_still t = record {
         chain = λ h. still _ (t.chain h);
         outside = λ b h. let o = t.outside b h in (o.0, still _ o.1);

@@ -7,8 +7,10 @@ pub mod Directories
 pub mod Reaching
 pub mod FileFaults
 pub mod Pairs
+pub mod Others
 pub mod Lines
 pub mod SharedHeaders
 pub mod Counted
 pub mod Repeating
 pub mod HeldPlaces
+pub mod Walks

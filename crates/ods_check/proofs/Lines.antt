@@ -31,9 +31,9 @@ module _ (I : List (List ℕ)) (L : VolumeLayout) where
   line_by_layout layout (Index why) t = (L, layout, t)
 
   -- what is told of the index stays told
-  pub told_index_still : (P : FaultLine → Type 0) (old new : List FaultLine) → Adds P old new → TellsIndex I L old → TellsIndex I L new
+  pub told_index_still : (P : FaultLine → Type 0) (old new : List FaultLine × ℕ) → Adds P old new → TellsIndex I L old.0 → TellsIndex I L new.0
   told_index_still P old new a t =
-      let still : (x : FaultLine) → Contains old x → Contains new x = λ x. told_still P old new x a in
+      let still : (x : FaultLine) → Contains old.0 x → Contains new.0 x = λ x. told_still P old new x a in
       record {
         short = λ h. still _ (t.short h);
         misplaced = λ i h. let was = t.misplaced i h in (was.0, still _ was.1);

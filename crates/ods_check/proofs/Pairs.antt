@@ -19,7 +19,7 @@ use Rattle.ods_check.proofs.Noting.{set_as}
 
 module _ (I : List (List ℕ)) (L : VolumeLayout) where
   -- what is told of a pair stays told
-  pub told_pair_still : (P : FaultLine → Type 0) (old new : List FaultLine) → Adds P old new → (m n : ℕ) → TellsPair I L old m n → TellsPair I L new m n
+  pub told_pair_still : (P : FaultLine → Type 0) (old new : List FaultLine × ℕ) → Adds P old new → (m n : ℕ) → TellsPair I L old.0 m n → TellsPair I L new.0 m n
   told_pair_still P old new a m n t b share = let was = t b share in (was.0, was.1, told_still P old new (Shared m n was.0 was.1) a was.2)
 
   -- a file without blocks shares none

@@ -1,5 +1,5 @@
 -- When the faults of a volume as a whole are true, and are told.
-use Rattle.std.proofs.Common.{ℕ, Bool, true, false, ◌<◌, ◌≤◌, List, [], length, inl, inr, refl, ap, arith}
+use Rattle.std.proofs.Common.{◌≡◌, ℕ, Bool, true, false, ◌<◌, ◌≤◌, List, [], length, inl, inr, refl, ap, arith}
 use Rattle.std.specs.Prelude.{IsTrue, MatchBool}
 use Rattle.ods_space.specs.Layout.{VolumeLayout}
 use Rattle.ods_space.specs.Chain.{index_for}
@@ -33,6 +33,10 @@ pub holds_true : (b : Bool) (T : Type 0) → MatchBool b T (¬ T) → T → IsTr
 holds_true true T h t = refl
 holds_true false T h t = absurd (h t)
 
+pub false_fails : (b : Bool) (T : Type 0) → MatchBool b T (¬ T) → b ≡ false → ¬ T
+false_fails true T h e = absurd (cc)
+false_fails false T h e = h
+
 module _ (I : List (List ℕ)) (L : VolumeLayout) where
   pub long_enough : IsLayoutOf I L → 2 ≤ length L.bitmap → ¬ IsTrueOf I L BadStorageMap
   long_enough l size (inl f) = f l.bitmap.file
@@ -45,20 +49,20 @@ module _ (I : List (List ℕ)) (L : VolumeLayout) where
   too_short l size = let has = l.bitmap in inr (has.file, has.others, L.bitmap, has.whole.chain, size)
 
 -- what is told of a volume stays told
-pub told_all_still : (P : FaultLine → Type 0) (I : List (List ℕ)) (L : VolumeLayout) (old new : List FaultLine) → Adds P old new → TellsAll I L old → TellsAll I L new
-told_all_still P I L old new a t = record {
+pub told_all_still : (P : FaultLine → Type 0) (I : List (List ℕ)) (L : VolumeLayout) (others : List ℕ) (old new : List FaultLine × ℕ) → Adds P old new → TellsAll I L others old.0 → TellsAll I L others new.0
+told_all_still P I L others old new a t = record {
   index = λ why h. told_still P old new (Index why) a (t.index why h);
   bad_index = λ h. let was = t.bad_index h in (was.0, told_still P old new (Index was.0) a was.1);
   storage = λ h. told_still P old new (Plain BadStorageMap) a (t.storage h);
   master = λ h. told_still P old new (Plain BadMaster) a (t.master h);
   formats = λ n h. told_still P old new (Plain (UnsupportedMap n)) a (t.formats n h);
   files = λ n. told_file_still I L n P old new a (t.files n);
-  shared = λ m n low. told_pair_still I L P old new a m n (t.shared m n low);
+  shared = λ m n low. elim (t.shared m n low) [ inl told ↦ inl (told_pair_still I L P old new a m n told) | inr there ↦ inr there ];
 }
 
 -- a sound image has nothing to tell
-pub none_to_tell : (I : List (List ℕ)) (L : VolumeLayout) (faults : List FaultLine) → IsSoundBy I L → TellsAll I L faults
-none_to_tell I L faults s = record {
+pub none_to_tell : (I : List (List ℕ)) (L : VolumeLayout) (others : List ℕ) (faults : List FaultLine) → IsSoundBy I L → TellsAll I L others faults
+none_to_tell I L others faults s = record {
   index = λ why h. absurd (none_true_of I L s BadIndex (index_true I L why h));
   bad_index = λ h. absurd (none_true_of I L s BadIndex h);
   storage = λ h. absurd (none_true_of I L s BadStorageMap h);
@@ -73,7 +77,7 @@ none_to_tell I L faults s = record {
       names = λ h. absurd (elim h [ inl d ↦ none_true_of I L s (BadDirectory n) d | inr d ↦ none_true_of I L s (DuplicateName n) d ]);
     };
   };
-  shared = λ m n low b h. absurd (none_true_of I L s (DoublyUsed m n b) h);
+  shared = λ m n low. inl (λ b h. absurd (none_true_of I L s (DoublyUsed m n b) h));
 }
 
 -- a test by another word for what it says

@@ -1,6 +1,6 @@
 -- Which faults a list of all faults has.
-use Rattle.std.specs.Prelude.{ℕ, ◌≤◌, ◌⊎◌, List}
-use Rattle.std.specs.List.{Contains}
+use Rattle.std.specs.Prelude.{◌≡◌, ◌≢◌, ℕ, ◌<◌, ◌≤◌, ◌⊎◌, List, [], ◌∷◌, ◌++◌, length}
+use Rattle.std.specs.List.{All, Contains}
 use Rattle.ods_space.specs.Layout.{VolumeLayout}
 use Rattle.ods_mount.specs.declared.fault.MountFault.{MountFault}
 use Rattle.ods_mount.specs.declared.fault.MountFault.TheVariants.{BadIndex, BadStorageMap, BadMaster, UnsupportedMap, BadChain, OutsideVolume, MarkedFree, BadDirectory, DuplicateName}
@@ -9,6 +9,7 @@ use Rattle.ods_check.specs.declared.fault_line.IndexFault.{IndexFault}
 use Rattle.ods_check.specs.declared.fault_line.IndexFault.TheVariants.{TooShort, Misplaced, OtherHome, FreePlace, HeldPlace}
 use Rattle.ods_check.specs.declared.fault_line.FaultLine.{FaultLine}
 use Rattle.ods_check.specs.declared.fault_line.FaultLine.TheVariants.{Plain, Shared, Index}
+use Rattle.ods_check.specs.Lists.{AreDistinct}
 use Rattle.ods_check.specs.Lines.{Share, IsElsewhere, IsIndexFault}
 
 -- a line has this fault in the mount's words
@@ -40,13 +41,29 @@ pub record TellsIndex (I : List (List ℕ)) (L : VolumeLayout) (faults : List Fa
 abbrev pub TellsPair : List (List ℕ) → VolumeLayout → List FaultLine → ℕ → ℕ → Type 0
 TellsPair I L faults m n = (b : ℕ) → Share I L m n b → (lbn : ℕ) × (count : ℕ) × Contains faults (Shared m n lbn count)
 
+-- file n shares a block with a file before it
+abbrev pub SharesBefore : List (List ℕ) → VolumeLayout → ℕ → Type 0
+SharesBefore I L n = (m : ℕ) × (b : ℕ) × (m < n) × Share I L m n b
+
+-- File n is one more of the others. It shares a block with a file before it, and as many lines are told as are kept.
+pub record IsOneMore (I : List (List ℕ)) (L : VolumeLayout) (faults : List FaultLine × ℕ) (n : ℕ) (old new : List ℕ × ℕ) : Type 0 where
+  pub is : new ≡ (old.0 ++ n ∷ [], old.1)
+  pub shares : SharesBefore I L n
+  pub full : faults.1 ≤ length faults.0
+
+-- The others are files that share blocks with files before them, each once, and there are some only where as many lines are told as are kept.
+pub record AreOthers (I : List (List ℕ)) (L : VolumeLayout) (faults : List FaultLine × ℕ) (others : List ℕ) : Type 0 where
+  pub each : All (SharesBefore I L) others
+  pub once : AreDistinct others
+  pub full : others ≢ [] → faults.1 ≤ length faults.0
+
 -- Each fault of a volume with this layout is in the list: each reason why the index is bad, a storage bitmap too short, no master directory, headers of another format, those of each file,
--- and each pair of files that share blocks, a file that holds blocks twice among these.
-pub record TellsAll (I : List (List ℕ)) (L : VolumeLayout) (faults : List FaultLine) : Type 0 where
+-- and each pair of files that share blocks, a file that holds blocks twice among these, where the later file of the pair is none of the others.
+pub record TellsAll (I : List (List ℕ)) (L : VolumeLayout) (others : List ℕ) (faults : List FaultLine) : Type 0 where
   pub index : (why : IndexFault) → IsIndexFault I L why → Contains faults (Index why)
   pub bad_index : IsTrueOf I L BadIndex → (why : IndexFault) × Contains faults (Index why)
   pub storage : IsTrueOf I L BadStorageMap → Tells faults BadStorageMap
   pub master : IsTrueOf I L BadMaster → Tells faults BadMaster
   pub formats : (n : ℕ) → IsTrueOf I L (UnsupportedMap n) → Tells faults (UnsupportedMap n)
   pub files : (n : ℕ) → TellsFile I L faults n
-  pub shared : (m n : ℕ) → m ≤ n → TellsPair I L faults m n
+  pub shared : (m n : ℕ) → m ≤ n → TellsPair I L faults m n ⊎ Contains others n

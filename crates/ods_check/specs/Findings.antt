@@ -1,5 +1,5 @@
 -- What a mount does not refuse, of a volume that has a layout, sound or not: what each finding says, and that all of a kind are told.
-use Rattle.std.specs.Prelude.{◌≡◌, ◌≢◌, ℕ, ◌+◌, ◌-◌, ◌*◌, ◌<◌, ◌==◌, IsTrue, false, List, [], length, slice_get, Some, if◌then◌else◌}
+use Rattle.std.specs.Prelude.{◌≡◌, ◌≢◌, ℕ, ◌+◌, ◌-◌, ◌*◌, ◌<◌, ◌==◌, IsTrue, Bool, true, false, List, [], length, slice_get, Some, if◌then◌else◌}
 use Rattle.std.specs.List.{All, Contains}
 use Rattle.ods_base.specs.declared.file_id.FileId.{FileId}
 use Rattle.ods_base.specs.declared.listed.Listed.{Listed}
@@ -12,12 +12,14 @@ use Rattle.ods_space.specs.Files.{IsFile, HasBlocks, Holds}
 use Rattle.ods_space.specs.Free.{is_covered, storage_bit}
 use Rattle.ods_directory.specs.Mark.{end_block, end_byte}
 use Rattle.ods_directory.specs.Names.{IsDirectory, names_of}
-use Rattle.ods_mount.specs.Faults.{IsDirectoryFile, contents_of, mark_at}
+use Rattle.ods_mount.specs.declared.fault.MountFault.TheVariants.{BadDirectory, DuplicateName}
+use Rattle.ods_mount.specs.Faults.{IsDirectoryFile, IsTrueOf, contents_of, mark_at}
 use Rattle.ods_mount.specs.Checks.{HasHeader}
 use Rattle.ods_check.specs.declared.finding.NoHeader.{NoHeader}
 use Rattle.ods_check.specs.declared.finding.NoHeader.TheVariants.{NoBlock, Checksum, Number, Level, Areas, Format}
 use Rattle.ods_check.specs.declared.finding.Finding.{Finding}
-use Rattle.ods_check.specs.declared.finding.Finding.TheVariants.{BadHeader, LostHeader, HeldByNone, NamesNone, LostFile, EndPast}
+use Rattle.ods_check.specs.declared.finding.Finding.TheVariants.{BadHeader, LostHeader, HeldByNone, NamesNone, LostFile, EndPast, HiddenEntries}
+use Rattle.ods_check.specs.Hidden.{HasHidden}
 
 -- There is no valid header n: it has no block, or this is the first check of it that fails.
 abbrev pub IsWithout : List (List ℕ) → VolumeLayout → ℕ → NoHeader → Type 0
@@ -52,6 +54,15 @@ pub record IsHeldByNone (I : List (List ℕ)) (L : VolumeLayout) (b : ℕ) : Typ
 -- the ID of header n: its number, and the sequence number that it has
 abbrev pub id_at : List (List ℕ) → VolumeLayout → ℕ → FileId
 id_at I L n = record { number = n; sequence = sequence_of (header_at I L n) }
+
+-- File d is no directory with a whole chain that has a bad entry, or two of one name.
+pub record IsRead (I : List (List ℕ)) (L : VolumeLayout) (d : ℕ) : Type 0 where
+  pub good : ¬ IsTrueOf I L (BadDirectory d)
+  pub distinct : ¬ IsTrueOf I L (DuplicateName d)
+
+-- no directory has such a fault, so that the names of all are read
+abbrev pub AreAllRead : List (List ℕ) → VolumeLayout → Type 0
+AreAllRead I L = (d : ℕ) → IsRead I L d
 
 -- File d is a directory with a whole chain, its used entries are good and distinct, and this is a line of it.
 pub record HasName (I : List (List ℕ)) (L : VolumeLayout) (d : ℕ) (line : Listed) : Type 0 where
@@ -115,6 +126,13 @@ pub record IsEndPast (I : List (List ℕ)) (L : VolumeLayout) (n : ℕ) : Type 0
   pub has : HasBlocks I L n blocks
   pub past : 512 * length blocks < end_of (attributes_of (header_at I L n))
 
+-- File n is a directory with a whole chain, and has used entries behind its end mark.
+pub record IsHiding (I : List (List ℕ)) (L : VolumeLayout) (n : ℕ) : Type 0 where
+  pub file : IsDirectoryFile I L n
+  pub blocks : List ℕ
+  pub has : HasBlocks I L n blocks
+  pub hidden : HasHidden (contents_of I blocks) (mark_at I L n blocks)
+
 -- what is found is so
 abbrev pub IsFound : List (List ℕ) → VolumeLayout → Finding → Type 0
 IsFound I L (BadHeader n why) = IsBadHeader I L n why
@@ -123,16 +141,18 @@ IsFound I L (NamesNone d line) = IsNamingNone I L d line
 IsFound I L (LostFile id) = IsLostFile I L id.number × (id ≡ id_at I L id.number)
 IsFound I L (LostHeader id) = IsLostHeader I L id.number × (id ≡ id_at I L id.number)
 IsFound I L (EndPast id) = IsEndPast I L id.number × (id ≡ id_at I L id.number)
+IsFound I L (HiddenEntries n) = IsHiding I L n
 
 -- where number n is in use and has no valid header, that is among the findings
 abbrev pub TellsHeader : List (List ℕ) → VolumeLayout → ℕ → List Finding → Type 0
 TellsHeader I L n findings = IsTrue (is_in_use I L.home n) → ¬ IsValidHeader (header_at I L n) n → (why : NoHeader) × Contains findings (BadHeader n why)
 
--- Whatever there is to find is among the findings.
-pub record FindsAll (I : List (List ℕ)) (L : VolumeLayout) (findings : List Finding) : Type 0 where
+-- Whatever there is to find is among the findings; lost files where they are wanted.
+pub record FindsAll (I : List (List ℕ)) (L : VolumeLayout) (with_lost : Bool) (findings : List Finding) : Type 0 where
   pub headers : (n : ℕ) → n < 65536 → TellsHeader I L n findings
   pub lost_headers : (n : ℕ) → IsLostHeader I L n → Contains findings (LostHeader (id_at I L n))
   pub unheld : (b : ℕ) → IsHeldByNone I L b → Contains findings (HeldByNone b)
   pub names : (d : ℕ) (line : Listed) → IsNamingNone I L d line → Contains findings (NamesNone d line)
-  pub lost : (n : ℕ) → IsLostFile I L n → Contains findings (LostFile (id_at I L n))
+  pub lost : with_lost ≡ true → (n : ℕ) → IsLostFile I L n → Contains findings (LostFile (id_at I L n))
   pub ends : (n : ℕ) → IsEndPast I L n → Contains findings (EndPast (id_at I L n))
+  pub hidden : (n : ℕ) → IsHiding I L n → Contains findings (HiddenEntries n)

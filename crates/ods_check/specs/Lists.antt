@@ -1,13 +1,18 @@
 -- Lists to which what is found is added.
-use Rattle.std.specs.Prelude.{◌≡◌, ℕ, List, ◌++◌, slice_get, Some}
+use Rattle.std.specs.Prelude.{◌≡◌, ℕ, ◌-◌, List, ◌++◌, length, take, slice_get, Some}
 use Rattle.std.specs.List.{All}
 
--- the list is the old one with more behind it, each of which has P
-pub record Adds {X : Type 0} (P : X → Type 0) (old new : List X) : Type 0 where
+-- The list is the old one with more behind it, each of which has P. Beside a list stands at most how many of it are kept, which stays.
+pub record Adds {X : Type 0} (P : X → Type 0) (old new : List X × ℕ) : Type 0 where
   pub more : List X
-  pub is : new ≡ old ++ more
+  pub is : new ≡ (old.0 ++ more, old.1)
   pub each : All P more
 
 -- no number is in the list twice
 abbrev pub AreDistinct : List ℕ → Type 0
 AreDistinct xs = (i j b : ℕ) → slice_get xs i ≡ Some b → slice_get xs j ≡ Some b → i ≡ j
+
+-- These are the first lines of a list, at most so many, and so many more are in it.
+pub record IsCut {X : Type 0} (kept : List X) (more most : ℕ) (whole : List X) : Type 0 where
+  pub first : kept ≡ take most whole
+  pub rest : more ≡ length whole - most

@@ -1,33 +1,63 @@
 //! What a mount does not refuse, of a volume that has a layout.
-ghost use Rattle.std.specs.Prelude.{IfOk};
+ghost use Rattle.std.specs.Prelude.{◌≡◌, ◌<◌, ℕ, List, length, IfOk};
 ghost use Rattle.std.specs.List.{All};
 ghost use Rattle.ods_space.specs.Files.{IsLayoutOf};
-ghost use Rattle.ods_check.specs.Findings.{IsFound, FindsAll};
+ghost use Rattle.ods_check.specs.declared.finding.Finding.{Finding as Line};
+ghost use Rattle.ods_check.specs.Findings.{IsFound, FindsAll, TellsHeader};
 ghost use Rattle.ods_space.specs.Disks.{on};
 
-use crate::Finding;
 use crate::ends::push_ends;
 use crate::headers::push_bad_headers;
+use crate::hidden::push_hidden;
 use crate::lost_headers::push_lost_headers;
 use crate::naming::push_naming;
 use crate::unheld::push_unheld;
+use crate::{Finding, Told};
 use ods_space::Disk;
 use std::alloc::{AllocError, Global};
 
 /// What a mount does not refuse, of a volume with this layout, sound or not: each number in use that has no valid header, each valid
 /// extension header that no file has, each block that is marked used and that no file holds, each name that names no file, each file
-/// above 5 that no name names, and each file that ends past its blocks. Each finding is so, and each thing of these kinds is found. Of a
-/// file whose chain is not whole no blocks are known, and of a directory whose entries are not good and distinct no names.
-pub fn findings(alloc: Global, disk: &Disk<'_>) -> Result<Vec<Finding>, AllocError>
+/// above 5 that no name names, where these are wanted, each file that ends past its blocks, and each directory with used entries behind
+/// its end. Each finding is so, and each thing of these kinds is found; the first ones, at most `most`, are kept. Of a file whose chain is
+/// not whole no blocks are known, and of a directory whose entries are not good and distinct no names.
+pub fn findings(
+    alloc: Global,
+    disk: &Disk<'_>,
+    most: u32,
+    with_lost: bool,
+) -> Result<Told<Finding>, AllocError>
     requires { on IsLayoutOf disk.now }
-    ensures each { IfOk result (λ found. All (on IsFound disk.now) found.items) }
-    ensures all { IfOk result (λ found. on FindsAll disk.now found.items) }
+    ensures each { IfOk result (λ found. All (on IsFound disk.now) found.0) }
+    ensures all { IfOk result (λ found. on FindsAll disk.now with_lost found.0) }
+    ensures most { IfOk result (λ found. found.1 ≡ most) }
 {
-    let mut found = Vec::new(alloc);
+    let mut found = Told::new(alloc, most);
     push_bad_headers(disk, &mut found)?;
     push_lost_headers(alloc, disk, &mut found)?;
     push_unheld(alloc, disk, &mut found)?;
-    push_naming(alloc, disk, &mut found)?;
+    push_naming(alloc, disk, with_lost, &mut found)?;
     push_ends(disk, &mut found)?;
+    push_hidden(alloc, disk, &mut found)?;
+    Ok(found)
+}
+
+/// How many findings there are. None is kept.
+pub fn count_findings(alloc: Global, disk: &Disk<'_>, with_lost: bool) -> Result<u64, AllocError>
+    requires { on IsLayoutOf disk.now }
+    ensures { IfOk result (λ count. (found : List Line) × (count ≡ length found) × All (on IsFound disk.now) found × on FindsAll disk.now with_lost found) }
+{
+    let found = findings(alloc, disk, 0, with_lost)?;
+    Ok(found.more())
+}
+
+/// The findings that are numbers in use with no valid header, up to 65,535.
+pub fn bad_headers(alloc: Global, disk: &Disk<'_>, most: u32) -> Result<Told<Finding>, AllocError>
+    ensures each { IfOk result (λ found. All (on IsFound disk.now) found.0) }
+    ensures all { IfOk result (λ found. (n : ℕ) → n < 65536 → on TellsHeader disk.now n found.0) }
+    ensures most { IfOk result (λ found. found.1 ≡ most) }
+{
+    let mut found = Told::new(alloc, most);
+    push_bad_headers(disk, &mut found)?;
     Ok(found)
 }

@@ -11,7 +11,7 @@ ghost use Rattle.ods_space.specs.Disks.{header_on, on};
 use crate::add::push_if;
 use crate::shared_headers::{header_numbers, shared_headers};
 use crate::sharing::first_in;
-use crate::{FaultLine, IndexFault};
+use crate::{FaultLine, IndexFault, Told};
 use ods_directory::{DirBlocks, Verdict, check, mark_of};
 use ods_header::attributes;
 use ods_mount::{
@@ -25,12 +25,12 @@ pub(crate) fn push_files(
     alloc: Global,
     disk: &Disk<'_>,
     home_lbn: u32,
-    faults: &mut Vec<FaultLine>,
+    faults: &mut Told<FaultLine>,
 ) -> Result<(), AllocError>
     requires layout { on IsLayoutOf disk.now }
     requires home { IsHomeAt disk.now.image.now home_lbn }
-    ensures adds { OnOk result (Adds (on IsLineOf disk.now) faults.old.items faults.new.items) }
-    ensures files { OnOk result ((n : ℕ) → on TellsFile disk.now faults.new.items n) }
+    ensures adds { OnOk result (Adds (on IsLineOf disk.now) faults.old faults.new) }
+    ensures files { OnOk result ((n : ℕ) → on TellsFile disk.now faults.new.0 n) }
 {
     let shared = shared_headers(alloc, disk)?;
     for number in 0..disk.layout.home().max_files as u32 + 1 {
@@ -46,13 +46,13 @@ fn push_file(
     home_lbn: u32,
     number: u16,
     shared: &NumberSet,
-    faults: &mut Vec<FaultLine>,
+    faults: &mut Told<FaultLine>,
 ) -> Result<(), AllocError>
     requires layout { on IsLayoutOf disk.now }
     requires home { IsHomeAt disk.now.image.now home_lbn }
     requires shared { IsSetOf (on IsOfTwo disk.now (disk.now.layout.now.home.max_files + 1)) shared.now }
-    ensures adds { OnOk result (Adds (on IsLineOf disk.now) faults.old.items faults.new.items) }
-    ensures file { OnOk result (on TellsFile disk.now faults.new.items number) }
+    ensures adds { OnOk result (Adds (on IsLineOf disk.now) faults.old faults.new) }
+    ensures file { OnOk result (on TellsFile disk.now faults.new.0 number) }
 {
     let Some(first) = first_header(disk, number) else {
         return Ok(());
@@ -78,13 +78,13 @@ fn push_sharing(
     disk: &Disk<'_>,
     number: u16,
     shared: &NumberSet,
-    faults: &mut Vec<FaultLine>,
+    faults: &mut Told<FaultLine>,
 ) -> Result<(), AllocError>
     requires layout { on IsLayoutOf disk.now }
     requires file { on IsFile disk.now number }
     requires shared { IsSetOf (on IsOfTwo disk.now (disk.now.layout.now.home.max_files + 1)) shared.now }
-    ensures adds { OnOk result (Adds (on IsLineOf disk.now) faults.old.items faults.new.items) }
-    ensures shares { OnOk result (on SharesHeader disk.now number → Tells faults.new.items (MountFault.BadChain number)) }
+    ensures adds { OnOk result (Adds (on IsLineOf disk.now) faults.old faults.new) }
+    ensures shares { OnOk result (on SharesHeader disk.now number → Tells faults.new.0 (MountFault.BadChain number)) }
 {
     let headers = header_numbers(alloc, disk, number)?;
     let Some(_) = first_in(&headers, shared) else {
@@ -102,13 +102,13 @@ fn push_whole(
     number: u16,
     attributes: &[u8; 32],
     lbns: &[u32],
-    faults: &mut Vec<FaultLine>,
+    faults: &mut Told<FaultLine>,
 ) -> Result<(), AllocError>
     requires home { IsHomeAt disk.now.image.now home_lbn }
     requires whole { on HasBlocks disk.now number lbns.now }
     requires attributes { attributes.now ≡ attributes_of (header_on disk.now number) }
-    ensures adds { OnOk result (Adds (on IsLineOf disk.now) faults.old.items faults.new.items) }
-    ensures file { OnOk result (on TellsWhole disk.now faults.new.items number) }
+    ensures adds { OnOk result (Adds (on IsLineOf disk.now) faults.old faults.new) }
+    ensures file { OnOk result (on TellsWhole disk.now faults.new.0 number) }
 {
     push_free(disk, number, lbns, faults)?;
     push_places(disk, home_lbn, number, lbns, faults)?;
@@ -122,13 +122,13 @@ fn push_places(
     home_lbn: u32,
     number: u16,
     lbns: &[u32],
-    faults: &mut Vec<FaultLine>,
+    faults: &mut Told<FaultLine>,
 ) -> Result<(), AllocError>
     requires home { IsHomeAt disk.now.image.now home_lbn }
     requires whole { on HasBlocks disk.now number lbns.now }
-    ensures adds { OnOk result (Adds (on IsLineOf disk.now) faults.old.items faults.new.items) }
+    ensures adds { OnOk result (Adds (on IsLineOf disk.now) faults.old faults.new) }
     ensures places { OnOk result ((k : ℕ) → on IsIndexFault disk.now (IndexFault.HeldPlace k number)
-        → Contains faults.new.items (FaultLine.Index (IndexFault.HeldPlace k number))) }
+        → Contains faults.new.0 (FaultLine.Index (IndexFault.HeldPlace k number))) }
 {
     // An image has few blocks, and so has a chain.
     let _ = disk.image.len();
@@ -146,11 +146,11 @@ fn push_free(
     disk: &Disk<'_>,
     number: u16,
     lbns: &[u32],
-    faults: &mut Vec<FaultLine>,
+    faults: &mut Told<FaultLine>,
 ) -> Result<(), AllocError>
     requires { on HasBlocks disk.now number lbns.now }
-    ensures adds { OnOk result (Adds (on IsLineOf disk.now) faults.old.items faults.new.items) }
-    ensures free { OnOk result ((b : ℕ) → on IsTrueOf disk.now (MountFault.MarkedFree number b) → Tells faults.new.items (MountFault.MarkedFree number b)) }
+    ensures adds { OnOk result (Adds (on IsLineOf disk.now) faults.old faults.new) }
+    ensures free { OnOk result ((b : ℕ) → on IsTrueOf disk.now (MountFault.MarkedFree number b) → Tells faults.new.0 (MountFault.MarkedFree number b)) }
 {
     for i in 0..lbns.len() {
         let lbn = lbns[i];
@@ -171,13 +171,13 @@ fn push_names(
     number: u16,
     attributes: &[u8; 32],
     lbns: &[u32],
-    faults: &mut Vec<FaultLine>,
+    faults: &mut Told<FaultLine>,
 ) -> Result<(), AllocError>
     requires whole { on HasBlocks disk.now number lbns.now }
     requires attributes { attributes.now ≡ attributes_of (header_on disk.now number) }
-    ensures adds { OnOk result (Adds (on IsLineOf disk.now) faults.old.items faults.new.items) }
+    ensures adds { OnOk result (Adds (on IsLineOf disk.now) faults.old faults.new) }
     ensures names { OnOk result ((on IsTrueOf disk.now (MountFault.BadDirectory number) ⊎ on IsTrueOf disk.now (MountFault.DuplicateName number))
-        → Tells faults.new.items (MountFault.BadDirectory number) ⊎ Tells faults.new.items (MountFault.DuplicateName number)) }
+        → Tells faults.new.0 (MountFault.BadDirectory number) ⊎ Tells faults.new.0 (MountFault.DuplicateName number)) }
 {
     if !is_directory_file(disk, number) {
         return Ok(());

@@ -5,9 +5,9 @@ ghost use Rattle.ods_space.specs.Files.{IsLayoutOf};
 ghost use Rattle.ods_check.specs.{Lists.Adds, Findings.IsFound, Findings.IsEndPast, Findings.id_at, Findings.end_of};
 ghost use Rattle.ods_space.specs.Disks.{on, seen};
 
-use crate::Finding;
 use crate::add::push_if;
 use crate::ids::id_of;
+use crate::{Finding, Told};
 use ods_directory::mark_of;
 use ods_header::attributes;
 use ods_mount::is_directory_file;
@@ -15,10 +15,10 @@ use ods_space::{Disk, block_count, first_header};
 use std::alloc::AllocError;
 
 /// Adds each file above 2, and no directory, that ends past its blocks.
-pub(crate) fn push_ends(disk: &Disk<'_>, findings: &mut Vec<Finding>) -> Result<(), AllocError>
+pub(crate) fn push_ends(disk: &Disk<'_>, findings: &mut Told<Finding>) -> Result<(), AllocError>
     requires { on IsLayoutOf disk.now }
-    ensures adds { OnOk result (Adds (on IsFound disk.now) findings.old.items findings.new.items) }
-    ensures all { OnOk result ((n : ℕ) → on IsEndPast disk.now n → Contains findings.new.items (Finding.EndPast (seen id_at disk.now n))) }
+    ensures adds { OnOk result (Adds (on IsFound disk.now) findings.old findings.new) }
+    ensures all { OnOk result ((n : ℕ) → on IsEndPast disk.now n → Contains findings.new.0 (Finding.EndPast (seen id_at disk.now n))) }
 {
     for number in 0..disk.layout.home().max_files as u32 + 1 {
         let file = id_of(disk, number as u16);

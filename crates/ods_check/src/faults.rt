@@ -4,26 +4,32 @@ ghost use Rattle.std.specs.List.{All};
 ghost use Rattle.ods_header.specs.Home.{IsHomeAt};
 ghost use Rattle.ods_space.specs.Files.{IsLayoutOf};
 ghost use Rattle.ods_mount.specs.Faults.{IsSound, FaultIsTrue};
-ghost use Rattle.ods_check.specs.{Lists.Adds, Lines.fault_of, Lines.IsLineOf, Lines.LineIsTrue, Faults.TellsAll};
+ghost use Rattle.ods_check.specs.{Lists.Adds, Lines.fault_of, Lines.IsLineOf, Lines.LineIsTrue, Faults.TellsAll, Faults.AreOthers};
 ghost use Rattle.ods_space.specs.Disks.{on};
 
-use crate::FaultLine;
 use crate::chains::push_files;
 use crate::index_faults::push_index;
 use crate::sharing::push_shared;
 use crate::system::{push_formats, push_system};
+use crate::{FaultLine, Told};
 use ods_base::Image;
 use ods_mount::{MountFault, check_image, read_layout};
 use ods_space::{Disk, Layout};
 use std::alloc::{AllocError, Global};
 
-/// What a check of an image finds: the layout, where there is one; the fault that a mount answers; and a line for each fault.
+/// What a check of an image finds: the layout, where there is one; the fault that a mount answers; and a line for each fault, of which the
+/// first 10,000 are kept. Beside them stands how many files, once these lines are full, share blocks with files before them: a pair of
+/// files has no line where the later one is among these.
 #[derive(Drop)]
 pub struct Checked {
     pub layout: Option<Layout>,
     pub answer: Option<MountFault>,
-    pub faults: Vec<FaultLine>,
+    pub faults: Told<FaultLine>,
+    pub sharing: Told<u16>,
 }
+
+/// At most so many lines are kept.
+pub const MOST_LINES: u32 = 10_000;
 
 /// Every fault of an image, and its layout where it has one. A sound image has none. Where there is no layout it is the one that a
 /// mount answers. Where there is one these are told, and each line is true: each reason why the index is bad, a storage bitmap that
@@ -34,19 +40,21 @@ pub struct Checked {
 ///
 /// A sound image costs a mount. Any other costs a few walks over all its chains; and each file that has a block of one before it costs
 /// a walk over the chains of all files before it, and four bytes for each block of the image, which it lets go again. So the time is
-/// at most that of as many walks over all chains as there are files: files times blocks.
+/// at most that of as many walks over all chains as lines are kept.
 pub fn check_all(alloc: Global, image: &Image) -> Result<Checked, AllocError>
-    ensures true_of { IfOk result (λ c. All (λ line. FaultIsTrue image.now (fault_of line)) c.faults.items) }
-    ensures lines { IfOk result (λ c. All (LineIsTrue image.now) c.faults.items) }
+    ensures true_of { IfOk result (λ c. All (λ line. FaultIsTrue image.now (fault_of line)) c.faults.0) }
+    ensures lines { IfOk result (λ c. All (LineIsTrue image.now) c.faults.0) }
     ensures answer { IfOk result (λ c. IfSome c.answer (FaultIsTrue image.now) × IfNone c.answer (IsSound image.now)) }
-    ensures sound { IfOk result (λ c. c.faults.items ≡ [] → IsSound image.now) }
-    ensures layout { IfOk result (λ c. IfSome c.layout (λ layout. IsLayoutOf image.now layout × TellsAll image.now layout c.faults.items)) }
+    ensures sound { IfOk result (λ c. c.faults.0 ≡ [] → IsSound image.now) }
+    ensures layout { IfOk result (λ c. IfSome c.layout (λ layout. IsLayoutOf image.now layout × TellsAll image.now layout c.sharing.0 c.faults.0 × AreOthers image.now layout c.faults c.sharing.0)) }
+    ensures most { IfOk result (λ c. (c.faults.1 ≡ 10000) × (c.sharing.1 ≡ 0)) }
 {
     match check_image(alloc, image) {
         Ok(layout) => Ok(Checked {
             layout: Some(layout),
             answer: None,
-            faults: Vec::new(alloc),
+            faults: Told::new(alloc, MOST_LINES),
+            sharing: Told::new(alloc, 0),
         }),
         Err(fault) => {
             if is_memory(&fault) {
@@ -58,7 +66,7 @@ pub fn check_all(alloc: Global, image: &Image) -> Result<Checked, AllocError>
 }
 
 /// Whether the fault is that memory was refused.
-fn is_memory(fault: &MountFault) -> bool
+pub(crate) fn is_memory(fault: &MountFault) -> bool
     ensures { MatchBool result (fault.now ≡ MountFault.NoMemory) (fault.now ≢ MountFault.NoMemory) }
 {
     match fault {
@@ -80,25 +88,28 @@ fn is_memory(fault: &MountFault) -> bool
 /// The faults of an image that is not sound, of which one is known.
 fn all_faults(alloc: Global, image: &Image, known: MountFault) -> Result<Checked, AllocError>
     requires { FaultIsTrue image.now known }
-    ensures true_of { IfOk result (λ c. All (λ line. FaultIsTrue image.now (fault_of line)) c.faults.items) }
-    ensures lines { IfOk result (λ c. All (LineIsTrue image.now) c.faults.items) }
+    ensures true_of { IfOk result (λ c. All (λ line. FaultIsTrue image.now (fault_of line)) c.faults.0) }
+    ensures lines { IfOk result (λ c. All (LineIsTrue image.now) c.faults.0) }
     ensures answer { IfOk result (λ c. c.answer ≡ Some known) }
-    ensures some { IfOk result (λ c. c.faults.items ≢ []) }
-    ensures layout { IfOk result (λ c. IfSome c.layout (λ layout. IsLayoutOf image.now layout × TellsAll image.now layout c.faults.items)) }
+    ensures some { IfOk result (λ c. c.faults.0 ≢ []) }
+    ensures layout { IfOk result (λ c. IfSome c.layout (λ layout. IsLayoutOf image.now layout × TellsAll image.now layout c.sharing.0 c.faults.0 × AreOthers image.now layout c.faults c.sharing.0)) }
+    ensures most { IfOk result (λ c. (c.faults.1 ≡ 10000) × (c.sharing.1 ≡ 0)) }
 {
-    let mut faults = Vec::new(alloc);
+    let mut faults = Told::new(alloc, MOST_LINES);
+    let mut sharing = Told::new(alloc, 0);
     match read_layout(alloc, image) {
         Ok((home_lbn, layout)) => {
             let disk = Disk {
                 image,
                 layout: &layout,
             };
-            push_all(alloc, &disk, home_lbn, &mut faults)?;
+            push_all(alloc, &disk, home_lbn, &mut faults, &mut sharing)?;
             tell(known, &mut faults)?;
             Ok(Checked {
                 layout: Some(layout),
                 answer: Some(known),
                 faults,
+                sharing,
             })
         }
         Err(MountFault::NoMemory) => Err(AllocError),
@@ -108,17 +119,19 @@ fn all_faults(alloc: Global, image: &Image, known: MountFault) -> Result<Checked
                 layout: None,
                 answer: Some(known),
                 faults,
+                sharing,
             })
         }
     }
 }
 
 /// Adds a fault that is known, where none of these is the same, or of the same pair of files. So there is one at least.
-fn tell(known: MountFault, faults: &mut Vec<FaultLine>) -> Result<(), AllocError>
-    ensures added { OnOk result ((faults.new.items ≡ faults.old.items) ⊎ (faults.new.items ≡ faults.old.items ++ FaultLine.Plain known ∷ [])) }
-    ensures some { OnOk result (faults.new.items ≢ []) }
+fn tell(known: MountFault, faults: &mut Told<FaultLine>) -> Result<(), AllocError>
+    ensures added { OnOk result ((faults.new ≡ faults.old) ⊎ (faults.new ≡ (faults.old.0 ++ FaultLine.Plain known ∷ [], faults.old.1))) }
+    ensures most { OnOk result (faults.new.1 ≡ faults.old.1) }
+    ensures some { OnOk result (faults.new.0 ≢ []) }
 {
-    if is_told(known, faults) {
+    if is_told(known, faults.kept()) {
         return Ok(());
     }
     faults.push(FaultLine::Plain(known))?;
@@ -159,17 +172,21 @@ fn push_all(
     alloc: Global,
     disk: &Disk<'_>,
     home_lbn: u32,
-    faults: &mut Vec<FaultLine>,
+    faults: &mut Told<FaultLine>,
+    others: &mut Told<u16>,
 ) -> Result<(), AllocError>
     requires layout { on IsLayoutOf disk.now }
     requires home { IsHomeAt disk.now.image.now home_lbn }
-    ensures adds { OnOk result (Adds (on IsLineOf disk.now) faults.old.items faults.new.items) }
-    ensures all { OnOk result (on TellsAll disk.now faults.new.items) }
+    requires none { others.old.0 ≡ [] }
+    ensures adds { OnOk result (Adds (on IsLineOf disk.now) faults.old faults.new) }
+    ensures all { OnOk result (on TellsAll disk.now others.new.0 faults.new.0) }
+    ensures others { OnOk result (on AreOthers disk.now faults.new others.new.0) }
+    ensures most { OnOk result (others.new.1 ≡ others.old.1) }
 {
     push_index(disk, home_lbn, faults)?;
     push_system(disk, faults)?;
     push_formats(disk, faults)?;
     push_files(alloc, disk, home_lbn, faults)?;
-    push_shared(alloc, disk, faults)?;
+    push_shared(alloc, disk, faults, others)?;
     Ok(())
 }

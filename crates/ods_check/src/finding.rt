@@ -46,4 +46,7 @@ pub enum Finding {
     /// The end of this file lies past its blocks.
     #[error("file {number},{sequence} ends past its blocks", number = .0.number, sequence = .0.sequence)]
     EndPast(FileId),
+    /// Behind the end of this directory stand used entries.
+    #[error("directory {0} has used entries behind its end")]
+    HiddenEntries(u16),
 }

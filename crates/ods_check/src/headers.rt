@@ -5,7 +5,7 @@ ghost use Rattle.ods_space.specs.Layout.{is_in_use};
 ghost use Rattle.ods_check.specs.{Lists.Adds, Findings.IsWithout, Findings.IsFound, Findings.TellsHeader};
 ghost use Rattle.ods_space.specs.Disks.{header_on, on};
 
-use crate::{Finding, NoHeader};
+use crate::{Finding, NoHeader, Told};
 use ods_header::{HeaderFault, read_header};
 use ods_space::{Disk, header_block, in_use};
 use std::alloc::AllocError;
@@ -13,10 +13,10 @@ use std::alloc::AllocError;
 /// Adds each number in use that has no valid header, up to 65,535, the greatest number that a header can have.
 pub(crate) fn push_bad_headers(
     disk: &Disk<'_>,
-    findings: &mut Vec<Finding>,
+    findings: &mut Told<Finding>,
 ) -> Result<(), AllocError>
-    ensures adds { OnOk result (Adds (on IsFound disk.now) findings.old.items findings.new.items) }
-    ensures all { OnOk result ((n : ℕ) → n < 65536 → on TellsHeader disk.now n findings.new.items) }
+    ensures adds { OnOk result (Adds (on IsFound disk.now) findings.old findings.new) }
+    ensures all { OnOk result ((n : ℕ) → n < 65536 → on TellsHeader disk.now n findings.new.0) }
 {
     let last = (4096 * disk.layout.home().index_bitmap_size as u32).min(65535);
     for number in 0..last + 1 {
@@ -29,10 +29,10 @@ pub(crate) fn push_bad_headers(
 fn push_bad_header(
     disk: &Disk<'_>,
     number: u16,
-    findings: &mut Vec<Finding>,
+    findings: &mut Told<Finding>,
 ) -> Result<(), AllocError>
-    ensures adds { OnOk result (Adds (on IsFound disk.now) findings.old.items findings.new.items) }
-    ensures told { OnOk result (on TellsHeader disk.now number findings.new.items) }
+    ensures adds { OnOk result (Adds (on IsFound disk.now) findings.old findings.new) }
+    ensures told { OnOk result (on TellsHeader disk.now number findings.new.0) }
 {
     if !in_use(disk, number) {
         return Ok(());

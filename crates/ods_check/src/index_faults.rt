@@ -7,7 +7,7 @@ ghost use Rattle.ods_check.specs.{Lists.Adds, Lines.IsElsewhere, Lines.IsIndexFa
 ghost use Rattle.ods_space.specs.Disks.{on, seen};
 
 use crate::add::push_if;
-use crate::{FaultLine, IndexFault};
+use crate::{FaultLine, IndexFault, Told};
 use ods_mount::is_home_place;
 use ods_space::{Disk, Layout, is_free};
 use std::alloc::AllocError;
@@ -16,11 +16,11 @@ use std::alloc::AllocError;
 pub(crate) fn push_index(
     disk: &Disk<'_>,
     home_lbn: u32,
-    faults: &mut Vec<FaultLine>,
+    faults: &mut Told<FaultLine>,
 ) -> Result<(), AllocError>
     requires { IsHomeAt disk.now.image.now home_lbn }
-    ensures adds { OnOk result (Adds (on IsLineOf disk.now) faults.old.items faults.new.items) }
-    ensures index { OnOk result (on TellsIndex disk.now faults.new.items) }
+    ensures adds { OnOk result (Adds (on IsLineOf disk.now) faults.old faults.new) }
+    ensures index { OnOk result (on TellsIndex disk.now faults.new.0) }
 {
     let short = FaultLine::Index(IndexFault::TooShort);
     push_if(faults, short, is_too_short(disk.layout))?;
@@ -51,10 +51,10 @@ fn is_other_home(layout: &Layout, home_lbn: u32) -> bool
 }
 
 /// Adds the first block of INDEXF.SYS that is not where the index bitmap or one of the first 16 headers is.
-fn push_misplaced(disk: &Disk<'_>, faults: &mut Vec<FaultLine>) -> Result<(), AllocError>
-    ensures adds { OnOk result (Adds (on IsLineOf disk.now) faults.old.items faults.new.items) }
-    ensures some { OnOk result ((i : ℕ) → IsElsewhere disk.now.layout.now i → (v : ℕ) × Contains faults.new.items (FaultLine.Index (IndexFault.Misplaced v))) }
-    ensures first { OnOk result ((v : ℕ) → on IsIndexFault disk.now (IndexFault.Misplaced v) → Contains faults.new.items (FaultLine.Index (IndexFault.Misplaced v))) }
+fn push_misplaced(disk: &Disk<'_>, faults: &mut Told<FaultLine>) -> Result<(), AllocError>
+    ensures adds { OnOk result (Adds (on IsLineOf disk.now) faults.old faults.new) }
+    ensures some { OnOk result ((i : ℕ) → IsElsewhere disk.now.layout.now i → (v : ℕ) × Contains faults.new.0 (FaultLine.Index (IndexFault.Misplaced v))) }
+    ensures first { OnOk result ((v : ℕ) → on IsIndexFault disk.now (IndexFault.Misplaced v) → Contains faults.new.0 (FaultLine.Index (IndexFault.Misplaced v))) }
 {
     let Some(at) = first_misplaced(disk.layout) else {
         return Ok(());
@@ -93,11 +93,11 @@ fn is_at(index: &[u32], at: usize, lbn: u64) -> bool
 fn push_free_places(
     disk: &Disk<'_>,
     home_lbn: u32,
-    faults: &mut Vec<FaultLine>,
+    faults: &mut Told<FaultLine>,
 ) -> Result<(), AllocError>
     requires { IsHomeAt disk.now.image.now home_lbn }
-    ensures adds { OnOk result (Adds (on IsLineOf disk.now) faults.old.items faults.new.items) }
-    ensures free { OnOk result ((k : ℕ) → on IsIndexFault disk.now (IndexFault.FreePlace k) → Contains faults.new.items (FaultLine.Index (IndexFault.FreePlace k))) }
+    ensures adds { OnOk result (Adds (on IsLineOf disk.now) faults.old faults.new) }
+    ensures free { OnOk result ((k : ℕ) → on IsIndexFault disk.now (IndexFault.FreePlace k) → Contains faults.new.0 (FaultLine.Index (IndexFault.FreePlace k))) }
 {
     for lbn in 0..home_lbn {
         let free = is_free_place(disk, lbn);

@@ -6,9 +6,9 @@ ghost use Rattle.ods_mount.specs.Tables.{has};
 ghost use Rattle.ods_check.specs.{Lists.Adds, Sets.IsSetOf, Findings.HasAsHeader, Findings.IsFound, Findings.IsLostHeader, Findings.id_at};
 ghost use Rattle.ods_space.specs.Disks.{on, seen};
 
-use crate::Finding;
 use crate::add::push_if;
 use crate::ids::id_of;
+use crate::{Finding, Told};
 use ods_header::{is_valid_header, segment};
 use ods_mount::NumberSet;
 use ods_space::{ChainFault, ChainHeaders, Disk, check_chain, header_block, in_use};
@@ -18,11 +18,11 @@ use std::alloc::{AllocError, Global};
 pub(crate) fn push_lost_headers(
     alloc: Global,
     disk: &Disk<'_>,
-    findings: &mut Vec<Finding>,
+    findings: &mut Told<Finding>,
 ) -> Result<(), AllocError>
     requires { on IsLayoutOf disk.now }
-    ensures adds { OnOk result (Adds (on IsFound disk.now) findings.old.items findings.new.items) }
-    ensures all { OnOk result ((n : ℕ) → on IsLostHeader disk.now n → Contains findings.new.items (Finding.LostHeader (seen id_at disk.now n))) }
+    ensures adds { OnOk result (Adds (on IsFound disk.now) findings.old findings.new) }
+    ensures all { OnOk result ((n : ℕ) → on IsLostHeader disk.now n → Contains findings.new.0 (Finding.LostHeader (seen id_at disk.now n))) }
 {
     let reached = reached_headers(alloc, disk)?;
     // The blocks of an image have bytes, so no header has a greater number than a word.

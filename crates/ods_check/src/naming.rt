@@ -7,30 +7,34 @@ ghost use Rattle.ods_mount.specs.Tables.{has};
 ghost use Rattle.ods_check.specs.{Lists.Adds, Sets.IsSetOf, Findings.IsFound, Findings.HasName, Findings.NamesFile, Findings.NamesAt, Findings.IsNumberOf, Findings.IsIdOfFile, Findings.IsNamingNone, Findings.IsLostFile, Findings.id_at};
 ghost use Rattle.ods_space.specs.Disks.{on, seen};
 
-use crate::Finding;
 use crate::add::push_if;
 use crate::ids::id_of;
 use crate::names::names_of;
+use crate::{Finding, Told};
 use ods_base::{FileId, Listed};
 use ods_mount::NumberSet;
 use ods_space::{Disk, first_header, sequence};
 use std::alloc::{AllocError, Global};
 
-/// Adds each name that names no file, and each file above 5 that no name names.
+/// Adds each name that names no file, and each file above 5 that no name names, where these are wanted.
 pub(crate) fn push_naming(
     alloc: Global,
     disk: &Disk<'_>,
-    findings: &mut Vec<Finding>,
+    with_lost: bool,
+    findings: &mut Told<Finding>,
 ) -> Result<(), AllocError>
     requires { on IsLayoutOf disk.now }
-    ensures adds { OnOk result (Adds (on IsFound disk.now) findings.old.items findings.new.items) }
-    ensures names { OnOk result ((d : ℕ) (line : Line) → on IsNamingNone disk.now d line → Contains findings.new.items (Finding.NamesNone d line)) }
-    ensures lost { OnOk result ((n : ℕ) → on IsLostFile disk.now n → Contains findings.new.items (Finding.LostFile (seen id_at disk.now n))) }
+    ensures adds { OnOk result (Adds (on IsFound disk.now) findings.old findings.new) }
+    ensures names { OnOk result ((d : ℕ) (line : Line) → on IsNamingNone disk.now d line → Contains findings.new.0 (Finding.NamesNone d line)) }
+    ensures lost { OnOk result (with_lost ≡ true → (n : ℕ) → on IsLostFile disk.now n → Contains findings.new.0 (Finding.LostFile (seen id_at disk.now n))) }
 {
     // The number of a file is a word.
     let mut named = NumberSet::new(alloc, 65536)?;
     for number in 0..disk.layout.home().max_files as u32 + 1 {
         push_names(alloc, disk, number as u16, &mut named, findings)?;
+    }
+    if !with_lost {
+        return Ok(());
     }
     push_lost_files(disk, &named, findings)?;
     Ok(())
@@ -40,11 +44,11 @@ pub(crate) fn push_naming(
 fn push_lost_files(
     disk: &Disk<'_>,
     named: &NumberSet,
-    findings: &mut Vec<Finding>,
+    findings: &mut Told<Finding>,
 ) -> Result<(), AllocError>
     requires { IsSetOf (λ n. (d : ℕ) × on NamesFile disk.now d n) named.now }
-    ensures adds { OnOk result (Adds (on IsFound disk.now) findings.old.items findings.new.items) }
-    ensures all { OnOk result ((n : ℕ) → on IsLostFile disk.now n → Contains findings.new.items (Finding.LostFile (seen id_at disk.now n))) }
+    ensures adds { OnOk result (Adds (on IsFound disk.now) findings.old findings.new) }
+    ensures all { OnOk result ((n : ℕ) → on IsLostFile disk.now n → Contains findings.new.0 (Finding.LostFile (seen id_at disk.now n))) }
 {
     for number in 0..disk.layout.home().max_files as u32 + 1 {
         let file = id_of(disk, number as u16);
@@ -74,12 +78,12 @@ fn push_names(
     disk: &Disk<'_>,
     directory: u16,
     named: &mut NumberSet,
-    findings: &mut Vec<Finding>,
+    findings: &mut Told<Finding>,
 ) -> Result<(), AllocError>
     requires layout { on IsLayoutOf disk.now }
     requires room { 65536 ≤ 64 * length named.old }
-    ensures adds { OnOk result (Adds (on IsFound disk.now) findings.old.items findings.new.items) }
-    ensures names { OnOk result ((line : Line) → on IsNamingNone disk.now directory line → Contains findings.new.items (Finding.NamesNone directory line)) }
+    ensures adds { OnOk result (Adds (on IsFound disk.now) findings.old findings.new) }
+    ensures names { OnOk result ((line : Line) → on IsNamingNone disk.now directory line → Contains findings.new.0 (Finding.NamesNone directory line)) }
     ensures named { OnOk result (IsSetOf (λ n. (has named.old n ≡ true) ⊎ on NamesFile disk.now directory n) named.new) }
     ensures room { length named.new ≡ length named.old }
 {
@@ -94,14 +98,14 @@ fn push_lines(
     directory: u16,
     lines: &[Listed],
     named: &mut NumberSet,
-    findings: &mut Vec<Finding>,
+    findings: &mut Told<Finding>,
 ) -> Result<(), AllocError>
     requires lines { All (on HasName disk.now directory) lines.now }
     requires room { 65536 ≤ 64 * length named.old }
-    ensures adds { OnOk result (Adds (on IsFound disk.now) findings.old.items findings.new.items) }
+    ensures adds { OnOk result (Adds (on IsFound disk.now) findings.old findings.new) }
     ensures names { OnOk result ((i : ℕ) (line : Line) → slice_get lines.now i ≡ Some line
         → ¬ on IsIdOfFile disk.now line.file
-        → Contains findings.new.items (Finding.NamesNone directory line)) }
+        → Contains findings.new.0 (Finding.NamesNone directory line)) }
     ensures named { OnOk result (IsSetOf (λ n. (has named.old n ≡ true) ⊎ ((i : ℕ) × on NamesAt disk.now lines.now i n)) named.new) }
     ensures room { length named.new ≡ length named.old }
 {
@@ -117,12 +121,12 @@ fn push_line(
     directory: u16,
     line: &Listed,
     named: &mut NumberSet,
-    findings: &mut Vec<Finding>,
+    findings: &mut Told<Finding>,
 ) -> Result<(), AllocError>
     requires line { on HasName disk.now directory line.now }
     requires room { 65536 ≤ 64 * length named.old }
-    ensures adds { OnOk result (Adds (on IsFound disk.now) findings.old.items findings.new.items) }
-    ensures told { OnOk result (¬ on IsIdOfFile disk.now line.now.file → Contains findings.new.items (Finding.NamesNone directory line.now)) }
+    ensures adds { OnOk result (Adds (on IsFound disk.now) findings.old findings.new) }
+    ensures told { OnOk result (¬ on IsIdOfFile disk.now line.now.file → Contains findings.new.0 (Finding.NamesNone directory line.now)) }
     ensures named { OnOk result (IsSetOf (λ n. (has named.old n ≡ true) ⊎ on IsNumberOf disk.now line.now n) named.new) }
     ensures room { length named.new ≡ length named.old }
 {

@@ -5,18 +5,18 @@ ghost use Rattle.ods_mount.specs.Faults.{IsTrueOf};
 ghost use Rattle.ods_check.specs.{Lists.Adds, Lines.IsLineOf, Faults.Tells};
 ghost use Rattle.ods_space.specs.Disks.{on};
 
-use crate::FaultLine;
 use crate::add::push_if;
+use crate::{FaultLine, Told};
 use ods_mount::{MountFault, has_other_format};
 use ods_space::{Disk, first_header, in_use};
 use std::alloc::AllocError;
 
 /// Adds that the storage bitmap is too short, and that there is no master directory, where it is so.
-pub(crate) fn push_system(disk: &Disk<'_>, faults: &mut Vec<FaultLine>) -> Result<(), AllocError>
+pub(crate) fn push_system(disk: &Disk<'_>, faults: &mut Told<FaultLine>) -> Result<(), AllocError>
     requires { on IsLayoutOf disk.now }
-    ensures adds { OnOk result (Adds (on IsLineOf disk.now) faults.old.items faults.new.items) }
-    ensures storage { OnOk result (on IsTrueOf disk.now MountFault.BadStorageMap → Tells faults.new.items MountFault.BadStorageMap) }
-    ensures master { OnOk result (on IsTrueOf disk.now MountFault.BadMaster → Tells faults.new.items MountFault.BadMaster) }
+    ensures adds { OnOk result (Adds (on IsLineOf disk.now) faults.old faults.new) }
+    ensures storage { OnOk result (on IsTrueOf disk.now MountFault.BadStorageMap → Tells faults.new.0 MountFault.BadStorageMap) }
+    ensures master { OnOk result (on IsTrueOf disk.now MountFault.BadMaster → Tells faults.new.0 MountFault.BadMaster) }
 {
     let short = FaultLine::Plain(MountFault::BadStorageMap);
     push_if(faults, short, is_short(disk))?;
@@ -48,9 +48,9 @@ fn lacks_master(disk: &Disk<'_>) -> bool
 }
 
 /// Adds each header that is left aside for the format of its pointers alone.
-pub(crate) fn push_formats(disk: &Disk<'_>, faults: &mut Vec<FaultLine>) -> Result<(), AllocError>
-    ensures adds { OnOk result (Adds (on IsLineOf disk.now) faults.old.items faults.new.items) }
-    ensures all { OnOk result ((n : ℕ) → on IsTrueOf disk.now (MountFault.UnsupportedMap n) → Tells faults.new.items (MountFault.UnsupportedMap n)) }
+pub(crate) fn push_formats(disk: &Disk<'_>, faults: &mut Told<FaultLine>) -> Result<(), AllocError>
+    ensures adds { OnOk result (Adds (on IsLineOf disk.now) faults.old faults.new) }
+    ensures all { OnOk result ((n : ℕ) → on IsTrueOf disk.now (MountFault.UnsupportedMap n) → Tells faults.new.0 (MountFault.UnsupportedMap n)) }
 {
     // The blocks of an image have bytes, so no header has a greater number than a word.
     let _ = disk.image.len();

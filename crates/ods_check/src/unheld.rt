@@ -6,8 +6,8 @@ ghost use Rattle.ods_mount.specs.Tables.{has};
 ghost use Rattle.ods_check.specs.{Lists.Adds, Sets.IsSetOf, Findings.HasBlock, Findings.IsFound, Findings.IsHeldByNone, Findings.IsMarkedUsed};
 ghost use Rattle.ods_space.specs.Disks.{on};
 
-use crate::Finding;
 use crate::add::push_if;
+use crate::{Finding, Told};
 use ods_mount::{NumberSet, is_home_place};
 use ods_space::{ChainFault, Disk, chain, is_free};
 use std::alloc::{AllocError, Global};
@@ -16,11 +16,11 @@ use std::alloc::{AllocError, Global};
 pub(crate) fn push_unheld(
     alloc: Global,
     disk: &Disk<'_>,
-    findings: &mut Vec<Finding>,
+    findings: &mut Told<Finding>,
 ) -> Result<(), AllocError>
     requires { on IsLayoutOf disk.now }
-    ensures adds { OnOk result (Adds (on IsFound disk.now) findings.old.items findings.new.items) }
-    ensures all { OnOk result ((b : ℕ) → on IsHeldByNone disk.now b → Contains findings.new.items (Finding.HeldByNone b)) }
+    ensures adds { OnOk result (Adds (on IsFound disk.now) findings.old findings.new) }
+    ensures all { OnOk result ((b : ℕ) → on IsHeldByNone disk.now b → Contains findings.new.0 (Finding.HeldByNone b)) }
 {
     let held = held_blocks(alloc, disk)?;
     for lbn in 0..disk.image.len() {

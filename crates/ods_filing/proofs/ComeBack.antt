@@ -1,11 +1,12 @@
 -- What is got out of a file that was put.
-use Rattle.std.proofs.Common.{◌≡◌, ℕ, ◌+◌, ◌-◌, ◌*◌, ◌/◌, ◌%◌, ◌<◌, refl, ap, sym, ◌∙◌, subst, Bool, true, false, cond, List, [], length, take, Some, None, arith}
+use Rattle.std.proofs.Common.{◌≡◌, ℕ, ◌+◌, ◌-◌, ◌*◌, ◌/◌, ◌%◌, ◌<◌, refl, ap, sym, ◌∙◌, subst, Bool, true, false, cond, List, [], ◌∷◌, get_or, length, take, drop, Some, None, arith}
 use Rattle.std.specs.Prelude.{◌==◌, nat_le}
 use Rattle.std.specs.List.{concat}
 use Rattle.std.specs.Option.{option_map}
 use Rattle.std.specs.Str.Lines.{lines}
 use Rattle.std.proofs.lemmas.Bool.{eqb-true, le-leb}
 use Rattle.std.proofs.lemmas.List.FromFn.{length-map-range_with_len}
+use Rattle.std.proofs.lemmas.List.Sums.{AllPass-from_list_all}
 use Rattle.ods_base.specs.declared.file_id.FileId.{FileId}
 use Rattle.ods_header.specs.Header.{attributes_of, is_directory_header}
 use Rattle.ods_space.specs.Layout.{VolumeLayout, header_at}
@@ -18,14 +19,16 @@ use Rattle.ods_request.specs.Catalogue.{System, Directory, Plain, blocks_of, att
 use Rattle.ods_state.specs.Contents.{body_of, file_of, IsFileIn}
 use Rattle.ods_files.specs.Body.{bytes_in, size_in, end_of, are_zeros}
 use Rattle.ods_files.specs.declared.form.Form.TheVariants.{Binary}
-use Rattle.ods_records.specs.Attributes.{attributes}
+use Rattle.ods_records.specs.Attributes.{attributes, ending_at}
 use Rattle.ods_records.specs.Records.{Spells, text_of}
 use Rattle.ods_records.specs.declared.kind.RecordKind.TheVariants.{Variable}
+use Rattle.ods_records.specs.Survey.{come_as_lines}
+use Rattle.ods_records.proofs.LinesBack.{chosen_back}
 use Rattle.ods_records.proofs.PlainTexts.{lines_text}
 use Rattle.ods_records.proofs.WrittenStands.{spells_written}
 use Rattle.ods_records.proofs.ReadSoFar.{spelled_once}
 use Rattle.ods_filing.specs.Put.{block_count, block_with, blocks_with}
-use Rattle.ods_filing.specs.Laws.{ShowsBytes, GivesBack, BytesComeBack, TextComesBack, binary_of, lines_of}
+use Rattle.ods_filing.specs.Laws.{ShowsBytes, GivesBack, BytesComeBack, TextComesBack, FormComesBack, ChosenComesBack, binary_of, lines_of, formed_as}
 use Rattle.ods_filing.proofs.Blocks.{bytes_of_blocks}
 
 -- where the blocks show a plain file, its attributes and blocks are those of its header and its chain
@@ -98,4 +101,52 @@ text_back I L id text bytes longest few plain is shows =
       refl,
       (lines text, spelled),
       λ records other. ap text_of (spelled_once Variable bytes records (lines text) other spelled) ∙ lines_text (length text) text (omega arith) plain.ended plain.no_cr,
+    )
+
+-- the end of file that was set
+set_block : (a b c d : ℕ) (own : List ℕ) (n : ℕ) → n < 536870912 → end_block (ending_at (a ∷ b ∷ c ∷ d ∷ own) n) ≡ n / 512 + 1
+set_block a b c d own n few = omega arith
+
+set_byte : (a b c d : ℕ) (own : List ℕ) (n : ℕ) → end_byte (ending_at (a ∷ b ∷ c ∷ d ∷ own) n) ≡ n % 512
+set_byte a b c d own n = omega arith
+
+set_end : (a b c d : ℕ) (own : List ℕ) (n : ℕ) → n < 536870912 → end_of (ending_at (a ∷ b ∷ c ∷ d ∷ own) n) ≡ n
+set_end a b c d own n few = by (end_block (ending_at (a ∷ b ∷ c ∷ d ∷ own) n)) (end_byte (ending_at (a ∷ b ∷ c ∷ d ∷ own) n)) (set_block a b c d own n few) (set_byte a b c d own n)
+  where
+    by : (block last : ℕ) → block ≡ n / 512 + 1 → last ≡ n % 512 → cond (block == 0) 0 ((block - 1) * 512 + last) ≡ n
+    by block last e g = here (block == 0) refl
+      where
+        here : (t : Bool) → (block == 0) ≡ t → cond (block == 0) 0 ((block - 1) * 512 + last) ≡ n
+        here true h = absurd (omega (arith, eqb-true block 0 h))
+        here false h = ap (λ t. cond t 0 ((block - 1) * 512 + last)) h ∙ omega arith
+
+-- attributes with an end are no zeros
+set_some : (a b c d : ℕ) (own : List ℕ) (n : ℕ) → n < 536870912 → are_zeros (ending_at (a ∷ b ∷ c ∷ d ∷ own) n) ≡ false
+set_some a b c d own n few = here (are_zeros (ending_at (a ∷ b ∷ c ∷ d ∷ own) n)) refl
+  where
+    zero_at : (k : ℕ) → are_zeros (ending_at (a ∷ b ∷ c ∷ d ∷ own) n) ≡ true → k < length (ending_at (a ∷ b ∷ c ∷ d ∷ own) n) → get_or (ending_at (a ∷ b ∷ c ∷ d ∷ own) n) k 0 ≡ 0
+    zero_at k h small = eqb-true _ _ (AllPass-from_list_all (λ x. x == 0) (ending_at (a ∷ b ∷ c ∷ d ∷ own) n) h k 0 small)
+
+    here : (t : Bool) → are_zeros (ending_at (a ∷ b ∷ c ∷ d ∷ own) n) ≡ t → t ≡ false
+    here false h = refl
+    here true h = absurd (omega (arith, set_block a b c d own n few, zero_at 8 h (omega arith), zero_at 9 h (omega arith), zero_at 10 h (omega arith), zero_at 11 h (omega arith)))
+
+pub form_back : FormComesBack
+form_back I L id [] bytes size few shows = absurd (omega (arith, size))
+form_back I L id (a ∷ []) bytes size few shows = absurd (omega (arith, size))
+form_back I L id (a ∷ b ∷ []) bytes size few shows = absurd (omega (arith, size))
+form_back I L id (a ∷ b ∷ c ∷ []) bytes size few shows = absurd (omega (arith, size))
+form_back I L id (a ∷ b ∷ c ∷ d ∷ own) bytes size few shows = (
+  gives_back I L id (formed_as (a ∷ b ∷ c ∷ d ∷ own) bytes) bytes shows (set_some a b c d own (length bytes) few) (set_end a b c d own (length bytes) few),
+  refl,
+  refl,
+)
+
+pub chosen_back_again : ChosenComesBack
+chosen_back_again I L id kind old bytes records new longest few spelled come is shows =
+    let back : Spells Variable new records = subst (λ l. Spells Variable l records) (sym is.spelled) (chosen_back kind old bytes records spelled come).1 in (
+      gives_back I L id (lines_of longest new) new shows refl (end_is 2 2 longest (length new) few),
+      refl,
+      back,
+      λ other others. spelled_once Variable new other records others back,
     )

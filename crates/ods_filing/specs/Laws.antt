@@ -1,5 +1,5 @@
 -- What is got out of a file that was put, over the definitions alone.
-use Rattle.std.specs.Prelude.{◌≡◌, ℕ, ◌*◌, ◌^◌, ◌<◌, List, length, Some}
+use Rattle.std.specs.Prelude.{◌≡◌, ℕ, ◌*◌, ◌^◌, ◌<◌, true, List, length, take, drop, Some}
 use Rattle.std.specs.FinMap as finmap
 use Rattle.ods_base.specs.declared.file_id.FileId.{FileId}
 use Rattle.ods_space.specs.Layout.{VolumeLayout}
@@ -7,10 +7,12 @@ use Rattle.ods_request.specs.Catalogue.{Catalogue, File, Plain}
 use Rattle.ods_state.specs.Contents.{ShowsBy}
 use Rattle.ods_files.specs.Body.{Body, HasBody, bytes_in}
 use Rattle.ods_files.specs.declared.form.Form.TheVariants.{Binary}
-use Rattle.ods_records.specs.Attributes.{attributes, kind_in}
+use Rattle.ods_records.specs.Attributes.{attributes, ending_at, kind_in}
 use Rattle.ods_records.specs.Lines.{IsPlainText}
 use Rattle.ods_records.specs.Records.{Spells, text_of}
+use Rattle.ods_records.specs.Survey.{come_as_lines}
 use Rattle.ods_records.specs.Written.{IsWritten}
+use Rattle.ods_records.specs.declared.kind.RecordKind.{RecordKind}
 use Rattle.ods_records.specs.declared.kind.RecordKind.TheVariants.{Variable}
 use Rattle.ods_filing.specs.Put.{blocks_with}
 
@@ -47,3 +49,20 @@ TextComesBack = (I : List (List ℕ)) (L : VolumeLayout) (id : FileId) (text byt
     → GivesBack I L id.number (lines_of longest bytes) bytes × (kind_in (lines_of longest bytes) ≡ Some Variable)
     × ((records : List (List ℕ)) × Spells Variable bytes records)
     × ((records : List (List ℕ)) → Spells Variable bytes records → text_of records ≡ text)
+
+-- the attributes of others, for a file of these bytes
+abbrev pub formed_as : List ℕ → List ℕ → List ℕ
+formed_as own bytes = ending_at own (length bytes)
+
+-- A file that was put as bytes with the attributes of others, but for F.HIBK, F.EFBK and F.FFBY, gives these bytes back, and all other attributes are those.
+abbrev pub FormComesBack : Type 0
+FormComesBack = (I : List (List ℕ)) (L : VolumeLayout) (id : FileId) (own bytes : List ℕ) → length own ≡ 32 → length bytes < 512 * 2 ^ 20 → ShowsBytes I L id (formed_as own bytes) bytes
+    → GivesBack I L id.number (formed_as own bytes) bytes × (take 4 (formed_as own bytes) ≡ take 4 own) × (drop 14 (formed_as own bytes) ≡ drop 14 own)
+
+-- Records that are got as lines without a word, and put again as a text, are the records of the new file, and it has no others.
+abbrev pub ChosenComesBack : Type 0
+ChosenComesBack = (I : List (List ℕ)) (L : VolumeLayout) (id : FileId) (kind : RecordKind) (old bytes : List ℕ) (records : List (List ℕ)) (new : List ℕ) (longest : ℕ) → length new < 512 * 2 ^ 20
+    → Spells kind bytes records → come_as_lines old records ≡ true → IsWritten (text_of records) new longest → ShowsBytes I L id (lines_of longest new) new
+    → GivesBack I L id.number (lines_of longest new) new × (kind_in (lines_of longest new) ≡ Some Variable)
+    × Spells Variable new records
+    × ((other : List (List ℕ)) → Spells Variable new other → other ≡ records)

@@ -8,5 +8,7 @@ mod seat;
 mod slices;
 
 pub use filing::Filing;
-pub use laws::{bytes_come_back, lists_are_steps, text_comes_back};
+pub use laws::{
+    bytes_come_back, chosen_comes_back, form_comes_back, lists_are_steps, text_comes_back,
+};
 pub use put::{NewFile, put_file};

@@ -6,18 +6,18 @@ use thiserror::Error;
 pub enum BadPath {
     #[error("a path is not empty")]
     Empty,
-    #[error("no file ID")]
+    #[error("no file ID: #6,1 is file 6 with sequence number 1")]
     Id,
-    #[error("a directory that is not closed, or empty")]
+    #[error("a directory that is not closed, or empty: [1,2] is one, [0,0] is the master directory")]
     Bracket,
-    #[error("no directory")]
+    #[error("no directory: [1,2] has octal digits, 0 to 7, up to 377; [NAME] has at most 9 of A to Z, 0 to 9, $")]
     Directory,
-    #[error("no name")]
+    #[error("no name: a name has at most 9 of A to Z, 0 to 9, $; a directory ends with /")]
     Name,
-    #[error("no type")]
+    #[error("no type: a type has at most 3 of A to Z, 0 to 9, $")]
     Type,
-    #[error("a pattern without a dot")]
+    #[error("a pattern without a dot: *.* stands for all names")]
     NoDot,
-    #[error("no version")]
+    #[error("no version: ;3 is one, ;0 the highest, ;-1 the lowest, ';*' (in quotes) all")]
     Version,
 }

@@ -1,8 +1,13 @@
+pub mod EndSet
 pub mod FirstFault
+pub mod FormTexts
 pub mod LineEnds
+pub mod LinesBack
 pub mod PlainTexts
 pub mod ReadSoFar
 pub mod ShortLines
+pub mod SizedLines
 pub mod Standing
+pub mod Surveyed
 pub mod WrittenSoFar
 pub mod WrittenStands

@@ -38,10 +38,10 @@ pub leads_none : (kind : RecordKind) (bytes : List ℕ) (xs : List (Option (List
 leads_none kind bytes [] whole = refl
 leads_none kind bytes (x ∷ xs) whole = absurd (omega (arith, (stands_within kind bytes (length bytes) x whole.0 whole.1).0, (stands_within kind bytes (length bytes) x whole.0 whole.1).1))
 
--- the number of a record has two bytes at most
-pub number_short : (kind : RecordKind) → number_size kind ≤ 2
+-- the header of a record has 255 bytes at most
+pub number_short : (kind : RecordKind) → number_size kind ≤ 255
 number_short Variable = omega arith
-number_short Sequenced = omega arith
+number_short (Sequenced size) = omega arith
 
 -- where a fault is, nothing stands
 pub fault_stands : (kind : RecordKind) (bytes : List ℕ) (at : ℕ) (fault : RecordFault) (x : Option (List ℕ)) (next : ℕ) → IsFaultAt kind bytes at fault → Stands kind bytes at x next → ⊥

@@ -1,7 +1,9 @@
 -- The 32 bytes of attributes of a file (the standard's FCS file attributes): how its records are written, and where it ends.
-use Rattle.std.specs.Prelude.{ℕ, ◌+◌, ◌-◌, ◌*◌, ◌/◌, ◌%◌, List, [], ◌∷◌, ◌++◌, replicate, slice_index, Option, Some, None, ◌==◌, if◌then◌else◌}
+use Rattle.std.specs.Prelude.{ℕ, ◌<◌, ◌+◌, ◌-◌, ◌*◌, ◌/◌, ◌%◌, List, [], ◌∷◌, ◌++◌, take, drop, replicate, slice_index, Option, Some, None, Bool, not, ◌&&◌, nat_le, ◌==◌, if◌then◌else◌}
 use Rattle.ods_records.specs.declared.kind.RecordKind.{RecordKind}
 use Rattle.ods_records.specs.declared.kind.RecordKind.TheVariants.{Variable, Sequenced}
+use Rattle.ods_records.specs.declared.kind.TextForm.{TextForm}
+use Rattle.ods_records.specs.declared.kind.TextForm.TheVariants.{Records, Fixed, Blocked, Stream, Bytes}
 use Rattle.ods_records.specs.Records.{word_at}
 
 -- a word, low byte first
@@ -25,6 +27,47 @@ end_block bytes = 65536 * word_at bytes 8 + word_at bytes 10
 abbrev pub end_of : List ℕ → ℕ
 end_of bytes = if end_block bytes == 0 then 0 else (end_block bytes - 1) * 512 + word_at bytes 12
 
--- How the records are written, by F.RTYP, byte 0: 2 and 3 are records that are read here. 1, records of one size, has none, and 0 and all others are read as 1.
+-- F.RTYP, the low four bits of byte 0; 0 and those above 6 are read as 1
+abbrev pub record_type : List ℕ → ℕ
+record_type bytes = if slice_index bytes 0 % 16 == 0 then 1 else if nat_le 7 (slice_index bytes 0 % 16) then 1 else slice_index bytes 0 % 16
+
+-- F.RATT says that records are lines: FORTRAN carriage control (1), an implied carriage return (2) or print control (4)
+abbrev pub is_controlled : List ℕ → Bool
+is_controlled bytes = not (slice_index bytes 1 % 8 == 0)
+
+-- F.RATT says that no record goes on in the next block (10 octal)
+abbrev pub is_blocked : List ℕ → Bool
+is_blocked bytes = slice_index bytes 1 / 8 % 2 == 1
+
+-- how many bytes the header of a sequenced record has: byte 15, and 2 where that is 0
+abbrev pub header_size : List ℕ → ℕ
+header_size bytes = if slice_index bytes 15 == 0 then 2 else slice_index bytes 15
+
+-- How the records are written: 2 and 3 are records with a length. 1, records of one size, has none, and the others are streams.
 abbrev pub kind_in : List ℕ → Option RecordKind
-kind_in bytes = if slice_index bytes 0 == 2 then Some Variable else if slice_index bytes 0 == 3 then Some Sequenced else None
+kind_in bytes = if record_type bytes == 2 then Some Variable else if record_type bytes == 3 then Some (Sequenced (header_size bytes)) else None
+
+-- Records of one size that are lines: F.RTYP 1 with carriage control and F.RSIZ from 1.
+abbrev pub has_cards : List ℕ → Bool
+has_cards bytes = (record_type bytes == 1) && is_controlled bytes && not (word_at bytes 2 == 0)
+
+-- how the bytes up to the end are read as a text
+abbrev pub text_form_in : List ℕ → TextForm
+text_form_in bytes =
+    if record_type bytes == 2 then Records Variable
+    else if record_type bytes == 3 then Records (Sequenced (header_size bytes))
+    else if record_type bytes == 4 then Stream
+    else if has_cards bytes then (if is_blocked bytes then Blocked (word_at bytes 2) else Fixed (word_at bytes 2))
+    else Bytes
+
+-- records of one size have one byte at least
+abbrev pub IsSized : TextForm → Type 0
+IsSized (Fixed size) = 0 < size
+IsSized (Blocked size) = 0 < size
+IsSized (Records kind) = Unit {0}
+IsSized Stream = Unit {0}
+IsSized Bytes = Unit {0}
+
+-- the attributes with F.HIBK, F.EFBK and F.FFBY of a file of so many bytes, and all else as it is
+abbrev pub ending_at : List ℕ → ℕ → List ℕ
+ending_at own bytes = take 4 own ++ take 10 (drop 4 (attributes 1 0 512 bytes)) ++ drop 14 own

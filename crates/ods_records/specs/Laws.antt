@@ -1,5 +1,5 @@
 -- Laws of the definitions.
-use Rattle.std.specs.Prelude.{◌≡◌, ℕ, ◌≤◌, ◌⊎◌, List, length}
+use Rattle.std.specs.Prelude.{◌≡◌, ℕ, ◌^◌, ◌*◌, ◌<◌, ◌≤◌, ◌⊎◌, true, List, length}
 use Rattle.std.specs.List.{All, flat_map}
 use Rattle.std.specs.Str.Lines.{lines}
 use Rattle.ods_records.specs.declared.kind.RecordKind.{RecordKind}
@@ -9,6 +9,8 @@ use Rattle.ods_records.specs.Records.{Spells, text_of}
 use Rattle.ods_records.specs.Faults.{IsFirstFault}
 use Rattle.ods_records.specs.Lines.{IsPlainText}
 use Rattle.ods_records.specs.Written.{written}
+use Rattle.ods_records.specs.Survey.{come_as_lines}
+use Rattle.ods_records.specs.Attributes.{end_of, ending_at}
 
 -- bytes spell one list of records at most
 abbrev pub OneReading : Type 0
@@ -30,3 +32,12 @@ WrittenIsRead = (records : List (List ℕ)) → All (λ r. length r ≤ 32767) r
 -- The lines of a plain text, each with LF behind it, are the text; and what the text is written as spells its lines.
 abbrev pub PlainTextComesBack : Type 0
 PlainTextComesBack = (text : List ℕ) → IsPlainText text → Spells Variable (flat_map written (lines text)) (lines text) × (text_of (lines text) ≡ text)
+
+-- Records that are got as lines without a word come back: they are the lines of their text, and what that is written as spells them.
+abbrev pub LinesComeBack : Type 0
+LinesComeBack = (kind : RecordKind) (attributes bytes : List ℕ) (records : List (List ℕ)) → Spells kind bytes records → come_as_lines attributes records ≡ true
+    → (lines (text_of records) ≡ records) × Spells Variable (flat_map written (lines (text_of records))) records
+
+-- attributes that are set for a file of so many bytes say that it ends there
+abbrev pub EndIsSet : Type 0
+EndIsSet = (own : List ℕ) (n : ℕ) → length own ≡ 32 → n < 512 * 2 ^ 20 → end_of (ending_at own n) ≡ n

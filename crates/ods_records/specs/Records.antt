@@ -9,10 +9,10 @@ use Rattle.ods_records.specs.declared.kind.RecordKind.TheVariants.{Variable, Seq
 abbrev pub word_at : List ℕ → ℕ → ℕ
 word_at bytes at = slice_index bytes at + 256 * slice_index bytes (at + 1)
 
--- how many bytes of a record are its number
+-- how many bytes of a record are its header, in which its number stands; a byte says it
 abbrev pub number_size : RecordKind → ℕ
 number_size Variable = 0
-number_size Sequenced = 2
+number_size (Sequenced size) = min size 255
 
 -- A record: a word with its length, at most 32,767, and that many bytes; what it says are those behind its number. Where the length is odd, one byte more comes before the next record, and the last may lack it.
 pub record IsRecord (kind : RecordKind) (bytes : List ℕ) (at : ℕ) (record_bytes : List ℕ) (next : ℕ) : Type 0 where

@@ -1,9 +1,10 @@
 //! The attributes of a file: how its records are written, and where it ends.
-ghost use Rattle.std.specs.Prelude.{◌≡◌, ◌*◌, ◌<◌, ◌^◌};
-ghost use Rattle.ods_records.specs.Attributes.{attributes, end_of, kind_in, word as word_of, block as block_of};
+ghost use Rattle.std.specs.Prelude.{◌≡◌, ◌*◌, ◌<◌, ◌^◌, if◌then◌else◌};
+ghost use Rattle.ods_records.specs.Attributes.{attributes, end_of, kind_in, text_form_in, record_type as record_type_in, header_size as header_size_in, is_controlled as controlled, is_blocked as blocked, has_cards as cards, IsSized, ending_at as attributes_ending, word as word_of, block as block_of};
+ghost use Rattle.ods_records.specs.declared.kind.TextForm.{TextForm};
 ghost use Rattle.ods_records.specs.Records.{word_at};
 
-use crate::RecordKind;
+use crate::{RecordKind, TextForm};
 
 /// The attributes (the standard's FCS file attributes) of a file of `length` bytes that holds variable records, each a line of text (F.RATT 2,
 /// carriage return is implied); `longest` is how many bytes the longest has.
@@ -24,16 +25,102 @@ pub fn binary_attributes(length: u64) -> [u8; 32]
     made(1, 0, 512, length)
 }
 
-/// How the records of a file with these attributes are written, by F.RTYP; `None` where it has none that are read here: 1, and 0 and
-/// what is above 3, which are read as 1.
+/// How the records of a file with these attributes are written, by F.RTYP; `None` where it has none with a length: 1, with 0 and what is above
+/// 6, which are read as 1, and the streams 4 to 6.
 pub fn kind_of(attributes: &[u8; 32]) -> Option<RecordKind>
     ensures { result ≡ kind_in attributes.now }
 {
-    match attributes[0] {
+    match record_type(attributes) {
         2 => Some(RecordKind::Variable),
-        3 => Some(RecordKind::Sequenced),
+        3 => Some(RecordKind::Sequenced(header_size(attributes))),
         _ => None,
     }
+}
+
+/// How the bytes of a file with these attributes are read as a text.
+pub fn text_form(attributes: &[u8; 32]) -> TextForm
+    ensures value { result ≡ text_form_in attributes.now }
+    ensures sized { IsSized result }
+{
+    match record_type(attributes) {
+        2 => TextForm::Records(RecordKind::Variable),
+        3 => TextForm::Records(RecordKind::Sequenced(header_size(attributes))),
+        4 => TextForm::Stream,
+        _ => fixed_form(attributes),
+    }
+}
+
+/// How the bytes of a file that has no records with a length, and is no stream of CR LF, are read as a text.
+fn fixed_form(attributes: &[u8; 32]) -> TextForm
+    ensures sized { IsSized result }
+    ensures value { result ≡ (if cards attributes.now then (if blocked attributes.now then TextForm.Blocked (word_at attributes.now 2) else TextForm.Fixed (word_at attributes.now 2)) else TextForm.Bytes) }
+{
+    let size = record_size(attributes);
+    if record_type(attributes) != 1 || !is_controlled(attributes) || size == 0 {
+        return TextForm::Bytes;
+    }
+    if is_blocked(attributes) {
+        TextForm::Blocked(size)
+    } else {
+        TextForm::Fixed(size)
+    }
+}
+
+/// F.RTYP.
+fn record_type(attributes: &[u8; 32]) -> u8
+    ensures { result ≡ record_type_in attributes.now }
+{
+    let kind = attributes[0] % 16;
+    if kind == 0 {
+        return 1;
+    }
+    if 7 <= kind {
+        return 1;
+    }
+    kind
+}
+
+/// How many bytes the header of a sequenced record has.
+fn header_size(attributes: &[u8; 32]) -> u8
+    ensures { result ≡ header_size_in attributes.now }
+{
+    if attributes[15] == 0 {
+        2
+    } else {
+        attributes[15]
+    }
+}
+
+/// Whether F.RATT says that records are lines: FORTRAN carriage control, an implied carriage return, or print control.
+pub fn is_controlled(attributes: &[u8; 32]) -> bool
+    ensures { result ≡ controlled attributes.now }
+{
+    attributes[1] % 8 != 0
+}
+
+/// Whether F.RATT says that no record goes on in the next block.
+fn is_blocked(attributes: &[u8; 32]) -> bool
+    ensures { result ≡ blocked attributes.now }
+{
+    attributes[1] / 8 % 2 == 1
+}
+
+/// F.RSIZ.
+pub fn record_size(attributes: &[u8; 32]) -> u16
+    ensures { result ≡ word_at attributes.now 2 }
+{
+    word(attributes, 2) as u16
+}
+
+/// These attributes for a file of so many bytes: F.HIBK, F.EFBK and F.FFBY are its own, all else is as it is.
+pub fn ending_at(attributes: &[u8; 32], length: u64) -> [u8; 32]
+    requires { length < 512 * 2 ^ 20 }
+    ensures value { result ≡ attributes_ending attributes.now length }
+{
+    let made = binary_attributes(length);
+    let mut new = *attributes;
+    new[4..14].copy_from_slice(&made[4..14]);
+    new
 }
 
 /// The end of file, in bytes: `(F.EFBK - 1) * 512 + F.FFBY`, and 0 where F.EFBK is 0. It is what the attributes say, and may lie past the
@@ -74,7 +161,7 @@ fn made(rtyp: u8, ratt: u8, rsiz: u16, length: u64) -> [u8; 32]
 }
 
 /// The bytes of a word, the low one first.
-fn word_bytes(word: u64) -> [u8; 2]
+pub(crate) fn word_bytes(word: u64) -> [u8; 2]
     requires { word < 2 ^ 16 }
     ensures { result ≡ word_of word }
 {

@@ -39,7 +39,11 @@ pub fn records_to_text(
 }
 
 /// What stands at a place, a record or no more of this block, and the place behind it.
-fn step(kind: RecordKind, bytes: &[u8], at: usize) -> Result<(Option<&[u8]>, usize), RecordFault>
+pub(crate) fn step(
+    kind: RecordKind,
+    bytes: &[u8],
+    at: usize,
+) -> Result<(Option<&[u8]>, usize), RecordFault>
     requires { at < length bytes.now }
     ensures ok { IfOk result (λ found. Stands kind bytes.now at (option_map (λ slice. slice.now) found.0) found.1) }
     ensures err { IfErr result (λ fault. IsFaultAt kind bytes.now at fault) }
@@ -76,12 +80,12 @@ fn word(bytes: &[u8], at: usize) -> usize
     usize::from(bytes[at]) + 256 * usize::from(bytes[at + 1])
 }
 
-/// How many bytes of a record are its number.
+/// How many bytes of a record are its header, in which its number stands.
 fn number_size(kind: RecordKind) -> usize
     ensures { result ≡ size_of_number kind }
 {
     match kind {
         RecordKind::Variable => 0,
-        RecordKind::Sequenced => 2,
+        RecordKind::Sequenced(size) => usize::from(size).min(255),
     }
 }

@@ -14,6 +14,13 @@ pub fn is_text(bytes: &[u8]) -> bool
     bytes.iter().all(|b| matches!(*b, 7..=13 | 27 | 32..=126))
 }
 
+/// Whether this byte may stand in a text.
+pub(crate) fn may_stand(byte: u8) -> bool
+    ensures { result ≡ is_text_byte byte }
+{
+    matches!(byte, 7..=13 | 27 | 32..=126)
+}
+
 /// Whether a text that is written as records is read as it was: it is empty or ends with LF, no CR stands directly before an LF, and no
 /// line has more than 32,767 bytes.
 pub fn is_plain_text(text: &[u8]) -> bool
@@ -23,7 +30,7 @@ pub fn is_plain_text(text: &[u8]) -> bool
 }
 
 /// Whether a text is empty or ends with LF.
-fn ends_with_lf(text: &[u8]) -> bool
+pub(crate) fn ends_with_lf(text: &[u8]) -> bool
     ensures { IsTrue result ↔ (0 < length text.now → slice_index text.now (length text.now - 1) ≡ 10) }
 {
     text.is_empty() || text[text.len() - 1] == b'\n'
@@ -42,7 +49,7 @@ fn has_no_cr_before_lf(text: &[u8]) -> bool
 }
 
 /// Whether no line has more than 32,767 bytes.
-fn has_short_lines(text: &[u8]) -> bool
+pub(crate) fn has_short_lines(text: &[u8]) -> bool
     ensures { IsTrue result ↔ All (λ line. length line ≤ 32767) (lines text.now) }
 {
     let mut rest = text;

@@ -3,3 +3,4 @@ mod FoundMore
 mod Got
 mod OneName
 mod Runs
+mod RowsFound

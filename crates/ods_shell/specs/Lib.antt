@@ -6,3 +6,4 @@ pub mod Found
 pub mod Shown
 pub mod Space
 pub mod Spoiled
+pub mod Remedies

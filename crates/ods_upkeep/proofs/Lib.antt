@@ -1,1 +1,3 @@
+pub mod Hiding
 pub mod Lists
+pub mod Made

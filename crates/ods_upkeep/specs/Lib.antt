@@ -1,3 +1,5 @@
+pub mod Hidden
 pub mod Kinds
 pub mod Left
+pub mod Made
 pub mod Pieces

@@ -1,12 +1,15 @@
--- Small pieces: the exit status of a refusal, and attributes that change in part.
-use Rattle.std.specs.Prelude.{◌≡◌, ℕ, ◌+◌, List, ◌∷◌, [], ◌++◌, ◌/◌, ◌%◌, take, drop}
+-- Small pieces: the exit status of a refusal, parts of a path, entries that stay, and attributes that change in part.
+use Rattle.std.specs.Prelude.{◌≡◌, ◌≤◌, ◌==◌, ◌||◌, ℕ, Bool, Option, Some, ◌+◌, List, ◌∷◌, [], ◌++◌, ◌/◌, ◌%◌, take, drop}
+use Rattle.std.specs.List.{after_last}
 use Rattle.ods_request.specs.declared.refusals.Refusal.TheVariants as refusal
 use Rattle.ods_records.specs.Attributes.{attributes}
 use Rattle.ods_records.specs.declared.faults.TextFault.TheVariants as text
 use Rattle.ods_shell.specs.declared.status.Status.{Status}
 use Rattle.ods_shell.specs.declared.status.Status.TheVariants.{Words, Host, Refused}
+use Rattle.ods_shell.specs.declared.facts.Facts.{Facts}
 use Rattle.ods_upkeep.specs.declared.failure.Why.{Why}
-use Rattle.ods_upkeep.specs.declared.failure.Why.TheVariants.{Path, Request, Text, BadName, IsDirectory, DirectoryType, IntoItself, IsId, NoVersion, Several, IsNamed, PastEnd}
+use Rattle.ods_upkeep.specs.declared.found.Place.{Place}
+use Rattle.ods_upkeep.specs.declared.failure.Why.TheVariants.{Path, Request, Text, BadName, IsDirectory, DirectoryType, DirectoryThere, IntoItself, IsId, NoVersion, Several, IsNamed, PastEnd, Hidden}
 
 -- The exit status of a refusal: want of memory is the host's, words that mean nothing are wrong words, and what is asked for and is not done is refused. That of a path is the path's own.
 abbrev pub HasStatus : Why → Status → Type 0
@@ -21,9 +24,27 @@ HasStatus NoVersion s = s ≡ Words
 HasStatus Several s = s ≡ Words
 HasStatus IsDirectory s = s ≡ Refused
 HasStatus DirectoryType s = s ≡ Refused
+HasStatus DirectoryThere s = s ≡ Refused
 HasStatus IntoItself s = s ≡ Refused
 HasStatus IsNamed s = s ≡ Refused
 HasStatus PastEnd s = s ≡ Refused
+HasStatus Hidden s = s ≡ Refused
+
+-- the last part of a path: what stands behind its last `/` or `]`, or all where there is none
+abbrev pub ends_folder : ℕ → Bool
+ends_folder c = c == 47 || c == 93
+
+abbrev pub last_part : List ℕ → List ℕ
+last_part path = after_last ends_folder path
+
+-- the entry stays: it stands in the master directory, file 4, and names a file of the volume's own, 1 to 5
+pub record Stays (place : Option Place) (facts : Option Facts) : Type 0 where
+  pub at : Place
+  pub file : Facts
+  pub entry : place ≡ Some at
+  pub known : facts ≡ Some file
+  pub master : at.directory.number ≡ 4
+  pub own : file.file.number ≤ 5
 
 -- three octal digits
 abbrev pub octal_digits : ℕ → List ℕ

@@ -1,41 +1,45 @@
 //! `mkdir` and `rmdir`: directories are made and removed.
-ghost use Rattle.std.specs.Prelude.{false, IfOk};
-ghost use Rattle.ods_filing.specs.Led.{IsLed};
-ghost use Rattle.ods_upkeep.specs.{Kinds.MakesDirectories, Kinds.Removes, Left.IsLeft};
+ghost use Rattle.std.specs.Prelude.{◌≡◌, false, length, IfOk};
+ghost use Rattle.ods_upkeep.specs.{Kinds.MakesDirectories, Kinds.Removes, Left.IsLeft, Made.AreMade, Made.IsCreated, Made.IsMade};
 
 use crate::asking::{enter, make};
 use crate::copying::begin;
 use crate::failure::{Failure, Why, of_path};
-use crate::found::{Found, by_names};
+use crate::found::{Found, LAST_OWN, MASTER, by_names};
+use crate::hidden::hides_entries;
 use crate::meant::{Meant, path_text, read_meant};
 use crate::names::{Names, is_directory_file};
+use crate::owners::owner_of;
 use crate::removing::remove_one;
 use crate::target::{name_of, the_directory};
 use crate::{Asked, Removal};
-use ods_base::{FileId, Name};
+use ods_base::{FileId, Name, Uic};
 use ods_filing::Filing;
 use ods_mount::Mounted;
-use ods_paths::{Files, Versions, has_wildcard};
+use ods_paths::{Files, Place, Versions, has_wildcard};
 use ods_request::{Answer, Refusal, Request, Stamp};
 use ods_shell::{Kind, PathFault};
 use ods_walk::listing;
 use std::alloc::Global;
 
 /// Makes directories, each with room for so many names, or one block, and enters them under version 1, one after another: a later one may lie
-/// below an earlier one.
+/// below an earlier one. Each is its owner's, who is said, or whose numbers its name has, and else the user's; the user enters it.
 pub fn make_directories(
     alloc: Global,
     volume: Mounted,
     asked: &Asked,
     paths: &[&str],
     names: u32,
+    owner: Option<Uic>,
 ) -> Result<Mounted, Failure>
-    // It is what Create and Enter leave.
-    ensures { IfOk result (λ new. IsLeft MakesDirectories asked.now.user volume new) }
+    // Each is made by Create of its owner and Enter of the user.
+    ensures made { IfOk result (λ new. AreMade owner asked.now.user asked.now.stamp volume (length paths.now) new) }
+    // Where the user himself is said, it is what his Create and Enter leave.
+    ensures own { owner ≡ Some asked.now.user → IfOk result (λ new. IsLeft MakesDirectories asked.now.user volume new) }
 {
     let mut volume = volume;
     for path in paths {
-        volume = match make_directory(alloc, volume, asked, path, names) {
+        volume = match make_directory(alloc, volume, asked, path, names, owner) {
             Ok(volume) => volume,
             Err(why) => return Err(of_path(alloc, path, why)),
         };
@@ -50,13 +54,56 @@ fn make_directory(
     asked: &Asked,
     path: &str,
     names: u32,
+    owner: Option<Uic>,
 ) -> Result<Mounted, Why>
-    ensures { IfOk result (λ new. IsLeft MakesDirectories asked.now.user volume new) }
+    ensures { IfOk result (λ new. IsMade owner asked.now.user asked.now.stamp volume new) }
 {
     let (dir, name) = new_place(alloc, &volume, path)?;
+    let owner = owner_of(owner, asked.user, dir, &name);
+    let (volume, file) = create(alloc, volume, owner, name, names, asked.stamp)?;
     let filing = Filing::new(alloc, volume, asked.user)?;
-    let filing = make_in(filing, dir, name, names, asked.stamp)?;
+    let filing = enter(filing, dir, name, Some(1), file)?;
     Ok(filing.into_mounted())
+}
+
+/// Makes the file of a directory with room for so many names, or one block, as its owner.
+fn create(
+    alloc: Global,
+    volume: Mounted,
+    owner: Uic,
+    name: Name,
+    names: u32,
+    stamp: Stamp,
+) -> Result<(Mounted, FileId), Why>
+    ensures { IfOk result (λ made. IsCreated volume owner name stamp made.1 made.0) }
+{
+    let filing = Filing::new(alloc, volume, owner)?;
+    let blocks = names.div_ceil(32).max(1);
+    let (filing, answer) = make(
+        filing,
+        Request::Create {
+            name,
+            version: 1,
+            blocks,
+            stamp,
+        },
+    )?;
+    match answer {
+        Answer::Created(file) => Ok((filing.into_mounted(), file)),
+        // Create is answered by the new file.
+        _ => Err(Why::Path(PathFault::NoSuchFile)),
+    }
+}
+
+/// Whether the path of a new directory lies below another directory than the master. RSX knows no such directories.
+pub fn is_below_another(alloc: Global, path: &str) -> bool {
+    let Ok(text) = path_text(alloc, path) else {
+        return false;
+    };
+    match read_meant(alloc, text.as_bytes()) {
+        Ok(meant) => !matches!(meant.folder.place, Place::Master),
+        Err(_) => false,
+    }
 }
 
 /// Where a directory is made: the directory above it, and its name, which is there in no version.
@@ -68,11 +115,14 @@ fn new_place(alloc: Global, volume: &Mounted, path: &str) -> Result<(FileId, Nam
     }
     let dir = the_directory(alloc, volume, &meant.folder)?;
     let name = name_of(alloc, &meant.name, b"DIR")?;
-    if dir.number == 4 && meant.name.as_slice() == b"000000".as_slice() {
+    if dir.number == MASTER && meant.name.as_slice() == b"000000".as_slice() {
         return Err(Why::Request(Refusal::Reserved));
     }
     match found(alloc, volume, &meant, Versions::Every) {
-        Ok(_) => Err(Why::Request(Refusal::NameTaken)),
+        Ok(_) => Err(Why::DirectoryThere),
+        Err(Why::Path(PathFault::Nothing)) if hides_entries(alloc, volume, dir.number)? => {
+            Err(Why::Hidden)
+        }
         Err(Why::Path(PathFault::Nothing)) => Ok((dir, name)),
         Err(why) => Err(why),
     }
@@ -91,27 +141,6 @@ fn found(
         versions: Some(versions),
     };
     by_names(alloc, volume, &meant.folder, files, None)
-}
-
-/// Makes a directory and enters it.
-fn make_in(filing: Filing, dir: FileId, name: Name, names: u32, stamp: Stamp) -> Result<Filing, Why>
-    ensures { IfOk result (λ new. IsLed MakesDirectories filing new) }
-{
-    let blocks = names.div_ceil(32).max(1);
-    let (filing, answer) = make(
-        filing,
-        Request::Create {
-            name,
-            version: 1,
-            blocks,
-            stamp,
-        },
-    )?;
-    match answer {
-        Answer::Created(file) => enter(filing, dir, name, Some(1), file),
-        // Create is answered by the new file.
-        _ => Err(Why::Path(PathFault::NoSuchFile)),
-    }
 }
 
 /// Removes empty directories, one after another: a later one may have held an earlier one.
@@ -182,13 +211,16 @@ fn check_empty(alloc: Global, volume: &Mounted, found: &Found) -> Result<(), Why
     if facts.kind != Kind::Directory || !is_directory_file(volume, facts.file.number) {
         return Err(Why::Request(Refusal::NotADirectory));
     }
-    if facts.file.number <= 5 {
+    if facts.file.number <= LAST_OWN {
         return Err(Why::Request(Refusal::Reserved));
     }
     let disk = volume.disk();
     let lines = listing(alloc, &disk, facts.file.number)?;
     if !lines.is_empty() {
         return Err(Why::Request(Refusal::NotEmpty));
+    }
+    if hides_entries(alloc, volume, facts.file.number)? {
+        return Err(Why::Hidden);
     }
     Ok(())
 }

@@ -1,11 +1,11 @@
 //! Why a command is refused, and the path or the file of which.
 ghost use Rattle.ods_upkeep.specs.Pieces.{HasStatus};
 
-use ods_base::NameFault;
+use ods_base::{Coded, NameFault};
 use ods_paths::BadPath;
 use ods_records::TextFault;
 use ods_request::Refusal;
-use ods_shell::{PathFault, Status};
+use ods_shell::{PathFault, Status, remedy};
 use std::alloc::{AllocError, AllocFailed, Global};
 use thiserror::Error;
 
@@ -14,37 +14,69 @@ use thiserror::Error;
 pub enum Why {
     #[error("{0}")]
     Path(PathFault),
-    #[error("{0}")]
+    #[error("{}: {}; {}", self.refusal(), self.reason(), self.remedy())]
     Request(Refusal),
     #[error("{0}")]
     Text(TextFault),
     /// A text, or what a header says, is no name of a file.
-    #[error("no name of a file")]
+    #[error("no name of a file: a name has at most 9 and 3 of A to Z, 0 to 9, $")]
     BadName,
     /// A directory, where a file is wanted.
-    #[error("a directory")]
+    #[error("a directory, and a file is wanted: 'rmdir' removes an empty directory, 'mv' moves one")]
     IsDirectory,
     /// A file of the type DIR would be one, or an entry of that type would name no directory.
-    #[error("the type DIR is that of directories")]
+    #[error("the type DIR is that of directories, and theirs alone: 'mkdir' makes one")]
     DirectoryType,
+    /// A directory of the name is there.
+    #[error("NameTaken: a directory of this name is there; 'ls' shows it")]
+    DirectoryThere,
     /// A directory would be entered in itself, or below.
-    #[error("a directory does not go into itself")]
+    #[error("a directory does not go into itself, nor below")]
     IntoItself,
     /// An ID, where a name is wanted.
-    #[error("a name is wanted, and no ID")]
+    #[error("a name is wanted, and no ID: 'find' shows the names of all files")]
     IsId,
     /// Names would be removed of which no version is said.
-    #[error("no version is said; ;* is all")]
+    #[error("no version is said: say ';*' (in quotes) for all, or --newest")]
     NoVersion,
     /// Patterns, several files or directories, or several versions, where one is wanted.
-    #[error("more than one is meant")]
+    #[error("more than one is meant, where one is wanted: say it without * and ?")]
     Several,
     /// A file that would be deleted has a name.
-    #[error("a name stands for it")]
+    #[error("a name stands for it: 'find' shows it, and 'rm' of all its names deletes the file")]
     IsNamed,
     /// A file would be cut behind its end.
-    #[error("past the end of the file")]
+    #[error("past the end of the file: 'stat' says how many bytes it has")]
     PastEnd,
+    /// Entries behind a directory's end mark name files: a name that is entered could be one of theirs.
+    #[error("the directory's end mark hides used entries: 'check --all' lists such directories")]
+    Hidden,
+}
+
+impl Why {
+    /// The name of the refusal of a request.
+    fn refusal(&self) -> &'static str {
+        match self {
+            Why::Request(refusal) => refusal.name(),
+            _ => "",
+        }
+    }
+
+    /// Why a request is refused so.
+    fn reason(&self) -> &'static str {
+        match remedy(self.refusal()) {
+            Some(advice) => advice.why,
+            None => "it is refused",
+        }
+    }
+
+    /// What one can do then.
+    fn remedy(&self) -> &'static str {
+        match remedy(self.refusal()) {
+            Some(advice) => advice.what,
+            None => "'check --all' says what is wrong with the volume",
+        }
+    }
 }
 
 impl From<AllocError> for Why {
@@ -102,9 +134,11 @@ impl Why {
             | Why::Text(_)
             | Why::IsDirectory
             | Why::DirectoryType
+            | Why::DirectoryThere
             | Why::IntoItself
             | Why::IsNamed
-            | Why::PastEnd => Status::Refused,
+            | Why::PastEnd
+            | Why::Hidden => Status::Refused,
         }
     }
 }

@@ -1,10 +1,19 @@
 //! The names that the paths of a command find, before the first change.
+ghost use Rattle.std.specs.Prelude.{◌↔◌, IsTrue};
+ghost use Rattle.ods_upkeep.specs.Pieces.{Stays};
+
 use crate::failure::Why;
 use ods_base::{FileId, Listed};
 use ods_mount::Mounted;
 use ods_paths::{Files, Folder, Path, Versions, parse_path};
 use ods_shell::{Facts, Finding, Line, PathFault, facts_of, find_files, push_path};
 use std::alloc::{AllocError, Global};
+
+/// The number of the master directory.
+pub(crate) const MASTER: u16 = 4;
+
+/// The last of the volume's own files.
+pub(crate) const LAST_OWN: u16 = 5;
 
 /// An entry that was found, and the directory in which it stands.
 #[derive(Clone, Copy)]
@@ -33,6 +42,18 @@ impl Found {
     /// What is known of the file.
     pub fn facts(&self) -> Option<Facts> {
         self.facts
+    }
+
+    /// Whether it is an entry that stays: one of the master directory that names a file of the volume's own, 1 to 5.
+    pub fn stays(&self) -> bool
+        ensures { IsTrue result ↔ Stays self.now.place self.now.facts }
+    {
+        match (self.place, self.facts) {
+            (Some(place), Some(facts)) => {
+                place.directory.number == MASTER && facts.file.number <= LAST_OWN
+            }
+            _ => false,
+        }
     }
 }
 

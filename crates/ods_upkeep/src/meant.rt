@@ -31,7 +31,12 @@ pub(crate) fn path_text(alloc: Global, path: &str) -> Result<String, AllocError>
 pub(crate) fn read_meant<'a>(alloc: Global, path: &'a [u8]) -> Result<Meant<'a>, Why> {
     match parse_path(path) {
         Ok(Path::File(_)) => Err(Why::IsId),
-        Ok(Path::Within(folder, Some(files))) => of_files(alloc, folder, files),
+        Ok(Path::Within(folder, Some(files))) => {
+            if !may_be_directory(path, files.kind) {
+                return Err(Why::BadName);
+            }
+            of_files(alloc, folder, files)
+        }
         Ok(Path::Within(folder, None)) => of_folder(alloc, folder),
         Err(bad) => Err(Why::Path(PathFault::Bad(bad))),
     }
@@ -43,7 +48,7 @@ fn of_files<'a>(alloc: Global, folder: Folder<'a>, files: Files<'a>) -> Result<M
         None | Some(Versions::Highest) | Some(Versions::Exact(1)) => {}
         Some(_) => return Err(Why::Several),
     }
-    if !may_be_directory(files.kind) || files.name.is_empty() {
+    if files.name.is_empty() {
         return Err(Why::BadName);
     }
     let name = Vec::from_slice(alloc, files.name)?;

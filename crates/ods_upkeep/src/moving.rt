@@ -49,11 +49,15 @@ pub fn move_names(
     Ok(filing.into_mounted())
 }
 
-/// Why a name does not go to this target: its type would become DIR, or DIR would become another, or a directory would go into itself or below.
+/// Why a name does not go to this target: it is one that stays, its type would become DIR, or DIR would become another, or a directory would go into
+/// itself or below.
 fn check(alloc: Global, volume: &Mounted, found: &Found, target: &Target) -> Result<(), Why> {
     let Some(place) = found.place() else {
         return Err(Why::IsId);
     };
+    if found.stays() {
+        return Err(Why::Request(Refusal::Reserved));
+    }
     if changes_type(&place.entry, target) {
         return Err(Why::DirectoryType);
     }

@@ -15,6 +15,7 @@ use crate::{Asked, Removal};
 use ods_filing::Filing;
 use ods_mount::Mounted;
 use ods_paths::Versions;
+use ods_request::Refusal;
 use ods_shell::Kind;
 use std::alloc::Global;
 
@@ -57,6 +58,9 @@ pub fn remove_files(
 
 /// Why this is not removed, as far as it can be seen before.
 fn check(found: &Found, names: &Names, removal: Removal) -> Result<(), Why> {
+    if found.stays() {
+        return Err(Why::Request(Refusal::Reserved));
+    }
     if removal.entry_alone {
         return match found.place() {
             Some(_) => Ok(()),

@@ -1,6 +1,8 @@
 //! Where names go: a directory, and a name in it where one is said.
 use crate::failure::Why;
 use crate::found::{by_names, named};
+use crate::hidden::hides_entries;
+use crate::parts::has_dot;
 use ods_base::{FileId, Name, parse_name};
 use ods_mount::Mounted;
 use ods_paths::{Files, Folder, Path, Versions, has_wildcard, parse_path};
@@ -17,17 +19,25 @@ pub(crate) struct Target {
     pub version: Option<u16>,
 }
 
-/// The target that a path says: a directory that is there, or a name in one.
+/// The target that a path says: a directory that is there, or a name in one. A directory that hides entries is refused, since a name that is
+/// entered there could be one of them.
 pub(crate) fn read_target(alloc: Global, volume: &Mounted, to: &str) -> Result<Target, Why> {
-    match parse_path(to.as_bytes()) {
+    let target = match parse_path(to.as_bytes()) {
         Ok(Path::File(file)) => match named(volume, file) {
-            Some(facts) if facts.kind == Kind::Directory => Ok(whole(file)),
-            _ => Err(Why::IsId),
+            Some(facts) if facts.kind == Kind::Directory => whole(file),
+            _ => return Err(Why::IsId),
         },
-        Ok(Path::Within(folder, None)) => Ok(whole(the_directory(alloc, volume, &folder)?)),
-        Ok(Path::Within(folder, Some(files))) => within(alloc, volume, &folder, files),
-        Err(bad) => Err(Why::Path(PathFault::Bad(bad))),
+        Ok(Path::Within(folder, None)) => whole(the_directory(alloc, volume, &folder)?),
+        Ok(Path::Within(folder, Some(files))) => {
+            let names_directory = may_be_directory(to.as_bytes(), files.kind);
+            within(alloc, volume, &folder, files, names_directory)?
+        }
+        Err(bad) => return Err(Why::Path(PathFault::Bad(bad))),
+    };
+    if hides_entries(alloc, volume, target.directory.number)? {
+        return Err(Why::Hidden);
     }
+    Ok(target)
 }
 
 /// A directory, where each file keeps its name.
@@ -56,12 +66,13 @@ pub(crate) fn the_directory(
     }
 }
 
-/// The target of a name in a directory; a directory of that name is meant itself.
+/// The target of a name in a directory; where the name may be that of a directory, and one is there, it is meant itself.
 fn within(
     alloc: Global,
     volume: &Mounted,
     folder: &Folder<'_>,
     files: Files<'_>,
+    names_directory: bool,
 ) -> Result<Target, Why> {
     if has_wildcard(files.name) || has_wildcard(files.kind) {
         return Err(Why::Several);
@@ -71,7 +82,7 @@ fn within(
         Some(Versions::Exact(version)) => Some(version),
         Some(Versions::Lowest) | Some(Versions::Every) => return Err(Why::Several),
     };
-    if version.is_none() && may_be_directory(files.kind) {
+    if version.is_none() && names_directory {
         if let Some(directory) = directory_named(alloc, volume, folder, files.name)? {
             return Ok(whole(directory));
         }
@@ -85,9 +96,12 @@ fn within(
     })
 }
 
-/// Whether a type is empty or DIR.
-pub(crate) fn may_be_directory(kind: &[u8]) -> bool {
-    kind.is_empty() || kind.eq_ignore_ascii_case(b"DIR")
+/// Whether a path with this type may name a directory: its type is DIR, or it has none, and no dot either. `A.` is a name with the empty type.
+pub(crate) fn may_be_directory(path: &[u8], kind: &[u8]) -> bool {
+    if kind.is_empty() {
+        return !has_dot(path);
+    }
+    kind.eq_ignore_ascii_case(b"DIR")
 }
 
 /// The directory of this name.

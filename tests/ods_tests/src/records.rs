@@ -2,6 +2,7 @@
 mod attributes;
 mod reading;
 mod refused_memory;
+mod sized;
 mod texts;
 mod there_and_back;
 mod writing;

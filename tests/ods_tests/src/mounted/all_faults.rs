@@ -8,7 +8,7 @@ use MountFault::{
     OutsideVolume, UnsupportedMap,
 };
 use ods_base::Block;
-use ods_check::{FaultLine, IndexFault, check_all};
+use ods_check::{FaultLine, IndexFault, check_all, check_first};
 use ods_header::Run;
 use ods_mount::MountFault;
 use std::alloc::Global;
@@ -25,16 +25,17 @@ fn tells(
     answer: Option<MountFault>,
     wanted: &[FaultLine],
 ) -> Result<(), Fail> {
-    let checked = check_all(alloc, &volume.image(alloc)?)?;
+    let image = volume.image(alloc)?;
+    let first = check_first(alloc, &image)?;
+    assert!(rt; first.answer == answer && first.layout.is_some() == has_layout);
+    let checked = check_all(alloc, &image)?;
     assert!(rt; checked.layout.is_some() == has_layout);
     assert!(rt; checked.answer == answer, "{:?}", checked.answer);
-    assert!(rt;
-        checked.faults.len() == wanted.len(),
-        "{:?}",
-        checked.faults
-    );
+    let faults = checked.faults.kept();
+    assert!(rt; faults.len() == wanted.len(), "{faults:?}");
+    assert!(rt; checked.faults.more() == 0 && checked.sharing.more() == 0);
     for i in 0..wanted.len() {
-        let fault = checked.faults[i];
+        let fault = faults[i];
         assert!(rt; fault == wanted[i], "{fault:?}");
     }
     Ok(())

@@ -1,7 +1,7 @@
 //! What a mount does not refuse, as lines of text: a sample has none of it, and one volume that is sound has something of each kind.
 use crate::persons::a_txt;
 use crate::volumes::{FileHeader, Variant, added, directory_attributes, run, sample_of};
-use ods_check::{check_all, findings};
+use ods_check::{check_all, count_findings, findings};
 use ods_space::Disk;
 use std::alloc::Global;
 use std::process::Abort;
@@ -16,7 +16,8 @@ fn finds(
 ) -> Result<(), Fail> {
     let image = volume.image(alloc)?;
     let checked = check_all(alloc, &image)?;
-    assert!(rt; checked.faults.is_empty(), "{:?}", checked.faults);
+    let faults = checked.faults.kept();
+    assert!(rt; faults.is_empty(), "{faults:?}");
     let Some(layout) = &checked.layout else {
         return Err("it has no layout".into());
     };
@@ -24,12 +25,18 @@ fn finds(
         image: &image,
         layout,
     };
-    let found = findings(alloc, &disk)?;
-    assert!(rt; found.len() == wanted.len(), "{found:?}");
-    for i in 0..wanted.len() {
-        let text = format!(in alloc; "{}", found[i])?;
-        assert!(rt; text.as_str() == wanted[i], "{text}");
+    // A list that may keep three keeps the first three, and counts the others.
+    for most in [100, 3] {
+        let found = findings(alloc, &disk, most, true)?;
+        let kept = found.kept();
+        assert!(rt; kept.len() == wanted.len().min(most as usize), "{kept:?}");
+        assert!(rt; found.more() == (wanted.len() - kept.len()) as u64);
+        for i in 0..kept.len() {
+            let text = format!(in alloc; "{}", kept[i])?;
+            assert!(rt; text.as_str() == wanted[i], "{text}");
+        }
     }
+    assert!(rt; count_findings(alloc, &disk, true)? == wanted.len() as u64);
     Ok(())
 }
 

@@ -41,19 +41,22 @@ fn end_of_file_of_any_attributes(rt: HostRuntime) {
     assert!(rt; end_of_file(&[255; 32]) == 4_294_967_294 * 512 + 65_535);
 }
 
-/// F.RTYP 2 and 3 are records; 1, and 0 and all above 3, are none.
+/// F.RTYP, the low four bits: 2 and 3 are records with a length, all others are none. Byte 15 says how many bytes the header of 3 has.
 #[test]
 fn kinds_are_read(rt: HostRuntime) {
     let mut bytes = [0xff; 32];
     for rtyp in 0..=255 {
         bytes[0] = rtyp;
-        let wanted = match rtyp {
+        let wanted = match rtyp % 16 {
             2 => Some(Variable),
-            3 => Some(Sequenced),
+            3 => Some(Sequenced(255)),
             _ => None,
         };
         assert!(rt; kind_of(&bytes) == wanted);
     }
     assert!(rt; kind_of(&text_attributes(0, 0)) == Some(Variable));
     assert!(rt; kind_of(&binary_attributes(0)).is_none());
+    bytes[0] = 3;
+    bytes[15] = 0;
+    assert!(rt; kind_of(&bytes) == Some(Sequenced(2)));
 }

@@ -25,7 +25,7 @@ fn records_are_read(rt: HostRuntime) {
     assert!(rt; reads(rt, Variable, &[], b""));
     assert!(rt; reads(rt, Variable, &[2, 0, 0x48, 0x69, 1, 0, 0x61, 0], b"Hi\na\n"));
     let sequenced = [5, 0, 1, 0, 0x48, 0x69, 0x21, 0, 2, 0, 2, 0];
-    assert!(rt; reads(rt, Sequenced, &sequenced, b"Hi!\n\n"));
+    assert!(rt; reads(rt, Sequenced(2), &sequenced, b"Hi!\n\n"));
     // The number is two bytes of text to one who reads it as variable records.
     assert!(rt; reads(rt, Variable, &sequenced, b"\x01\0Hi!\n\x02\0\n"));
 }
@@ -43,7 +43,7 @@ fn last_record_may_lack_its_pad(rt: HostRuntime) {
     assert!(rt; reads(rt, Variable, &[1, 0, 0x61], b"a\n"));
     assert!(rt; reads(rt, Variable, &[1, 0, 0x61, 0xee], b"a\n"));
     assert!(rt; reads(rt, Variable, &[1, 0, 0x61, 0xee, 1, 0, 0x62], b"a\nb\n"));
-    assert!(rt; reads(rt, Sequenced, &[3, 0, 9, 9, 0x61], b"a\n"));
+    assert!(rt; reads(rt, Sequenced(2), &[3, 0, 9, 9, 0x61], b"a\n"));
     // The 1 is the pad, and a 0 is left where a length begins.
     assert!(rt; faults(rt, Variable, &[1, 0, 0x61, 1, 0], CutLength(4)));
 }
@@ -54,12 +54,12 @@ fn rest_of_a_block_is_not_used(rt: HostRuntime) {
     let mut bytes = [0x55; 518];
     bytes[..6].copy_from_slice(&[2, 0, 0x48, 0x69, 255, 255]);
     bytes[512..].copy_from_slice(&[3, 0, 0x61, 0x62, 0x63, 0]);
-    for kind in [Variable, Sequenced] {
+    for kind in [Variable, Sequenced(2)] {
         assert!(rt; reads(rt, kind, &[255, 255], b""));
         assert!(rt; reads(rt, kind, &[255, 255, 0x55], b""));
     }
     assert!(rt; reads(rt, Variable, &bytes, b"Hi\nabc\n"));
-    assert!(rt; reads(rt, Sequenced, &bytes, b"\nc\n"));
+    assert!(rt; reads(rt, Sequenced(2), &bytes, b"\nc\n"));
     assert!(rt; reads(rt, Variable, &bytes[..517], b"Hi\nabc\n"));
     for end in [6, 7, 300, 511, 512] {
         assert!(rt; reads(rt, Variable, &bytes[..end], b"Hi\n"));
@@ -85,7 +85,7 @@ fn rest_of_two_bytes_and_of_whole_blocks(rt: HostRuntime) {
 
 #[test]
 fn each_fault_has_its_place(rt: HostRuntime) {
-    for kind in [Variable, Sequenced] {
+    for kind in [Variable, Sequenced(2)] {
         assert!(rt; faults(rt, kind, &[7], CutLength(0)));
         assert!(rt; faults(rt, kind, &[255], CutLength(0)));
         assert!(rt; faults(rt, kind, &[2, 0, 1, 2, 0], CutLength(4)));
@@ -96,9 +96,9 @@ fn each_fault_has_its_place(rt: HostRuntime) {
     }
     assert!(rt; faults(rt, Variable, &[0, 0, 1, 0], PastEnd(2)));
     // A length of 0 or 1 has no number, whether its bytes are there or not.
-    assert!(rt; faults(rt, Sequenced, &[1, 0, 0x61, 0], NoNumber(0)));
-    assert!(rt; faults(rt, Sequenced, &[2, 0, 1, 0, 0, 0], NoNumber(4)));
-    assert!(rt; faults(rt, Sequenced, &[2, 0, 1, 0, 1, 0], NoNumber(4)));
+    assert!(rt; faults(rt, Sequenced(2), &[1, 0, 0x61, 0], NoNumber(0)));
+    assert!(rt; faults(rt, Sequenced(2), &[2, 0, 1, 0, 0, 0], NoNumber(4)));
+    assert!(rt; faults(rt, Sequenced(2), &[2, 0, 1, 0, 1, 0], NoNumber(4)));
     // The first one is named.
     assert!(rt; faults(rt, Variable, &[0, 0x80, 9], TooLong(0)));
 }

@@ -27,7 +27,10 @@ fn versions_stay_in_order(rt: HostRuntime) -> Result<(), Fail> {
     let alloc = rt.alloc();
     let volume = put(alloc, volume_of(alloc, 40)?, "A.TXT;3", "x", b"3\n")?;
     let volume = put(alloc, volume, "A.TXT;9", "x", b"9\n")?;
-    let volume = done(alloc, make_directories(alloc, volume, &asked()?, &["D"], 0))?;
+    let volume = done(
+        alloc,
+        make_directories(alloc, volume, &asked()?, &["D"], 0, None),
+    )?;
     let volume = done(
         alloc,
         copy_files(alloc, volume, &asked()?, &["A.TXT;*"], "[D]"),

@@ -12,7 +12,7 @@ fn paths_of_directories(rt: HostRuntime) -> Result<(), Fail> {
     let words = ["[A]", "[1,2]", "b/", "c", "3,4", "A/D", "[A.D.E]", "F.DIR"];
     let volume = done(
         alloc,
-        make_directories(alloc, volume_of(alloc, 40)?, &asked()?, &words, 33),
+        make_directories(alloc, volume_of(alloc, 40)?, &asked()?, &words, 33, None),
     )?;
     assert!(rt;
         paths(alloc, &volume, "?.DIR;*")?.as_str()
@@ -32,13 +32,13 @@ fn paths_of_directories(rt: HostRuntime) -> Result<(), Fail> {
 fn what_is_not_made(rt: HostRuntime) -> Result<(), Fail> {
     let alloc = rt.alloc();
     let asked = asked()?;
-    let twice = make_directories(alloc, volume_of(alloc, 40)?, &asked, &["A", "[A]"], 0);
-    assert!(rt; is_refused(twice, "[A]", Why::Request(Refusal::NameTaken)));
-    let nowhere = make_directories(alloc, volume_of(alloc, 40)?, &asked, &["X/A"], 0);
+    let twice = make_directories(alloc, volume_of(alloc, 40)?, &asked, &["A", "[A]"], 0, None);
+    assert!(rt; is_refused(twice, "[A]", Why::DirectoryThere));
+    let nowhere = make_directories(alloc, volume_of(alloc, 40)?, &asked, &["X/A"], 0, None);
     assert!(rt; is_refused(nowhere, "X/A", Why::Path(PathFault::Nothing)));
-    let pattern = make_directories(alloc, volume_of(alloc, 40)?, &asked, &["A*/"], 0);
+    let pattern = make_directories(alloc, volume_of(alloc, 40)?, &asked, &["A*/"], 0, None);
     assert!(rt; is_refused(pattern, "A*/", Why::Several));
-    let master = make_directories(alloc, volume_of(alloc, 40)?, &asked, &["[0,0]"], 0);
+    let master = make_directories(alloc, volume_of(alloc, 40)?, &asked, &["[0,0]"], 0, None);
     assert!(rt; is_refused(master, "[0,0]", Why::Request(Refusal::Reserved)));
     Ok(())
 }
@@ -49,7 +49,7 @@ fn empty_directories_go(rt: HostRuntime) -> Result<(), Fail> {
     let asked = asked()?;
     let volume = done(
         alloc,
-        make_directories(alloc, volume_of(alloc, 40)?, &asked, &["A", "A/B"], 0),
+        make_directories(alloc, volume_of(alloc, 40)?, &asked, &["A", "A/B"], 0, None),
     )?;
     let volume = done(
         alloc,
@@ -57,7 +57,10 @@ fn empty_directories_go(rt: HostRuntime) -> Result<(), Fail> {
     )?;
     assert!(rt; paths(alloc, &volume, "A.DIR;*")?.is_empty());
     assert!(rt; paths(alloc, &volume, "#6,1")?.is_empty());
-    let volume = done(alloc, make_directories(alloc, volume, &asked, &["A"], 0))?;
+    let volume = done(
+        alloc,
+        make_directories(alloc, volume, &asked, &["A"], 0, None),
+    )?;
     let volume = put(alloc, volume, "[A]", "x.txt", b"")?;
     let full = remove_directories(alloc, volume, &asked, &["A"]);
     assert!(rt; is_refused(full, "[0,0]A.DIR;1", Why::Request(Refusal::NotEmpty)));

@@ -35,7 +35,7 @@ fn names_go_into_a_directory(rt: HostRuntime) -> Result<(), Fail> {
     let volume = put(alloc, volume, "B.TXT", "x", b"2\n")?;
     let volume = done(
         alloc,
-        make_directories(alloc, volume, &asked()?, &["1,2", "E"], 0),
+        make_directories(alloc, volume, &asked()?, &["1,2", "E"], 0, None),
     )?;
     let volume = done(
         alloc,
@@ -56,13 +56,13 @@ fn names_go_into_a_directory(rt: HostRuntime) -> Result<(), Fail> {
 fn what_cannot_be_moved(rt: HostRuntime) -> Result<(), Fail> {
     let alloc = rt.alloc();
     let asked = asked()?;
-    let made = make_directories(alloc, volume_of(alloc, 40)?, &asked, &["A", "A/B"], 0);
+    let made = make_directories(alloc, volume_of(alloc, 40)?, &asked, &["A", "A/B"], 0, None);
     let into = move_names(alloc, done(alloc, made)?, &asked, &["A.DIR"], "[A.B]");
     assert!(rt; is_refused(into, "[0,0]A.DIR;1", Why::IntoItself));
-    let made = make_directories(alloc, volume_of(alloc, 40)?, &asked, &["A"], 0);
+    let made = make_directories(alloc, volume_of(alloc, 40)?, &asked, &["A"], 0, None);
     let itself = move_names(alloc, done(alloc, made)?, &asked, &["A.DIR"], "[A]");
     assert!(rt; is_refused(itself, "[0,0]A.DIR;1", Why::IntoItself));
-    let made = make_directories(alloc, volume_of(alloc, 40)?, &asked, &["A"], 0);
+    let made = make_directories(alloc, volume_of(alloc, 40)?, &asked, &["A"], 0, None);
     let kind = move_names(alloc, done(alloc, made)?, &asked, &["A.DIR"], "A.TXT");
     assert!(rt; is_refused(kind, "[0,0]A.DIR;1", Why::DirectoryType));
     let id = move_names(alloc, volume_of(alloc, 40)?, &asked, &["#5,5"], "A.TXT");

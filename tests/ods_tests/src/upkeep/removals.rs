@@ -120,8 +120,14 @@ fn what_is_not_removed(rt: HostRuntime) -> Result<(), Fail> {
         &["000000.DIR;1"],
         PLAIN,
     );
-    assert!(rt; is_refused(directory, "[0,0]000000.DIR;1", Why::IsDirectory));
-    let made = make_directories(alloc, volume_of(alloc, 40)?, &asked, &["A"], 0);
+    assert!(rt;
+        is_refused(
+            directory,
+            "[0,0]000000.DIR;1",
+            Why::Request(Refusal::Reserved)
+        )
+    );
+    let made = make_directories(alloc, volume_of(alloc, 40)?, &asked, &["A"], 0, None);
     let id = remove_files(alloc, done(alloc, made)?, &asked, &["#6,1"], PLAIN);
     assert!(rt; is_refused(id, "#6,1", Why::IsDirectory));
     let none = remove_files(alloc, volume_of(alloc, 40)?, &asked, &["#9,1"], PLAIN);

@@ -11,10 +11,10 @@ use Rattle.ods_check.proofs.FileFaults.{no_file, bad_file, whole_file, chain_tru
 use Rattle.ods_check.proofs.chains.push_file.Goals as goal
 
 pub returns-in_default-clause-adds : goal.returns-in_default-clause-adds
-returns-in_default-clause-adds c = adds_none (IsLineOf c.args.disk.now.image.now c.args.disk.now.layout.now) c.args.faults.now.items
+returns-in_default-clause-adds c = adds_none (IsLineOf c.args.disk.now.image.now c.args.disk.now.layout.now) c.args.faults.now
 
 pub returns-in_default-clause-file : goal.returns-in_default-clause-file
-returns-in_default-clause-file c = no_file c.args.disk.now.image.now c.args.disk.now.layout.now c.args.number c.args.faults.now.items c.in_default.ensures.none
+returns-in_default-clause-file c = no_file c.args.disk.now.image.now c.args.disk.now.layout.now c.args.number c.args.faults.now.0 c.in_default.ensures.none
 
 pub push_sharing-requires-clause-file : goal.push_sharing-requires-clause-file
 push_sharing-requires-clause-file c = c.in-Some.ensures.some.0
@@ -24,9 +24,9 @@ returns-in-Err-clause-adds c =
     let I = c.args.disk.now.image.now in
     let L = c.args.disk.now.layout.now in
     let P = IsLineOf I L in
-    let mid = c.push_sharing.new.faults.items in
-    adds_more P c.args.faults.now.items mid c.push.new.self.items c.in_ok-push_sharing.ensures.adds
-    (adds_one P mid _ (Plain c.chain_fault.result) c.in_ok-push.ensures.items
+    let mid = c.push_sharing.new.faults in
+    adds_more P c.args.faults.now mid c.push.new.self c.in_ok-push_sharing.ensures.adds
+    (adds_one P mid _ (Plain c.chain_fault.result) c.in_ok-push.ensures
     (subst (IsTrueOf I L) (sym c.chain_fault.ensures) (chain_true I L c.args.number c.in-Err.fault c.in-Some.ensures.some.0 c.in-Err.ensures.err c.in-Err.ensures.memory)))
 
 pub returns-in-Err-clause-file : goal.returns-in-Err-clause-file
@@ -35,26 +35,26 @@ returns-in-Err-clause-file c =
     let L = c.args.disk.now.layout.now in
     let P = IsLineOf I L in
     let n = c.args.number in
-    let mid = c.push_sharing.new.faults.items in
-    let end = c.push.new.self.items in
-    let told = told_one mid end (Plain c.chain_fault.result) c.in_ok-push.ensures.items in
-    let added = adds_one P mid end (Plain c.chain_fault.result) c.in_ok-push.ensures.items
+    let mid = c.push_sharing.new.faults in
+    let end = c.push.new.self in
+    let told = told_one mid end (Plain c.chain_fault.result) c.in_ok-push.ensures in
+    let added = adds_one P mid end (Plain c.chain_fault.result) c.in_ok-push.ensures
     (subst (IsTrueOf I L) (sym c.chain_fault.ensures) (chain_true I L n c.in-Err.fault c.in-Some.ensures.some.0 c.in-Err.ensures.err c.in-Err.ensures.memory)) in
-    bad_file I L n end (λ s. told_still P mid end (Plain (BadChain n)) added (c.in_ok-push_sharing.ensures.shares s)) c.in-Err.fault c.in-Err.ensures.err c.in-Err.ensures.memory
-    (subst (λ (f : MountFault). Tells end f) c.chain_fault.ensures told)
+    bad_file I L n end.0 (λ s. told_still P mid end (Plain (BadChain n)) added (c.in_ok-push_sharing.ensures.shares s)) c.in-Err.fault c.in-Err.ensures.err c.in-Err.ensures.memory
+    (subst (λ (f : MountFault). Tells end.0 f) c.chain_fault.ensures told)
 
 pub push_whole-requires-clause-whole : goal.push_whole-requires-clause-whole
 push_whole-requires-clause-whole c = subst (HasBlocks c.args.disk.now.image.now c.args.disk.now.layout.now c.args.number) (sym c.deref.ensures.value) c.in-Ok.ensures.ok
 
 pub returns-in_ok-push_whole-in-Ok-clause-adds : goal.returns-in_ok-push_whole-in-Ok-clause-adds
 returns-in_ok-push_whole-in-Ok-clause-adds c =
-    adds_more (IsLineOf c.args.disk.now.image.now c.args.disk.now.layout.now) c.args.faults.now.items c.push_sharing.new.faults.items c.push_whole.new.faults.items c.in_ok-push_sharing.ensures.adds c.in_ok-push_whole-in-Ok.ensures.adds
+    adds_more (IsLineOf c.args.disk.now.image.now c.args.disk.now.layout.now) c.args.faults.now c.push_sharing.new.faults c.push_whole.new.faults c.in_ok-push_sharing.ensures.adds c.in_ok-push_whole-in-Ok.ensures.adds
 
 pub returns-in_ok-push_whole-in-Ok-clause-file : goal.returns-in_ok-push_whole-in-Ok-clause-file
 returns-in_ok-push_whole-in-Ok-clause-file c =
     let I = c.args.disk.now.image.now in
     let L = c.args.disk.now.layout.now in
     let n = c.args.number in
-    let mid = c.push_sharing.new.faults.items in
-    let end = c.push_whole.new.faults.items in
-    whole_file I L n end (λ s. told_still (IsLineOf I L) mid end (Plain (BadChain n)) c.in_ok-push_whole-in-Ok.ensures.adds (c.in_ok-push_sharing.ensures.shares s)) c.in-Ok.blocks.items c.in-Ok.ensures.ok c.in_ok-push_whole-in-Ok.ensures.file
+    let mid = c.push_sharing.new.faults in
+    let end = c.push_whole.new.faults in
+    whole_file I L n end.0 (λ s. told_still (IsLineOf I L) mid end (Plain (BadChain n)) c.in_ok-push_whole-in-Ok.ensures.adds (c.in_ok-push_sharing.ensures.shares s)) c.in-Ok.blocks.items c.in-Ok.ensures.ok c.in_ok-push_whole-in-Ok.ensures.file

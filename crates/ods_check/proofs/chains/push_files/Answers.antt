@@ -9,7 +9,7 @@ use Rattle.ods_check.proofs.chains.push_files.Goals as goal
 
 pub loop-number-init : goal.loop-number-init
 loop-number-init c = record {
-  adds = adds_none (IsLineOf c.args.disk.now.image.now c.args.disk.now.layout.now) c.args.faults.now.items;
+  adds = adds_none (IsLineOf c.args.disk.now.image.now c.args.disk.now.layout.now) c.args.faults.now;
   files = λ n low. absurd (omega arith);
 }
 
@@ -17,16 +17,16 @@ pub loop-number-preserved : goal.loop-number-preserved
 loop-number-preserved c =
     let I = c.args.disk.now.image.now in
     let L = c.args.disk.now.layout.now in
-    let old = c.loop-number.faults.items in
-    let new = c.push_file.new.faults.items in
+    let old = c.loop-number.faults in
+    let new = c.push_file.new.faults in
     let added = c.in_ok-push_file.ensures.adds in
     record {
-      adds = adds_more (IsLineOf I L) c.args.faults.now.items old new c.loop-number.invariant.adds added;
+      adds = adds_more (IsLineOf I L) c.args.faults.now old new c.loop-number.invariant.adds added;
       files = λ n low. elim (cases_lt n c.loop-number.number) [
         | inl less ↦ told_file_still I L n (IsLineOf I L) old new added (c.loop-number.invariant.files n less)
         | inr more ↦
             let e : c.loop-number.number ≡ n = omega arith in
-            subst (TellsFile I L new) e c.in_ok-push_file.ensures.file
+            subst (TellsFile I L new.0) e c.in_ok-push_file.ensures.file
       ];
     }
 
@@ -36,7 +36,7 @@ returns-clause-files c n =
     let L = c.args.disk.now.layout.now in
     elim (cases_lt n c.loop-number.number) [
       | inl less ↦ c.loop-number.invariant.files n less
-      | inr more ↦ no_file I L n c.loop-number.faults.items (λ file.
+      | inr more ↦ no_file I L n c.loop-number.faults.0 (λ file.
           let small = file_small I L n file in
           let same = ap (λ h. h.max_files) c.home.ensures in
           let end = c.loop-number-test.false in

@@ -12,7 +12,7 @@ use Rattle.ods_check.proofs.chains.push_free.Goals as goal
 
 pub loop-i-init : goal.loop-i-init
 loop-i-init c = record {
-  adds = adds_none (IsLineOf c.args.disk.now.image.now c.args.disk.now.layout.now) c.args.faults.now.items;
+  adds = adds_none (IsLineOf c.args.disk.now.image.now c.args.disk.now.layout.now) c.args.faults.now;
   told = λ j b low. absurd (omega arith);
 }
 
@@ -22,8 +22,8 @@ loop-i-preserved c =
     let L = c.args.disk.now.layout.now in
     let n = c.args.number in
     let P = IsLineOf I L in
-    let old = c.loop-i.faults.items in
-    let new = c.push_if.new.list.items in
+    let old = c.loop-i.faults in
+    let new = c.push_if.new.list in
     let lbn = slice_index c.args.lbns.now c.loop-i.i in
     let at : slice_get c.args.lbns.now c.loop-i.i ≡ Some lbn = slice_get-get_or c.args.lbns.now c.loop-i.i 0 c.loop-i-test.true in
     let held = holds_at I L n c.args.lbns.now c.loop-i.i lbn c.requires at in
@@ -32,8 +32,8 @@ loop-i-preserved c =
     let x = Plain (MarkedFree n lbn) in
     let added = adds_if P old new x free c.in_ok-push_if.ensures (λ e. (c.loop-i.i + 1, held, sym is ∙ e)) in
     record {
-      adds = adds_more P c.args.faults.now.items old new c.loop-i.invariant.adds added;
-      told = each_next (λ j b. IsTrue (is_free_block I L b) → Contains new (Plain (MarkedFree n b))) c.args.lbns.now c.loop-i.i lbn at
+      adds = adds_more P c.args.faults.now old new c.loop-i.invariant.adds added;
+      told = each_next (λ j b. IsTrue (is_free_block I L b) → Contains new.0 (Plain (MarkedFree n b))) c.args.lbns.now c.loop-i.i lbn at
           (λ j b low here e. told_still P old new (Plain (MarkedFree n b)) added (c.loop-i.invariant.told j b low here e))
           (λ e. told_if old new x free c.in_ok-push_if.ensures (is ∙ e));
     }
@@ -44,4 +44,4 @@ returns-clause-adds c = c.loop-i.invariant.adds
 pub returns-clause-free : goal.returns-clause-free
 returns-clause-free c b t =
     let at = held_at c.args.disk.now.image.now c.args.disk.now.layout.now c.args.number c.args.lbns.now t.0 b c.requires t.1 in
-    each_of (λ j x. IsTrue (is_free_block c.args.disk.now.image.now c.args.disk.now.layout.now x) → Contains c.loop-i.faults.items (Plain (MarkedFree c.args.number x))) c.args.lbns.now c.loop-i.i (let end = c.loop-i-test.false in omega arith) c.loop-i.invariant.told at.0 b at.2 t.2
+    each_of (λ j x. IsTrue (is_free_block c.args.disk.now.image.now c.args.disk.now.layout.now x) → Contains c.loop-i.faults.0 (Plain (MarkedFree c.args.number x))) c.args.lbns.now c.loop-i.i (let end = c.loop-i-test.false in omega arith) c.loop-i.invariant.told at.0 b at.2 t.2

@@ -10,6 +10,6 @@ use Rattle.ods_check.proofs.chains.push_free.Given as goal
 
 abbrev pub invariant-loop-i : goal.invariant-loop-i
 invariant-loop-i l = record {
-  adds : Adds (IsLineOf l.fn.disk.image.now l.fn.disk.layout.now) l.initial.faults.items l.faults.items;
-  told : EachBefore (λ j b. IsTrue (is_free_block l.fn.disk.image.now l.fn.disk.layout.now b) → Contains l.faults.items (Plain (MarkedFree l.number b))) l.lbns l.i;
+  adds : Adds (IsLineOf l.fn.disk.image.now l.fn.disk.layout.now) l.initial.faults l.faults;
+  told : EachBefore (λ j b. IsTrue (is_free_block l.fn.disk.image.now l.fn.disk.layout.now b) → Contains l.faults.0 (Plain (MarkedFree l.number b))) l.lbns l.i;
 }

@@ -28,7 +28,7 @@ found c P blocks same =
     c.count.ensures c.mark_of-mark.ensures
 
 pub returns-then-not-is_directory_file-clause-adds : goal.returns-then-not-is_directory_file-clause-adds
-returns-then-not-is_directory_file-clause-adds c = adds_none (IsLineOf c.args.disk.now.image.now c.args.disk.now.layout.now) c.args.faults.now.items
+returns-then-not-is_directory_file-clause-adds c = adds_none (IsLineOf c.args.disk.now.image.now c.args.disk.now.layout.now) c.args.faults.now
 
 pub returns-then-not-is_directory_file-clause-names : goal.returns-then-not-is_directory_file-clause-names
 returns-then-not-is_directory_file-clause-names c t = elim t [
@@ -37,7 +37,7 @@ returns-then-not-is_directory_file-clause-names c t = elim t [
 ]
 
 pub returns-in-Ok-Good-clause-adds : goal.returns-in-Ok-Good-clause-adds
-returns-in-Ok-Good-clause-adds c = adds_none (IsLineOf c.args.disk.now.image.now c.args.disk.now.layout.now) c.args.faults.now.items
+returns-in-Ok-Good-clause-adds c = adds_none (IsLineOf c.args.disk.now.image.now c.args.disk.now.layout.now) c.args.faults.now
 
 pub returns-in-Ok-Good-clause-names : goal.returns-in-Ok-Good-clause-names
 returns-in-Ok-Good-clause-names c t =
@@ -54,15 +54,15 @@ returns-in-Ok-Good-clause-names c t =
 pub returns-in_ok-push-in-Ok-BadEntry-clause-adds : goal.returns-in_ok-push-in-Ok-BadEntry-clause-adds
 returns-in_ok-push-in-Ok-BadEntry-clause-adds c =
     let bad = found (goal.at.returns-in_ok-push-in-Ok-BadEntry-clause-adds c).After-mark_of-mark (λ bs m. HasBadEntry (used_entries bs m)) c.args.lbns.now refl (c.in-Ok-BadEntry.ensures.bad (ap Ok c.in-Ok-BadEntry.field-0-is)) in
-    adds_one (IsLineOf c.args.disk.now.image.now c.args.disk.now.layout.now) _ _ (Plain (BadDirectory c.args.number)) c.in_ok-push-in-Ok-BadEntry.ensures.items (c.if-not-is_directory_file.ensures, c.args.lbns.now, c.requires.whole, bad)
+    adds_one (IsLineOf c.args.disk.now.image.now c.args.disk.now.layout.now) _ _ (Plain (BadDirectory c.args.number)) c.in_ok-push-in-Ok-BadEntry.ensures (c.if-not-is_directory_file.ensures, c.args.lbns.now, c.requires.whole, bad)
 
 pub returns-in_ok-push-in-Ok-BadEntry-clause-names : goal.returns-in_ok-push-in-Ok-BadEntry-clause-names
-returns-in_ok-push-in-Ok-BadEntry-clause-names c t = inl (told_one _ _ (Plain (BadDirectory c.args.number)) c.in_ok-push-in-Ok-BadEntry.ensures.items)
+returns-in_ok-push-in-Ok-BadEntry-clause-names c t = inl (told_one _ _ (Plain (BadDirectory c.args.number)) c.in_ok-push-in-Ok-BadEntry.ensures)
 
 pub returns-in_ok-push-in-Ok-Twice-clause-adds : goal.returns-in_ok-push-in-Ok-Twice-clause-adds
 returns-in_ok-push-in-Ok-Twice-clause-adds c =
     let twice = found (goal.at.returns-in_ok-push-in-Ok-Twice-clause-adds c).After-mark_of-mark (λ bs m. HasTwins (used_entries bs m)) c.args.lbns.now refl (c.in-Ok-Twice.ensures.twice (ap Ok c.in-Ok-Twice.field-0-is)) in
-    adds_one (IsLineOf c.args.disk.now.image.now c.args.disk.now.layout.now) _ _ (Plain (DuplicateName c.args.number)) c.in_ok-push-in-Ok-Twice.ensures.items (c.if-not-is_directory_file.ensures, c.args.lbns.now, c.requires.whole, twice)
+    adds_one (IsLineOf c.args.disk.now.image.now c.args.disk.now.layout.now) _ _ (Plain (DuplicateName c.args.number)) c.in_ok-push-in-Ok-Twice.ensures (c.if-not-is_directory_file.ensures, c.args.lbns.now, c.requires.whole, twice)
 
 pub returns-in_ok-push-in-Ok-Twice-clause-names : goal.returns-in_ok-push-in-Ok-Twice-clause-names
-returns-in_ok-push-in-Ok-Twice-clause-names c t = inr (told_one _ _ (Plain (DuplicateName c.args.number)) c.in_ok-push-in-Ok-Twice.ensures.items)
+returns-in_ok-push-in-Ok-Twice-clause-names c t = inr (told_one _ _ (Plain (DuplicateName c.args.number)) c.in_ok-push-in-Ok-Twice.ensures)

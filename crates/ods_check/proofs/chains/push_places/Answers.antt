@@ -13,7 +13,7 @@ use Rattle.ods_check.proofs.chains.push_places.Goals as goal
 
 pub loop-i-init : goal.loop-i-init
 loop-i-init c = record {
-  adds = adds_none (IsLineOf c.args.disk.now.image.now c.args.disk.now.layout.now) c.args.faults.now.items;
+  adds = adds_none (IsLineOf c.args.disk.now.image.now c.args.disk.now.layout.now) c.args.faults.now;
   told = λ j b low. absurd (omega arith);
 }
 
@@ -24,8 +24,8 @@ loop-i-preserved c =
     let n = c.args.number in
     let i = c.loop-i.i in
     let P = IsLineOf I L in
-    let old = c.loop-i.faults.items in
-    let new = c.push_if.new.list.items in
+    let old = c.loop-i.faults in
+    let new = c.push_if.new.list in
     let lbn = slice_index c.args.lbns.now i in
     let at : slice_get c.args.lbns.now i ≡ Some lbn = slice_get-get_or c.args.lbns.now i 0 c.loop-i-test.true in
     let held = holds_at I L n c.args.lbns.now i lbn c.requires.whole at in
@@ -33,8 +33,8 @@ loop-i-preserved c =
     let x = Index (HeldPlace lbn n) in
     let added = adds_if P old new x loose c.in_ok-push_if.ensures (λ e. loose_held I L c.args.home_lbn n i lbn c.requires.home held (loose_true c.args.home_lbn n i lbn loose c.is_loose_place-loose.ensures e)) in
     record {
-      adds = adds_more P c.args.faults.now.items old new c.loop-i.invariant.adds added;
-      told = each_next (λ j b. IsLoose c.args.home_lbn n j b → Contains new (Index (HeldPlace b n))) c.args.lbns.now i lbn at
+      adds = adds_more P c.args.faults.now old new c.loop-i.invariant.adds added;
+      told = each_next (λ j b. IsLoose c.args.home_lbn n j b → Contains new.0 (Index (HeldPlace b n))) c.args.lbns.now i lbn at
           (λ j b low here e. told_still P old new (Index (HeldPlace b n)) added (c.loop-i.invariant.told j b low here e))
           (λ e. told_if old new x loose c.in_ok-push_if.ensures (true_loose c.args.home_lbn n i lbn loose c.is_loose_place-loose.ensures e));
     }
@@ -55,5 +55,5 @@ returns-clause-places c k t =
     let L = c.args.disk.now.layout.now in
     let n = c.args.number in
     let at = held_at I L n c.args.lbns.now t.1 k c.requires.whole t.2 in
-    each_of (λ j x. IsLoose c.args.home_lbn n j x → Contains c.loop-i.faults.items (Index (HeldPlace x n))) c.args.lbns.now c.loop-i.i (let end = c.loop-i-test.false in omega arith) c.loop-i.invariant.told at.0 k at.2
+    each_of (λ j x. IsLoose c.args.home_lbn n j x → Contains c.loop-i.faults.0 (Index (HeldPlace x n))) c.args.lbns.now c.loop-i.i (let end = c.loop-i-test.false in omega arith) c.loop-i.invariant.told at.0 k at.2
     (held_loose I L c.args.home_lbn n at.0 k t.1 c.requires.home at.1 t refl)

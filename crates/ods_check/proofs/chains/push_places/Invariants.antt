@@ -9,6 +9,6 @@ use Rattle.ods_check.proofs.chains.push_places.Given as goal
 
 abbrev pub invariant-loop-i : goal.invariant-loop-i
 invariant-loop-i l = record {
-  adds : Adds (IsLineOf l.fn.disk.image.now l.fn.disk.layout.now) l.initial.faults.items l.faults.items;
-  told : EachBefore (λ j b. IsLoose l.home_lbn l.number j b → Contains l.faults.items (Index (HeldPlace b l.number))) l.lbns l.i;
+  adds : Adds (IsLineOf l.fn.disk.image.now l.fn.disk.layout.now) l.initial.faults l.faults;
+  told : EachBefore (λ j b. IsLoose l.home_lbn l.number j b → Contains l.faults.0 (Index (HeldPlace b l.number))) l.lbns l.i;
 }

@@ -20,8 +20,8 @@ returns-clause-adds c =
     let set = c.args.shared.now in
     let x = c.in-Some.field-0 in
     let P : List ℕ → Type 0 = λ xs. IsFirstIn xs set x in
-    adds_one (IsLineOf c.args.disk.now.image.now c.args.disk.now.layout.now) _ _ (Plain (BadChain c.args.number)) c.in_ok-push.ensures.items
+    adds_one (IsLineOf c.args.disk.now.image.now c.args.disk.now.layout.now) _ _ (Plain (BadChain c.args.number)) c.in_ok-push.ensures
     (c.requires.file, inr (shares c.args.disk.now.image.now c.args.disk.now.layout.now c.args.number c.in_ok-headers.headers.items set c.in_ok-headers.ensures.headers c.requires.shared x (subst P c.deref.ensures.value c.in-Some.ensures.some)))
 
 pub returns-clause-shares : goal.returns-clause-shares
-returns-clause-shares c s = told_one _ _ (Plain (BadChain c.args.number)) c.in_ok-push.ensures.items
+returns-clause-shares c s = told_one _ _ (Plain (BadChain c.args.number)) c.in_ok-push.ensures

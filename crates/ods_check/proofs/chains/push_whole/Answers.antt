@@ -8,17 +8,17 @@ use Rattle.ods_check.proofs.chains.push_whole.Goals as goal
 pub returns-clause-adds : goal.returns-clause-adds
 returns-clause-adds c =
     let P = IsLineOf c.args.disk.now.image.now c.args.disk.now.layout.now in
-    adds_more P c.args.faults.now.items c.push_places.new.faults.items c.push_names.new.faults.items
-    (adds_more P c.args.faults.now.items c.push_free.new.faults.items c.push_places.new.faults.items c.in_ok-push_free.ensures.adds c.in_ok-push_places.ensures.adds)
+    adds_more P c.args.faults.now c.push_places.new.faults c.push_names.new.faults
+    (adds_more P c.args.faults.now c.push_free.new.faults c.push_places.new.faults c.in_ok-push_free.ensures.adds c.in_ok-push_places.ensures.adds)
     c.in_ok-push_names.ensures.adds
 
 pub returns-clause-file : goal.returns-clause-file
 returns-clause-file c =
     let P = IsLineOf c.args.disk.now.image.now c.args.disk.now.layout.now in
     let n = c.args.number in
-    let free = c.push_free.new.faults.items in
-    let places = c.push_places.new.faults.items in
-    let end = c.push_names.new.faults.items in
+    let free = c.push_free.new.faults in
+    let places = c.push_places.new.faults in
+    let end = c.push_names.new.faults in
     let last = c.in_ok-push_names.ensures.adds in
     let later = adds_more P free places end c.in_ok-push_places.ensures.adds last in
     record {

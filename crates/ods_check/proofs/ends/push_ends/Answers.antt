@@ -9,7 +9,7 @@ pub loop-number-preserved : goal.loop-number-preserved
 loop-number-preserved c =
     let I = c.args.disk.now.image.now in
     let L = c.args.disk.now.layout.now in
-    sweeps_at (IsFound I L) (IsEndPast I L) (λ n. EndPast (id_at I L n)) c.args.findings.now.items c.loop-number.findings.items c.push_if.new.list.items c.loop-number.number (EndPast c.id_of-file.result)
+    sweeps_at (IsFound I L) (IsEndPast I L) (λ n. EndPast (id_at I L n)) c.args.findings.now c.loop-number.findings c.push_if.new.list c.loop-number.number (EndPast c.id_of-file.result)
     (ap EndPast c.id_of-file.ensures) c.ends_past-past.result c.ends_past-past.ensures (λ h. (h, refl)) c.in_ok-push_if.ensures c.loop-number.invariant
 
 pub returns-clause-all : goal.returns-clause-all

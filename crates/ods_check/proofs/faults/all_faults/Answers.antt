@@ -1,37 +1,51 @@
+use Rattle.std.proofs.Common.{ap, ◌∙◌}
 use Rattle.ods_check.specs.declared.fault_line.FaultLine.TheVariants.{Plain}
 use Rattle.ods_check.specs.Lines.{IsLineOf, LineIsTrue}
-use Rattle.ods_check.proofs.Adding.{adds_more, adds_as, adds_either, all_added}
+use Rattle.ods_check.proofs.Adding.{adds_more, adds_as, adds_either, adds_most, all_added}
 use Rattle.ods_check.proofs.Lines.{line_by_layout, all_faults_true}
 use Rattle.ods_check.proofs.Telling.{told_all_still}
+use Rattle.ods_check.proofs.Others.{others_still}
 use Rattle.ods_check.proofs.faults.all_faults.Goals as goal
 
 pub returns-in_ok-tell-in-Ok-clause-lines : goal.returns-in_ok-tell-in-Ok-clause-lines
 returns-in_ok-tell-in-Ok-clause-lines c =
     let I = c.args.image.now in
     let L = c.in-Ok.layout in
-    let start = c.new-faults.result.items in
-    let middle = c.push_all.new.faults.items in
-    let end = c.tell.new.faults.items in
+    let start = c.new-faults.result in
+    let middle = c.push_all.new.faults in
+    let end = c.tell.new.faults in
     let added = adds_as (IsLineOf I L) (LineIsTrue I) start middle (line_by_layout I L c.in-Ok.ensures.layout) c.in_ok-push_all-in-Ok.ensures.adds in
     let told = adds_either (LineIsTrue I) middle end (Plain c.args.known) c.in_ok-tell-in-Ok.ensures.added c.requires in
-    all_added (LineIsTrue I) start end c.new-faults.ensures.items (adds_more (LineIsTrue I) start middle end added told)
+    all_added (LineIsTrue I) start end (ap (λ l. l.0) c.new-faults.ensures) (adds_more (LineIsTrue I) start middle end added told)
 
 pub returns-in_ok-tell-in-Ok-clause-true_of : goal.returns-in_ok-tell-in-Ok-clause-true_of
 returns-in_ok-tell-in-Ok-clause-true_of c =
     let I = c.args.image.now in
     let L = c.in-Ok.layout in
-    let start = c.new-faults.result.items in
-    let middle = c.push_all.new.faults.items in
-    let end = c.tell.new.faults.items in
+    let start = c.new-faults.result in
+    let middle = c.push_all.new.faults in
+    let end = c.tell.new.faults in
     let added = adds_as (IsLineOf I L) (LineIsTrue I) start middle (line_by_layout I L c.in-Ok.ensures.layout) c.in_ok-push_all-in-Ok.ensures.adds in
     let told = adds_either (LineIsTrue I) middle end (Plain c.args.known) c.in_ok-tell-in-Ok.ensures.added c.requires in
-    all_faults_true I end (all_added (LineIsTrue I) start end c.new-faults.ensures.items (adds_more (LineIsTrue I) start middle end added told))
+    all_faults_true I end.0 (all_added (LineIsTrue I) start end (ap (λ l. l.0) c.new-faults.ensures) (adds_more (LineIsTrue I) start middle end added told))
 
 pub returns-in_ok-tell-in-Ok-clause-layout : goal.returns-in_ok-tell-in-Ok-clause-layout
 returns-in_ok-tell-in-Ok-clause-layout c =
     let I = c.args.image.now in
     let L = c.in-Ok.layout in
-    let middle = c.push_all.new.faults.items in
-    let end = c.tell.new.faults.items in
+    let middle = c.push_all.new.faults in
+    let end = c.tell.new.faults in
     let told = adds_either (LineIsTrue I) middle end (Plain c.args.known) c.in_ok-tell-in-Ok.ensures.added c.requires in
-    (c.in-Ok.ensures.layout, told_all_still (LineIsTrue I) I L middle end told c.in_ok-push_all-in-Ok.ensures.all)
+    (c.in-Ok.ensures.layout, told_all_still (LineIsTrue I) I L _ middle end told c.in_ok-push_all-in-Ok.ensures.all, others_still I L (LineIsTrue I) middle end _ told c.in_ok-push_all-in-Ok.ensures.others)
+
+pub returns-in_ok-tell-in-Ok-clause-most : goal.returns-in_ok-tell-in-Ok-clause-most
+returns-in_ok-tell-in-Ok-clause-most c =
+    let I = c.args.image.now in
+    let L = c.in-Ok.layout in
+    let start = c.new-faults.result in
+    let middle = c.push_all.new.faults in
+    let end = c.tell.new.faults in
+    let told = adds_either (LineIsTrue I) middle end (Plain c.args.known) c.in_ok-tell-in-Ok.ensures.added c.requires in (
+      adds_most (LineIsTrue I) middle end told ∙ adds_most (IsLineOf I L) start middle c.in_ok-push_all-in-Ok.ensures.adds ∙ ap (λ l. l.1) c.new-faults.ensures,
+      c.in_ok-push_all-in-Ok.ensures.most ∙ ap (λ l. l.1) c.new-sharing.ensures,
+    )

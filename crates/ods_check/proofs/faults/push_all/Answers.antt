@@ -11,30 +11,30 @@ use Rattle.ods_check.proofs.faults.push_all.Goals as goal
 pub returns-clause-adds : goal.returns-clause-adds
 returns-clause-adds c =
     let P = IsLineOf c.args.disk.now.image.now c.args.disk.now.layout.now in
-    let start = c.args.faults.now.items in
-    let system = adds_more P start c.push_index.new.faults.items c.push_system.new.faults.items c.in_ok-push_index.ensures.adds c.in_ok-push_system.ensures.adds in
-    let formats = adds_more P start c.push_system.new.faults.items c.push_formats.new.faults.items system c.in_ok-push_formats.ensures.adds in
-    let files = adds_more P start c.push_formats.new.faults.items c.push_files.new.faults.items formats c.in_ok-push_files.ensures.adds in
-    adds_more P start c.push_files.new.faults.items c.push_shared.new.faults.items files c.in_ok-push_shared.ensures.adds
+    let start = c.args.faults.now in
+    let system = adds_more P start c.push_index.new.faults c.push_system.new.faults c.in_ok-push_index.ensures.adds c.in_ok-push_system.ensures.adds in
+    let formats = adds_more P start c.push_system.new.faults c.push_formats.new.faults system c.in_ok-push_formats.ensures.adds in
+    let files = adds_more P start c.push_formats.new.faults c.push_files.new.faults formats c.in_ok-push_files.ensures.adds in
+    adds_more P start c.push_files.new.faults c.push_shared.new.faults files c.in_ok-push_shared.ensures.adds
 
 pub returns-clause-all : goal.returns-clause-all
 returns-clause-all c =
     let P = IsLineOf c.args.disk.now.image.now c.args.disk.now.layout.now in
-    let first = c.push_index.new.faults.items in
-    let middle = c.push_system.new.faults.items in
-    let formats = c.push_formats.new.faults.items in
+    let first = c.push_index.new.faults in
+    let middle = c.push_system.new.faults in
+    let formats = c.push_formats.new.faults in
     let I = c.args.disk.now.image.now in
     let L = c.args.disk.now.layout.now in
-    let files = c.push_files.new.faults.items in
-    let end = c.push_shared.new.faults.items in
+    let files = c.push_files.new.faults in
+    let end = c.push_shared.new.faults in
     let shared = c.in_ok-push_shared.ensures.adds in
     let last = adds_more P formats files end c.in_ok-push_files.ensures.adds shared in
     let later = adds_more P middle formats end c.in_ok-push_formats.ensures.adds last in
     let index = told_index_still I L P first end (adds_more P first middle end c.in_ok-push_system.ensures.adds later) c.in_ok-push_index.ensures.index in
-    let of_files : (n : ℕ) → TellsFile I L end n = λ n. told_file_still I L n P files end shared (c.in_ok-push_files.ensures.files n) in
+    let of_files : (n : ℕ) → TellsFile I L end.0 n = λ n. told_file_still I L n P files end shared (c.in_ok-push_files.ensures.files n) in
     record {
-      index = each_reason I L end index of_files;
-      bad_index = some_reason I L end index of_files;
+      index = each_reason I L end.0 index of_files;
+      bad_index = some_reason I L end.0 index of_files;
       storage = λ t. told_still P middle end (Plain BadStorageMap) later (c.in_ok-push_system.ensures.storage t);
       master = λ t. told_still P middle end (Plain BadMaster) later (c.in_ok-push_system.ensures.master t);
       formats = λ n t. told_still P formats end (Plain (UnsupportedMap n)) last (c.in_ok-push_formats.ensures.all n t);

@@ -10,8 +10,8 @@ loop-number-preserved c =
     let I = c.args.disk.now.image.now in
     let L = c.args.disk.now.layout.now in
     let adds = c.in_ok-push_bad_header.ensures.adds in
-    sweeps_more (IsFound I L) (TellsHeader I L) c.args.findings.now.items c.loop-number.findings.items c.push_bad_header.new.findings.items c.loop-number.number
-    (λ n. told_header_still I L n c.loop-number.findings.items c.push_bad_header.new.findings.items adds) c.loop-number.invariant adds c.in_ok-push_bad_header.ensures.told
+    sweeps_more (IsFound I L) (TellsHeader I L) c.args.findings.now c.loop-number.findings c.push_bad_header.new.findings c.loop-number.number
+    (λ n. told_header_still I L n c.loop-number.findings c.push_bad_header.new.findings adds) c.loop-number.invariant adds c.in_ok-push_bad_header.ensures.told
 
 pub returns-clause-all : goal.returns-clause-all
 returns-clause-all c n small used =

@@ -15,7 +15,7 @@ loop-lbn-preserved c =
     let L = c.args.disk.now.layout.now in
     let T : ℕ → Type 0 = λ k. IsHomePlace k × IsTrue (is_free_block I L k) in
     let k = c.loop-lbn.lbn in
-    sweeps_at (IsLineOf I L) T (λ n. Index (FreePlace n)) c.args.faults.now.items c.loop-lbn.faults.items c.push_if.new.list.items k (Index (FreePlace k)) refl c.is_free_place-free.result c.is_free_place-free.ensures
+    sweeps_at (IsLineOf I L) T (λ n. Index (FreePlace n)) c.args.faults.now c.loop-lbn.faults c.push_if.new.list k (Index (FreePlace k)) refl c.is_free_place-free.result c.is_free_place-free.ensures
     (λ t. ((c.args.home_lbn, c.requires, t.0, c.loop-lbn-test.true), t.1)) c.in_ok-push_if.ensures c.loop-lbn.invariant
 
 pub returns-clause-adds : goal.returns-clause-adds

@@ -9,4 +9,4 @@ use Rattle.ods_check.proofs.Sweeping.{Sweeps}
 use Rattle.ods_check.proofs.index_faults.push_free_places.Given as goal
 
 abbrev pub invariant-loop-lbn : goal.invariant-loop-lbn
-invariant-loop-lbn l = Sweeps (IsLineOf l.fn.disk.image.now l.fn.disk.layout.now) (λ k found. (IsHomePlace k × IsTrue (is_free_block l.fn.disk.image.now l.fn.disk.layout.now k)) → Contains found (Index (FreePlace k))) l.initial.faults.items l.faults.items l.lbn
+invariant-loop-lbn l = Sweeps (IsLineOf l.fn.disk.image.now l.fn.disk.layout.now) (λ k found. (IsHomePlace k × IsTrue (is_free_block l.fn.disk.image.now l.fn.disk.layout.now k)) → Contains found (Index (FreePlace k))) l.initial.faults l.faults l.lbn

@@ -17,10 +17,10 @@ pub returns-clause-adds : goal.returns-clause-adds
 returns-clause-adds c =
     let at = c.in-Some.at in
     let first = c.in-Some.ensures.some in
-    adds_one (IsLineOf c.args.disk.now.image.now c.args.disk.now.layout.now) _ _ (Index (Misplaced (at + 3))) c.in_ok-push.ensures.items (at, refl, first.0, first.1)
+    adds_one (IsLineOf c.args.disk.now.image.now c.args.disk.now.layout.now) _ _ (Index (Misplaced (at + 3))) c.in_ok-push.ensures (at, refl, first.0, first.1)
 
 pub returns-clause-some : goal.returns-clause-some
-returns-clause-some c i h = (c.in-Some.at + 3, told_one _ _ (Index (Misplaced (c.in-Some.at + 3))) c.in_ok-push.ensures.items)
+returns-clause-some c i h = (c.in-Some.at + 3, told_one _ _ (Index (Misplaced (c.in-Some.at + 3))) c.in_ok-push.ensures)
 
 pub returns-clause-first : goal.returns-clause-first
 returns-clause-first c v h =
@@ -33,5 +33,5 @@ returns-clause-first c v h =
       | inr (inr above) ↦ absurd (first.1 h.0 above h.2)
     ] in
     let place : at + 3 ≡ v = omega arith in
-    let P : ℕ → Type 0 = λ k. Contains c.push.new.self.items (Index (Misplaced k)) in
-    subst P place (told_one _ _ (Index (Misplaced (at + 3))) c.in_ok-push.ensures.items)
+    let P : ℕ → Type 0 = λ k. Contains c.push.new.self.0 (Index (Misplaced k)) in
+    subst P place (told_one _ _ (Index (Misplaced (at + 3))) c.in_ok-push.ensures)

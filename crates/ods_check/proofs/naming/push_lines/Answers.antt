@@ -14,13 +14,13 @@ loop-i-preserved c =
     let d = c.args.directory in
     let lines = c.args.lines.now in
     let i = c.loop-i.i in
-    let mid = c.loop-i.findings.items in
-    let new = c.push_line.new.findings.items in
+    let mid = c.loop-i.findings in
+    let new = c.push_line.new.findings in
     let x = c.index-lines-i.result in
     let at : slice_get lines i ≡ Some x = slice_get-get_or lines i x c.loop-i-test.true ∙ ap Some (sym c.index-lines-i.is) in
     let told = c.in_ok-push_line.ensures in
     record {
-      told = sweeps_more (IsFound I L) (TellsLine I L d lines) c.args.findings.now.items mid new i (λ k. told_line_still I L mid new told.adds d lines k) c.loop-i.invariant.told told.adds (line_told I L lines i x at d new told.told);
+      told = sweeps_more (IsFound I L) (TellsLine I L d lines) c.args.findings.now mid new i (λ k. told_line_still I L mid new told.adds d lines k) c.loop-i.invariant.told told.adds (line_told I L lines i x at d new.0 told.told);
       named = grown_more (NamesAt I L lines) c.args.named.now i c.loop-i.named c.push_line.new.named c.loop-i.invariant.named (line_named I L lines i x at c.loop-i.named c.push_line.new.named told.named);
       room = told.room ∙ c.loop-i.invariant.room;
     }

@@ -8,5 +8,5 @@ pub loop-number-preserved : goal.loop-number-preserved
 loop-number-preserved c =
     let I = c.args.disk.now.image.now in
     let L = c.args.disk.now.layout.now in
-    sweeps_at (IsFound I L) (IsLostFile I L) (λ n. LostFile (id_at I L n)) c.args.findings.now.items c.loop-number.findings.items c.push_if.new.list.items c.loop-number.number (LostFile c.id_of-file.result)
+    sweeps_at (IsFound I L) (IsLostFile I L) (λ n. LostFile (id_at I L n)) c.args.findings.now c.loop-number.findings c.push_if.new.list c.loop-number.number (LostFile c.id_of-file.result)
     (ap LostFile c.id_of-file.ensures) c.is_lost-lost.result c.is_lost-lost.ensures (λ h. (h, refl)) c.in_ok-push_if.ensures c.loop-number.invariant

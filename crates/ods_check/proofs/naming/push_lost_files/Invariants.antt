@@ -5,4 +5,4 @@ use Rattle.ods_check.proofs.Sweeping.{Sweeps}
 use Rattle.ods_check.proofs.naming.push_lost_files.Given as goal
 
 abbrev pub invariant-loop-number : goal.invariant-loop-number
-invariant-loop-number l = Sweeps (IsFound l.fn.disk.image.now l.fn.disk.layout.now) (λ n found. IsLostFile l.fn.disk.image.now l.fn.disk.layout.now n → Contains found (LostFile (id_at l.fn.disk.image.now l.fn.disk.layout.now n))) l.initial.findings.items l.findings.items l.number
+invariant-loop-number l = Sweeps (IsFound l.fn.disk.image.now l.fn.disk.layout.now) (λ n found. IsLostFile l.fn.disk.image.now l.fn.disk.layout.now n → Contains found (LostFile (id_at l.fn.disk.image.now l.fn.disk.layout.now n))) l.initial.findings l.findings l.number

@@ -12,11 +12,11 @@ returns-clause-names c line none =
     let I = c.args.disk.now.image.now in
     let L = c.args.disk.now.layout.now in
     let d = c.args.directory in
-    let found = c.push_lines.new.findings.items in
+    let found = c.push_lines.new.findings in
     let lines = c.in_ok-lines.lines.items in
-    let P : List Listed → Type 0 = λ ls. (k : ℕ) → TellsLine I L d ls k found in
+    let P : List Listed → Type 0 = λ ls. (k : ℕ) → TellsLine I L d ls k found.0 in
     let told : P lines = subst P c.deref.ensures.value c.in_ok-push_lines.ensures.names in
-    names_told I L d lines c.in_ok-lines.ensures found told line none.0 none.1
+    names_told I L d lines c.in_ok-lines.ensures found.0 told line none.0 none.1
 
 pub returns-clause-named : goal.returns-clause-named
 returns-clause-named c =

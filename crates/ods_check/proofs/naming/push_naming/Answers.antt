@@ -13,7 +13,7 @@ loop-number-init c =
     let I = c.args.disk.now.image.now in
     let L = c.args.disk.now.layout.now in
     record {
-      told = sweeps_none (IsFound I L) (TellsNames I L) c.args.findings.now.items;
+      told = sweeps_none (IsFound I L) (TellsNames I L) c.args.findings.now;
       files = files_none (NamesFile I L) c.in_ok-named.named c.in_ok-named.ensures.empty;
       room = c.in_ok-named.ensures.room;
     }
@@ -22,12 +22,12 @@ pub loop-number-preserved : goal.loop-number-preserved
 loop-number-preserved c =
     let I = c.args.disk.now.image.now in
     let L = c.args.disk.now.layout.now in
-    let mid = c.loop-number.findings.items in
-    let new = c.push_names.new.findings.items in
+    let mid = c.loop-number.findings in
+    let new = c.push_names.new.findings in
     let told = c.in_ok-push_names.ensures in
     let P : ℕ → Type 0 = λ l. 65536 ≤ 64 * l in
     record {
-      told = sweeps_more (IsFound I L) (TellsNames I L) c.args.findings.now.items mid new c.loop-number.number (λ d. told_names_still I L mid new told.adds d) c.loop-number.invariant.told told.adds told.names;
+      told = sweeps_more (IsFound I L) (TellsNames I L) c.args.findings.now mid new c.loop-number.number (λ d. told_names_still I L mid new told.adds d) c.loop-number.invariant.told told.adds told.names;
       files = files_more (NamesFile I L) c.loop-number.number c.loop-number.named c.push_names.new.named c.loop-number.invariant.files told.named;
       room = subst P (sym told.room) c.loop-number.invariant.room;
     }
@@ -40,9 +40,12 @@ push_lost_files-requires c =
     let last = ap (λ h. h.max_files) c.home.ensures in
     files_all (NamesFile I L) c.loop-number.number c.loop-number.named (λ d b h. let small = file_small I L d h.1.has.file in omega arith) c.loop-number.invariant.files
 
+pub returns-then-not-with_lost-clause-adds : goal.returns-then-not-with_lost-clause-adds
+returns-then-not-with_lost-clause-adds c = c.loop-number.invariant.told.adds
+
 pub returns-clause-adds : goal.returns-clause-adds
 returns-clause-adds c =
-    adds_more (IsFound c.args.disk.now.image.now c.args.disk.now.layout.now) c.args.findings.now.items c.loop-number.findings.items c.push_lost_files.new.findings.items c.loop-number.invariant.told.adds c.in_ok-push_lost_files.ensures.adds
+    adds_more (IsFound c.args.disk.now.image.now c.args.disk.now.layout.now) c.args.findings.now c.loop-number.findings c.push_lost_files.new.findings c.loop-number.invariant.told.adds c.in_ok-push_lost_files.ensures.adds
 
 pub returns-clause-names : goal.returns-clause-names
 returns-clause-names c d line none =
@@ -51,4 +54,4 @@ returns-clause-names c d line none =
     let end = c.loop-number-test.false in
     let last = ap (λ h. h.max_files) c.home.ensures in
     let small = file_small I L d none.0.has.file in
-    told_still (IsFound I L) c.loop-number.findings.items c.push_lost_files.new.findings.items (NamesNone d line) c.in_ok-push_lost_files.ensures.adds (c.loop-number.invariant.told.told d (omega arith) line none)
+    told_still (IsFound I L) c.loop-number.findings c.push_lost_files.new.findings (NamesNone d line) c.in_ok-push_lost_files.ensures.adds (c.loop-number.invariant.told.told d (omega arith) line none)

@@ -9,16 +9,16 @@ use Rattle.ods_check.proofs.sharing.push_common.Goals as goal
 
 pub returns-in_default-clause-told : goal.returns-in_default-clause-told
 returns-in_default-clause-told c =
-    none_shared c.args.disk.now.image.now c.args.disk.now.layout.now c.args.faults.now.items c.args.one c.args.other c.args.lbns.now c.args.shared.now c.requires.whole c.requires.shared c.in_default.ensures.none
+    none_shared c.args.disk.now.image.now c.args.disk.now.layout.now c.args.faults.now.0 c.args.one c.args.other c.args.lbns.now c.args.shared.now c.requires.whole c.requires.shared c.in_default.ensures.none
 
 pub returns-clause-adds : goal.returns-clause-adds
 returns-clause-adds c =
     let count = c.count_of-count.ensures.count in
-    adds_one (IsLineOf c.args.disk.now.image.now c.args.disk.now.layout.now) _ _ (Shared c.args.one c.args.other c.in-Some.lbn c.count_of-count.result) c.in_ok-push.ensures.items
+    adds_one (IsLineOf c.args.disk.now.image.now c.args.disk.now.layout.now) _ _ (Shared c.args.one c.args.other c.in-Some.lbn c.count_of-count.result) c.in_ok-push.ensures
     (pair_shares c.args.disk.now.image.now c.args.disk.now.layout.now c.args.one c.args.other c.args.lbns.now c.args.shared.now count.0 c.in-Some.lbn c.count_of-count.result c.requires.whole c.requires.shared c.in-Some.ensures.some count.1 count.2)
 
 pub returns-clause-told : goal.returns-clause-told
-returns-clause-told c b share = (c.in-Some.lbn, c.count_of-count.result, told_one _ _ (Shared c.args.one c.args.other c.in-Some.lbn c.count_of-count.result) c.in_ok-push.ensures.items)
+returns-clause-told c b share = (c.in-Some.lbn, c.count_of-count.result, told_one _ _ (Shared c.args.one c.args.other c.in-Some.lbn c.count_of-count.result) c.in_ok-push.ensures)
 
 pub count_of-count-requires-clause-few : goal.count_of-count-requires-clause-few
 count_of-count-requires-clause-few c =

@@ -7,7 +7,7 @@ use Rattle.ods_check.proofs.sharing.push_each_pair.Given as goal
 
 abbrev pub invariant-loop-one : goal.invariant-loop-one
 invariant-loop-one l = record {
-  sweeps : Sweeps (IsLineOf l.fn.disk.image.now l.fn.disk.layout.now) (λ m found. TellsPair l.fn.disk.image.now l.fn.disk.layout.now found m l.number) l.initial.faults.items l.faults.items l.one;
+  sweeps : Sweeps (IsLineOf l.fn.disk.image.now l.fn.disk.layout.now) (λ m found. TellsPair l.fn.disk.image.now l.fn.disk.layout.now found m l.number) l.initial.faults l.faults l.one;
   size : length l.counted ≡ length l.fn.disk.image.now;
   counted : (i : ℕ) → slice_index l.counted i ≤ l.one;
 }

@@ -4,7 +4,7 @@ use Rattle.ods_check.proofs.Pairs.{none_twice, shared_of_own}
 use Rattle.ods_check.proofs.sharing.push_own.Goals as goal
 
 pub returns-then-is_new-clause-told : goal.returns-then-is_new-clause-told
-returns-then-is_new-clause-told c = none_twice c.args.disk.now.image.now c.args.disk.now.layout.now c.args.faults.now.items c.args.number c.args.lbns.now c.requires.whole (c.requires.new c.if-is_new.true)
+returns-then-is_new-clause-told c = none_twice c.args.disk.now.image.now c.args.disk.now.layout.now c.args.faults.now.0 c.args.number c.args.lbns.now c.requires.whole (c.requires.new c.if-is_new.true)
 
 pub push_common-requires-clause-shared : goal.push_common-requires-clause-shared
 push_common-requires-clause-shared c =

@@ -16,12 +16,12 @@ push_common-requires-clause-counted c i = let low = c.requires.counted i in omeg
 
 pub returns-in-Err-BadChain-clause-told : goal.returns-in-Err-BadChain-clause-told
 returns-in-Err-BadChain-clause-told c =
-    no_pair c.args.disk.now.image.now c.args.disk.now.layout.now c.args.faults.now.items c.args.one c.args.other
+    no_pair c.args.disk.now.image.now c.args.disk.now.layout.now c.args.faults.now.0 c.args.one c.args.other
     (λ b h. not_held c.args.disk.now.image.now c.args.disk.now.layout.now c.args.one b c.in-Err-BadChain.field-0 c.in-Err-BadChain.ensures.err
     (λ e. let clash : BadChain ≡ NoMemory = sym c.in-Err-BadChain.field-0-is ∙ e in absurd cc) h.0 h.1)
 
 pub returns-in-Err-OutsideVolume-clause-told : goal.returns-in-Err-OutsideVolume-clause-told
 returns-in-Err-OutsideVolume-clause-told c =
-    no_pair c.args.disk.now.image.now c.args.disk.now.layout.now c.args.faults.now.items c.args.one c.args.other
+    no_pair c.args.disk.now.image.now c.args.disk.now.layout.now c.args.faults.now.0 c.args.one c.args.other
     (λ b h. not_held c.args.disk.now.image.now c.args.disk.now.layout.now c.args.one b c.in-Err-OutsideVolume.field-0 c.in-Err-OutsideVolume.ensures.err
     (λ e. let clash : OutsideVolume c.in-Err-OutsideVolume.field-0-0 ≡ NoMemory = sym c.in-Err-OutsideVolume.field-0-is ∙ e in absurd cc) h.0 h.1)

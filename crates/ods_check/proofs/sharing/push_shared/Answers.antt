@@ -1,11 +1,11 @@
-use Rattle.std.proofs.Common.{ℕ, ◌*◌, ◌≤◌, length, sym, ap, subst, arith}
+use Rattle.std.proofs.Common.{◌≡◌, ℕ, ◌*◌, ◌≤◌, length, inl, inr, sym, ap, subst, arith}
+use Rattle.std.proofs.lemmas.Bool.{cases_lt}
 use Rattle.ods_check.specs.Lines.{IsLineOf}
 use Rattle.ods_mount.proofs.Holders.{file_small}
-use Rattle.ods_check.specs.Faults.{TellsPair}
 use Rattle.ods_check.specs.Findings.{HasBlock}
+use Rattle.ods_check.proofs.Adding.{adds_none, adds_more}
 use Rattle.ods_check.proofs.Noting.{files_none}
-use Rattle.ods_check.proofs.Pairs.{told_pair_still}
-use Rattle.ods_check.proofs.Sweeping.{sweeps_none, sweeps_more}
+use Rattle.ods_check.proofs.Others.{TellsOr, has_none, others_more, tells_or_still}
 use Rattle.ods_check.proofs.sharing.push_shared.Goals as goal
 
 pub loop-number-init : goal.loop-number-init
@@ -15,7 +15,9 @@ loop-number-init c =
     let room = c.in_ok-held.ensures.room in
     let size = c.len.ensures.value in
     record {
-      told = sweeps_none (IsLineOf I L) (λ n found. (m : ℕ) → m ≤ n → TellsPair I L found m n) c.args.faults.now.items;
+      adds = adds_none (IsLineOf I L) c.args.faults.now;
+      told = λ n low. absurd (omega arith);
+      others = has_none I L c.args.faults.now c.args.others.now c.requires.none;
       files = files_none (HasBlock I L) c.in_ok-held.held c.in_ok-held.ensures.empty;
       room = omega arith;
     }
@@ -24,20 +26,43 @@ pub loop-number-preserved : goal.loop-number-preserved
 loop-number-preserved c =
     let I = c.args.disk.now.image.now in
     let L = c.args.disk.now.layout.now in
-    let mid = c.loop-number.faults.items in
-    let new = c.push_shared_of.new.faults.items in
+    let k = c.loop-number.number in
+    let mid = c.loop-number.faults in
+    let new = c.push_shared_of.new.faults in
+    let xs = c.loop-number.others in
+    let ys = c.push_shared_of.new.others in
     let e = c.in_ok-push_shared_of.ensures in
     let P : ℕ → Type 0 = λ l. length I ≤ 64 * l in
     record {
-      told = sweeps_more (IsLineOf I L) (λ n found. (m : ℕ) → m ≤ n → TellsPair I L found m n) c.args.faults.now.items mid new c.loop-number.number
-          (λ n t m low. told_pair_still I L (IsLineOf I L) mid new e.adds m n (t m low)) c.loop-number.invariant.told e.adds e.told;
+      adds = adds_more (IsLineOf I L) c.args.faults.now mid new c.loop-number.invariant.adds e.adds;
+      told = λ n low m within. elim (cases_lt n k) [
+        | inl less ↦ tells_or_still I L (IsLineOf I L) mid new k xs ys e.adds e.others m n (c.loop-number.invariant.told n less m within)
+        | inr more ↦
+            let is : k ≡ n = omega arith in
+            let Q : ℕ → Type 0 = λ j. m ≤ j → TellsOr I L new ys m j in
+            subst Q is (e.told m) within
+      ];
+      others = others_more I L (IsLineOf I L) mid new k xs ys e.adds e.others c.args.others.now c.loop-number.invariant.others;
       files = e.held;
       room = subst P (sym e.room) c.loop-number.invariant.room;
     }
 
 pub returns-clause-all : goal.returns-clause-all
-returns-clause-all c m n low b share =
+returns-clause-all c m n low =
+    let I = c.args.disk.now.image.now in
+    let L = c.args.disk.now.layout.now in
     let end = c.loop-number-test.false in
     let last = ap (λ x. x.max_files) c.home.ensures in
-    let small = file_small c.args.disk.now.image.now c.args.disk.now.layout.now n share.3.file.file in
-    c.loop-number.invariant.told.told n (omega arith) m low b share
+    elim (cases_lt n c.loop-number.number) [
+      | inl less ↦ c.loop-number.invariant.told n less m low
+      | inr more ↦ inl (λ b share. absurd (let small = file_small I L n share.3.file.file in omega arith))
+    ]
+
+pub returns-clause-adds : goal.returns-clause-adds
+returns-clause-adds c = c.loop-number.invariant.adds
+
+pub returns-clause-others : goal.returns-clause-others
+returns-clause-others c = c.loop-number.invariant.others.are
+
+pub returns-clause-most : goal.returns-clause-most
+returns-clause-most c = c.loop-number.invariant.others.most

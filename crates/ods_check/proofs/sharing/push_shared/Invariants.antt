@@ -1,14 +1,16 @@
-use Rattle.std.proofs.Common.{ℕ, ◌*◌, ◌≤◌, length}
+use Rattle.std.proofs.Common.{ℕ, ◌*◌, ◌<◌, ◌≤◌, length}
+use Rattle.ods_check.specs.Lists.{Adds}
 use Rattle.ods_check.specs.Lines.{IsLineOf}
-use Rattle.ods_check.specs.Faults.{TellsPair}
 use Rattle.ods_check.specs.Findings.{HasBlock}
 use Rattle.ods_check.proofs.Noting.{IsOfFiles}
-use Rattle.ods_check.proofs.Sweeping.{Sweeps}
+use Rattle.ods_check.proofs.Others.{TellsOr, HasOthers}
 use Rattle.ods_check.proofs.sharing.push_shared.Given as goal
 
 abbrev pub invariant-loop-number : goal.invariant-loop-number
 invariant-loop-number l = record {
-  told : Sweeps (IsLineOf l.fn.disk.image.now l.fn.disk.layout.now) (λ n found. (m : ℕ) → m ≤ n → TellsPair l.fn.disk.image.now l.fn.disk.layout.now found m n) l.initial.faults.items l.faults.items l.number;
+  adds : Adds (IsLineOf l.fn.disk.image.now l.fn.disk.layout.now) l.initial.faults l.faults;
+  told : (n : ℕ) → n < l.number → (m : ℕ) → m ≤ n → TellsOr l.fn.disk.image.now l.fn.disk.layout.now l.faults l.others m n;
+  others : HasOthers l.fn.disk.image.now l.fn.disk.layout.now l.faults l.initial.others l.others l.number;
   files : IsOfFiles (HasBlock l.fn.disk.image.now l.fn.disk.layout.now) l.number l.held;
   room : length l.fn.disk.image.now ≤ 64 * length l.held;
 }

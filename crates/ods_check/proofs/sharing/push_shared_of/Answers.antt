@@ -15,21 +15,24 @@ use Rattle.ods_check.proofs.sharing.push_shared_of.Goals as goal
 
 pub returns-in_ok-push_own-in-Ok-clause-adds : goal.returns-in_ok-push_own-in-Ok-clause-adds
 returns-in_ok-push_own-in-Ok-clause-adds c =
-    adds_more (IsLineOf c.args.disk.now.image.now c.args.disk.now.layout.now) c.args.faults.now.items c.push_pairs.new.faults.items c.push_own.new.faults.items c.in_ok-push_pairs-in-Ok.ensures.adds c.in_ok-push_own-in-Ok.ensures.adds
+    adds_more (IsLineOf c.args.disk.now.image.now c.args.disk.now.layout.now) c.args.faults.now c.push_pairs.new.faults c.push_own.new.faults c.in_ok-push_pairs-in-Ok.ensures.adds c.in_ok-push_own-in-Ok.ensures.adds
 
 pub returns-in_ok-push_own-in-Ok-clause-told : goal.returns-in_ok-push_own-in-Ok-clause-told
 returns-in_ok-push_own-in-Ok-clause-told c m low =
     let I = c.args.disk.now.image.now in
     let L = c.args.disk.now.layout.now in
     let n = c.args.number in
-    let mid = c.push_pairs.new.faults.items in
-    let new = c.push_own.new.faults.items in
+    let mid = c.push_pairs.new.faults in
+    let new = c.push_own.new.faults in
     elim (cases_lt m n) [
-      | inl less ↦ told_pair_still I L (IsLineOf I L) mid new c.in_ok-push_own-in-Ok.ensures.adds m n (c.in_ok-push_pairs-in-Ok.ensures.told m less)
+      | inl less ↦ elim (c.in_ok-push_pairs-in-Ok.ensures.told m less) [
+        | inl told ↦ inl (told_pair_still I L (IsLineOf I L) mid new c.in_ok-push_own-in-Ok.ensures.adds m n told)
+        | inr there ↦ inr there
+      ]
       | inr more ↦
           let e : n ≡ m = omega arith in
-          let P : ℕ → Type 0 = λ k. TellsPair I L new k n in
-          subst P e c.in_ok-push_own-in-Ok.ensures.told
+          let P : ℕ → Type 0 = λ k. TellsPair I L new.0 k n in
+          inl (subst P e c.in_ok-push_own-in-Ok.ensures.told)
     ]
 
 pub returns-in_ok-push_own-in-Ok-clause-held : goal.returns-in_ok-push_own-in-Ok-clause-held
@@ -43,9 +46,9 @@ returns-in_ok-push_own-in-Ok-clause-held c =
 
 pub returns-in-Err-BadChain-clause-told : goal.returns-in-Err-BadChain-clause-told
 returns-in-Err-BadChain-clause-told c m low =
-    no_pair_behind c.args.disk.now.image.now c.args.disk.now.layout.now c.args.faults.now.items m c.args.number
+    inl (no_pair_behind c.args.disk.now.image.now c.args.disk.now.layout.now c.args.faults.now.0 m c.args.number
     (λ b h. not_held c.args.disk.now.image.now c.args.disk.now.layout.now c.args.number b c.in-Err-BadChain.field-0 c.in-Err-BadChain.ensures.err
-    (λ e. let clash : BadChain ≡ NoMemory = sym c.in-Err-BadChain.field-0-is ∙ e in absurd cc) h.0 h.1)
+    (λ e. let clash : BadChain ≡ NoMemory = sym c.in-Err-BadChain.field-0-is ∙ e in absurd cc) h.0 h.1))
 
 pub returns-in-Err-BadChain-clause-held : goal.returns-in-Err-BadChain-clause-held
 returns-in-Err-BadChain-clause-held c =
@@ -55,9 +58,9 @@ returns-in-Err-BadChain-clause-held c =
 
 pub returns-in-Err-OutsideVolume-clause-told : goal.returns-in-Err-OutsideVolume-clause-told
 returns-in-Err-OutsideVolume-clause-told c m low =
-    no_pair_behind c.args.disk.now.image.now c.args.disk.now.layout.now c.args.faults.now.items m c.args.number
+    inl (no_pair_behind c.args.disk.now.image.now c.args.disk.now.layout.now c.args.faults.now.0 m c.args.number
     (λ b h. not_held c.args.disk.now.image.now c.args.disk.now.layout.now c.args.number b c.in-Err-OutsideVolume.field-0 c.in-Err-OutsideVolume.ensures.err
-    (λ e. let clash : OutsideVolume c.in-Err-OutsideVolume.field-0-0 ≡ NoMemory = sym c.in-Err-OutsideVolume.field-0-is ∙ e in absurd cc) h.0 h.1)
+    (λ e. let clash : OutsideVolume c.in-Err-OutsideVolume.field-0-0 ≡ NoMemory = sym c.in-Err-OutsideVolume.field-0-is ∙ e in absurd cc) h.0 h.1))
 
 pub returns-in-Err-OutsideVolume-clause-held : goal.returns-in-Err-OutsideVolume-clause-held
 returns-in-Err-OutsideVolume-clause-held c =

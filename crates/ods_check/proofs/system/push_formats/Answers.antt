@@ -13,7 +13,7 @@ use Rattle.ods_check.proofs.system.push_formats.Goals as goal
 
 pub loop-k-init : goal.loop-k-init
 loop-k-init c = record {
-  adds = adds_none (IsLineOf c.args.disk.now.image.now c.args.disk.now.layout.now) c.args.faults.now.items;
+  adds = adds_none (IsLineOf c.args.disk.now.image.now c.args.disk.now.layout.now) c.args.faults.now;
   all = λ n low t.
       let e : n ≡ 0 = omega arith in
       let none : false ≡ true = subst (λ x. is_in_use c.args.disk.now.image.now c.args.disk.now.layout.now.home x ≡ true) e t.0 in
@@ -26,15 +26,15 @@ loop-k-preserved c =
     let T : ℕ → Type 0 = λ n. IsTrueOf c.args.disk.now.image.now c.args.disk.now.layout.now (UnsupportedMap n) in
     let left = c.is_left_aside-is_left.result in
     let x = Plain (UnsupportedMap (c.loop-k.k + 1)) in
-    let added = adds_if P c.loop-k.faults.items c.push_if.new.list.items x left c.in_ok-push_if.ensures (true_holds left (T (c.loop-k.k + 1)) c.is_left_aside-is_left.ensures) in
+    let added = adds_if P c.loop-k.faults c.push_if.new.list x left c.in_ok-push_if.ensures (true_holds left (T (c.loop-k.k + 1)) c.is_left_aside-is_left.ensures) in
     record {
-      adds = adds_more P c.args.faults.now.items c.loop-k.faults.items c.push_if.new.list.items c.loop-k.invariant.adds added;
+      adds = adds_more P c.args.faults.now c.loop-k.faults c.push_if.new.list c.loop-k.invariant.adds added;
       all = λ n low t. elim (cases_lt n (c.loop-k.k + 1)) [
-        | inl less ↦ told_still P c.loop-k.faults.items c.push_if.new.list.items (Plain (UnsupportedMap n)) added (c.loop-k.invariant.all n (omega arith) t)
+        | inl less ↦ told_still P c.loop-k.faults c.push_if.new.list (Plain (UnsupportedMap n)) added (c.loop-k.invariant.all n (omega arith) t)
         | inr more ↦
             let e : c.loop-k.k + 1 ≡ n = omega arith in
-            let Q : ℕ → Type 0 = λ x. T x → Contains c.push_if.new.list.items (Plain (UnsupportedMap x)) in
-            subst Q e (λ here. told_if c.loop-k.faults.items c.push_if.new.list.items x left c.in_ok-push_if.ensures (holds_true c.is_left_aside-is_left.result (T (c.loop-k.k + 1)) c.is_left_aside-is_left.ensures here)) t
+            let Q : ℕ → Type 0 = λ x. T x → Contains c.push_if.new.list.0 (Plain (UnsupportedMap x)) in
+            subst Q e (λ here. told_if c.loop-k.faults c.push_if.new.list x left c.in_ok-push_if.ensures (holds_true c.is_left_aside-is_left.result (T (c.loop-k.k + 1)) c.is_left_aside-is_left.ensures here)) t
       ];
     }
 

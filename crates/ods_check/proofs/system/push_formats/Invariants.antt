@@ -9,6 +9,6 @@ use Rattle.ods_check.proofs.system.push_formats.Given as goal
 
 abbrev pub invariant-loop-k : goal.invariant-loop-k
 invariant-loop-k l = record {
-  adds : Adds (IsLineOf l.fn.disk.image.now l.fn.disk.layout.now) l.initial.faults.items l.faults.items;
-  all : (n : ℕ) → n ≤ l.k → IsTrueOf l.fn.disk.image.now l.fn.disk.layout.now (UnsupportedMap n) → Contains l.faults.items (Plain (UnsupportedMap n));
+  adds : Adds (IsLineOf l.fn.disk.image.now l.fn.disk.layout.now) l.initial.faults l.faults;
+  all : (n : ℕ) → n ≤ l.k → IsTrueOf l.fn.disk.image.now l.fn.disk.layout.now (UnsupportedMap n) → Contains l.faults.0 (Plain (UnsupportedMap n));
 }

@@ -10,9 +10,9 @@ pub returns-clause-adds : goal.returns-clause-adds
 returns-clause-adds c =
     let P = IsLineOf c.args.disk.now.image.now c.args.disk.now.layout.now in
     let T = IsTrueOf c.args.disk.now.image.now c.args.disk.now.layout.now in
-    let start = c.args.faults.now.items in
-    let middle = c.push_if.new.list.items in
-    let end = c.push_if-2.new.list.items in
+    let start = c.args.faults.now in
+    let middle = c.push_if.new.list in
+    let end = c.push_if-2.new.list in
     adds_more P start middle end
     (adds_if P start middle (Plain BadStorageMap) c.is_short.result c.in_ok-push_if.ensures (true_holds c.is_short.result (T BadStorageMap) c.is_short.ensures))
     (adds_if P middle end (Plain BadMaster) c.lacks_master.result c.in_ok-push_if-2.ensures (true_holds c.lacks_master.result (T BadMaster) c.lacks_master.ensures))
@@ -21,13 +21,13 @@ pub returns-clause-storage : goal.returns-clause-storage
 returns-clause-storage c t =
     let P = IsLineOf c.args.disk.now.image.now c.args.disk.now.layout.now in
     let T = IsTrueOf c.args.disk.now.image.now c.args.disk.now.layout.now in
-    let middle = c.push_if.new.list.items in
-    let end = c.push_if-2.new.list.items in
+    let middle = c.push_if.new.list in
+    let end = c.push_if-2.new.list in
     told_still P middle end (Plain BadStorageMap)
     (adds_if P middle end (Plain BadMaster) c.lacks_master.result c.in_ok-push_if-2.ensures (true_holds c.lacks_master.result (T BadMaster) c.lacks_master.ensures))
-    (told_if c.args.faults.now.items middle (Plain BadStorageMap) c.is_short.result c.in_ok-push_if.ensures (holds_true c.is_short.result (T BadStorageMap) c.is_short.ensures t))
+    (told_if c.args.faults.now middle (Plain BadStorageMap) c.is_short.result c.in_ok-push_if.ensures (holds_true c.is_short.result (T BadStorageMap) c.is_short.ensures t))
 
 pub returns-clause-master : goal.returns-clause-master
 returns-clause-master c t =
     let T = IsTrueOf c.args.disk.now.image.now c.args.disk.now.layout.now in
-    told_if c.push_if.new.list.items c.push_if-2.new.list.items (Plain BadMaster) c.lacks_master.result c.in_ok-push_if-2.ensures (holds_true c.lacks_master.result (T BadMaster) c.lacks_master.ensures t)
+    told_if c.push_if.new.list c.push_if-2.new.list (Plain BadMaster) c.lacks_master.result c.in_ok-push_if-2.ensures (holds_true c.lacks_master.result (T BadMaster) c.lacks_master.ensures t)

@@ -8,7 +8,7 @@ pub loop-lbn-preserved : goal.loop-lbn-preserved
 loop-lbn-preserved c =
     let I = c.args.disk.now.image.now in
     let L = c.args.disk.now.layout.now in
-    sweeps_if (IsFound I L) (IsHeldByNone I L) HeldByNone c.args.findings.now.items c.loop-lbn.findings.items c.push_if.new.list.items c.loop-lbn.lbn c.is_unheld-unheld.result c.is_unheld-unheld.ensures (λ h. h)
+    sweeps_if (IsFound I L) (IsHeldByNone I L) HeldByNone c.args.findings.now c.loop-lbn.findings c.push_if.new.list c.loop-lbn.lbn c.is_unheld-unheld.result c.is_unheld-unheld.ensures (λ h. h)
     c.in_ok-push_if.ensures c.loop-lbn.invariant
 
 pub returns-clause-all : goal.returns-clause-all

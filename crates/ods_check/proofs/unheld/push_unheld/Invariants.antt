@@ -5,4 +5,4 @@ use Rattle.ods_check.proofs.Sweeping.{Sweeps}
 use Rattle.ods_check.proofs.unheld.push_unheld.Given as goal
 
 abbrev pub invariant-loop-lbn : goal.invariant-loop-lbn
-invariant-loop-lbn l = Sweeps (IsFound l.fn.disk.image.now l.fn.disk.layout.now) (λ b found. IsHeldByNone l.fn.disk.image.now l.fn.disk.layout.now b → Contains found (HeldByNone b)) l.initial.findings.items l.findings.items l.lbn
+invariant-loop-lbn l = Sweeps (IsFound l.fn.disk.image.now l.fn.disk.layout.now) (λ b found. IsHeldByNone l.fn.disk.image.now l.fn.disk.layout.now b → Contains found (HeldByNone b)) l.initial.findings l.findings l.lbn

@@ -1,5 +1,19 @@
-use Rattle.ods_filing.proofs.Led.{then_led}
+use Rattle.std.proofs.Common.{◌≡◌, ◌≤◌, arith, refl, subst, ℕ, length}
+use Rattle.ods_upkeep.specs.Made.{AreMade}
+use Rattle.ods_upkeep.proofs.Made.{own_left, one_more}
 use Rattle.ods_upkeep.proofs.directories.make_directories.Goals as goal
 
+pub loop-path-init : goal.loop-path-init
+loop-path-init c = (omega arith, refl)
+
 pub loop-path-preserved : goal.loop-path-preserved
-loop-path-preserved c = then_led c.loop-path.invariant c.in-Ok.ensures
+loop-path-preserved c = (omega (arith, c.loop-path-test.true), one_more c.args.owner c.args.asked.now.user c.args.asked.now.stamp c.args.volume c.loop-path.volume c.in-Ok.volume c.loop-path.path-index c.loop-path.invariant.1 c.in-Ok.ensures)
+
+pub returns-clause-made : goal.returns-clause-made
+returns-clause-made c =
+    let all : c.loop-path.path-index ≡ length c.args.paths.now = omega (arith, c.loop-path.invariant.0, c.loop-path-test.false) in
+    subst (λ n. AreMade c.args.owner c.args.asked.now.user c.args.asked.now.stamp c.args.volume n c.loop-path.volume) all c.loop-path.invariant.1
+
+pub returns-clause-own : goal.returns-clause-own
+returns-clause-own c =
+    λ own. own_left c.args.owner c.args.asked.now.user c.args.asked.now.stamp c.args.volume c.loop-path.path-index c.loop-path.volume c.loop-path.invariant.1 own

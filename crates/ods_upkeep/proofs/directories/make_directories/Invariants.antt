@@ -1,6 +1,6 @@
-use Rattle.ods_upkeep.specs.Kinds.{MakesDirectories}
-use Rattle.ods_upkeep.specs.Left.{IsLeft}
+use Rattle.std.proofs.Common.{◌≤◌, length}
+use Rattle.ods_upkeep.specs.Made.{AreMade}
 use Rattle.ods_upkeep.proofs.directories.make_directories.Given as goal
 
 abbrev pub invariant-loop-path : goal.invariant-loop-path
-invariant-loop-path l = IsLeft MakesDirectories l.fn.asked.user l.fn.volume l.volume
+invariant-loop-path l = (l.path-index ≤ length l.fn.paths) × AreMade l.fn.owner l.fn.asked.user l.fn.asked.stamp l.fn.volume l.path-index l.volume

@@ -1,0 +1,143 @@
+#!/usr/bin/env python3
+"""Writes an image by which a check could need memory or time by the square of its size.
+
+usage: make_hostile.py IMAGE one FILES         files that name one block
+       make_hostile.py IMAGE pairs FILES       files of which each two name one block
+       make_hostile.py IMAGE dirs COUNT BLOCKS directories over the same blocks, full of names that name no file
+       make_hostile.py IMAGE nested COUNT      directories one in another; the volume is sound
+"""
+
+import struct
+import sys
+
+from make_image import BLOCK, File, PROTECTION, Space, name_words, put_sum
+
+FIRST = 6
+
+
+def base_40(number):
+    """A number as a name of nine characters."""
+    text = ""
+    while number:
+        text = "ABCDEFGHIJKLMNOPQRSTUVWXYZ"[number % 26] + text
+        number //= 26
+    return text or "A"
+
+
+class Volume:
+    """A volume with the five reserved files and so many more."""
+
+    def __init__(self, files, blocks):
+        self.most_files = files + FIRST
+        self.index_size = -(-self.most_files // 4096)
+        self.index_blocks = 2 + self.index_size + self.most_files
+        room = self.index_blocks + blocks
+        self.map_blocks = 1 + -(-(room + room // 4096 + 2) // 4096)
+        self.size = room + self.map_blocks
+        self.image = bytearray(BLOCK * self.size)
+        self.space = Space(self.index_blocks + self.map_blocks, self.size)
+        self.held = set()
+        self.later = []
+        self.file(File(1, "INDEXF", "SYS", [(0, self.index_blocks)]))
+        self.file(File(2, "BITMAP", "SYS", [(self.index_blocks, self.map_blocks)]))
+        for number, name in ((3, "BADBLK"), (5, "CORIMG")):
+            self.file(File(number, name, "SYS", []))
+
+    def put(self, lbn, data):
+        self.image[BLOCK * lbn : BLOCK * lbn + len(data)] = data
+
+    def file(self, file):
+        """Writes the header of a file, with an extension header where its pointers want one, and notes its blocks."""
+        self.held.update(lbn + i for lbn, count in file.pieces for i in range(count))
+        runs = file.runs()
+        parts = [runs[i : i + 102] for i in range(0, len(runs), 102)] or [[]]
+        numbers = [file.number] + [self.extension() for _ in parts[1:]]
+        for place, part in enumerate(parts):
+            following = (numbers[place + 1], file.sequence()) if place + 1 < len(parts) else (0, 0)
+            self.put(1 + self.index_size + numbers[place], file.header(numbers[place], file.sequence(), place, following, part))
+            self.image[2 * BLOCK + (numbers[place] - 1) // 8] |= 1 << (numbers[place] - 1) % 8
+
+    def extension(self):
+        """A header that no file has; the greatest ones are taken."""
+        self.later.append(self.most_files - len(self.later))
+        return self.later[-1]
+
+    def directory(self, number, name, entries, pieces=None):
+        """A directory with these entries, in these blocks or new ones."""
+        data = b"".join(entries)
+        if pieces is None:
+            pieces = [self.space.take(-(-len(data) // BLOCK))] if data else []
+        if pieces:
+            self.put(pieces[0][0], data)
+        self.file(File(number, name, "DIR", pieces, len(data)))
+
+    def bytes(self):
+        home = bytearray(BLOCK)
+        struct.pack_into("<7H", home, 0, self.index_size, 0, 2, self.most_files, 1, 0, 0o401)
+        struct.pack_into("<H", home, 36, PROTECTION)
+        put_sum(home, 29)
+        home[496:508] = b"DECFILE11A  "
+        put_sum(home, 255)
+        self.put(1, home)
+        at = BLOCK * (self.index_blocks + 1)
+        for lbn in range(self.size):
+            if lbn not in self.held:
+                self.image[at + lbn // 8] |= 1 << lbn % 8
+        return self.image
+
+
+def entry(number, sequence, name, kind, version=1):
+    return struct.pack("<8H", number, sequence, 0, *name_words(name, kind, version))
+
+
+def same_blocks(count, block_of):
+    """Files that the master directory names; each has one block, the one that `block_of` says of its number."""
+    volume = Volume(count, count // 32 + 2 + count // 2 + 1)
+    files = [File(FIRST + i, base_40(i), "DAT", [(0, 1)]) for i in range(count)]
+    reserved = [entry(n, n, *text) for n, text in ((1, ("INDEXF", "SYS")), (2, ("BITMAP", "SYS")), (4, ("000000", "DIR")))]
+    volume.directory(4, "000000", reserved + [it.entry() for it in files])
+    first, _ = volume.space.take(count // 2)
+    for i, file in enumerate(files):
+        file.pieces = [(first + block_of(i), 1)]
+        volume.file(file)
+    return volume.bytes()
+
+
+def same_directories(count, blocks):
+    """Directories over the same blocks, each entry of which names a file that is not there."""
+    volume = Volume(count + 8, blocks + 8)
+    names = [entry(30000, 9, base_40(k), "DAT") for k in range(32 * blocks)]
+    place = volume.space.take(blocks)
+    volume.directory(4, "000000", [entry(FIRST + i, 1, base_40(i), "DIR") for i in range(count)])
+    for i in range(count):
+        volume.directory(FIRST + i, base_40(i), names, [place])
+    return volume.bytes()
+
+
+def nested(count):
+    """Directories of which each names the next one."""
+    volume = Volume(count, count + 8)
+    volume.directory(4, "000000", [entry(FIRST, 1, base_40(0), "DIR")])
+    for i in range(count):
+        inner = [entry(FIRST + i + 1, 1, base_40(i + 1), "DIR")] if i + 1 < count else []
+        volume.directory(FIRST + i, base_40(i), inner)
+    return volume.bytes()
+
+
+def main():
+    _, image, kind, *counts = sys.argv
+    counts = [int(it) for it in counts]
+    if kind == "one":
+        data = same_blocks(counts[0], lambda i: 0)
+    elif kind == "pairs":
+        data = same_blocks(counts[0], lambda i: i % (counts[0] // 2))
+    elif kind == "dirs":
+        data = same_directories(*counts)
+    else:
+        data = nested(*counts)
+    with open(image, "wb") as out:
+        out.write(data)
+
+
+if __name__ == "__main__":
+    main()

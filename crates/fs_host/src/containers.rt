@@ -1,0 +1,62 @@
+//! Files of the host in which a volume lies: how they are read, and what is to be said of one that is longer or shorter than its volume.
+use ods_base::{Image, ImageError};
+use ods_container::{Contained, Footer, contained_in, footer_of, read_contained};
+use std::alloc::Global;
+use std::io::{Read, Seek, SeekFrom};
+use thiserror::Error;
+
+/// The volume in a file, of the size in blocks that is given, where one is. Only a file that is no image as it stands is read twice.
+pub fn volume_in<F: Read + Seek>(
+    alloc: Global,
+    file: &mut F,
+    given: Option<u32>,
+) -> Result<Contained, ImageError> {
+    let fault = match Image::read_from(alloc, file) {
+        Ok(image) => return contained_in(alloc, image, given),
+        Err(fault) => fault,
+    };
+    match fault {
+        ImageError::NotWholeBlocks | ImageError::TooBig => match file.seek(SeekFrom::Start(0)) {
+            Ok(_) => read_contained(alloc, file, given),
+            Err(_) => Err(fault),
+        },
+        _ => Err(fault),
+    }
+}
+
+/// What is to be said of a file that is longer or shorter than its volume.
+#[derive(Clone, Copy, Debug, PartialEq, Eq, Error)]
+pub enum Extent {
+    #[error("{0} bytes behind the volume")]
+    Longer(usize),
+    #[error("{0} bytes behind the volume (a simh footer)")]
+    Simh(usize),
+    #[error("{0} bytes behind the volume (a VHD footer)")]
+    Vhd(usize),
+    #[error("the image ends at block {0} of {1}")]
+    Shorter(u64, u32),
+}
+
+impl Extent {
+    /// What is to be said of this one; nothing where the volume fills its file.
+    pub fn of(contained: &Contained) -> Option<Extent> {
+        let blocks = contained.image.len();
+        let behind = contained.behind.len();
+        if contained.length < 512 * blocks as u64 {
+            return Some(Extent::Shorter(contained.length / 512, blocks));
+        }
+        if behind == 0 {
+            return None;
+        }
+        Some(match footer_of(&contained.behind) {
+            Some(Footer::Simh) => Extent::Simh(behind),
+            Some(Footer::Vhd) => Extent::Vhd(behind),
+            None => Extent::Longer(behind),
+        })
+    }
+
+    /// Whether the file is shorter than its volume.
+    pub fn is_short(&self) -> bool {
+        matches!(self, Extent::Shorter(_, _))
+    }
+}

@@ -1,0 +1,38 @@
+//! Files of the host and streams, read whole where they are not too large.
+use crate::host_fault::HostFault;
+use std::alloc::Global;
+use std::fs;
+use std::fs::File;
+use std::io::Read;
+use std::rt::Files;
+
+/// The bytes of a file of the host. A plain file of more than `most` bytes is refused before it is read, any other one behind
+/// that many.
+pub fn read_host<R: Files<File = File> + AllocGlobal>(
+    rt: &R,
+    path: &str,
+    most: u64,
+) -> Result<Vec<u8>, HostFault> {
+    let found = fs::metadata(rt, path)?;
+    if found.is_dir() {
+        return Err(HostFault::IsFolder);
+    }
+    if found.is_file() && found.len() > most {
+        return Err(HostFault::TooLarge);
+    }
+    let mut file = fs::open(rt, path)?;
+    read_some(rt.alloc(), &mut file, most)
+}
+
+/// What a reader gives up to its end, where that is no more than `most` bytes.
+pub fn read_some<I: Read>(alloc: Global, reader: &mut I, most: u64) -> Result<Vec<u8>, HostFault> {
+    let mut bytes = Vec::new(alloc);
+    reader
+        .by_ref()
+        .take(most.saturating_add(1))
+        .read_to_end(&mut bytes)?;
+    if bytes.len() as u64 > most {
+        return Err(HostFault::TooLarge);
+    }
+    Ok(bytes)
+}

@@ -1,0 +1,179 @@
+//! Files of the host that are written: whole under their names, or not at all.
+use fs_host::{HostFault, NewFile, Noting};
+use ods_shell::Contents;
+use std::alloc::{AllocError, Global};
+use std::fs;
+use std::fs::{File, Metadata, OpenOptions};
+use std::io::ErrorKind;
+use std::os::unix::fs::{MetadataExt, fchown};
+use std::rt::Files;
+
+/// How the writing of a file ended.
+#[derive(Clone, Copy, Debug, PartialEq, Eq)]
+pub(crate) enum Written {
+    Done,
+    /// A file is there that may not be replaced.
+    IsThere,
+    /// No file can be made.
+    Unmade(HostFault),
+    /// Writing failed.
+    Failed(HostFault),
+}
+
+/// What is there by a path of the host.
+enum There {
+    Nothing,
+    /// Something that is not to be replaced.
+    Kept,
+    /// A plain file that is replaced.
+    Plain(Metadata),
+    /// A stream, or a device, which is written into.
+    Stream,
+    /// It cannot be written to.
+    Closed(HostFault),
+}
+
+/// The most symbolic links that are followed.
+const MOST_LINKS: u32 = 40;
+
+/// Whether a file could be written to this path, as far as is seen without writing.
+pub(crate) fn could_write<R: Files>(rt: &R, host: &str, replaces: bool) -> Written {
+    match found_at(rt, host, replaces) {
+        There::Kept => Written::IsThere,
+        There::Closed(fault) => Written::Unmade(fault),
+        There::Nothing | There::Plain(_) | There::Stream => Written::Done,
+    }
+}
+
+/// Writes what is got to this path: a new file, or with `replaces` one in place of a plain file that is there.
+pub(crate) fn write_host<R: Files<File = File> + AllocGlobal>(
+    rt: &R,
+    contents: &Contents<'_>,
+    host: &str,
+    replaces: bool,
+) -> Written {
+    let old = match found_at(rt, host, replaces) {
+        There::Kept => return Written::IsThere,
+        There::Closed(fault) => return Written::Unmade(fault),
+        There::Stream => return write_into(rt, contents, host),
+        There::Nothing => None,
+        There::Plain(old) => Some(old),
+    };
+    let path = match end_of_links(rt, host) {
+        Ok(path) => path,
+        Err(fault) => return Written::Unmade(fault),
+    };
+    match begin(rt, path.as_str(), old) {
+        Ok(new) => fill(rt, new, contents, replaces),
+        Err(fault) => Written::Unmade(fault),
+    }
+}
+
+/// What is there by a path, where plain files may be replaced or not.
+fn found_at<R: Files>(rt: &R, host: &str, replaces: bool) -> There {
+    match fs::symlink_metadata(rt, host) {
+        Err(error) if error.kind() == ErrorKind::NotFound => return There::Nothing,
+        Err(error) => return There::Closed(HostFault::of(&error)),
+        Ok(_) if !replaces => return There::Kept,
+        Ok(_) => {}
+    }
+    match fs::metadata(rt, host) {
+        Ok(found) if found.is_dir() => There::Closed(HostFault::IsFolder),
+        Ok(found) if found.is_file() && !is_stream(rt, &found) => There::Plain(found),
+        Ok(_) => There::Stream,
+        // A symbolic link to a file that is made.
+        Err(error) if error.kind() == ErrorKind::NotFound => There::Nothing,
+        Err(error) => There::Closed(HostFault::of(&error)),
+    }
+}
+
+/// Whether the file is standard output or standard error, which others hold open.
+fn is_stream<R: Files>(rt: &R, found: &Metadata) -> bool {
+    is_file_at(rt, "/proc/self/fd/1", found) || is_file_at(rt, "/proc/self/fd/2", found)
+}
+
+/// Whether the file of this path is this one.
+fn is_file_at<R: Files>(rt: &R, path: &str, found: &Metadata) -> bool {
+    match fs::metadata(rt, path) {
+        Ok(other) => other.dev() == found.dev() && other.ino() == found.ino(),
+        Err(_) => false,
+    }
+}
+
+/// The path to which symbolic links lead, whether something is there or not.
+fn end_of_links<R: Files + AllocGlobal>(rt: &R, host: &str) -> Result<String, HostFault> {
+    let mut path = String::from_str(rt.alloc(), host)?;
+    for _ in 0..MOST_LINKS {
+        match fs::symlink_metadata(rt, path.as_str()) {
+            Ok(found) if found.is_symlink() => {}
+            _ => return Ok(path),
+        }
+        let link = fs::read_link(rt, path.as_str())?;
+        path = from_folder(rt.alloc(), path.as_str(), link.as_str())?;
+    }
+    Err(HostFault::Links)
+}
+
+/// The path of a link that stands in the folder of this path.
+fn from_folder(alloc: Global, path: &str, link: &str) -> Result<String, AllocError> {
+    match path.rsplit_once('/') {
+        Some((folder, _)) if !link.starts_with('/') => format!(in alloc; "{folder}/{link}"),
+        _ => String::from_str(alloc, link),
+    }
+}
+
+/// A new file for this path. It gets owner, group and mode of the old one, and the mode without the group's rights where the group
+/// cannot be kept.
+fn begin<R: Files<File = File> + AllocGlobal>(
+    rt: &R,
+    path: &str,
+    old: Option<Metadata>,
+) -> Result<NewFile, HostFault> {
+    let Some(old) = old else {
+        return NewFile::begin(rt, path, None);
+    };
+    let mode = old.mode() & 0o777;
+    let mut new = NewFile::begin(rt, path, Some(mode))?;
+    let _ = fchown(&*new.file(), Some(old.uid()), None);
+    if fchown(&*new.file(), None, Some(old.gid())).is_ok() {
+        return Ok(new);
+    }
+    new.give_up(rt);
+    NewFile::begin(rt, path, Some(mode & 0o707))
+}
+
+/// Writes a new file, which then takes its name.
+fn fill<R: Files<File = File>>(
+    rt: &R,
+    new: NewFile,
+    contents: &Contents<'_>,
+    replaces: bool,
+) -> Written {
+    let mut new = new;
+    let mut noting = Noting::new(new.file());
+    if contents.write_to(&mut noting).is_err() {
+        let why = noting.why();
+        new.give_up(rt);
+        return Written::Failed(why);
+    }
+    match new.finish(rt, replaces) {
+        Ok(()) => Written::Done,
+        Err(HostFault::IsThere) => Written::IsThere,
+        Err(fault) => Written::Failed(fault),
+    }
+}
+
+/// Writes into a stream or a device.
+fn write_into<R: Files<File = File>>(rt: &R, contents: &Contents<'_>, host: &str) -> Written {
+    let mut options = OpenOptions::new();
+    options.write(true).truncate(true);
+    let mut file = match options.open(rt, host) {
+        Ok(file) => file,
+        Err(error) => return Written::Unmade(HostFault::of(&error)),
+    };
+    let mut noting = Noting::new(&mut file);
+    match contents.write_to(&mut noting) {
+        Ok(()) => Written::Done,
+        Err(_) => Written::Failed(noting.why()),
+    }
+}

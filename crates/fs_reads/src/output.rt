@@ -1,0 +1,87 @@
+//! What a command prints line by line: in pieces, so that a long list is not kept.
+use crate::stop::{Stop, send};
+use ods_shell::{Status, number_object, text_object};
+use std::alloc::Global;
+use std::fmt::Display;
+
+/// From how many bytes on a piece goes out.
+const PIECE: usize = 32_768;
+
+/// Lines, or objects, on their way to standard output.
+#[derive(Drop)]
+pub(crate) struct Output {
+    alloc: Global,
+    json: bool,
+    text: String,
+    is_empty: bool,
+}
+
+impl Output {
+    /// No lines yet.
+    pub fn new(alloc: Global, json: bool) -> Output {
+        Output {
+            alloc,
+            json,
+            text: String::new(alloc),
+            is_empty: true,
+        }
+    }
+
+    /// Whether no line was printed.
+    pub fn is_empty(&self) -> bool {
+        self.is_empty
+    }
+
+    /// A line; as an object it is the text of this name.
+    pub fn say<'a, R: Print, D: Display + Drop>(
+        &mut self,
+        rt: &R,
+        name: &str,
+        line: D,
+    ) -> Result<Status, Stop<'a>> {
+        let text = format!(in self.alloc; "{line}")?;
+        if self.json {
+            let object = text_object(self.alloc, name, text.as_str())?;
+            self.push(rt, object.as_str())
+        } else {
+            self.text.push_str(text.as_str())?;
+            self.push(rt, "\n")
+        }
+    }
+
+    /// How many lines are left out, where there are some, with the words behind that number; as an object it is the number of this name.
+    pub fn say_more<'a, R: Print>(
+        &mut self,
+        rt: &R,
+        name: &str,
+        more: u64,
+        words: &str,
+    ) -> Result<Status, Stop<'a>> {
+        if more == 0 {
+            return Ok(Status::Done);
+        }
+        let line = if self.json {
+            number_object(self.alloc, name, more)?
+        } else {
+            format!(in self.alloc; "and {more} more {words}\n")?
+        };
+        self.push(rt, line.as_str())
+    }
+
+    /// Whole lines.
+    pub fn push<'a, R: Print>(&mut self, rt: &R, lines: &str) -> Result<Status, Stop<'a>> {
+        self.is_empty = false;
+        self.text.push_str(lines)?;
+        if self.text.len() < PIECE {
+            return Ok(Status::Done);
+        }
+        self.end(rt)
+    }
+
+    /// What was not sent yet.
+    pub fn end<'a, R: Print>(&mut self, rt: &R) -> Result<Status, Stop<'a>> {
+        let sent = send(rt, self.text.as_str());
+        self.text.clear();
+        sent
+    }
+}

@@ -1,0 +1,78 @@
+-- Which options serve which commands.
+use Rattle.std.specs.Prelude.{Bool, true, false, ◌||◌}
+use Rattle.fs_words.specs.declared.options.Choice.{Choice}
+use Rattle.fs_words.specs.declared.options.Choice.TheVariants as option
+use Rattle.fs_words.specs.declared.verbs.Verb.{Verb}
+use Rattle.fs_words.specs.declared.verbs.Verb.TheVariants as verb
+
+-- the commands that change a volume
+abbrev pub verb_changes : Verb → Bool
+verb_changes verb.Put = true
+verb_changes verb.Cp = true
+verb_changes verb.Mv = true
+verb_changes verb.Rm = true
+verb_changes verb.Mkdir = true
+verb_changes verb.Rmdir = true
+verb_changes verb.Truncate = true
+verb_changes v = false
+
+-- a file of commands may hold any of those that change a volume
+abbrev pub is_run : Verb → Bool
+is_run verb.File = true
+is_run v = verb_changes v
+
+-- what writes files of the host
+abbrev pub writes_files : Verb → Bool
+writes_files verb.Get = true
+writes_files v = is_run v
+
+-- what writes anything of the host but its output
+abbrev pub writes : Verb → Bool
+writes verb.Rescue = true
+writes verb.Init = true
+writes v = writes_files v
+
+-- what gives a new file its time
+abbrev pub stamps : Verb → Bool
+stamps verb.Put = true
+stamps verb.Cp = true
+stamps verb.Mkdir = true
+stamps verb.Init = true
+stamps verb.File = true
+stamps v = false
+
+-- what prints lines, if only those of a plan
+abbrev pub prints_lines : Verb → Bool
+prints_lines verb.Cat = false
+prints_lines v = true
+
+-- what asks rights, or makes something for a user
+abbrev pub asks_rights : Verb → Bool
+asks_rights verb.Df = false
+asks_rights verb.Du = false
+asks_rights verb.Check = false
+asks_rights verb.Rescue = false
+asks_rights v = true
+
+-- what reads a volume that is there
+abbrev pub reads_volume : Verb → Bool
+reads_volume verb.Init = false
+reads_volume v = true
+
+abbrev pub is_file_of_commands : Verb → Bool
+is_file_of_commands verb.File = true
+is_file_of_commands v = false
+
+-- Whether a command may do something with an option.
+abbrev pub option_serves : Choice → Verb → Bool
+option_serves option.Out v = writes_files v
+option_serves option.Backup v = is_run v
+option_serves option.BreakLinks v = is_run v
+option_serves option.OnlyTells v = writes v
+option_serves option.Force v = writes_files v
+option_serves option.Json v = prints_lines v
+option_serves option.Stamp v = stamps v
+option_serves option.User v = asks_rights v
+option_serves option.Quiet v = reads_volume v
+option_serves option.KeepGoing v = is_file_of_commands v
+option_serves option.Blocks v = reads_volume v

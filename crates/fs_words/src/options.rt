@@ -1,0 +1,217 @@
+//! The options of `f11fs`: how each is said, what it does, and which commands it serves. The refusal of an option that does nothing for a command
+//! and the help of the command both come from here.
+ghost use Rattle.std.specs.Prelude.{◌≡◌};
+ghost use Rattle.fs_words.specs.Options.{option_serves};
+
+use crate::verbs::Verb;
+use clap::{Arg, ArgAction, value_parser};
+use std::alloc::Global;
+
+/// An option that may stand before IMAGE or behind the command.
+#[derive(Clone, Copy, Debug, PartialEq, Eq)]
+pub enum Choice {
+    Out,
+    Backup,
+    BreakLinks,
+    OnlyTells,
+    Force,
+    Json,
+    Stamp,
+    User,
+    Quiet,
+    KeepGoing,
+    Blocks,
+}
+
+/// All options.
+pub(crate) const CHOICES: [Choice; 11] = [
+    Choice::Out,
+    Choice::Backup,
+    Choice::BreakLinks,
+    Choice::OnlyTells,
+    Choice::Force,
+    Choice::Json,
+    Choice::Stamp,
+    Choice::User,
+    Choice::Quiet,
+    Choice::KeepGoing,
+    Choice::Blocks,
+];
+
+/// Whether a command may do something with an option.
+pub fn serves(choice: Choice, verb: Verb) -> bool
+    ensures { result ≡ option_serves choice verb }
+{
+    match choice {
+        Choice::Out => verb.changes() || matches!(verb, Verb::Get | Verb::File),
+        Choice::Backup | Choice::BreakLinks => verb.changes() || matches!(verb, Verb::File),
+        Choice::OnlyTells => {
+            verb.changes() || matches!(verb, Verb::Get | Verb::Rescue | Verb::Init | Verb::File)
+        }
+        Choice::Force => verb.changes() || matches!(verb, Verb::Get | Verb::File),
+        Choice::Json => !matches!(verb, Verb::Cat),
+        Choice::Stamp => {
+            matches!(
+                verb,
+                Verb::Put | Verb::Cp | Verb::Mkdir | Verb::Init | Verb::File
+            )
+        }
+        Choice::User => !matches!(verb, Verb::Df | Verb::Du | Verb::Check | Verb::Rescue),
+        Choice::Quiet | Choice::Blocks => !matches!(verb, Verb::Init),
+        Choice::KeepGoing => matches!(verb, Verb::File),
+    }
+}
+
+/// Whether `--json` does something for a command only beside `-n`: what it prints then is what would be done, and nothing else.
+pub fn prints_only_plans(verb: Verb) -> bool {
+    verb.changes() || matches!(verb, Verb::Init | Verb::Get)
+}
+
+impl Choice {
+    /// The name that a parse has it by.
+    pub(crate) fn id<'a>(self) -> &'a str {
+        match self {
+            Choice::Out => "out",
+            Choice::Backup => "backup",
+            Choice::BreakLinks => "break_links",
+            Choice::OnlyTells => "only_tells",
+            Choice::Force => "force",
+            Choice::Json => "json",
+            Choice::Stamp => "stamp",
+            Choice::User => "user",
+            Choice::Quiet => "quiet",
+            Choice::KeepGoing => "keep_going",
+            Choice::Blocks => "blocks",
+        }
+    }
+
+    /// How it is written.
+    pub(crate) fn word<'a>(self) -> &'a str {
+        match self {
+            Choice::Out => "-o",
+            Choice::Backup => "--backup",
+            Choice::BreakLinks => "--break-links",
+            Choice::OnlyTells => "-n",
+            Choice::Force => "--force",
+            Choice::Json => "--json",
+            Choice::Stamp => "--stamp",
+            Choice::User => "-u",
+            Choice::Quiet => "-q",
+            Choice::KeepGoing => "--keep-going",
+            Choice::Blocks => "--blocks",
+        }
+    }
+
+    /// The name of its value, where it has one.
+    pub(crate) fn value<'a>(self, verb: Option<Verb>) -> Option<&'a str> {
+        match self {
+            Choice::Out if verb == Some(Verb::Get) => Some("TARGET"),
+            Choice::Out => Some("FILE"),
+            Choice::Stamp => Some("STAMP"),
+            Choice::User => Some("USER"),
+            Choice::Blocks => Some("N"),
+            _ => None,
+        }
+    }
+
+    /// What it does for a command, or where none is said for all that it serves.
+    fn help<'a>(self, verb: Option<Verb>) -> &'a str {
+        match self {
+            Choice::Out if verb == Some(Verb::Get) => {
+                "The file or folder of the host to write to, or - for standard output"
+            }
+            Choice::Out if verb.is_none() => {
+                "Write the changed image to FILE, which is not there, and leave IMAGE as it is; of get, its target"
+            }
+            Choice::Out => {
+                "Write the changed image to FILE, which is not there, and leave IMAGE as it is"
+            }
+            Choice::Backup => "Keep the old image as IMAGE~",
+            Choice::BreakLinks => {
+                "Change an image with several names (hard links) under this one alone"
+            }
+            Choice::OnlyTells => "Write nothing, and tell what would be done",
+            Choice::Force => force_help(verb),
+            Choice::Json => json_help(verb),
+            Choice::Stamp => "The time of new files, as 24NOV85093000",
+            Choice::User => user_help(verb),
+            Choice::Quiet => "Show no progress, and no remarks that are no faults",
+            Choice::KeepGoing => "With -f: go on past commands that are refused",
+            Choice::Blocks => { "The volume has N blocks, whatever the image says; 1 to 1048576" }
+        }
+    }
+
+    /// The option, as a parse takes it; the help of a command that it does not serve leaves it out.
+    pub(crate) fn arg<'a>(self, alloc: Global, verb: Option<Verb>) -> Arg<'a> {
+        let is_hidden = match verb {
+            Some(verb) => !serves(self, verb),
+            None => false,
+        };
+        let arg = named(alloc, self.id(), self.help(verb), is_hidden);
+        with_value(with_word(arg, self), self, self.value(verb))
+    }
+}
+
+/// An option of this name, with its help.
+fn named<'a>(alloc: Global, id: &'a str, help: &'a str, is_hidden: bool) -> Arg<'a> {
+    Arg::new(alloc, id).help(help).hide(is_hidden)
+}
+
+/// An option with its letter or its word.
+fn with_word<'a>(arg: Arg<'a>, choice: Choice) -> Arg<'a> {
+    match choice {
+        Choice::Out => arg.short('o'),
+        Choice::OnlyTells => arg.short('n'),
+        Choice::User => arg.short('u'),
+        Choice::Quiet => arg.short('q'),
+        Choice::Backup => arg.long("backup"),
+        Choice::BreakLinks => arg.long("break-links"),
+        Choice::Force => arg.long("force"),
+        Choice::Json => arg.long("json"),
+        Choice::Stamp => arg.long("stamp"),
+        Choice::KeepGoing => arg.long("keep-going"),
+        Choice::Blocks => arg.long("blocks"),
+    }
+}
+
+/// An option with its value, where it has one.
+fn with_value<'a>(arg: Arg<'a>, choice: Choice, value: Option<&'a str>) -> Arg<'a> {
+    match value {
+        Some(value) if choice == Choice::Blocks => {
+            arg.value_name(value)
+                .value_parser(value_parser!(u32).range(1..=1_048_576))
+        }
+        Some(value) => arg.value_name(value),
+        None => arg.action(ArgAction::SetTrue),
+    }
+}
+
+/// What `--force` does.
+fn force_help<'a>(verb: Option<Verb>) -> &'a str {
+    match verb {
+        Some(Verb::Get) => "Files of the host may be replaced",
+        Some(_) => "Change an image that another process has open",
+        None =>
+            "Of get: files of the host may be replaced. Of changes: another process may have IMAGE open",
+    }
+}
+
+/// What `--json` does.
+fn json_help<'a>(verb: Option<Verb>) -> &'a str {
+    match verb {
+        Some(verb) if prints_only_plans(verb) => "With -n: print JSON, an object a line",
+        _ => "Print JSON, an object a line",
+    }
+}
+
+/// What `-u` does.
+fn user_help<'a>(verb: Option<Verb>) -> &'a str {
+    match verb {
+        Some(Verb::Init) => "The owner of the volume, as [1,2]; with none [1,1]",
+        Some(verb) if verb.changes() => "Ask rights of this user, as [1,2]; with none of [1,1]",
+        Some(Verb::File) | None => {
+            "Ask rights of this user, as [1,2]; with none, reads ask none and changes those of [1,1]"
+        }
+        Some(_) => "Ask rights of this user, as [1,2]; with none, none are asked",
+    }
+}

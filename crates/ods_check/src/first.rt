@@ -1,0 +1,55 @@
+//! What a mount answers of an image, and its layout where it has one.
+ghost use Rattle.std.specs.Prelude.{◌≡◌, IfOk, IfSome, IfNone, Some};
+ghost use Rattle.ods_space.specs.Files.{IsLayoutOf};
+ghost use Rattle.ods_mount.specs.Faults.{IsSound, FaultIsTrue};
+
+use crate::faults::is_memory;
+use ods_base::Image;
+use ods_mount::{MountFault, check_image, read_layout};
+use ods_space::Layout;
+use std::alloc::{AllocError, Global};
+
+/// What a mount answers: the layout, where there is one, and the fault.
+#[derive(Drop)]
+pub struct First {
+    pub layout: Option<Layout>,
+    pub answer: Option<MountFault>,
+}
+
+/// What a mount answers, and the layout where there is one. It costs a mount, and for an image that is refused the reading of its layout.
+pub fn check_first(alloc: Global, image: &Image) -> Result<First, AllocError>
+    ensures answer { IfOk result (λ c. IfSome c.answer (FaultIsTrue image.now) × IfNone c.answer (IsSound image.now)) }
+    ensures layout { IfOk result (λ c. IfSome c.layout (IsLayoutOf image.now)) }
+{
+    match check_image(alloc, image) {
+        Ok(layout) => Ok(First {
+            layout: Some(layout),
+            answer: None,
+        }),
+        Err(fault) => {
+            if is_memory(&fault) {
+                return Err(AllocError);
+            }
+            laid_out(alloc, image, fault)
+        }
+    }
+}
+
+/// The layout of an image of which a fault is known, where there is one.
+fn laid_out(alloc: Global, image: &Image, known: MountFault) -> Result<First, AllocError>
+    requires { FaultIsTrue image.now known }
+    ensures answer { IfOk result (λ c. c.answer ≡ Some known) }
+    ensures layout { IfOk result (λ c. IfSome c.layout (IsLayoutOf image.now)) }
+{
+    match read_layout(alloc, image) {
+        Ok((_, layout)) => Ok(First {
+            layout: Some(layout),
+            answer: Some(known),
+        }),
+        Err(MountFault::NoMemory) => Err(AllocError),
+        Err(_) => Ok(First {
+            layout: None,
+            answer: Some(known),
+        }),
+    }
+}

@@ -1,0 +1,85 @@
+-- The first blocks of some bytes, with zeros where they end, and the bytes behind them.
+use Rattle.std.proofs.Common.{◌≡◌, ℕ, ◌+◌, ◌-◌, ◌*◌, ◌/◌, ◌^◌, ◌<◌, ◌≤◌, List, [], ◌++◌, length, take, drop, replicate, min, Option, inl, inr, refl, sym, ap, ◌∙◌, subst, arith, length-append, length-take, length-drop}
+use Rattle.std.proofs.lemmas.Bool.{cases_lt}
+use Rattle.std.proofs.lemmas.List.{append-nil, take_all, length-replicate, drop_all}
+use Rattle.ods_base.specs.Image.{IsImage, image_bytes}
+use Rattle.ods_base.proofs.Images.{length-concat}
+use Rattle.ods_container.specs.Container.{volume_bytes, bytes_behind, blocks_begun, HoldsVolume, IsContained, IsSeen, IsSize}
+
+-- S blocks are 512 * S bytes
+pub length-volume : (bytes : List ℕ) (S : ℕ) → length (volume_bytes bytes S) ≡ 512 * S
+length-volume bytes S =
+    let rest : List ℕ = replicate (512 * S - length bytes) 0 in
+    let front : length (take (512 * S) bytes) ≡ min (512 * S) (length bytes) = length-take (512 * S) bytes in
+    let zeros : length rest ≡ 512 * S - length bytes = length-replicate (512 * S - length bytes) 0 in
+    length-append (take (512 * S) bytes) rest ∙ omega (arith, front, zeros)
+
+-- an image of these bytes has S blocks
+pub volume_count : (I : List (List ℕ)) (bytes : List ℕ) (S : ℕ) → IsImage I → image_bytes I ≡ volume_bytes bytes S → length I ≡ S
+volume_count I bytes S image is =
+    let size = length-concat I image.blocks in
+    let same : length (image_bytes I) ≡ 512 * S = ap length is ∙ length-volume bytes S in
+    omega arith
+
+-- an image is the volume in its own bytes
+pub volume_whole : (I : List (List ℕ)) → IsImage I → image_bytes I ≡ volume_bytes (image_bytes I) (length I)
+volume_whole I image =
+    let size = length-concat I image.blocks in
+    let none : 512 * length I - length (image_bytes I) ≡ 0 = omega arith in
+    let all : length (image_bytes I) ≤ 512 * length I = omega arith in
+    sym (ap (λ n. take (512 * length I) (image_bytes I) ++ replicate n 0) none ∙ append-nil (take (512 * length I) (image_bytes I)) ∙ take_all (512 * length I) (image_bytes I) all)
+
+-- and nothing stands behind it
+pub behind_whole : (I : List (List ℕ)) → IsImage I → [] ≡ bytes_behind (image_bytes I) (length I)
+behind_whole I image =
+    let size = length-concat I image.blocks in
+    let all : length (image_bytes I) ≤ 512 * length I = omega arith in
+    sym (drop_all (512 * length I) (image_bytes I) all)
+
+-- it is what is seen of its bytes
+pub seen_whole : (I : List (List ℕ)) → IsImage I → IsSeen (image_bytes I) I
+seen_whole I image =
+    let size = length-concat I image.blocks in
+    let few = image.size in
+    let begun : length I ≡ blocks_begun (image_bytes I) = omega arith in
+    (image, volume_whole I image ∙ ap (volume_bytes (image_bytes I)) begun)
+
+-- an image is the volume of its size in its own bytes, and nothing stands behind it
+pub holds_whole : (I : List (List ℕ)) (S : ℕ) (n : ℕ) → IsImage I → S ≡ length I → n ≡ 512 * length I → HoldsVolume (image_bytes I) S I [] n
+holds_whole I S n image is size =
+    let long = length-concat I image.blocks in
+    let P : ℕ → Type 0 = λ s. HoldsVolume (image_bytes I) s I [] n in
+    subst P (sym is) (record { image = image; count = refl; volume = volume_whole I image; behind = behind_whole I image; size = size ∙ sym long })
+
+-- the bytes behind the end of a volume, where that is behind theirs too
+pub behind_end : (bytes : List ℕ) (S end : ℕ) → end ≡ min (length bytes) (512 * S) → take (length bytes - end) (drop end bytes) ≡ bytes_behind bytes S
+behind_end bytes S end is =
+    let long = length-drop end bytes in
+    take_all (length bytes - end) (drop end bytes) (omega arith) ∙ elim (cases_lt (length bytes) (512 * S)) [
+      | inl past ↦
+          let at : length bytes ≤ end = omega arith in
+          let beyond : length bytes ≤ 512 * S = omega arith in
+          drop_all end bytes at ∙ sym (drop_all (512 * S) bytes beyond)
+      | inr within ↦ ap (λ n. drop n bytes) (omega arith)
+    ]
+
+-- what holds the volume of these bytes and this size
+pub holds_as : (a b : List ℕ) (s t : ℕ) (I : List (List ℕ)) (rest : List ℕ) (n : ℕ) → a ≡ b → s ≡ t → HoldsVolume a s I rest n → HoldsVolume b t I rest n
+holds_as a b s t I rest n same size holds =
+    let P : List ℕ → Type 0 = λ bytes. HoldsVolume bytes s I rest n in
+    let Q : ℕ → Type 0 = λ k. HoldsVolume b k I rest n in
+    subst Q size (subst P same holds)
+
+-- the volume of a size that is that of the bytes
+pub contained_by : (bytes : List ℕ) (given : Option ℕ) (S : ℕ) (I : List (List ℕ)) (rest : List ℕ) (n : ℕ) → IsSize bytes given S → HoldsVolume bytes S I rest n → IsContained bytes given I rest n
+contained_by bytes given S I rest n size holds =
+    let P : ℕ → Type 0 = λ k. IsSize bytes given k × HoldsVolume bytes k I rest n in
+    subst P (sym holds.count) (size, holds)
+
+-- the bytes of an image
+pub image_size : (I : List (List ℕ)) → IsImage I → length (image_bytes I) ≡ 512 * length I
+image_size I image = length-concat I image.blocks
+
+-- what was made of the blocks that the bytes begin is what is seen of them
+pub seen_begun : (bytes : List ℕ) (n : ℕ) (I : List (List ℕ)) → n ≡ blocks_begun bytes → IsImage I → image_bytes I ≡ volume_bytes bytes n → IsSeen bytes I × (length I ≡ n)
+seen_begun bytes n I begun image is = ((image, is ∙ ap (volume_bytes bytes) begun), volume_count I bytes n image is)

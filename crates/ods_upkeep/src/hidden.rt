@@ -1,0 +1,72 @@
+//! Entries that a directory's end mark hides: they stand in its blocks, behind the mark, and name files.
+ghost use Rattle.std.specs.Prelude.{◌≡◌, ◌*◌, ◌<◌, length, IfOk, MatchBool};
+ghost use Rattle.ods_directory.specs.Entry.{entry_at, is_used};
+ghost use Rattle.ods_mount.specs.{Faults.IsDirectoryFile, Sound.IsSoundBy};
+ghost use Rattle.ods_space.specs.Disks.{on};
+ghost use Rattle.ods_upkeep.specs.Hidden.{HidesEntries, IsUsedBehind};
+
+use crate::names::is_directory_file;
+use ods_base::word;
+use ods_directory::{DirBlocks, mark_of};
+use ods_header::attributes;
+use ods_mount::{FileBlocks, Mounted};
+use ods_space::{ChainFault, Disk, chain, first_header};
+use std::alloc::{AllocError, Global};
+
+/// Whether the number is that of a directory whose end mark hides used entries.
+pub(crate) fn hides_entries(
+    alloc: Global,
+    volume: &Mounted,
+    number: u16,
+) -> Result<bool, AllocError>
+    ensures { IfOk result (λ hides. MatchBool hides (HidesEntries volume.now.image volume.now.layout number) (¬ HidesEntries volume.now.image volume.now.layout number)) }
+{
+    if !is_directory_file(volume, number) {
+        return Ok(false);
+    }
+    let disk = volume.disk();
+    directory_hides(alloc, &disk, number)
+}
+
+/// Whether the end mark of a directory hides used entries.
+fn directory_hides(alloc: Global, disk: &Disk<'_>, number: u16) -> Result<bool, AllocError>
+    requires sound { on IsSoundBy disk.now }
+    requires directory { on IsDirectoryFile disk.now number }
+    ensures { IfOk result (λ hides. MatchBool hides (on HidesEntries disk.now number) (¬ on HidesEntries disk.now number)) }
+{
+    // An image has few blocks, and so has a chain.
+    let _ = disk.image.len();
+    let Some(header) = first_header(disk, number) else {
+        unreachable!()
+    };
+    let lbns = match chain(alloc, disk, number) {
+        Ok(lbns) => lbns,
+        Err(ChainFault::NoMemory) => return Err(AllocError),
+        Err(ChainFault::BadChain) => unreachable!(),
+        Err(ChainFault::OutsideVolume(_)) => unreachable!(),
+    };
+    let blocks = FileBlocks::new(disk.image, &lbns);
+    let mark = mark_of(&attributes(header), blocks.count());
+    Ok(is_used_behind(&blocks, mark))
+}
+
+/// Whether an entry at the mark, or behind it, is used.
+fn is_used_behind<B: DirBlocks>(blocks: &B, mark: u64) -> bool
+    ensures { MatchBool result (IsUsedBehind (B.blocks blocks.now) mark) (¬ IsUsedBehind (B.blocks blocks.now) mark) }
+{
+    for k in mark / 16..32 * u64::from(blocks.count()) {
+        if is_used_at(blocks, k) {
+            return true;
+        }
+    }
+    false
+}
+
+/// Whether entry `k` of the blocks is used: whether it has a file number.
+fn is_used_at<B: DirBlocks>(blocks: &B, k: u64) -> bool
+    requires { k < 32 * length (B.blocks blocks.now) }
+    ensures { result ≡ is_used (entry_at (B.blocks blocks.now) k) }
+{
+    let _ = blocks.count();
+    word(blocks.block((k / 32) as u32), 8 * (k % 32) as usize) != 0
+}

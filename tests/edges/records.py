@@ -1,0 +1,86 @@
+"""Files of records: what is got of them, and what is put in their form."""
+import struct
+
+from fs_image import Volume, attributes, sequenced, variable
+from fs_room import equal
+from fs_rows import row
+from fs_volumes import plain_volume
+
+OBJECT = [b"\x01\x00\x0a\x0d\x00\xff\x07", b"\x03\x00", b""]
+CARDS = b"".join(f"CARD {n}".encode().ljust(80) for n in range(8))
+IN_BLOCKS = (CARDS[:480] + b"#" * 32 + CARDS[480:])
+
+
+def record_volume():
+    """A volume with a file of each form in [1,2]."""
+    it = Volume()
+    files = {
+        "PROG.OBJ;1": (variable(*OBJECT), {"size": 128}),
+        "NOTES.TXT;1": (variable(b"one", b"two"), {"control": 2, "size": 3}),
+        "PLAIN.DAT;1": (variable(b"one", b"two"), {"size": 3}),
+        "SPLIT.LST;1": (variable(b"a\nb", b"c"), {"control": 2, "size": 3}),
+        "SEQ.TXT;1": (sequenced((10, b"ten"), (20, b"twenty")), {"kind": 3, "control": 2}),
+        "VFC.TXT;1": (variable(b"abcdone", b"efghtwo"), {"attr": attributes(3, 2, 0, 1, 20)[:15] + b"\4" + bytes(16)}),
+        "CARDS.DAT;1": (CARDS, {"kind": 1, "control": 2, "size": 80}),
+        "BLOCKS.DAT;1": (IN_BLOCKS, {"kind": 1, "control": 10, "size": 80}),
+        "LARGE.DAT;1": (CARDS, {"kind": 1, "control": 10, "size": 600}),
+        "STREAM.TXT;1": (b"one\r\ntwo\r\n", {"kind": 4, "control": 2}),
+        "INDEX.DAT;1": (variable(b"one", b"two"), {"attr": attributes(0o42, 2, 3, 1, 12)}),
+        "NOEND.DAT;1": (b"", {"attr": attributes(1, 0, 512, 1, 0)[:8] + bytes(24), "places": [75]}),
+    }
+    it.directory(4, "000000.DIR;1", ("000000.DIR;1", 4, 4), ("001002.DIR;1", 6, 1), ("INDEXF.SYS;1", 1, 1), ("BITMAP.SYS;1", 2, 2),
+                 ("BADBLK.SYS;1", 3, 3), ("CORIMG.SYS;1", 5, 5))
+    it.directory(6, "001002.DIR;1", *((text, 10 + k, 1) for k, text in enumerate(files)))
+    for k, (text, (data, more)) in enumerate(files.items()):
+        it.file(10 + k, text, data, **more)
+    return it.bytes()
+
+
+def of_records(function):
+    return row(function, image=record_volume)
+
+
+def got(room, text, *words):
+    """What `cat` gives of a file, and says of it."""
+    status, out, said = room.run("disk", "cat", *words, f"1,2/{text}")
+    equal(status, 0, f"cat {text}: {said!r}")
+    return out, said.decode()
+
+
+@of_records
+def an_object_module_comes_as_its_bytes(room):
+    equal(got(room, "PROG.OBJ"), (variable(*OBJECT), "f11fs: [1,2]PROG.OBJ;1: records that are no text, got as bytes\n"), "PROG.OBJ")
+    equal(got(room, "PROG.OBJ", "-t")[0], b"".join(it + b"\n" for it in OBJECT), "with -t")
+
+
+@of_records
+def records_that_are_text_come_as_lines(room):
+    equal(got(room, "NOTES.TXT"), (b"one\ntwo\n", ""), "carriage control")
+    equal(got(room, "PLAIN.DAT"), (b"one\ntwo\n", ""), "none, but text")
+    equal(got(room, "SEQ.TXT"), (b"ten\ntwenty\n", ""), "sequenced")
+    equal(got(room, "VFC.TXT"), (b"one\ntwo\n", ""), "a header of four bytes")
+    equal(got(room, "INDEX.DAT"), (b"one\ntwo\n", ""), "F.RTYP is the low four bits")
+
+
+@of_records
+def a_record_with_its_own_line_end_comes_as_bytes(room):
+    out, said = got(room, "SPLIT.LST")
+    equal(out, variable(b"a\nb", b"c"), "SPLIT.LST")
+    equal(said, "f11fs: [1,2]SPLIT.LST;1: records that are no text, got as bytes\n", "what is said")
+    equal(got(room, "SPLIT.LST", "-t")[0], b"a\nb\nc\n", "with -t")
+
+
+def put(room, name, data, *words):
+    """Puts a host file, and gives the status and what is said."""
+    (room.folder / name).write_bytes(data)
+    status, _, said = room.run("disk", "put", *words)
+    return status, said.decode()
+
+
+@row(image=lambda: plain_volume(blocks=200).bytes())
+def what_keeps_bytes_from_being_a_text_is_said(room):
+    for data, why in ((b"a\nb\r\n", "line 2 ends with CR LF; -t makes records"), (b"a\nb", "the last line has no LF; -t makes records"),
+                      (b"a\nb\xe9\n", "line 2 has the byte 233; -t makes records"), (b"x" * 32768 + b"\n", "a line has more than 32767 bytes")):
+        equal(put(room, "near.txt", data, "near.txt", "1,2/"), (0, f"f11fs: near.txt: put as bytes, since {why}\n"), why)
+    for data in (b"a\0b\r\n", b"\0", b"a\nb\n", b""):
+        equal(put(room, "near.txt", data, "near.txt", "1,2/"), (0, ""), repr(data))

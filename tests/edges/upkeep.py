@@ -1,0 +1,91 @@
+"""The commands that change a volume, where names mean two things, belong to others or are hidden."""
+from fs_image import Volume, attributes, variable
+from fs_room import STAMP, equal
+from fs_rows import row
+
+MASTER = (("000000.DIR;1", 4, 4), ("001002.DIR;1", 6, 1), ("A.DIR;1", 7, 1), ("INDEXF.SYS;1", 1, 1), ("BITMAP.SYS;1", 2, 2), ("BADBLK.SYS;1", 3, 3), ("CORIMG.SYS;1", 5, 5))
+
+
+def named_volume():
+    """A volume with the directories [1,2] and [A]."""
+    it = Volume()
+    it.directory(4, "000000.DIR;1", *MASTER)
+    it.directory(6, "001002.DIR;1", ("NOTES.TXT;1", 9, 1))
+    it.directory(7, "A.DIR;1")
+    it.file(9, "NOTES.TXT;1", variable(b"one"), control=2, size=3)
+    return it.bytes()
+
+
+def hiding_volume(end):
+    """The same, where the end mark of [1,2] is at this byte, and its entry stands behind it."""
+    it = Volume()
+    it.directory(4, "000000.DIR;1", *MASTER)
+    it.directory(6, "001002.DIR;1", ("NOTES.TXT;1", 9, 1), attr=end)
+    it.directory(7, "A.DIR;1")
+    it.file(9, "NOTES.TXT;1", variable(b"one"), control=2, size=3)
+    return it.bytes()
+
+
+def change(room, *words):
+    """Runs a command that changes the image; the status and what is said."""
+    stamp = ["--stamp", STAMP] if {*words} & {"put", "cp", "mkdir"} else []
+    status, out, said = room.run(*stamp, "disk", *words)
+    equal(out, b"", "output")
+    return status, said.decode()
+
+
+def refused(room, status, why, *words):
+    ended, said = change(room, *words)
+    equal(ended, status, f"{words}: {said}")
+    assert why in said, said
+    assert room.is_untouched(), f"{words} touched the image"
+
+
+@row(image=named_volume)
+def a_name_with_its_dot_is_no_directory(room):
+    (room.folder / "x.txt").write_bytes(b"one\n")
+    equal(change(room, "put", "x.txt", "A."), (0, ""), "put")
+    assert "[0,0]A.;1" in room.volume().paths, room.volume().paths
+    equal(change(room, "cp", "1,2/NOTES.TXT", "A."), (0, ""), "cp")
+    assert "[0,0]A.;2" in room.volume().paths, room.volume().paths
+    equal(change(room, "mv", "1,2/NOTES.TXT", "A."), (0, ""), "mv")
+    assert "[0,0]A.;3" in room.volume().paths, room.volume().paths
+    equal(change(room, "put", "x.txt", "A"), (0, ""), "put into the directory")
+    assert "[A]X.TXT;1" in room.volume().paths, room.volume().paths
+
+
+@row
+def a_directory_of_numbers_is_of_its_user(room):
+    equal(change(room, "mkdir", "200,1"), (0, ""), "mkdir")
+    volume = room.volume()
+    equal(volume.files[volume.paths["[0,0]200001.DIR;1"]].owner, 0o200 << 8 | 1, "owner")
+    (room.folder / "x.txt").write_bytes(b"one\n")
+    equal(change(room, "-u", "[200,1]", "put", "x.txt", "200,1/"), (0, ""), "put of its user")
+    equal(change(room, "mkdir", "NEW"), (0, ""), "mkdir by name")
+    volume = room.volume()
+    equal(volume.files[volume.paths["[0,0]NEW.DIR;1"]].owner, 1 << 8 | 1, "owner of a named one")
+    equal(change(room, "mkdir", "--owner", "[7,10]", "MORE"), (0, ""), "mkdir --owner")
+    volume = room.volume()
+    equal(volume.files[volume.paths["[0,0]MORE.DIR;1"]].owner, 7 << 8 | 8, "owner that is said")
+
+
+@row
+def names_of_the_reserved_files_stay(room):
+    for words in (("mv", "INDEXF.SYS;1", "A.SYS"), ("rm", "--entry", "BITMAP.SYS;1"), ("rm", "--entry", "000000.DIR;1"), ("rm", "--entry", "*.SYS;*"), ("mv", "*.SYS", "1,2/")):
+        refused(room, 5, "Reserved", *words)
+
+
+def hidden_rows(name, end):
+    def hides(room):
+        (room.folder / "x.txt").write_bytes(b"one\n")
+        for words in (("put", "x.txt", "1,2/"), ("put", "x.txt", "1,2/X.TXT"), ("cp", "A.DIR", "1,2/"), ("mv", "A.DIR", "1,2/A.DIR"), ("mkdir", "1,2/B"), ("rmdir", "1,2")):
+            status, said = change(room, *words)
+            assert status == 5 or words[0] in ("cp", "mv"), f"{words}: {status} {said}"
+            assert status != 0 and room.is_untouched(), f"{words} touched the image"
+            if words[0] not in ("cp", "mv"):
+                assert "hides used entries" in said, said
+
+    row(hides, image=lambda: hiding_volume(end), name=name)
+
+
+hidden_rows("a mark of 0 hides entries", attributes(1, 0, 16, 1, 0)[:8] + bytes(24))

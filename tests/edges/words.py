@@ -1,0 +1,288 @@
+"""What the words of f11fs ask for: options, wrong words, files of commands, host files that are put."""
+import os
+import re
+import subprocess
+import time
+
+from fs_image import BLOCK
+from fs_room import STAMP, equal, fits
+from fs_rows import row
+
+TEXT = b"one\ntwo\n"
+USAGE = b"usage: f11fs [OPTIONS] IMAGE COMMAND [WORD..]\nf11fs --help names the commands\n"
+
+
+def no_image():
+    return None
+
+
+def refused(room, line, *words, status=2, **more):
+    """These words are refused with this line, and nothing is touched."""
+    names = room.names()
+    ended, out, err = room.run(*words, **more)
+    equal((ended, out), (status, b""), f"status of {words} ({err!r})")
+    fits(err, line, f"errors of {words}")
+    assert room.is_untouched(), f"the image was touched by {words}"
+    equal(room.names(), names, f"files of the host after {words}")
+
+
+def done(room, *words, **more):
+    """These words are obeyed, and nothing is said; what is printed."""
+    ended, out, err = room.run(*words, **more)
+    equal((ended, err), (0, b""), f"status and errors of {words}")
+    return out
+
+
+@row
+def words_that_do_not_go_together(room):
+    (room.folder / "a.txt").write_bytes(TEXT)
+    for words in (("-t", "-b"), ("-b", "--like", "1,2/NOTES.TXT")):
+        refused(room, re.compile(rb"error: the argument [^\n]* cannot be used with [^\n]*\n"), "disk", "put", *words, "a.txt", "1,2/A.TXT")
+
+
+@row
+def owner_of_a_directory_that_is_made(room):
+    done(room, "--stamp", STAMP, "disk", "mkdir", "--owner", "200,40", "7,7")
+    assert b"Owner: [200,40]\n" in done(room, "disk", "stat", "007007.DIR"), "the owner of a directory"
+
+
+@row
+def owner_that_is_none(room):
+    for owner in ("x", "[1]", "[400,1]", ""):
+        refused(room, f"error: '{owner}' is no owner, as [1,2]\n", "disk", "mkdir", "--owner", owner, "7,7")
+
+
+@row
+def blocks_of_the_volume(room):
+    done(room, "--blocks", str(os.path.getsize(room.image) // BLOCK), "disk", "ls")
+    for number in ("0", "1048577", "x", "-1"):
+        refused(room, re.compile(rb"error: [^\n]*--blocks[^\n]*\n|error: [^\n]*-1[^\n]*\n"), "--blocks", number, "disk", "ls")
+
+
+@row(image=no_image)
+def volumes_by_device(room):
+    for device, blocks in (("RX01", 494), ("RX02", 988), ("RX50", 800), ("RK05", 4800), ("rl01", 10240), ("Rl02", 20480), ("RK06", 27126)):
+        done(room, "--stamp", STAMP, device, "init", device, "--files", "20")
+        equal((room.folder / device).stat().st_size, blocks * BLOCK, device)
+    for device, blocks in (("RK07", 53790), ("RM03", 131680), ("RP04", 171798), ("RP06", 340670), ("rm05", 500384), ("RA81", 891072)):
+        equal(done(room, "-n", "new", "init", device, "--files", "20"), f"new: a new volume of {blocks} blocks\n".encode(), device)
+    equal(room.run("new", "init", "RX33"), (2, b"", b"error: 'RX33' is no number of blocks, and no device that init --help names\n"), "another device")
+
+
+@row(image=no_image)
+def options_of_init(room):
+    for option in (("-o", "x.out"), ("--backup",), ("--break-links",), ("--force",), ("-q",), ("--keep-going",), ("--blocks", "100")):
+        equal(room.run(*option, "new.dsk", "init", "100"), (2, b"", f"error: {option[0]} does nothing for init\n".encode()), option)
+        equal(room.run("new.dsk", "init", *option, "100"), (2, b"", f"error: {option[0]} does nothing for init\n".encode()), f"{option} behind")
+    equal(room.names(), [], "files of the host")
+
+
+IDLE = {
+    "ls": "-o --backup --break-links -n --force --stamp --keep-going",
+    "find": "-o --backup --break-links -n --force --stamp --keep-going",
+    "stat": "-o --backup --break-links -n --force --stamp --keep-going",
+    "cat": "-o --backup --break-links -n --force --stamp --keep-going --json",
+    "get": "--backup --break-links --stamp --keep-going",
+    "df": "-o --backup --break-links -n --force --stamp --keep-going -u",
+    "du": "-o --backup --break-links -n --force --stamp --keep-going -u",
+    "check": "-o --backup --break-links -n --force --stamp --keep-going -u",
+    "rescue": "-o --backup --break-links --force --stamp --keep-going -u",
+    "cmp": "-o --backup --break-links -n --force --stamp --keep-going",
+    "put": "--keep-going",
+    "cp": "--keep-going",
+    "mv": "--keep-going --stamp",
+    "rm": "--keep-going --stamp",
+    "mkdir": "--keep-going",
+    "rmdir": "--keep-going --stamp",
+    "truncate": "--keep-going --stamp",
+}
+VALUES = {"-o": ["x.out"], "--stamp": [STAMP], "-u": ["1,2"]}
+WORDS = {"ls": [], "find": [], "df": [], "du": [], "check": [], "cp": ["A", "B"], "mv": ["A", "B"], "truncate": ["A", "0"]}
+ALL = "-o --backup --break-links -n --force --stamp --json -u -q --keep-going --blocks".split()
+
+
+@row
+def options_that_do_nothing(room):
+    for command, options in IDLE.items():
+        for option in options.split():
+            said, words = [option, *VALUES.get(option, [])], WORDS.get(command, ["A"])
+            line = f"error: {option} does nothing for {command}\n"
+            refused(room, line, *said, "disk", command, *words)
+            refused(room, line, "disk", *said, command, *words)
+            refused(room, line, "disk", command, *said, *words)
+
+
+@row
+def json_without_a_plan(room):
+    for command in ("put", "cp", "mv", "rm", "mkdir", "rmdir", "truncate", "get"):
+        refused(room, f"error: --json does nothing for {command} without -n\n", "--json", "disk", command, *WORDS.get(command, ["A"]))
+
+
+@row
+def help_of_a_command(room):
+    for command, idle in IDLE.items():
+        for words in (("disk", command, "--help"), (command, "--help")):
+            text = done(room, *words).decode()
+            assert f"Usage: f11fs IMAGE {command}" in text, f"the usage of {command}"
+            named = {it for line in text.splitlines() if line.startswith("  ") for it in re.findall(r"(?<![\w-])--?[a-z][a-z-]*", line.split("   ")[0] + " " + line[:24])}
+            for option in ALL:
+                equal(option in named, option not in idle.split(), f"{option} in the help of {command}")
+
+
+@row
+def help_of_all(room):
+    text = done(room, "--help").decode()
+    for part in ("Detach an image from an emulator", "Access control lists", "';*'", "--blocks", "mkdir"):
+        assert part in text, part
+    assert "RM05 500384" in done(room, "disk", "init", "--help").decode(), "devices"
+
+
+@row
+def plan_for_files_without_a_path(room):
+    file = f"#{room.volume().paths['[1,2]NOTES.TXT;1']},1"
+    done(room, "disk", "rm", "--entry", "[1,2]NOTES.TXT;1")
+    before = room.image.read_bytes()
+    equal(done(room, "-n", "disk", "rm", file), f"remove {file}\n".encode(), "rm")
+    equal(done(room, "-n", "disk", "truncate", file, "0"), f"change {file}\n".encode(), "truncate")
+    equal(done(room, "-n", "--json", "disk", "rm", file), f'{{"remove":"{file}"}}\n'.encode(), "rm --json")
+    equal(room.image.read_bytes(), before, "the image")
+
+
+@row
+def plan_as_objects(room):
+    equal(done(room, "-n", "--json", "--stamp", STAMP, "disk", "mkdir", "NEW"), b'{"make":"[0,0]NEW.DIR;1"}\n', "mkdir")
+    equal(done(room, "disk", "rm", "-n", "--json", "[1,2]NOTES.TXT;1"), b'{"remove":"[1,2]NOTES.TXT;1"}\n', "rm")
+    equal(done(room, "-n", "--json", "new", "init", "100"), b'{"make":"new"}\n', "init")
+    assert room.is_untouched(), "the image was touched"
+
+
+@row
+def commands_that_are_too_many(room):
+    (room.folder / "todo").write_bytes(b"#" * 1_048_577)
+    refused(room, "f11fs: todo: a file of commands has at most 1048576 bytes\n", "disk", "-f", "todo")
+    refused(room, "f11fs: /dev/zero: a file of commands has at most 1048576 bytes\n", "disk", "-f", "/dev/zero")
+    (room.folder / "todo").write_bytes(b"#" * 1_048_576)
+    equal(done(room, "disk", "-f", "todo"), b"", "as many as may be")
+
+
+@row
+def what_was_printed_before_a_refusal(room):
+    (room.folder / "todo").write_text("ls -i [1,2]NOTES.TXT\nmkdir NEW\nls NONE.TXT\n")
+    ended, out, err = room.run("--stamp", STAMP, "disk", "-f", "todo")
+    equal((ended, err.split(b":")[:2]), (6, [b"todo", b"3"]), "the end")
+    assert out.startswith(b"NOTES.TXT;1 "), f"nothing was printed: {out!r}"
+    assert room.is_untouched(), "the image was touched"
+
+
+@row
+def saved_and_not_printed(room):
+    (room.folder / "todo").write_text("mkdir NEW\nls\n")
+    with open("/dev/full", "wb") as full:
+        ran = subprocess.run([room.program, "--stamp", STAMP, "disk", "-f", "todo"], cwd=room.folder, stdin=subprocess.DEVNULL, stdout=full, stderr=subprocess.PIPE, timeout=60)
+    equal(ran.returncode, 3, "status")
+    fits(ran.stderr, re.compile(rb"f11fs: the image is saved; writing failed: [^\n]+\n"), "errors")
+    assert "[NEW]" in room.volume().directories, "the image is not saved"
+
+
+@row
+def commands_for_an_image_of_an_odd_name(room):
+    (room.folder / "todo").write_text("mkdir NEW\nls NEW/\n")
+    for name in ("-name", "-n", "ls", "--json", "a b"):
+        (room.folder / name).write_bytes(room.before)
+        equal(done(room, "--stamp", STAMP, "-f", "todo", "--", name), b"0 files, 0 blocks\n", name)
+        assert "[NEW]" in room.volume(f"./{name}").directories, f"the change of {name}"
+    (room.folder / "ls").write_bytes(room.before)
+    equal(done(room, "--", "ls", "ls", "-i", "[1,2]NOTES.TXT")[:9], b"NOTES.TXT", "an image by the name of a command")
+
+
+@row
+def carriage_returns_and_marks(room):
+    (room.folder / "todo").write_bytes(b"\xef\xbb\xbfmkdir NEW\r\nls NEW/\r\n")
+    equal(done(room, "--stamp", STAMP, "disk", "-f", "todo"), b"0 files, 0 blocks\n", "CR before LF, and a byte order mark")
+    room.image.write_bytes(room.before)
+    os.utime(room.image, (1_000_000_000, 1_000_000_000))
+    (room.folder / "todo").write_bytes(b"mkdir [6,6]\rmkdir [7,7]\r")
+    ended, out, err = room.run("--stamp", STAMP, "disk", "-f", "todo")
+    assert ended == 2 and b"\r" not in err, f"CR within a line: {ended} {err!r}"
+    assert room.is_untouched(), "the image was touched"
+
+
+@row
+def host_file_that_is_too_large(room):
+    free = room.volume().free * BLOCK
+    with open(room.folder / "large", "wb") as large:
+        large.truncate(3 << 30)
+    refused(room, re.compile(rb"f11fs: large: VolumeFull: it has 3221225472 bytes, and the free blocks of the volume hold %d\n" % free), "disk", "put", "large", "1,2/L.L", status=5)
+    refused(room, re.compile(rb"f11fs: /dev/zero: VolumeFull: it has more bytes than the %d that the free blocks of the volume hold\n" % free), "disk", "put", "/dev/zero", "1,2/L.L", status=5)
+
+
+@row
+def host_file_that_is_none(room):
+    (room.folder / "folder").mkdir()
+    refused(room, "f11fs: folder: reading failed: it is a folder\n", "disk", "put", "folder", "1,2/L.L", status=3)
+    refused(room, "f11fs: none: reading failed: not there\n", "disk", "put", "none", "1,2/L.L", status=3)
+
+
+def opened(path, reader):
+    """A descriptor of a pipe for writing, as soon as the reader has opened it."""
+    for _ in range(600):
+        try:
+            return os.open(path, os.O_WRONLY | os.O_NONBLOCK)
+        except OSError:
+            assert reader.poll() is None, "nobody reads the pipe"
+            time.sleep(0.1)
+    raise AssertionError("nobody reads the pipe")
+
+
+@row
+def pipe_is_read_before_the_lock(room):
+    os.mkfifo(room.folder / "pipe")
+    waits = subprocess.Popen([room.program, "--stamp", STAMP, "disk", "put", "pipe", "1,2/P.TXT"], cwd=room.folder, stdin=subprocess.DEVNULL, stderr=subprocess.PIPE)
+    try:
+        with open(opened(room.folder / "pipe", waits), "wb") as pipe:
+            done(room, "--stamp", STAMP, "disk", "mkdir", "NEW")
+            pipe.write(TEXT)
+        _, err = waits.communicate(timeout=60)
+    finally:
+        waits.kill()
+    equal((waits.returncode, err), (0, b""), "the put")
+    volume = room.volume()
+    assert "[NEW]" in volume.directories and "[1,2]P.TXT;1" in volume.paths, "both changes"
+
+
+@row
+def stamps_that_are_no_days(room):
+    for stamp in ("31FEB85093000", "00JAN85093000", "32JAN85093000", "31APR85093000", "29FEB85093000", "29FEB01093000", "01XXX85093000", "01JAN85240000", "01JAN85096000", "01JAN85093060"):
+        refused(room, f"error: '{stamp}' is no day and time that there is\n", "--stamp", stamp, "disk", "mkdir", "NEW")
+    refused(room, "error: '99XXX99999999' is no day and time that there is\n", "--stamp", "99XXX99999999", "disk", "mkdir", "NEW")
+    for number, stamp in enumerate(("29FEB84093000", "29FEB00235959", "31DEC69000000", "30NOV70093000", "29FEB68000000")):
+        done(room, "--stamp", stamp, "disk", "mkdir", f"NEW{number}")
+
+
+@row(image=no_image)
+def no_words(room):
+    equal(room.run(), (2, b"", USAGE), "none at all")
+    equal(room.run("disk"), (2, b"", b"error: a command is wanting\n" + USAGE), "no command")
+    equal(room.run("help"), (2, b"", b"error: a command is wanting\n" + USAGE), "help")
+
+
+@row
+def commands_that_are_none(room):
+    for word, line in (("lst", "'ls' is near"), ("dir", "'ls' is near"), ("copy", "'cp' is near"), ("chekc", "'check' is near"), ("frobnicate", "f11fs --help names them")):
+        refused(room, f"f11fs: '{word}' is no command; {line}\n", "disk", word)
+    refused(room, "f11fs: 'disk' is no command; IMAGE stands first: f11fs disk ls\n", "ls", "disk")
+    (room.folder / "todo").write_text("lst\n")
+    refused(room, "todo:1: f11fs: 'lst' is no command; 'ls' is near\n", "disk", "-f", "todo")
+
+
+@row
+def word_that_is_no_text(room):
+    refused(room, "error: word 2 is no UTF-8 text\n", "disk", b"\xff")
+    refused(room, "error: word 4 is no UTF-8 text\n", "disk", "ls", "A", b"A\xfe", b"\xff")
+
+
+@row
+def control_bytes_in_words(room):
+    for words in (("disk", "\x1b[2J"), ("disk", "mkdir", "--owner", "\x1b", "NEW"), ("disk", "put", "\x1bnone", "1,2/"), ("disk", "mkdir", "\x1b"), ("disk", "-f", "\x07"), ("disk", "init", "\x07")):
+        ended, out, err = room.run(*words)
+        assert ended and not re.search(rb"[\x00-\x09\x0b-\x1f]", err), f"{words}: {err!r}"
