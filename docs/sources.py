@@ -1,0 +1,233 @@
+"""What docs/list_theorem and docs/list_api read of the sources: the definitions of a file of specs/, the items of a file of src/, and what the
+names in either mean by its `use` lines. It relies on the layout that `rt fmt` gives."""
+import functools
+import pathlib
+import re
+
+TOP = pathlib.Path(__file__).resolve().parent.parent
+CRATES = TOP / "crates"
+WORD = r"[A-Za-z_][\w'-]*"
+
+
+def crates_in_order():
+    """Returns the crates as crates.txt orders them: each stands on crates before it alone."""
+    rows = (TOP / "crates.txt").read_text("utf-8").split("\n")
+    return [row.split(":")[0].split()[0] for row in rows if ":" in row and not row.startswith("#")]
+
+
+@functools.cache
+def lines_of(file):
+    return file.read_text("utf-8").split("\n")
+
+
+class Definition:
+    """A definition of specs/ or an item of src/: where it stands, its text, and what of that text names others."""
+
+    def __init__(self, file, name, first, last, head, kind):
+        self.file, self.name, self.first, self.head, self.kind = file, name, first, head, kind
+        self.lines = lines_of(file)[first:last]
+        while not self.lines[-1]:
+            self.lines.pop()
+
+    @property
+    def crate(self):
+        return self.file.relative_to(CRATES).parts[0]
+
+    @property
+    def place(self):
+        """Says the file and the line of the name."""
+        return f"{self.file.relative_to(TOP)}:{self.head + 1}"
+
+    @property
+    def path(self):
+        return str(self.file.relative_to(TOP))
+
+    @property
+    def comment(self):
+        """Returns the lines of comment above the head."""
+        return self.lines[:self.head - self.first]
+
+    @property
+    def body(self):
+        return self.lines[self.head - self.first:]
+
+
+def starts_definition(line):
+    """Says whether a line of specs/ begins a definition: with the words of one that others may cite, or with a name and its type."""
+    return re.match(rf"(abbrev|unfoldable|record|data) |pub (?!use |mod )|{WORD} :(?= )", line)
+
+
+def comment_above(lines, at, mark):
+    """Returns the first of the lines of comment that stand directly above a line."""
+    while at and lines[at - 1].lstrip().startswith(mark):
+        at -= 1
+    return at
+
+
+@functools.cache
+def definitions(file):
+    """Returns the definitions of a file of specs/ by name, in their order."""
+    lines = lines_of(file)
+    heads = [k for k, line in enumerate(lines) if starts_definition(line)]
+    firsts = [comment_above(lines, head, "--") for head in heads]
+    found = {}
+    for head, first, last in zip(heads, firsts, firsts[1:] + [len(lines)]):
+        name = re.match(rf"(?:(?:abbrev|unfoldable|pub|record|data) )*({WORD})", lines[head])[1]
+        kind = "data" if " data " in lines[head] else "record" if "record " in lines[head] else "definition"
+        found[name] = Definition(file, name, first, last, head, kind)
+    return found
+
+
+@functools.cache
+def constructors(file):
+    """Returns which definition each constructor of a `data` of this file belongs to."""
+    return {row[1]: item.name for item in definitions(file).values() if item.kind == "data"
+            for row in (re.match(rf"  ({WORD}) :", line) for line in item.body) if row}
+
+
+def split_uses(text, in_group=False):
+    """Returns the names that a `use` path of either language says: pairs of a name and its path, which ends with `.*` where it is a module's."""
+    text = " ".join(text.split())
+    alias = re.fullmatch(r"(\S+) as (\S+)", text)
+    if alias:
+        return [(alias[2], alias[1] if in_group else alias[1] + ".*")]
+    group = re.fullmatch(r"(.*?)(\.|::)\{(.*)\}", text)
+    if not group:
+        return [(re.split(r"\.|::", text)[-1], text)]
+    return [pair for part in split_commas(group[3]) for pair in split_uses(f"{group[1]}{group[2]}{part}", True)]
+
+
+def split_commas(text):
+    """Splits at commas that stand in no braces."""
+    parts, depth = [""], 0
+    for char in text:
+        depth += (char == "{") - (char == "}")
+        if char == "," and not depth:
+            parts.append("")
+        else:
+            parts[-1] += char
+    return [part.strip() for part in parts if part.strip()]
+
+
+@functools.cache
+def spec_uses(file):
+    """Returns what a file of specs/ imports: the path of each name."""
+    rows = (re.match(r"(?:pub )?use (.*)", line) for line in lines_of(file))
+    return dict(pair for row in rows if row for pair in split_uses(row[1]))
+
+
+def ghost_uses(lines):
+    """Returns what these lines of src/ import for contracts."""
+    text = "\n".join(lines)
+    return dict(pair for row in re.findall(r"ghost use ([^;]*);", text) for pair in split_uses(row))
+
+
+def rust_uses(lines):
+    """Returns what these lines of src/ import for the code."""
+    text = "\n".join(lines)
+    return dict(pair for row in re.findall(r"^ *(?:pub )?use ([^;]*);", text, re.M) for pair in split_uses(row))
+
+
+ITEM = re.compile(r"(?:pub(?:\(crate\))? )?(?:const |unsafe )*(struct|enum|trait|const|type|fn) (\w+)")
+METHOD = re.compile(r"    (?:pub(?:\(crate\))? )?(?:const |unsafe |final )*fn (\w+)")
+
+
+@functools.cache
+def items(file):
+    """Returns the items of a file of src/ in their order: types, traits, constants, functions, and each `impl` with its lines."""
+    lines, found = lines_of(file), []
+    for head, line in enumerate(lines):
+        impl = re.match(r"impl\b(?:<.*?>)? (?:(.*) for )?(\w+)", line)
+        said = ITEM.match(line)
+        if said or impl:
+            last = end_of_item(lines, head)
+            first = comment_above_item(lines, head)
+            kind = f"impl {impl[1] or ''}".strip() if impl else said[1]
+            found.append(Definition(file, impl[2] if impl else said[2], first, last, head, kind))
+    return found
+
+
+def comment_above_item(lines, at):
+    """Returns the first of the lines of comment and of attributes that stand directly above an item."""
+    while at and re.match(r" *(///|//|#\[)", lines[at - 1]) and not lines[at - 1].startswith("//!"):
+        at -= 1
+    return at
+
+
+def end_of_item(lines, head):
+    """Returns the line behind an item: behind the end of its body, or behind the `;` where it has none."""
+    indent = re.match(" *", lines[head])[0]
+    for at in range(head, len(lines)):
+        if lines[at] == indent + "{}" or re.search(r"(;| \{.*\})$", lines[at]) and not re.match(r" *(//|requires|ensures|×).*\}$", lines[at]):
+            return at + 1
+        if lines[at] == indent + "{" or lines[at].endswith(" {"):
+            return next(k for k in range(at, len(lines)) if re.match(rf"{indent}\}}", lines[k])) + 1
+    raise SystemExit(f"no end of the item at line {head + 1}")
+
+
+def methods(impl):
+    """Returns the functions of an `impl` or a trait."""
+    lines, found = lines_of(impl.file), []
+    for head in range(impl.head + 1, impl.head + len(impl.body)):
+        said = METHOD.match(lines[head])
+        if said:
+            found.append(Definition(impl.file, said[1], comment_above_item(lines, head), end_of_item(lines, head), head, "fn"))
+    return found
+
+
+def signature(function):
+    """Returns the lines of a function from its head to its body, which opens on a line of its own where there are clauses."""
+    lines, indent, has_clauses = [], re.match(" *", function.body[0])[0], False
+    for line in function.body:
+        if line in (indent + "{", indent + "{}", indent + ";"):
+            break
+        has_clauses = has_clauses or bool(re.match(r" *(requires|ensures|ghost)\b", line))
+        if not has_clauses and not re.match(r" *//", line) and re.search(r"( \{|;|\})$", line):
+            return lines + [re.sub(r"( \{| \{.*\}|;)$", "", line)]
+        lines.append(line.removesuffix(";") if has_clauses else line)
+    return lines
+
+
+def clauses(function):
+    """Returns the clauses of a function: the kind, the name or nothing, and the line where each begins."""
+    rows = ((k, re.match(r" *(requires|ensures|ghost)\*? ?(\w*):? ?\{", line)) for k, line in enumerate(signature(function)))
+    return [(row[1], row[2], function.head + k + 1) for k, row in rows if row]
+
+
+def doc(item):
+    """Returns the doc comment of an item as one text."""
+    rows = (re.match(r" */// ?(.*)", line) for line in item.comment)
+    return " ".join(row[1] for row in rows if row)
+
+
+def head_text(file):
+    """Returns the comment that a file opens with, as one text."""
+    lines = []
+    for line in lines_of(file):
+        said = re.match(r"(?://!|--) ?(.*)", line)
+        if not said:
+            break
+        lines.append(said[1])
+    return " ".join(lines)
+
+
+def first_sentence(text):
+    return re.split(r"(?<=[.?]) (?=[A-Z`])", text)[0]
+
+
+def source_of(crate, module):
+    """Returns the file of src/ that has a module of a crate."""
+    folder = CRATES / crate / "src"
+    for name in (module.replace("::", "/").replace(".", "/") + ".rt", module.replace("::", "/").replace(".", "/") + "/mod.rt"):
+        if (folder / name).is_file():
+            return folder / name
+    return None
+
+
+@functools.cache
+def handed_out(crate):
+    """Returns what the lib.rt of a crate hands out: for each name the module and the name there; a public module stands for itself."""
+    lines = lines_of(CRATES / crate / "src" / "lib.rt")
+    uses = rust_uses([line for line in lines if not line.startswith("use ")])
+    found = {name: path.removeprefix("crate::").rpartition("::")[::2] for name, path in uses.items()}
+    return found | {row[1]: (row[1], None) for row in (re.match(r"pub mod (\w+);", line) for line in lines) if row}
