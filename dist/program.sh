@@ -1,5 +1,5 @@
 # Where the programs f11 and f11fs stand, what they are made of, and how they are built. A script sets `top` to the repository's folder
-# before it reads this file. Nothing here goes by dates: what is compared are sums.
+# before it reads this file. What decides are sums. Between two runs the looks of the files spare them: size, inode and both times of each.
 
 # Which program the other functions speak of, f11 where nothing else is said: about NAME
 about() {
@@ -9,6 +9,7 @@ about() {
     shipped=$top/dist/$name-x86_64-linux  # as dist/make put it there
     listed=$top/dist/SOURCES              # what that was made of
     [ "$name" = f11 ] || listed+=.$name
+    looks=$top/out/$name.looks            # which program is made of them, and how they all looked when that was found
 }
 about f11
 
@@ -28,25 +29,36 @@ each() {
     return $status
 }
 
-# The crates that the program is made of, lowest first.
-crates() {
+# The rows of crates.txt of the crates that the program is made of, lowest first and without remarks.
+rows() {
     awk -F: -v program="$name" '
         function visit(name,   count, i, words) {
             if (!(name in uses) || name in seen) return
             seen[name] = 1
             count = split(uses[name], words, " ")
             for (i = 1; i <= count; i++) visit(words[i])
-            print name
+            print row[name]
         }
-        { sub(/#.*/, "") }
-        NF == 2 { split($1, head, " "); uses[head[1]] = $2 }
+        { sub(/[ \t]*(#.*)?$/, "") }
+        NF == 2 { split($1, head, " "); uses[head[1]] = $2; row[head[1]] = $0 }
         END { visit(program) }' <"$top/crates.txt"
 }
 
-# The sum of each file that the program is made of: its crates' sources, definitions and proofs, and crates.txt.
+# The crates that the program is made of, lowest first.
+crates() {
+    rows | sed 's/[ :].*//'
+}
+
+# The folders that have the sources, definitions and proofs of these crates.
+folders() {
+    crates | sed 's,.*,crates/&/src\ncrates/&/specs\ncrates/&/proofs,'
+}
+
+# What the program is made of: the rows of its crates, and the sum of each file of theirs. A crate that it does not stand on is no part of it.
 sums() (
     cd "$top"
-    find crates.txt $(crates | sed 's,.*,crates/&/src crates/&/specs crates/&/proofs,') -type f -print0 2>/dev/null | LC_ALL=C sort -z | xargs -0 sha256sum
+    rows | sed 's/^/crates.txt: /'
+    find $(folders) -type f -print0 2>/dev/null | LC_ALL=C sort -z | xargs -0 sha256sum
 )
 
 # The text of dist/SOURCES or dist/SOURCES.f11fs: these sums, and the toolchain. Where the machine has no toolchain, its line is taken from there as it stands.
@@ -86,6 +98,41 @@ is_shipped() {
 # The program that is here and made of these sums, as it was built or in dist/, if there is one: ready SUMS
 ready() {
     if is_built "$1"; then echo "$program"; elif is_shipped "$1"; then echo "$shipped"; else return 1; fi
+}
+
+# The files and folders that sums are taken of, and what says which program they made, each ended by a NUL. A folder looks otherwise when a
+# file comes or goes.
+watched() (
+    cd "$top"
+    find crates.txt $(folders) -print0 2>/dev/null || true # not each crate has all three folders
+    printf '%s\0' "${program#"$top/"}" "${made#"$top/"}" "${shipped#"$top/"}" "${listed#"$top/"}" dist/SHA256SUMS
+)
+
+# A text as a word of a shell: quoted TEXT
+quoted() {
+    printf "'%s'\n" "${1//\'/\'\\\'\'}"
+}
+
+# The program that is here and made of these sources, if there is one; notes for dist/run.sh how all files look: found
+found() {
+    local new=$looks.$$ now ready list lines
+    if ! { mkdir -p "$top/out" && : >"$new" && now=$(stat -c %Y "$new"); } 2>/dev/null; then
+        ready "$(sums)" # nothing can be noted here
+        return
+    fi
+    mapfile -d '' -t list < <(watched)
+    lines=$(cd "$top" && stat -c '%s %Y %Z %i' "${list[@]}" 2>/dev/null) || true # some are not there
+    if ready=$(ready "$(sums)"); then
+        echo "$ready"
+        list=$(printf '%s\n' "${list[@]}")
+        # A file that changed within this second, by the clock of the disk, may change once more and look the same: then nothing is noted.
+        if [[ $(wc -l <<<"$list") -eq $(watched | tr -dc '\0' | wc -c) ]] && awk -v now="$now" '$2 >= now || $3 >= now { exit 1 }' <<<"$lines"; then
+            { printf found= && quoted "${ready#"$top/"}" && printf files= && quoted "$list" && printf looks= && quoted "$lines"; } >"$new" &&
+                mv -T "$new" "$looks"
+        fi 2>/dev/null || true
+    fi
+    rm -f "$new"
+    [ -n "$ready" ]
 }
 
 # What a green gate leaves in out/check/green: what each program was made of, and its sum.

@@ -1,0 +1,90 @@
+"""What the help of a program says: its commands, its options and its words. docs/list_words and docs/check_manuals read it.
+
+`of_program(path)` runs `path --help`, and `path COMMAND --help` for each command that stands there.
+"""
+import dataclasses
+import re
+import subprocess
+
+OPTION = re.compile(r"(?:(-\w)(?:, )?)?(--[a-z][a-z-]*)?(?: <(\w+)>)?$")
+
+
+@dataclasses.dataclass
+class Option:
+    """An option: how it is written, the name of its value or none, and what it does."""
+    words: list
+    value: str
+    text: str
+
+
+@dataclasses.dataclass
+class Words:
+    """A program or a command: its line of usage, options, the names of the words that it takes, and what each argument is."""
+    name: str
+    text: str
+    usage: str
+    options: list
+    takes: list
+    arguments: dict
+
+
+def sections(text):
+    """Parts a help at its headings: the lines of each, a line that goes on joined to the one before."""
+    found = {"": []}
+    rows = found[""]
+    for line in text.split("\n"):
+        heading = re.fullmatch(r"(Commands|Arguments|Options):", line)
+        if heading:
+            rows = found[heading[1]] = []
+        elif re.match(r" {10}", line) and rows:
+            rows[-1] += " " + line.strip()
+        elif re.match(r" {2,6}[^ ]", line) and rows is not found[""]:
+            rows.append(line)
+        elif line:
+            rows = found[""]
+            rows.append(line)
+    return found
+
+
+def told(row):
+    """Parts a row of a section into what it is of and what it says."""
+    left, _, right = re.sub(r"^ +", "", row).partition("  ")
+    return left, right.strip()
+
+
+def words_of(name, text):
+    """Reads one help: its words, and the rows of its commands."""
+    parts = sections(text)
+    usage = next((line.removeprefix("Usage: ") for line in parts[""] if line.startswith("Usage: ")), "")
+    options = []
+    for row in parts.get("Options", []):
+        left, said = told(row)
+        found = OPTION.match(left)
+        if not found or not (found[1] or found[2]):
+            raise SystemExit(f"{name} --help: no option is understood in: {row}")
+        options.append(Option([it for it in found.groups()[:2] if it], found[3], said))
+    arguments = {}
+    for row in parts.get("Arguments", []):
+        left, said = told(row)
+        arguments.update((it, said) for it in re.findall(r"\w+", left))
+    plain = re.sub(r"^\w+ IMAGE [a-z]+ |\[-[^]]*\]|\[OPTIONS\]", "", usage)
+    takes = list(dict.fromkeys(re.findall(r"\b[A-Z]+2?\b", plain) + list(arguments)))
+    return Words(name, parts[""][0] if parts[""] else "", usage, options, takes, arguments), parts.get("Commands", [])
+
+
+def help_of(program, *words):
+    """Returns what a help prints."""
+    run = subprocess.run([program, *words, "--help"], stdin=subprocess.DEVNULL, capture_output=True, text=True, check=False)
+    if run.returncode or not run.stdout:
+        raise SystemExit(f"{' '.join([program, *words])} --help: status {run.returncode}: {run.stderr.strip()}")
+    return run.stdout
+
+
+def of_program(program, name):
+    """Returns the words of the program, and those of each of its commands in the order of the help."""
+    whole, rows = words_of(name, help_of(program))
+    rows = [told(row) for row in rows]
+    commands = [words_of(f"{name} {command}", help_of(program, command))[0] for command, _ in rows]
+    for (command, said), it in zip(rows, commands):
+        it.name, it.text = command, said
+    return whole, commands
