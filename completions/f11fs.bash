@@ -36,7 +36,7 @@ _f11fs_of() {
     check) options='--all --json -q --blocks -h --help' takes='' ;;
     rescue) options='--text -n --json -q --blocks -h --help' takes='folder' ;;
     cmp) options='--all --json -u -q --blocks -h --help' takes='host' ;;
-    put) options='-t -b --like --replace -o --backup --break-links -n --force --json --stamp -u -q --blocks -h --help' takes='host path' ;;
+    put) options='-t -b --form --like --replace --owner -o --backup --break-links -n --force --json --stamp -u -q --blocks -h --help' takes='host path' ;;
     cp) options='-o --backup --break-links -n --force --json --stamp -u -q --blocks -h --help' takes='path' ;;
     mv) options='-o --backup --break-links -n --force --json -u -q --blocks -h --help' takes='path' ;;
     rm) options='--entry --newest -o --backup --break-links -n --force --json -u -q --blocks -h --help' takes='path' ;;
@@ -52,7 +52,7 @@ _f11fs_of() {
 _f11fs_value() {
     case $1 in
     -f | --commands | -o) kind=host ;;
-    --stamp | -u | --blocks | --top | --names | --owner | --files | --label) kind=none ;;
+    --stamp | -u | --blocks | --top | --form | --owner | --names | --files | --label) kind=none ;;
     --like) kind=path ;;
     *) return 1 ;;
     esac

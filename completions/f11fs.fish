@@ -9,7 +9,7 @@ function __f11fs_state
     set -l at 2
     while test $at -le (count $words)
         switch $words[$at]
-            case -f --commands -o --stamp -u --blocks --top --like --names --owner --files --label
+            case -f --commands -o --stamp -u --blocks --top --form --like --owner --names --files --label
                 set at (math $at + 1)
                 test $words[(math $at - 1)] = --blocks; and test $at -le (count $words); and set blocks --blocks $words[$at]
             case '-?*'
@@ -175,8 +175,10 @@ complete -c f11fs -n '__f11fs_at put' -F
 complete -c f11fs -n '__f11fs_at put' -a '(__f11fs_paths)'
 complete -c f11fs -n '__f11fs_at put' -s t -d 'Lines as records'
 complete -c f11fs -n '__f11fs_at put' -s b -d 'Bytes as they are'
-complete -c f11fs -n '__f11fs_at put' -l like -x -a '(__f11fs_paths)' -d 'With the record attributes of this file'
+complete -c f11fs -n '__f11fs_at put' -l form -x -d 'Bytes as they are, in this form: fixed, variable, sequenced, stream or undefined; none, cr, ftn or print, each perhaps with +blk behind; the record size, at most 32767'
+complete -c f11fs -n '__f11fs_at put' -l like -x -a '(__f11fs_paths)' -d 'With the record type and control of this file, and the greater record size; with -b with all attributes of it but the end'
 complete -c f11fs -n '__f11fs_at put' -l replace -d 'In place of the file of that name'
+complete -c f11fs -n '__f11fs_at put' -l owner -x -d 'The owner of the new files, who makes them; the user who asks enters them'
 complete -c f11fs -n '__f11fs_at put' -s o -r -F -d 'Write the changed image to FILE, which is not there, and leave IMAGE as it is'
 complete -c f11fs -n '__f11fs_at put' -l backup -d 'Keep the old image as IMAGE~'
 complete -c f11fs -n '__f11fs_at put' -l break-links -d 'Change an image with several names (hard links) under this one alone'

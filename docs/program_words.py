@@ -6,7 +6,7 @@ import dataclasses
 import re
 import subprocess
 
-OPTION = re.compile(r"(?:(-\w)(?:, )?)?(--[a-z][a-z-]*)?(?: <(\w+)>)?$")
+OPTION = re.compile(r"(?:(-\w)(?:, )?)?(--[a-z][a-z-]*)?(?: <([\w,]+)>)?$")
 
 
 @dataclasses.dataclass

@@ -49,7 +49,7 @@ def got(room, text, *words):
 
 @of_records
 def an_object_module_comes_as_its_bytes(room):
-    equal(got(room, "PROG.OBJ"), (variable(*OBJECT), "f11fs: [1,2]PROG.OBJ;1: records that are no text, got as bytes\n"), "PROG.OBJ")
+    equal(got(room, "PROG.OBJ"), (variable(*OBJECT), "f11fs: [1,2]PROG.OBJ;1: records that are no text, got as bytes; put -b --form variable,none,128 brings them back\n"), "PROG.OBJ")
     equal(got(room, "PROG.OBJ", "-t")[0], b"".join(it + b"\n" for it in OBJECT), "with -t")
 
 
@@ -66,8 +66,46 @@ def records_that_are_text_come_as_lines(room):
 def a_record_with_its_own_line_end_comes_as_bytes(room):
     out, said = got(room, "SPLIT.LST")
     equal(out, variable(b"a\nb", b"c"), "SPLIT.LST")
-    equal(said, "f11fs: [1,2]SPLIT.LST;1: records that are no text, got as bytes\n", "what is said")
+    assert "--form variable,cr,3" in said, said
     equal(got(room, "SPLIT.LST", "-t")[0], b"a\nb\nc\n", "with -t")
+
+
+@of_records
+def records_of_one_size_are_lines_with_t(room):
+    lines = b"".join(CARDS[at : at + 80] + b"\n" for at in range(0, 640, 80))
+    equal(got(room, "CARDS.DAT", "-t")[0], lines, "CARDS.DAT")
+    equal(got(room, "BLOCKS.DAT", "-t")[0], lines, "BLOCKS.DAT")
+    equal(got(room, "CARDS.DAT")[0], CARDS, "without a form")
+    status, out, said = room.run("disk", "cat", "-t", "1,2/LARGE.DAT")
+    equal((status, out), (5, b""), "LARGE.DAT")
+    assert b"do not fit in a block" in said, said
+
+
+@of_records
+def a_stream_loses_cr_before_lf_with_t(room):
+    equal(got(room, "STREAM.TXT", "-t")[0], b"one\ntwo\n", "with -t")
+    equal(got(room, "STREAM.TXT")[0], b"one\r\ntwo\r\n", "without a form")
+
+
+@of_records
+def an_end_of_zero_is_said(room):
+    out, said = got(room, "NOEND.DAT")
+    equal(out, b"", "NOEND.DAT")
+    assert "ends at 0 and has blocks" in said, said
+    equal(got(room, "NOEND.DAT", "--raw"), (bytes(512), ""), "--raw")
+
+
+@of_records
+def listings_tell_records_from_text(room):
+    status, out, _ = room.run("disk", "ls", "-l", "1,2/*.*")
+    equal(status, 0, "ls")
+    kinds = {it.split()[0]: it.split()[4] for it in out.decode().splitlines() if "#" in it}
+    equal([kinds[it] for it in ("PROG.OBJ;1", "NOTES.TXT;1", "PLAIN.DAT;1", "SEQ.TXT;1", "CARDS.DAT;1", "STREAM.TXT;1")],
+          ["records", "text", "records", "text", "binary", "binary"], "kinds")
+    _, out, _ = room.run("disk", "stat", "1,2/STREAM.TXT")
+    assert b"Records: stream, implied carriage return" in out, out
+    _, out, _ = room.run("disk", "stat", "1,2/INDEX.DAT")
+    assert b"Records: variable" in out, out
 
 
 def put(room, name, data, *words):
@@ -77,6 +115,47 @@ def put(room, name, data, *words):
     return status, said.decode()
 
 
+def file_of(room, path):
+    volume = room.volume()
+    return volume.files[volume.paths[path]]
+
+
+@of_records
+def bytes_come_back_in_the_form_of_another(room):
+    data = variable(*OBJECT)
+    equal(put(room, "new.obj", data, "-b", "--like", "1,2/PROG.OBJ", "new.obj", "1,2/"), (0, ""), "put")
+    one = file_of(room, "[1,2]NEW.OBJ;1")
+    old = file_of(room, "[1,2]PROG.OBJ;1")
+    equal(one.attributes, old.attributes, "attributes")
+    equal(room.run("disk", "cat", "-b", "1,2/NEW.OBJ")[1], data, "cat -b")
+
+
+@of_records
+def bytes_come_back_in_a_form_in_words(room):
+    data = sequenced((1, b"one"), (2, b"three"))
+    equal(put(room, "new.seq", data, "-b", "--form", "sequenced,print+blk,80", "new.seq", "1,2/"), (0, ""), "put")
+    one = file_of(room, "[1,2]NEW.SEQ;1")
+    equal(one.attributes, attributes(3, 12, 80, 1, len(data)), "attributes")
+    equal(room.run("disk", "cat", "-b", "1,2/NEW.SEQ")[1], data, "cat -b")
+
+
+@of_records
+def bytes_that_are_no_records_of_the_form_are_refused(room):
+    for data, form, said in ((b"\x05\x00ab", "variable,cr,0", "past the end"), (variable(b"x" * 9), "variable,cr,8", "a record has 9 bytes"), (b"\x01\x00a\x00", "sequenced,none,0", "no number")):
+        status, line = put(room, "new.dat", data, "-b", "--form", form, "new.dat", "1,2/")
+        equal(status, 5, form)
+        assert said in line, line
+    assert room.is_untouched()
+
+
+@of_records
+def like_keeps_the_greater_record_size(room):
+    equal(put(room, "long.txt", b"a longer line\n", "--like", "1,2/NOTES.TXT", "long.txt", "1,2/"), (0, ""), "put")
+    equal(file_of(room, "[1,2]LONG.TXT;1").size, 13, "the longest record")
+    equal(put(room, "short.txt", b"a\n", "--like", "1,2/NOTES.TXT", "short.txt", "1,2/"), (0, ""), "put")
+    equal(file_of(room, "[1,2]SHORT.TXT;1").size, 3, "F.RSIZ of the other")
+
+
 @row(image=lambda: plain_volume(blocks=200).bytes())
 def what_keeps_bytes_from_being_a_text_is_said(room):
     for data, why in ((b"a\nb\r\n", "line 2 ends with CR LF; -t makes records"), (b"a\nb", "the last line has no LF; -t makes records"),
@@ -84,3 +163,19 @@ def what_keeps_bytes_from_being_a_text_is_said(room):
         equal(put(room, "near.txt", data, "near.txt", "1,2/"), (0, f"f11fs: near.txt: put as bytes, since {why}\n"), why)
     for data in (b"a\0b\r\n", b"\0", b"a\nb\n", b""):
         equal(put(room, "near.txt", data, "near.txt", "1,2/"), (0, ""), repr(data))
+
+
+@row
+def a_name_with_a_character_that_stands_for_another_is_refused(room):
+    for character in "_%&":
+        status, said = put(room, f"a{character}b.txt", b"x\n", f"a{character}b.txt", "1,2/")
+        equal(status, 2, character)
+        assert f"'{character}' stands for a character" in said, said
+    assert room.is_untouched()
+    equal(put(room, "a_b.txt", b"x\n", "a_b.txt", "1,2/A_B.TXT"), (0, ""), "a path that spells it")
+
+
+@row
+def a_file_is_put_for_another_owner(room):
+    equal(put(room, "new.txt", b"x\n", "--owner", "[7,10]", "new.txt", "1,2/"), (0, ""), "put")
+    equal(file_of(room, "[1,2]NEW.TXT;1").owner, 7 << 8 | 8, "owner")

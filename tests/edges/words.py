@@ -33,15 +33,40 @@ def done(room, *words, **more):
     return out
 
 
+def file_at(room, path):
+    volume = room.volume()
+    return volume.files[volume.paths[path]]
+
+
 @row
-def words_that_do_not_go_together(room):
+def form_of_the_bytes(room):
+    (room.folder / "x.obj").write_bytes(b"\x04\0\x01\0\x0a\x0d")
+    done(room, "--stamp", STAMP, "disk", "put", "-b", "--form", "variable,none,0", "x.obj", "1,2/X.OBJ")
+    equal(done(room, "disk", "cat", "--raw", "1,2/X.OBJ")[:6], b"\x04\0\x01\0\x0a\x0d", "the bytes")
+    assert b"Records: variable, no carriage control, size 0\n" in done(room, "disk", "stat", "1,2/X.OBJ"), "the form"
+
+
+@row
+def words_that_do_not_go_with_a_form(room):
     (room.folder / "a.txt").write_bytes(TEXT)
-    for words in (("-t", "-b"), ("-b", "--like", "1,2/NOTES.TXT")):
+    for words in (("--form", "variable,none,0", "-t"), ("--form", "variable,none,0", "--like", "1,2/NOTES.TXT"), ("-t", "--like", "1,2/NOTES.TXT"), ("-t", "-b")):
         refused(room, re.compile(rb"error: the argument [^\n]* cannot be used with [^\n]*\n"), "disk", "put", *words, "a.txt", "1,2/A.TXT")
+    for form in ("variable", "variable,none", "odd,none,0", "variable,none,32768", "variable,none,x", ""):
+        refused(room, f"error: '{form}' is no form, as variable,cr,0; put --help has the words\n", "disk", "put", "--form", form, "a.txt", "1,2/A.TXT")
 
 
 @row
-def owner_of_a_directory_that_is_made(room):
+def bytes_like_another_file(room):
+    (room.folder / "a.bin").write_bytes(b"\x04\0ab\r\n")
+    done(room, "--stamp", STAMP, "disk", "put", "-b", "--like", "1,2/NOTES.TXT", "a.bin", "1,2/A.BIN")
+    equal(done(room, "disk", "cat", "--raw", "1,2/A.BIN")[:6], b"\x04\0ab\r\n", "the bytes")
+
+
+@row
+def owner_of_what_is_made(room):
+    (room.folder / "a.txt").write_bytes(TEXT)
+    done(room, "--stamp", STAMP, "disk", "put", "--owner", "[200,40]", "a.txt", "1,2/A.TXT")
+    equal(file_at(room, "[1,2]A.TXT;1").owner, 0o200 << 8 | 0o40, "the owner of a file")
     done(room, "--stamp", STAMP, "disk", "mkdir", "--owner", "200,40", "7,7")
     assert b"Owner: [200,40]\n" in done(room, "disk", "stat", "007007.DIR"), "the owner of a directory"
 

@@ -5,7 +5,6 @@ use fs_host::{HostFault, Shown, read_host};
 use fs_reads::Stop;
 use fs_words::{PutWords, Words};
 use ods_mount::Mounted;
-use ods_records::{NearText, why_no_text};
 use ods_shell::{Status, space_of};
 use ods_upkeep::{Asked, HostFile, PutForm, Putting};
 use std::fs;
@@ -40,6 +39,7 @@ pub fn put<'a, R: Files<File = File> + AllocGlobal + Eprint>(
         form_of(&how),
         how.like,
         how.replace,
+        how.owner,
     );
     let mut putting = match begun {
         Ok(putting) => putting,
@@ -48,16 +48,15 @@ pub fn put<'a, R: Files<File = File> + AllocGlobal + Eprint>(
     for host in hosts {
         let bytes = host_bytes(rt, *host, room, early)?;
         putting = put_one(rt, putting, *host, bytes.as_slice(), words.quiet)?;
-        if how.says_no_form() && !words.quiet {
-            say_near(rt, *host, bytes.as_slice());
-        }
     }
     Ok(putting.end())
 }
 
 /// The form that the words say.
 fn form_of(how: &PutWords<'_>) -> PutForm {
-    if how.text {
+    if let Some(four) = how.form {
+        PutForm::Said(four)
+    } else if how.text {
         PutForm::Text
     } else if how.binary {
         PutForm::Binary
@@ -90,20 +89,6 @@ fn put_one<'a, R: Eprint>(
         }
         Err(failure) => Err(failed(rt, &failure)),
     }
-}
-
-/// Says of bytes that lack one thing to be put as a text what that is.
-fn say_near<R: Eprint>(rt: &R, host: &str, bytes: &[u8]) {
-    let Some(near) = why_no_text(bytes) else {
-        return;
-    };
-    let host = Shown(host);
-    let way = if near == NearText::LongLine {
-        ""
-    } else {
-        "; -t makes records"
-    };
-    let _ = eprintln!(rt; "f11fs: {host}: put as bytes, since {near}{way}");
 }
 
 /// The last part of the path of a host file.

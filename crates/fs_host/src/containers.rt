@@ -1,16 +1,20 @@
 //! Files of the host in which a volume lies: how they are read, and what is to be said of one that is longer or shorter than its volume.
 use ods_base::{Image, ImageError};
-use ods_container::{Contained, Footer, contained_in, footer_of, read_contained};
+use ods_container::{Contained, Footer, MOST_BYTES, contained_in, footer_of, read_contained};
 use std::alloc::Global;
 use std::io::{Read, Seek, SeekFrom};
 use thiserror::Error;
 
-/// The volume in a file, of the size in blocks that is given, where one is. Only a file that is no image as it stands is read twice.
+/// The volume in a file, of the size in blocks that is given, where one is. A file that is too large by its size is not read, and only one that
+/// is no image as it stands is read twice.
 pub fn volume_in<F: Read + Seek>(
     alloc: Global,
     file: &mut F,
     given: Option<u32>,
 ) -> Result<Contained, ImageError> {
+    if end_of(file)? > MOST_BYTES as u64 {
+        return Err(ImageError::TooBig);
+    }
     let fault = match Image::read_from(alloc, file) {
         Ok(image) => return contained_in(alloc, image, given),
         Err(fault) => fault,
@@ -21,6 +25,17 @@ pub fn volume_in<F: Read + Seek>(
             Err(_) => Err(fault),
         },
         _ => Err(fault),
+    }
+}
+
+/// How many bytes a file has, which is at its start then; 0 for a stream.
+fn end_of<F: Seek>(file: &mut F) -> Result<u64, ImageError> {
+    let Ok(end) = file.seek(SeekFrom::End(0)) else {
+        return Ok(0);
+    };
+    match file.seek(SeekFrom::Start(0)) {
+        Ok(_) => Ok(end),
+        Err(_) => Err(ImageError::ReadFailed),
     }
 }
 

@@ -6,7 +6,6 @@ mod checking;
 mod closed;
 mod comparing;
 mod finding;
-mod forms;
 mod getting;
 mod host_files;
 mod listing;

@@ -1,13 +1,14 @@
 //! `cat`: files of a volume, written to standard output.
 use crate::closed::{closed_to, say_closed};
-use crate::forms::get_contents;
 use crate::stop::Stop;
 use fs_host::{Noting, Shown};
 use fs_words::Words;
 use ods_base::Uic;
 use ods_mount::Mounted;
 use ods_request::{Right, permits};
-use ods_shell::{Contents, Facts, FormFault, PathFault, Status, Target, Wanted, open_targets};
+use ods_shell::{
+    Contents, Facts, FormFault, PathFault, Status, Target, Wanted, open_contents, open_targets,
+};
 use std::io;
 
 /// Who reads, and whether remarks that are no faults are left out.
@@ -98,7 +99,7 @@ pub(crate) fn cat_file<'a, R: AllocGlobal + Print + Eprint>(
     }
 }
 
-/// What is got out of a file. That its bytes are got, since its records are no text, is said.
+/// What is got out of a file; what is to be remarked of it is said.
 pub(crate) fn contents_of<'a, R: AllocGlobal + Eprint>(
     rt: &R,
     volume: &'a Mounted,
@@ -107,10 +108,12 @@ pub(crate) fn contents_of<'a, R: AllocGlobal + Eprint>(
     wanted: Wanted,
     reader: Reader,
 ) -> Result<Contents<'a>, FormFault> {
-    match get_contents(rt.alloc(), volume, facts, wanted) {
+    match open_contents(rt.alloc(), volume, facts.file.number, wanted) {
         Ok(got) => {
-            if got.is_no_text && !reader.quiet {
-                let _ = eprintln!(rt; "f11fs: {path}: records that are no text, got as bytes");
+            if let Some(remark) = &got.remark {
+                if !reader.quiet {
+                    let _ = eprintln!(rt; "f11fs: {path}: {remark}");
+                }
             }
             Ok(got.contents)
         }
@@ -131,9 +134,6 @@ pub(crate) fn readable<'a, R: Eprint>(
     };
     if !may_read(rt, path, facts, reader) {
         return None;
-    }
-    if facts.has_no_attributes() && !reader.quiet {
-        let _ = eprintln!(rt; "f11fs: {path}: nothing says where it ends, so all blocks are got");
     }
     Some(facts)
 }

@@ -4,6 +4,7 @@ use crate::verbs::Verb;
 use crate::words::{WordsFault, flag, paths};
 use clap::{Arg, ArgMatches, Command, value_parser};
 use ods_base::Uic;
+use ods_records::parse_form;
 use std::alloc::{AllocError, Global};
 
 /// A command that changes a volume. Its paths stand in the words.
@@ -37,17 +38,14 @@ pub struct PutWords<'a> {
     pub text: bool,
     /// Bytes as they are.
     pub binary: bool,
+    /// Bytes as they are, of this form: the first four bytes of the attributes.
+    pub form: Option<[u8; 4]>,
     /// The path of the file whose attributes the new ones get.
     pub like: Option<&'a str>,
     /// The file of that name is replaced.
     pub replace: bool,
-}
-
-impl PutWords<'_> {
-    /// Whether the words say no form, so that each file is put by its contents.
-    pub fn says_no_form(&self) -> bool {
-        !self.text && !self.binary && self.like.is_none()
-    }
+    /// Whose the new files are, where an owner is said.
+    pub owner: Option<Uic>,
 }
 
 /// How a changed image is saved.
@@ -91,12 +89,7 @@ pub(crate) fn change_of<'a>(
     own: &ArgMatches<'a>,
 ) -> Result<Option<Change<'a>>, WordsFault> {
     let change = match verb {
-        Verb::Put => Change::Put(PutWords {
-            text: own.get_flag("text"),
-            binary: own.get_flag("binary"),
-            like: own.get_str("like"),
-            replace: own.get_flag("replace"),
-        }),
+        Verb::Put => Change::Put(put_words(alloc, own)?),
         Verb::Cp => Change::Cp,
         Verb::Mv => Change::Mv,
         Verb::Rm => Change::Rm {
@@ -115,6 +108,33 @@ pub(crate) fn change_of<'a>(
         _ => return Ok(None),
     };
     Ok(Some(change))
+}
+
+/// How the words say that files are put.
+fn put_words<'a>(alloc: Global, own: &ArgMatches<'a>) -> Result<PutWords<'a>, WordsFault> {
+    Ok(PutWords {
+        text: own.get_flag("text"),
+        binary: own.get_flag("binary"),
+        form: form_of(alloc, own)?,
+        like: own.get_str("like"),
+        replace: own.get_flag("replace"),
+        owner: owner_of(alloc, own)?,
+    })
+}
+
+/// The form that `--form` says: the first four bytes of the attributes.
+fn form_of(alloc: Global, own: &ArgMatches<'_>) -> Result<Option<[u8; 4]>, WordsFault> {
+    let Some(text) = own.get_str("form") else {
+        return Ok(None);
+    };
+    match parse_form(text.as_bytes()) {
+        Some(form) => Ok(Some(form)),
+        None => Err(wrong(
+            alloc,
+            text,
+            "is no form, as variable,cr,0; put --help has the words",
+        )?),
+    }
 }
 
 /// The owner that `--owner` says.
@@ -157,21 +177,40 @@ fn owner<'a>(alloc: Global, help: &'a str) -> Arg<'a> {
 fn put<'a>(alloc: Global) -> Result<Command<'a>, AllocError> {
     let text = flag(alloc, "text", "Lines as records").short('t');
     let binary = flag(alloc, "binary", "Bytes as they are").short('b');
-    let like = Arg::new(alloc, "like")
-        .long("like")
-        .value_name("PATH")
-        .help("With the record attributes of this file");
+    let form = Arg::new(alloc, "form")
+        .long("form")
+        .value_name("KIND,CONTROL,SIZE")
+        .help(FORM_HELP);
+    let like = Arg::new(alloc, "like").long("like").value_name("PATH").help(
+        "With the record type and control of this file, and the greater record size; with -b with all attributes of it but the end",
+    );
     Command::new(alloc, "put")
-        .override_usage("f11fs IMAGE put [OPTIONS] [-t|-b] [--like PATH] [--replace] HOST.. [PATH]")
+        .override_usage(
+            "f11fs IMAGE put [OPTIONS] [-t|-b] [--form FORM | --like PATH] [--replace] [--owner OWNER] HOST.. [PATH]",
+        )
         .about(
             "Puts files of the host, or standard input by -; lines as records where get -t gives the same bytes back",
         )
-        .arg(text.conflicts_with("binary")?.conflicts_with("like")?)?
-        .arg(binary.conflicts_with("like")?)?
+        .arg(
+            text.conflicts_with("binary")?
+                .conflicts_with("form")?
+                .conflicts_with("like")?,
+        )?
+        .arg(binary)?
+        .arg(form.conflicts_with("like")?)?
         .arg(like)?
         .arg(flag(alloc, "replace", "In place of the file of that name").long("replace"))?
+        .arg(owner(
+            alloc,
+            "The owner of the new files, who makes them; the user who asks enters them",
+        ))?
         .arg(paths(alloc, true))
 }
+
+/// What the help of `put` says of forms.
+const FORM_HELP: &str =
+    "Bytes as they are, in this form: fixed, variable, sequenced, stream or undefined; none, cr, ftn or print, each perhaps
+with +blk behind; the record size, at most 32767";
 
 fn cp<'a>(alloc: Global) -> Result<Command<'a>, AllocError> {
     Command::new(alloc, "cp")

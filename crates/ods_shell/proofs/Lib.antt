@@ -1,6 +1,6 @@
 mod Bodies
 mod FoundMore
-mod Got
+mod GotContents
 mod OneName
 mod Runs
 mod RowsFound

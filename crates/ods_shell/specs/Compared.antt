@@ -5,7 +5,7 @@ use Rattle.ods_space.specs.Files.{IsFile}
 use Rattle.ods_files.specs.Body.{Body, HasBody, bytes_in}
 use Rattle.ods_files.specs.declared.form.Form.TheVariants.{Binary, Raw}
 use Rattle.ods_shell.specs.declared.form.FormFault.{FormFault}
-use Rattle.ods_shell.specs.declared.form.FormFault.TheVariants.{NoSuchFile, EndPastBlocks, Records, NoMemory}
+use Rattle.ods_shell.specs.declared.form.FormFault.TheVariants.{NoSuchFile, EndPastBlocks, Records, TooLongForBlock, NoMemory}
 
 -- the bytes up to the end of file, or of all blocks where that lies past them
 abbrev pub AreCompared : Body → List ℕ → Type 0
@@ -20,4 +20,5 @@ abbrev pub HasNone : List (List ℕ) → VolumeLayout → ℕ → FormFault → 
 HasNone I L n NoSuchFile = ¬ IsFile I L n
 HasNone I L n EndPastBlocks = ⊥
 HasNone I L n (Records f) = ⊥
+HasNone I L n (TooLongForBlock size) = ⊥
 HasNone I L n NoMemory = Unit {0}

@@ -4,14 +4,17 @@ use Rattle.ods_header.specs.Header.{sequence_of, owner_of, protection_of, user_c
 use Rattle.ods_space.specs.Layout.{VolumeLayout, header_at}
 use Rattle.ods_space.specs.Files.{IsFile, HasBlocks}
 use Rattle.ods_files.specs.Body.{are_zeros, end_of}
-use Rattle.ods_records.specs.Attributes.{kind_in}
+use Rattle.ods_records.specs.Attributes.{kind_in, is_controlled}
 use Rattle.ods_shell.specs.declared.facts.Kind.{Kind}
-use Rattle.ods_shell.specs.declared.facts.Kind.TheVariants.{Directory, Text, Binary}
+use Rattle.ods_shell.specs.declared.facts.Kind.TheVariants.{Directory, Text, Records, Binary}
 use Rattle.ods_shell.specs.declared.facts.Facts.{Facts}
 
--- what file n holds, by its first header: a directory, records that are lines, or else bytes
+-- what file n holds, by its first header: a directory; records with a length, with carriage control or without; or else bytes
 abbrev pub kind_by : ℕ → List ℕ → Kind
-kind_by n header = if is_directory_header n header then Directory else if is_some (kind_in (attributes_of header)) then Text else Binary
+kind_by n header =
+    if is_directory_header n header then Directory
+    else if is_some (kind_in (attributes_of header)) then (if is_controlled (attributes_of header) then Text else Records)
+    else Binary
 
 -- How many bytes a file has: up to the end that its attributes say, which may lie past its blocks; all where the attributes are zeros.
 abbrev pub bytes_by : List ℕ → ℕ → ℕ

@@ -9,15 +9,17 @@ use ods_header::{
     attributes, file_sequence, ident, is_directory, owner, protection, system_char, user_char,
 };
 use ods_mount::Mounted;
-use ods_records::{end_of_file, kind_of};
+use ods_records::{end_of_file, is_controlled, kind_of};
 use ods_space::{block_count, first_header};
 
 /// What a file holds, by its header.
 #[derive(Clone, Copy, Debug, PartialEq, Eq)]
 pub enum Kind {
     Directory,
-    /// Records of variable length, each a line.
+    /// Records with a length, each a line by its carriage control.
     Text,
+    /// Records with a length, and no carriage control.
+    Records,
     Binary,
 }
 
@@ -27,6 +29,7 @@ impl Kind {
         match self {
             Kind::Directory => "directory",
             Kind::Text => "text",
+            Kind::Records => "records",
             Kind::Binary => "binary",
         }
     }
@@ -95,9 +98,14 @@ fn kind_by(number: u16, header: &Block) -> Kind
     if is_directory(number, header) {
         return Kind::Directory;
     }
-    match kind_of(&attributes(header)) {
-        Some(_) => Kind::Text,
-        None => Kind::Binary,
+    let attributes = attributes(header);
+    if kind_of(&attributes).is_none() {
+        return Kind::Binary;
+    }
+    if is_controlled(&attributes) {
+        Kind::Text
+    } else {
+        Kind::Records
     }
 }
 

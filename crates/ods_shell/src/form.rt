@@ -1,24 +1,31 @@
-//! What is got out of a file: its bytes as they are, or the lines of its records.
-ghost use Rattle.std.specs.Prelude.{◌≡◌, ℕ, List, IfOk, IfErr, OnOk};
+//! What is got out of a file: its bytes as they are, or a text of it.
+ghost use Rattle.std.specs.Prelude.{◌≡◌, ◌⊎◌, ℕ, List, take, IfOk, IfErr, OnOk, IfSome, IfNone, Some, None};
 ghost use Rattle.std.specs.Io.KnownBytes.{Appends};
 ghost use Rattle.ods_base.specs.Image.{TookBytes};
 ghost use Rattle.ods_shell.specs.declared.form.FormFault.TheVariants as faults;
-ghost use Rattle.ods_shell.specs.{Contents.IsGot, Contents.IsGotBy, Contents.IsNotGot, Contents.IsNotGotBy, Contents.HasNoLines, Contents.AreLines, Contents.kind_got as kind_wanted, Contents.form_got as form_wanted, Shown.ContentsAre, Compared.HasNone};
-ghost use Rattle.ods_files.specs.Body.{HasBody};
+ghost use Rattle.ods_shell.specs.{Contents.IsGot, Contents.IsGotBy, Contents.IsNotGot, Contents.IsNotGotBy, Contents.AreBytes, Contents.IsChosen, Contents.IsTextOf, Contents.HasNoText, Contents.end_remark as remark_of_end, Contents.ends_early as early, Contents.form_got as form_wanted, Shown.ContentsAre, Compared.HasNone};
+ghost use Rattle.ods_files.specs.Body.{HasBody, bytes_in};
+ghost use Rattle.ods_files.specs.declared.form.Form.TheVariants as forms;
+ghost use Rattle.ods_records.specs.Attributes.{kind_in, text_form_in};
+ghost use Rattle.ods_records.specs.declared.kind.TextForm.TheVariants as texts;
 
 use ods_base::{WriteFault, write_bytes};
 use ods_files::{CopyFault, FileBody, FileFault, Form};
 use ods_mount::Mounted;
-use ods_records::{RecordFault, RecordKind, kind_of, records_to_text};
+use ods_records::{
+    RecordFault, RecordKind, TextForm, end_of_file, fixed_to_text, kind_of, print_form,
+    records_to_text, stream_to_text, survey_records, text_form,
+};
 use ods_space::ChainFault;
 use std::alloc::{AllocError, Global};
+use std::fmt;
 use std::io::Write;
 use thiserror::Error;
 
 /// Which form is asked for.
 #[derive(Clone, Copy, Debug, PartialEq, Eq)]
 pub enum Wanted {
-    /// Lines where the file is of records, else bytes.
+    /// Lines where the file is of records that come back from them, else bytes.
     ByKind,
     Text,
     Binary,
@@ -34,6 +41,9 @@ pub enum FormFault {
     EndPastBlocks,
     #[error("{0}")]
     Records(RecordFault),
+    /// Records of one size that do not go on in the next block, of so many bytes.
+    #[error("records of {0} bytes do not fit in a block")]
+    TooLongForBlock(u16),
     #[error("no memory")]
     NoMemory,
 }
@@ -46,24 +56,61 @@ impl From<AllocError> for FormFault {
     }
 }
 
-/// What is got out of a file.
+/// What is to be said of what is got.
+#[derive(Clone, Copy, Debug, PartialEq, Eq)]
+pub enum Remark {
+    /// Records that are no text are got as bytes, where no form is asked for: the first four bytes of the attributes.
+    NoText([u8; 4]),
+    /// Nothing was ever written into the attributes.
+    NoAttributes,
+    /// The file ends at 0, and has blocks.
+    NoEnd,
+}
+
+impl fmt::Display for Remark {
+    fn fmt<W: fmt::Write>(&self, f: &mut fmt::Formatter<W>) -> fmt::Result {
+        match self {
+            Remark::NoText(form) => {
+                let form = print_form(form);
+                write!(
+                    f,
+                    "records that are no text, got as bytes; put -b --form {form} brings them back"
+                )
+            }
+            Remark::NoAttributes => {
+                f.write_str("nothing says where it ends, so all blocks are got")
+            }
+            Remark::NoEnd => f.write_str("it ends at 0 and has blocks; --raw gets them"),
+        }
+    }
+}
+
+/// The bytes of what is got out of a file.
 #[derive(Drop)]
 pub enum Contents<'a> {
-    /// The lines of its records.
+    /// Those of a text.
     Lines(Vec<u8>),
-    /// The bytes of its blocks, in a form in which it has some.
+    /// Those of its blocks, in a form in which it has some.
     Body(FileBody<'a>, Form),
 }
 
+/// What is got out of a file, and what is to be said of it.
+#[derive(Drop)]
+pub struct Got<'a> {
+    pub contents: Contents<'a>,
+    pub remark: Option<Remark>,
+}
+
 /// What is got out of the file with this number in the form that is asked for. `NoSuchFile` where it is no file; `EndPastBlocks` where its
-/// end lies past its blocks, and not all of these are asked for; `Records` with the first fault of its records where lines are got.
+/// end lies past its blocks, and not all of these are asked for; `Records` with the first fault of its records where these are read;
+/// `TooLongForBlock` where a text is asked for, and records of one size that keep to their blocks are longer than one.
 pub fn open_contents<'a>(
     alloc: Global,
     volume: &'a Mounted,
     number: u16,
     wanted: Wanted,
-) -> Result<Contents<'a>, FormFault>
-    ensures ok { IfOk result (λ c. (bytes : List ℕ) × ContentsAre c bytes × IsGot volume.now.image volume.now.layout number wanted bytes) }
+) -> Result<Got<'a>, FormFault>
+    ensures ok { IfOk result (λ got. (bytes : List ℕ) × ContentsAre got.contents bytes × IsGot volume.now.image volume.now.layout number wanted bytes got.remark) }
     ensures err { IfErr result (IsNotGot volume.now.image volume.now.layout number wanted) }
 {
     match body_of(alloc, volume, number) {
@@ -93,40 +140,122 @@ pub(crate) fn body_of<'a>(
 }
 
 /// What is got out of a file with this body in the form that is asked for.
-fn contents_of<'a>(
-    alloc: Global,
-    body: FileBody<'a>,
-    wanted: Wanted,
-) -> Result<Contents<'a>, FormFault>
-    ensures ok { IfOk result (λ c. (bytes : List ℕ) × ContentsAre c bytes × IsGotBy (kind_wanted wanted body.entry.attributes) wanted body.entry bytes) }
-    ensures err { IfErr result (IsNotGotBy (kind_wanted wanted body.entry.attributes) wanted body.entry) }
-{
-    match kind_got(wanted, &body.attributes()) {
-        Some(kind) => match lines(alloc, &body, kind) {
-            Ok(text) => Ok(Contents::Lines(text)),
-            Err(fault) => Err(fault),
-        },
-        None => {
-            let form = form_got(wanted);
-            match body.size(form) {
-                Some(_) => Ok(Contents::Body(body, form)),
-                None => Err(FormFault::EndPastBlocks),
-            }
-        }
-    }
-}
-
-/// The kind of the records whose lines are got.
-fn kind_got(wanted: Wanted, attributes: &[u8; 32]) -> Option<RecordKind>
-    ensures { result ≡ kind_wanted wanted attributes.now }
+fn contents_of<'a>(alloc: Global, body: FileBody<'a>, wanted: Wanted) -> Result<Got<'a>, FormFault>
+    ensures ok { IfOk result (λ got. (bytes : List ℕ) × ContentsAre got.contents bytes × IsGotBy wanted body.entry bytes got.remark) }
+    ensures err { IfErr result (IsNotGotBy wanted body.entry) }
 {
     match wanted {
-        Wanted::ByKind | Wanted::Text => kind_of(attributes),
-        Wanted::Binary | Wanted::Raw => None,
+        Wanted::ByKind => match kind_of(&body.attributes()) {
+            Some(kind) => chosen(alloc, body, kind),
+            None => as_bytes(body, Wanted::ByKind),
+        },
+        Wanted::Text => as_text(alloc, body),
+        Wanted::Binary => as_bytes(body, Wanted::Binary),
+        Wanted::Raw => as_bytes(body, Wanted::Raw),
     }
 }
 
-/// Which bytes are got where no lines are.
+/// The bytes of a file, as they are.
+fn as_bytes<'a>(body: FileBody<'a>, wanted: Wanted) -> Result<Got<'a>, FormFault>
+    ensures ok { IfOk result (λ got. (bytes : List ℕ) × ContentsAre got.contents bytes × AreBytes wanted body.entry bytes got.remark) }
+    ensures err { IfErr result (λ f. (f ≡ faults.EndPastBlocks) × (bytes_in (form_wanted wanted) body.entry ≡ None)) }
+{
+    let form = form_got(wanted);
+    let remark = end_remark(&body, wanted);
+    match body.size(form) {
+        Some(_) => Ok(Got {
+            contents: Contents::Body(body, form),
+            remark,
+        }),
+        None => Err(FormFault::EndPastBlocks),
+    }
+}
+
+/// What is got of records of this kind without a word: their lines, where these come back as the records, else the bytes.
+fn chosen<'a>(alloc: Global, body: FileBody<'a>, kind: RecordKind) -> Result<Got<'a>, FormFault>
+    ensures ok { IfOk result (λ got. (given : List ℕ) × ContentsAre got.contents given × ((bytes : List ℕ) × (bytes_in forms.Binary body.entry ≡ Some bytes) × IsChosen kind body.entry bytes given got.remark)) }
+    ensures err { IfErr result (λ f. kind_in body.entry.attributes ≡ Some kind → IsNotGotBy Wanted.ByKind body.entry f) }
+{
+    let bytes = ended(alloc, &body)?;
+    let attributes = body.attributes();
+    let survey = match survey_records(kind, &bytes) {
+        Ok(survey) => survey,
+        Err(fault) => return Err(FormFault::Records(fault)),
+    };
+    if survey.come_as_lines(&attributes) {
+        let remark = end_remark(&body, Wanted::ByKind);
+        return match records_to_text(alloc, kind, &bytes) {
+            Ok(text) => Ok(Got {
+                contents: Contents::Lines(text),
+                remark,
+            }),
+            Err(_) => Err(FormFault::NoMemory),
+        };
+    }
+    let remark = Some(Remark::NoText(first_four(&attributes)));
+    Ok(Got {
+        contents: Contents::Body(body, Form::Binary),
+        remark,
+    })
+}
+
+/// The first four bytes of the attributes.
+fn first_four(attributes: &[u8; 32]) -> [u8; 4]
+    ensures { result ≡ take 4 attributes.now }
+{
+    let mut four = [0; 4];
+    four.copy_from_slice(&attributes[..4]);
+    four
+}
+
+/// The text of a file.
+fn as_text<'a>(alloc: Global, body: FileBody<'a>) -> Result<Got<'a>, FormFault>
+    ensures ok { IfOk result (λ got. (given : List ℕ) × ContentsAre got.contents given × IsGotBy Wanted.Text body.entry given got.remark) }
+    ensures err { IfErr result (IsNotGotBy Wanted.Text body.entry) }
+{
+    let bytes = ended(alloc, &body)?;
+    let remark = end_remark(&body, Wanted::Text);
+    let text = match text_in(alloc, &body.attributes(), &bytes) {
+        Ok(Some(text)) => text,
+        Ok(None) => bytes,
+        Err(fault) => return Err(fault),
+    };
+    Ok(Got {
+        contents: Contents::Lines(text),
+        remark,
+    })
+}
+
+/// The text of bytes up to the end of a file with these attributes; `None` where the bytes are their own text.
+pub(crate) fn text_in(
+    alloc: Global,
+    attributes: &[u8; 32],
+    bytes: &[u8],
+) -> Result<Option<Vec<u8>>, FormFault>
+    ensures some { IfOk result (λ text. IfSome text (λ text. IsTextOf (text_form_in attributes.now) bytes.now text.items)) }
+    ensures none { IfOk result (λ text. IfNone text (text_form_in attributes.now ≡ texts.Bytes)) }
+    ensures err { IfErr result (HasNoText attributes.now bytes.now) }
+{
+    let text = match text_form(attributes) {
+        TextForm::Records(kind) => match records_to_text(alloc, kind, bytes) {
+            Ok(text) => text,
+            Err(RecordFault::NoMemory) => return Err(FormFault::NoMemory),
+            Err(fault) => return Err(FormFault::Records(fault)),
+        },
+        TextForm::Fixed(size) => fixed_to_text(alloc, size, false, bytes)?,
+        TextForm::Blocked(size) => {
+            if size > 512 {
+                return Err(FormFault::TooLongForBlock(size));
+            }
+            fixed_to_text(alloc, size, true, bytes)?
+        }
+        TextForm::Stream => stream_to_text(alloc, bytes)?,
+        TextForm::Bytes => return Ok(None),
+    };
+    Ok(Some(text))
+}
+
+/// Which bytes are read.
 fn form_got(wanted: Wanted) -> Form
     ensures { result ≡ form_wanted wanted }
 {
@@ -136,19 +265,38 @@ fn form_got(wanted: Wanted) -> Form
     }
 }
 
-/// The lines of a file of records.
-fn lines<'a>(alloc: Global, body: &FileBody<'a>, kind: RecordKind) -> Result<Vec<u8>, FormFault>
-    ensures ok { IfOk result (λ text. AreLines kind body.now text.items) }
-    ensures err { IfErr result (HasNoLines kind body.now) }
+/// What is said of the end of a file.
+fn end_remark(body: &FileBody<'_>, wanted: Wanted) -> Option<Remark>
+    ensures { result ≡ remark_of_end wanted body.now }
+{
+    if body.has_no_attributes() {
+        return Some(Remark::NoAttributes);
+    }
+    if ends_early(wanted) && end_of_file(&body.attributes()) == 0 && body.block_count() != 0 {
+        return Some(Remark::NoEnd);
+    }
+    None
+}
+
+/// Whether not all blocks are asked for.
+fn ends_early(wanted: Wanted) -> bool
+    ensures { result ≡ early wanted }
+{
+    match wanted {
+        Wanted::Raw => false,
+        Wanted::ByKind | Wanted::Text | Wanted::Binary => true,
+    }
+}
+
+/// The bytes of a file up to its end.
+fn ended<'a>(alloc: Global, body: &FileBody<'a>) -> Result<Vec<u8>, FormFault>
+    ensures ok { IfOk result (λ bytes. bytes_in forms.Binary body.now ≡ Some bytes.items) }
+    ensures err { IfErr result (λ f. (f ≡ faults.NoMemory) ⊎ ((f ≡ faults.EndPastBlocks) × (bytes_in forms.Binary body.now ≡ None))) }
 {
     let Some(bytes) = body.read(alloc, Form::Binary)? else {
         return Err(FormFault::EndPastBlocks);
     };
-    match records_to_text(alloc, kind, &bytes) {
-        Ok(text) => Ok(text),
-        Err(RecordFault::NoMemory) => Err(FormFault::NoMemory),
-        Err(fault) => Err(FormFault::Records(fault)),
-    }
+    Ok(bytes)
 }
 
 impl<'a> Contents<'a> {

@@ -25,7 +25,7 @@ pub use facts::{Facts, Kind, facts_of};
 pub use find::{find_lines, lost_lines, unreached_lines};
 pub use finding::{Finding, Line, find_files, find_open};
 pub use folders::Directory;
-pub use form::{Contents, FormFault, Wanted, open_contents};
+pub use form::{Contents, FormFault, Got, Remark, Wanted, open_contents};
 pub use json::{ls_objects, number_object, pair_object, space_object, stat_object, text_object};
 pub use ls::{Columns, ls_lines};
 pub use naming::{PathFault, Target, Versioned, open_targets, targets};

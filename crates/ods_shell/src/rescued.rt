@@ -2,11 +2,10 @@
 ghost use Rattle.ods_space.specs.Files.{IsLayoutOf};
 ghost use Rattle.ods_space.specs.Disks.{on};
 
-use crate::form::Contents;
+use crate::form::{Contents, FormFault, text_in};
 use ods_base::FileId;
 use ods_files::{FileBody, FileFault, Form};
 use ods_header::{file_sequence, ident, is_directory, print_ident};
-use ods_records::{RecordFault, kind_of, records_to_text};
 use ods_space::{ChainFault, Disk, first_header};
 use std::alloc::{AllocError, Global};
 
@@ -67,17 +66,14 @@ fn kept<'a>(alloc: Global, body: FileBody<'a>, text: bool) -> Result<Contents<'a
     Ok(Contents::Body(body, form))
 }
 
-/// The lines of a file, where it is one of records, and these are whole.
+/// The text of a file, where it is another than its bytes, and its records are whole.
 fn whole_lines(alloc: Global, body: &FileBody<'_>) -> Result<Option<Vec<u8>>, AllocError> {
-    let Some(kind) = kind_of(&body.attributes()) else {
-        return Ok(None);
-    };
     let Some(bytes) = body.read(alloc, Form::Binary)? else {
         return Ok(None);
     };
-    match records_to_text(alloc, kind, &bytes) {
-        Ok(lines) => Ok(Some(lines)),
-        Err(RecordFault::NoMemory) => Err(AllocError),
+    match text_in(alloc, &body.attributes(), &bytes) {
+        Ok(text) => Ok(text),
+        Err(FormFault::NoMemory) => Err(AllocError),
         Err(_) => Ok(None),
     }
 }

@@ -54,15 +54,23 @@ fn push_records(text: &mut String, facts: &Facts) -> Result<(), AllocError> {
     let kind = record_word(facts.attributes[0]);
     let control = control_word(facts.attributes[1]);
     let size = u16::from_le_bytes([facts.attributes[2], facts.attributes[3]]);
-    writeln!(text, "Records: {kind}, {control}, size {size}")
+    let blocks = if facts.attributes[1] / 8 % 2 == 1 {
+        ", within blocks"
+    } else {
+        ""
+    };
+    writeln!(text, "Records: {kind}, {control}{blocks}, size {size}")
 }
 
 /// The word for F.RTYP.
 fn record_word(kind: u8) -> &'static str {
-    match kind {
+    match kind % 16 {
         1 => "fixed",
         2 => "variable",
         3 => "sequenced",
+        4 => "stream",
+        5 => "stream of LF",
+        6 => "stream of CR",
         _ => "undefined",
     }
 }

@@ -1,3 +1,4 @@
 pub mod Hiding
 pub mod Lists
+pub mod PutLists
 pub mod Made

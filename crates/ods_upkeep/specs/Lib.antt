@@ -3,3 +3,4 @@ pub mod Kinds
 pub mod Left
 pub mod Made
 pub mod Pieces
+pub mod PutFor

@@ -9,7 +9,8 @@ use Rattle.ods_shell.specs.declared.status.Status.TheVariants.{Words, Host, Refu
 use Rattle.ods_shell.specs.declared.facts.Facts.{Facts}
 use Rattle.ods_upkeep.specs.declared.failure.Why.{Why}
 use Rattle.ods_upkeep.specs.declared.found.Place.{Place}
-use Rattle.ods_upkeep.specs.declared.failure.Why.TheVariants.{Path, Request, Text, BadName, IsDirectory, DirectoryType, DirectoryThere, IntoItself, IsId, NoVersion, Several, IsNamed, PastEnd, Hidden}
+use Rattle.ods_upkeep.specs.declared.failure.Why.TheVariants.{Path, Request, Text, Put, BadName, IsDirectory, DirectoryType, DirectoryThere, IntoItself, IsId, NoVersion, Several, IsNamed, PastEnd, Hidden}
+use Rattle.ods_upkeep.specs.PutFor.{HasPutStatus}
 
 -- The exit status of a refusal: want of memory is the host's, words that mean nothing are wrong words, and what is asked for and is not done is refused. That of a path is the path's own.
 abbrev pub HasStatus : Why → Status → Type 0
@@ -18,6 +19,7 @@ HasStatus (Request refusal.NoMemory) s = s ≡ Host
 HasStatus (Request reason) s = s ≡ Refused
 HasStatus (Text text.NoMemory) s = s ≡ Host
 HasStatus (Text fault) s = s ≡ Refused
+HasStatus (Put fault) s = HasPutStatus fault s
 HasStatus BadName s = s ≡ Words
 HasStatus IsId s = s ≡ Words
 HasStatus NoVersion s = s ≡ Words

@@ -16,8 +16,10 @@ pub enum PutForm {
     ByContents,
     /// As records of variable length, each a line.
     Text,
-    /// As they are, in records of 512 bytes.
+    /// As they are, in records of 512 bytes, or with the attributes of the file that is said to be like.
     Binary,
+    /// As they are, with these first four bytes of attributes: F.RTYP, F.RATT and F.RSIZ.
+    Said([u8; 4]),
 }
 
 /// What is put: the last part of a host file's name, or `-`, and its bytes.

@@ -1,10 +1,11 @@
 //! The attributes of files that are made or cut.
-ghost use Rattle.std.specs.Prelude.{◌≡◌, ◌≤◌, IfErr, IfOk};
+ghost use Rattle.std.specs.Prelude.{◌≡◌, ◌≤◌, ◌++◌, replicate, IfErr, IfOk};
 ghost use Rattle.ods_request.specs.declared.refusals.Refusal.{Refusal};
 ghost use Rattle.ods_upkeep.specs.Pieces.{like_those, with_end};
+ghost use Rattle.ods_upkeep.specs.PutFor.{like_greater as like_the_greater};
 
 use crate::failure::Why;
-use ods_records::{binary_attributes, end_of_file};
+use ods_records::{binary_attributes, end_of_file, record_size};
 use ods_request::Refusal;
 
 /// As many bytes as the blocks of an image have, and one more.
@@ -46,5 +47,26 @@ pub(crate) fn like(attributes: [u8; 32], other: &[u8; 32]) -> [u8; 32]
 {
     let mut new = attributes;
     new[..4].copy_from_slice(&other[..4]);
+    new
+}
+
+/// These attributes with the record type and the record attributes of others, and the greater record size of both.
+pub(crate) fn like_greater(attributes: [u8; 32], other: &[u8; 32]) -> [u8; 32]
+    ensures { result ≡ like_the_greater attributes other.now }
+{
+    if record_size(&attributes) <= record_size(other) {
+        return like(attributes, other);
+    }
+    let mut new = attributes;
+    new[..2].copy_from_slice(&other[..2]);
+    new
+}
+
+/// Attributes whose first four bytes are these, and all else zeros.
+pub(crate) fn said(form: [u8; 4]) -> [u8; 32]
+    ensures { result ≡ form ++ replicate 28 0 }
+{
+    let mut new = [0; 32];
+    new[..4].copy_from_slice(&form);
     new
 }

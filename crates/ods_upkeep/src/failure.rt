@@ -1,6 +1,7 @@
 //! Why a command is refused, and the path or the file of which.
 ghost use Rattle.ods_upkeep.specs.Pieces.{HasStatus};
 
+use crate::put_fault::PutFault;
 use ods_base::{Coded, NameFault};
 use ods_paths::BadPath;
 use ods_records::TextFault;
@@ -18,6 +19,8 @@ pub enum Why {
     Request(Refusal),
     #[error("{0}")]
     Text(TextFault),
+    #[error("{0}")]
+    Put(PutFault),
     /// A text, or what a header says, is no name of a file.
     #[error("no name of a file: a name has at most 9 and 3 of A to Z, 0 to 9, $")]
     BadName,
@@ -128,6 +131,7 @@ impl Why {
     {
         match self {
             Why::Path(fault) => fault.status(),
+            Why::Put(fault) => fault.status(),
             Why::Request(Refusal::NoMemory) | Why::Text(TextFault::NoMemory) => Status::Host,
             Why::BadName | Why::IsId | Why::NoVersion | Why::Several => Status::Words,
             Why::Request(_)

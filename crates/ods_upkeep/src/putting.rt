@@ -1,22 +1,24 @@
 //! `put`: files of the host are put one by one.
-ghost use Rattle.std.specs.Prelude.{◌≡◌, is_some, IfOk};
+ghost use Rattle.std.specs.Prelude.{◌≡◌, is_some, Some, None, IfOk};
+ghost use Rattle.ods_base.specs.declared.file_id.Uic.{Uic as Id};
 ghost use Rattle.ods_filing.specs.Led.{IsAsked, IsLed};
-ghost use Rattle.ods_upkeep.specs.{Kinds.Puts, Left.filed_for};
+ghost use Rattle.ods_upkeep.specs.{Kinds.Copies, Kinds.Puts, Left.filed_for, PutFor.IsPut, PutFor.IsMadeFor, PutFor.for_another};
 
-use crate::asking::{delete, look_up, next_version, put_new, remove};
-use crate::attributes::like as like_of;
+use crate::asking::{delete, enter, look_up, next_version, put_new, remove};
 use crate::copying::{begin, target_of};
 use crate::failure::{Failure, Why, of_path};
 use crate::found::find;
 use crate::names::Names;
+use crate::put_fault::PutFault;
 use crate::target::{Target, name_of};
 use crate::versions::Highest;
 use crate::written::{Written, write_host};
 use crate::{Asked, HostFile, PutForm};
-use ods_base::{DIRECTORY_TYPE, FileId, Name, Pick};
-use ods_filing::{Filing, NewFile};
+use ods_base::{DIRECTORY_TYPE, FileId, Name, Pick, Uic};
+use ods_filing::{Filing, NewFile, put_file};
 use ods_mount::Mounted;
 use ods_paths::Versions;
+use ods_records::NearText;
 use ods_request::{Answer, Kind as Shown, Refusal, Request, Stamp};
 use ods_shell::{Kind, PathFault};
 use std::alloc::Global;
@@ -31,6 +33,8 @@ pub struct Putting {
     stamp: Stamp,
     form: PutForm,
     like: Option<[u8; 32]>,
+    /// Whose the new files are, where another is said than who asks.
+    owner: Option<Uic>,
     /// How many entries name each file, where files are replaced.
     names: Option<Names>,
     /// Where several are put and none is replaced: the highest version of each name in the directory.
@@ -43,12 +47,13 @@ impl Model for Putting {
 
     ghost Value = { InPut };
 
-    ghost view = { λ p. record { volume = p.filing; replaces = is_some p.names } };
+    ghost view = { λ p. record { volume = p.filing; replaces = is_some p.names; owner = p.owner } };
 }
 
 impl Putting {
     /// Looks up where files go: a directory that is there, or a name; with no target the master directory. With `like` their records are written as those of
-    /// that file. With `replace` a file that has the name, and the version that is said, or the highest, makes room for the new one.
+    /// that file; asked for as bytes, they get all its attributes but for the end of file. With `replace` a file that has the name, and the version that
+    /// is said, or the highest, makes room for the new one. With `owner` the new files are that user's, and he makes them; who asks enters them.
     pub fn begin(
         alloc: Global,
         volume: Mounted,
@@ -58,9 +63,10 @@ impl Putting {
         form: PutForm,
         like: Option<&str>,
         replace: bool,
+        owner: Option<Uic>,
     ) -> Result<Putting, Failure>
         // No request is made yet.
-        ensures { IfOk result (λ begun. begun ≡ record { volume = filed_for volume asked.now.user; replaces = replace }) }
+        ensures { IfOk result (λ begun. begun ≡ record { volume = filed_for volume asked.now.user; replaces = replace; owner = owner }) }
     {
         let count = if several { 2 } else { 1 };
         let target = target_of(alloc, &volume, count, to.unwrap_or("[0,0]"))?;
@@ -75,6 +81,7 @@ impl Putting {
             stamp: asked.stamp,
             form,
             like,
+            owner,
             names,
             highest,
         })
@@ -83,8 +90,9 @@ impl Putting {
     /// Puts one; gives what is to be remarked, if anything.
     pub fn put(self, host: &HostFile<'_>) -> Result<(Putting, Option<String>), Failure>
         // It is what LookUp, Create, Extend, Write, SetUser and Enter leave, and where files are replaced, Stat, Remove and Delete besides.
-        ensures volume { IfOk result (λ done. IsLed (Puts self.replaces) self.volume done.0.volume) }
+        ensures volume { IfOk result (λ done. IsPut (Puts self.replaces) self.owner self.volume done.0.volume) }
         ensures replaces { IfOk result (λ done. done.0.replaces ≡ self.replaces) }
+        ensures owner { IfOk result (λ done. done.0.owner ≡ self.owner) }
     {
         let alloc = self.alloc;
         match self.put_one(host) {
@@ -95,8 +103,9 @@ impl Putting {
 
     /// Puts one.
     fn put_one(self, host: &HostFile<'_>) -> Result<(Putting, Option<String>), Why>
-        ensures volume { IfOk result (λ done. IsLed (Puts self.replaces) self.volume done.0.volume) }
+        ensures volume { IfOk result (λ done. IsPut (Puts self.replaces) self.owner self.volume done.0.volume) }
         ensures replaces { IfOk result (λ done. done.0.replaces ≡ self.replaces) }
+        ensures owner { IfOk result (λ done. done.0.owner ≡ self.owner) }
     {
         let alloc = self.alloc;
         let name = match self.target.name {
@@ -114,8 +123,9 @@ impl Putting {
 
     /// Puts what was written under this name.
     fn put_written(self, name: Name, written: &Written<'_>) -> Result<Putting, Why>
-        ensures volume { IfOk result (λ done. IsLed (Puts self.replaces) self.volume done.volume) }
+        ensures volume { IfOk result (λ done. IsPut (Puts self.replaces) self.owner self.volume done.volume) }
         ensures replaces { IfOk result (λ done. done.replaces ≡ self.replaces) }
+        ensures owner { IfOk result (λ done. done.owner ≡ self.owner) }
     {
         let mut putting = self;
         let dir = putting.target.directory;
@@ -126,18 +136,14 @@ impl Putting {
             None => said,
         };
         let (filing, version) = version_of(filing, dir, name, said, &putting.highest);
-        let attributes = match &putting.like {
-            Some(like) => like_of(written.attributes, like),
-            None => written.attributes,
-        };
         let file = NewFile {
             name,
             version,
             stamp: putting.stamp,
-            attributes,
+            attributes: written.attributes,
             bytes: written.bytes(),
         };
-        let (filing, id) = put_new(filing, dir, said, &file)?;
+        let (filing, id) = put_for(putting.alloc, filing, putting.owner, dir, said, &file)?;
         if let Some(names) = &mut putting.names {
             names.add(id);
         }
@@ -179,6 +185,7 @@ fn attributes_of(alloc: Global, volume: &Mounted, path: &str) -> Result<[u8; 32]
     };
     match one.facts {
         Some(facts) if facts.kind == Kind::Directory => Err(Why::IsDirectory),
+        Some(facts) if facts.file.number <= 2 => Err(Why::Request(Refusal::Reserved)),
         Some(facts) => Ok(facts.attributes),
         None => Err(Why::Path(PathFault::NoSuchFile)),
     }
@@ -233,11 +240,73 @@ fn version_of(
     next_version(filing, dir, name, said)
 }
 
-/// The name of a host file as a name of the volume.
+/// Puts a new file, and enters it. Where another owner is said, he makes it, and the user who asks enters it.
+fn put_for(
+    alloc: Global,
+    filing: Filing,
+    owner: Option<Uic>,
+    dir: FileId,
+    version: Option<u16>,
+    file: &NewFile<'_>,
+) -> Result<(Filing, FileId), Why>
+    ensures { IfOk result (λ made. (owner ≡ None → IsLed Copies filing made.0) × ((id : Id) → owner ≡ Some id → IsMadeFor id filing made.0)) }
+{
+    match owner {
+        Some(owner) => put_owned(alloc, filing, owner, dir, version, file),
+        None => put_new(filing, dir, version, file),
+    }
+}
+
+/// Puts a new file of this owner, who makes it; the user who asks enters it.
+fn put_owned(
+    alloc: Global,
+    filing: Filing,
+    owner: Uic,
+    dir: FileId,
+    version: Option<u16>,
+    file: &NewFile<'_>,
+) -> Result<(Filing, FileId), Why>
+    ensures { IfOk result (λ made. IsMadeFor owner filing made.0) }
+{
+    if file.name.ext() == DIRECTORY_TYPE {
+        return Err(Why::DirectoryType);
+    }
+    if file.version == 0 || file.version > 32_767 {
+        return Err(Why::Request(Refusal::VersionsFull));
+    }
+    let user = filing.user();
+    let filing = for_user(alloc, filing, owner)?;
+    let (filing, made) = put_file(filing, file);
+    match made {
+        Ok(id) => {
+            let filing = for_user(alloc, filing, user)?;
+            let filing = enter(filing, dir, file.name, version, id)?;
+            Ok((filing, id))
+        }
+        Err(refusal) => Err(Why::Request(refusal)),
+    }
+}
+
+/// The volume, for requests of this user.
+fn for_user(alloc: Global, filing: Filing, user: Uic) -> Result<Filing, Why>
+    ensures { IfOk result (λ new. new ≡ for_another filing user) }
+{
+    match Filing::new(alloc, filing.into_mounted(), user) {
+        Ok(filing) => Ok(filing),
+        Err(error) => Err(error.into()),
+    }
+}
+
+/// The name of a host file as a name of the volume. A character is refused that stands for one of the volume's that RSX cannot type.
 fn host_name(alloc: Global, name: &str) -> Result<Name, Why> {
     let bytes = name.as_bytes();
     if bytes.is_empty() || bytes.iter().any(|c| *c == b';') {
         return Err(Why::BadName);
+    }
+    for character in ['_', '%', '&'] {
+        if bytes.iter().any(|c| *c == character as u8) {
+            return Err(Why::Put(PutFault::Untyped(character)));
+        }
     }
     match name.split_once('.') {
         Some((title, kind)) => name_of(alloc, title.as_bytes(), kind.as_bytes()),
@@ -247,10 +316,17 @@ fn host_name(alloc: Global, name: &str) -> Result<Name, Why> {
 
 /// What is to be remarked of a file that was put.
 fn remark(alloc: Global, written: &Written<'_>) -> Result<Option<String>, Why> {
-    if !written.is_completed {
-        return Ok(None);
+    if written.is_completed {
+        let text = String::from_str(alloc, "the last line has no LF, and became a record")?;
+        return Ok(Some(text));
     }
-    let text = String::from_str(alloc, "the last line has no LF, and became a record")?;
+    let Some(near) = written.near else {
+        return Ok(None);
+    };
+    let mut text = format!(in alloc; "put as bytes, since {near}")?;
+    if near != NearText::LongLine {
+        text.push_str("; -t makes records")?;
+    }
     Ok(Some(text))
 }
 

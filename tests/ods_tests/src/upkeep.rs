@@ -91,7 +91,7 @@ fn try_put(
         Ok(asked) => asked,
         Err(_) => unreachable!(),
     };
-    let putting = Putting::begin(alloc, volume, &asked, to, false, form, like, replace)?;
+    let putting = Putting::begin(alloc, volume, &asked, to, false, form, like, replace, None)?;
     let (putting, _) = putting.put(&HostFile { name, bytes })?;
     Ok(putting.end())
 }
@@ -118,11 +118,11 @@ fn the(alloc: Global, volume: &Mounted, path: &str) -> Result<Target, Fail> {
 fn bytes_of(alloc: Global, volume: &Mounted, path: &str, wanted: Wanted) -> Result<Vec<u8>, Fail> {
     let target = the(alloc, volume, path)?;
     let facts = target.facts.ok_or("no file")?;
-    let contents = open_contents(alloc, volume, facts.file.number, wanted)
+    let got = open_contents(alloc, volume, facts.file.number, wanted)
         .ok()
         .ok_or("contents")?;
     let mut bytes = Vec::new(alloc);
-    contents.write_to(&mut bytes).ok().ok_or("written")?;
+    got.contents.write_to(&mut bytes).ok().ok_or("written")?;
     Ok(bytes)
 }
 

@@ -1,8 +1,10 @@
-//! `put`: targets, versions, forms, `--like` and `--replace`.
+//! `put`: targets, versions, forms, `--form`, `--like`, `--replace` and `--owner`.
 use super::{asked, bytes_of, done, has, is_refused, paths, put, the, try_put, volume_of};
+use ods_base::Uic;
+use ods_records::RecordFault;
 use ods_request::Refusal;
 use ods_shell::{PathFault, Wanted};
-use ods_upkeep::{HostFile, PutForm, Putting, Why};
+use ods_upkeep::{HostFile, PutFault, PutForm, Putting, Why};
 use std::process::Abort;
 use std::test::Fail;
 
@@ -73,15 +75,17 @@ fn several_files_go_into_a_directory(rt: HostRuntime) -> Result<(), Fail> {
         PutForm::ByContents,
         None,
         false,
+        None,
     );
     let putting = begun.ok().ok_or("begun")?;
-    let (putting, _) = putting
+    let (putting, remark) = putting
         .put(&HostFile {
             name: "a.txt",
             bytes: b"1\n",
         })
         .ok()
         .ok_or("a")?;
+    assert!(rt; remark.is_none());
     let (putting, remark) = putting
         .put(&HostFile {
             name: "b",
@@ -89,7 +93,9 @@ fn several_files_go_into_a_directory(rt: HostRuntime) -> Result<(), Fail> {
         })
         .ok()
         .ok_or("b")?;
-    assert!(rt; remark.is_none());
+    let said = "put as bytes, since the last line has no LF; -t makes records";
+    let remark = remark.ok_or("a remark")?;
+    assert!(rt; remark.as_str() == said);
     let volume = done(alloc, Ok(putting.end()))?;
     assert!(rt; paths(alloc, &volume, "?.*")?.as_str() == "[0,0]A.TXT;1 [0,0]B.;1 ");
     let several = Putting::begin(
@@ -101,6 +107,7 @@ fn several_files_go_into_a_directory(rt: HostRuntime) -> Result<(), Fail> {
         PutForm::Text,
         None,
         false,
+        None,
     );
     assert!(rt; is_refused(several.map(|p| p.end()), "C.TXT", Why::Several));
     Ok(())
@@ -119,6 +126,7 @@ fn a_last_line_is_remarked(rt: HostRuntime) -> Result<(), Fail> {
         PutForm::Text,
         None,
         false,
+        None,
     );
     let putting = begun.ok().ok_or("begun")?;
     let put = putting.put(&HostFile {
@@ -142,7 +150,7 @@ fn a_file_is_made_like_another(rt: HostRuntime) -> Result<(), Fail> {
         Some("B.TXT"),
         "x",
         b"1\n",
-        PutForm::Binary,
+        PutForm::ByContents,
         Some("A.TXT"),
         false,
     );
@@ -160,6 +168,100 @@ fn a_file_is_made_like_another(rt: HostRuntime) -> Result<(), Fail> {
         false,
     );
     assert!(rt; is_refused(none, "C.TXT", Why::Path(PathFault::Nothing)));
+    Ok(())
+}
+
+#[test]
+fn bytes_are_put_like_those_of_another(rt: HostRuntime) -> Result<(), Fail> {
+    let alloc = rt.alloc();
+    let volume = put(alloc, volume_of(alloc, 40)?, "A.TXT", "x", b"longer\n")?;
+    let like = try_put(
+        alloc,
+        volume,
+        Some("B.TXT"),
+        "x",
+        b"\x01\0C\0",
+        PutForm::Binary,
+        Some("A.TXT"),
+        false,
+    );
+    let volume = done(alloc, like)?;
+    let facts = the(alloc, &volume, "B.TXT")?.facts.ok_or("a file")?;
+    assert!(rt; facts.attributes[..14] == [2, 2, 6, 0, 0, 0, 1, 0, 0, 0, 1, 0, 4, 0]);
+    assert!(rt; has(alloc, &volume, "B.TXT", b"C\n")?);
+    let long = try_put(
+        alloc,
+        volume,
+        Some("C.TXT"),
+        "x",
+        b"\x07\0longest\0",
+        PutForm::Binary,
+        Some("A.TXT"),
+        false,
+    );
+    assert!(rt; is_refused(long, "x", Why::Put(PutFault::LongRecord(7, 6))));
+    Ok(())
+}
+
+#[test]
+fn bytes_are_put_in_a_form(rt: HostRuntime) -> Result<(), Fail> {
+    let alloc = rt.alloc();
+    let made = try_put(
+        alloc,
+        volume_of(alloc, 40)?,
+        Some("A.OBJ"),
+        "x",
+        b"\x02\0AB\x01\0C",
+        PutForm::Said([2, 0, 128, 0]),
+        None,
+        false,
+    );
+    let volume = done(alloc, made)?;
+    let facts = the(alloc, &volume, "A.OBJ")?.facts.ok_or("a file")?;
+    assert!(rt; facts.attributes[..14] == [2, 0, 128, 0, 0, 0, 1, 0, 0, 0, 1, 0, 7, 0]);
+    let cut = try_put(
+        alloc,
+        volume,
+        Some("B.OBJ"),
+        "x",
+        b"\x02\0AB\x05\0C",
+        PutForm::Said([2, 0, 128, 0]),
+        None,
+        false,
+    );
+    let fault = PutFault::NoRecords(RecordFault::PastEnd(4));
+    assert!(rt; is_refused(cut, "x", Why::Put(fault)));
+    Ok(())
+}
+
+#[test]
+fn a_file_is_made_for_its_owner(rt: HostRuntime) -> Result<(), Fail> {
+    let alloc = rt.alloc();
+    let owner = Uic {
+        group: 7,
+        member: 8,
+    };
+    let begun = Putting::begin(
+        alloc,
+        volume_of(alloc, 40)?,
+        &asked()?,
+        Some("A.TXT"),
+        false,
+        PutForm::ByContents,
+        None,
+        false,
+        Some(owner),
+    );
+    let putting = begun.ok().ok_or("begun")?;
+    let put = putting.put(&HostFile {
+        name: "x",
+        bytes: b"1\n",
+    });
+    let (putting, _) = put.ok().ok_or("put")?;
+    let volume = done(alloc, Ok(putting.end()))?;
+    let facts = the(alloc, &volume, "A.TXT")?.facts.ok_or("a file")?;
+    assert!(rt; facts.owner == owner);
+    assert!(rt; has(alloc, &volume, "A.TXT", b"1\n")?);
     Ok(())
 }
 
@@ -189,11 +291,22 @@ fn a_file_is_replaced(rt: HostRuntime) -> Result<(), Fail> {
 #[test]
 fn what_is_no_name_is_not_put(rt: HostRuntime) -> Result<(), Fail> {
     let alloc = rt.alloc();
-    for name in ["-", "a.b.c", "longer_name_1", "a.long", "a;1"] {
+    for name in ["-", "a.b.c", "longername1", "a.long", "a;1"] {
         let volume = volume_of(alloc, 40)?;
         let put = try_put(alloc, volume, None, name, b"", PutForm::Text, None, false);
         assert!(rt; is_refused(put, name, Why::BadName), "{name}");
     }
+    let untyped = try_put(
+        alloc,
+        volume_of(alloc, 40)?,
+        None,
+        "a_b",
+        b"",
+        PutForm::Text,
+        None,
+        false,
+    );
+    assert!(rt; is_refused(untyped, "a_b", Why::Put(PutFault::Untyped('_'))));
     let directory = try_put(
         alloc,
         volume_of(alloc, 40)?,

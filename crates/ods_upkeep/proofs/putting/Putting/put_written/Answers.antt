@@ -2,15 +2,16 @@ use Rattle.std.proofs.Common.{subst, is_some}
 use Rattle.ods_base.specs.declared.name.Pick.TheVariants.{Highest}
 use Rattle.ods_request.specs.declared.requests.Request.TheVariants.{LookUp}
 use Rattle.ods_filing.specs.Led.{IsLed}
-use Rattle.ods_filing.proofs.Led.{allows_more, asked, then_led}
+use Rattle.ods_filing.proofs.Led.{asked, then_led}
 use Rattle.ods_upkeep.specs.Kinds.{Puts}
 use Rattle.ods_upkeep.specs.Left.{InPut}
-use Rattle.ods_upkeep.proofs.Lists.{copies_puts}
+use Rattle.ods_upkeep.specs.PutFor.{IsPut}
+use Rattle.ods_upkeep.proofs.PutLists.{put_done}
 use Rattle.ods_upkeep.proofs.putting.Putting.put_written.Goals as goal
 
 pub returns-clause-volume : goal.returns-clause-volume
 returns-clause-volume c =
     let replaces = is_some c.putting.inside.names in
     let looked : IsLed (Puts replaces) c.in_ok-filing.filing c.version_of-filing.result.0 = asked (LookUp c.putting.inside.target.directory c.args.name Highest) tt c.version_of-filing.ensures.looked in
-    let filled : IsLed (Puts replaces) c.version_of-filing.result.0 c.in_ok-filing-2.filing = allows_more (copies_puts replaces) c.in_ok-filing-2.ensures in
-    subst (λ (p : InPut). IsLed (Puts p.replaces) p.volume c.in_ok-filing-2.filing) c.putting.view_is (then_led c.in_ok-filing.ensures.volume (then_led looked filled))
+    subst (λ (p : InPut). IsPut (Puts p.replaces) p.owner p.volume c.in_ok-filing-2.filing) c.putting.view_is
+    (put_done replaces c.putting.inside.owner c.putting.inside.filing c.version_of-filing.result.0 c.in_ok-filing-2.filing (then_led c.in_ok-filing.ensures.volume looked) c.in_ok-filing-2.ensures)

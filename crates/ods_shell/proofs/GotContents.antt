@@ -1,0 +1,15 @@
+-- What is got where no text is.
+use Rattle.std.proofs.Common.{◌≡◌, ℕ, List, Option, Some, take, refl, subst}
+use Rattle.ods_base.specs.Image.{image_bytes}
+use Rattle.ods_files.specs.Body.{Body, size_in, bytes_in}
+use Rattle.ods_files.specs.declared.form.Form.{Form}
+use Rattle.ods_shell.specs.declared.form.Remark.{Remark}
+use Rattle.ods_shell.specs.declared.form.Wanted.{Wanted}
+use Rattle.ods_shell.specs.Contents.{form_got, end_remark, AreBytes}
+
+-- a body that has bytes in the form that is got
+pub bytes_are_got : (wanted : Wanted) (body : Body) (form : Form) (size : ℕ) (said : Option Remark) → size_in form body ≡ Some size → form ≡ form_got wanted → said ≡ end_remark wanted body
+    → (x : List ℕ) × (bytes_in form body ≡ Some x) × AreBytes wanted body x said
+bytes_are_got wanted body form size said s f r =
+    let bytes : bytes_in form body ≡ Some (take size (image_bytes body.blocks)) = rw s refl in
+    (take size (image_bytes body.blocks), bytes, (subst (λ g. bytes_in g body ≡ Some (take size (image_bytes body.blocks))) f bytes, r))

@@ -1,0 +1,61 @@
+-- How a host file is put: with which attributes, why it is not, and for whom.
+use Rattle.std.specs.Prelude.{◌≡◌, ◌≢◌, ◌⊎◌, ℕ, ◌<◌, ◌≤◌, Bool, if◌then◌else◌, nat_le, List, ◌++◌, length, take, drop, Option, Some, None}
+use Rattle.ods_base.specs.declared.file_id.FileId.{FileId}
+use Rattle.ods_base.specs.declared.file_id.Uic.{Uic}
+use Rattle.ods_base.specs.Name.{RadName}
+use Rattle.ods_request.specs.declared.requests.Request.{Request}
+use Rattle.ods_request.specs.declared.requests.Request.TheVariants.{Enter}
+use Rattle.ods_filing.specs.Filed.{Filed}
+use Rattle.ods_filing.specs.Led.{IsLed, IsObeyed, Fills}
+use Rattle.ods_records.specs.Attributes.{kind_in}
+use Rattle.ods_records.specs.Faults.{IsFirstFault}
+use Rattle.ods_records.specs.Lines.{longest_of}
+use Rattle.ods_records.specs.Records.{Spells, word_at}
+use Rattle.ods_records.specs.declared.kind.RecordKind.{RecordKind}
+use Rattle.ods_shell.specs.declared.status.Status.{Status}
+use Rattle.ods_shell.specs.declared.status.Status.TheVariants.{Words, Refused}
+use Rattle.ods_upkeep.specs.declared.put_fault.PutFault.{PutFault}
+use Rattle.ods_upkeep.specs.declared.put_fault.PutFault.TheVariants.{NoRecords, LongRecord, Untyped}
+
+-- the exit status: a name that is none is wrong words, and bytes that do not fit are refused
+abbrev pub HasPutStatus : PutFault → Status → Type 0
+HasPutStatus (NoRecords fault) s = s ≡ Refused
+HasPutStatus (LongRecord longest size) s = s ≡ Refused
+HasPutStatus (Untyped character) s = s ≡ Words
+
+-- The bytes fit attributes: where these are of records with a length, the bytes are such records, and none is longer than F.RSIZ where that is not 0.
+abbrev pub FitsForm : List ℕ → List ℕ → Type 0
+FitsForm own bytes = (kind : RecordKind) → kind_in own ≡ Some kind → (records : List (List ℕ)) × Spells kind bytes records × ((word_at own 2 ≡ 0) ⊎ (longest_of records ≤ word_at own 2))
+
+-- why they do not
+abbrev pub IsUnfit : List ℕ → List ℕ → PutFault → Type 0
+IsUnfit own bytes (NoRecords fault) = (kind : RecordKind) × (kind_in own ≡ Some kind) × IsFirstFault kind bytes fault
+IsUnfit own bytes (LongRecord longest size) = (kind : RecordKind) × (kind_in own ≡ Some kind) × ((records : List (List ℕ)) × Spells kind bytes records
+    × (longest ≡ longest_of records) × (size ≡ word_at own 2) × (size < longest) × (size ≢ 0))
+IsUnfit own bytes (Untyped character) = ⊥
+
+-- the attributes with the record type and the record attributes of others, and the greater record size of both
+abbrev pub like_greater : List ℕ → List ℕ → List ℕ
+like_greater attributes others = if nat_le (word_at attributes 2) (word_at others 2) then take 4 others ++ drop 4 attributes else take 2 others ++ drop 2 attributes
+
+-- the volume, for requests of another user
+abbrev pub for_another : Filed → Uic → Filed
+for_another f user = record { image = f.image; layout = f.layout; user = user }
+
+-- a file is entered
+abbrev pub IsEnter : Request → Type 0
+IsEnter r = (dir : FileId) × ((name : RadName) × ((version : Option ℕ) × ((file : FileId) × (r ≡ Enter dir name version file))))
+
+-- A file is made for its owner by the owner, and entered by the user who asks.
+pub record IsMadeFor (owner : Uic) (old new : Filed) : Type 0 where
+  -- what the owner's requests leave
+  pub made : Filed
+  pub filled : IsLed Fills (for_another old owner) made
+  pub entering : Request
+  pub entered : IsObeyed (for_another made old.user) entering new
+  pub enters : IsEnter entering
+
+-- What putting a file leaves: requests of the user, where he is the owner too; else some of his, the file made for the owner, and nothing more.
+abbrev pub IsPut : (Request → Type 0) → Option Uic → Filed → Filed → Type 0
+IsPut Allows None old new = IsLed Allows old new
+IsPut Allows (Some owner) old new = (mid : Filed) × IsLed Allows old mid × IsMadeFor owner mid new

@@ -1,0 +1,32 @@
+//! Why a host file is not put.
+ghost use Rattle.ods_upkeep.specs.PutFor.{HasPutStatus};
+
+use ods_records::RecordFault;
+use ods_shell::Status;
+use thiserror::Error;
+
+/// Why a host file is not put.
+#[derive(Clone, Copy, Debug, PartialEq, Eq, Error)]
+pub enum PutFault {
+    /// The bytes are no whole records of the form that is said, with their first fault.
+    #[error("no records of this form: {0}")]
+    NoRecords(RecordFault),
+    /// The longest record has so many bytes, and F.RSIZ allows fewer.
+    #[error("a record has {0} bytes, and this form allows {1}")]
+    LongRecord(usize, u16),
+    /// The name of the host file has this character, which stands for one of the volume's that RSX cannot type.
+    #[error("no name of a file: '{0}' stands for a character that RSX cannot type; put it to a PATH that says the name")]
+    Untyped(char),
+}
+
+impl PutFault {
+    /// The exit status of a command that is refused so.
+    pub fn status(&self) -> Status
+        ensures { HasPutStatus self.now result }
+    {
+        match self {
+            PutFault::NoRecords(_) | PutFault::LongRecord(_, _) => Status::Refused,
+            PutFault::Untyped(_) => Status::Words,
+        }
+    }
+}
