@@ -13,7 +13,11 @@ pub fn volume_in<F: Read + Seek>(
     given: Option<u32>,
 ) -> Result<Contained, ImageError> {
     if end_of(file)? > MOST_BYTES as u64 {
-        return Err(ImageError::TooBig);
+        // The end of a folder says nothing; it is not read.
+        return match file.read(&mut [0; 1]) {
+            Ok(_) => Err(ImageError::TooBig),
+            Err(_) => Err(ImageError::ReadFailed),
+        };
     }
     let fault = match Image::read_from(alloc, file) {
         Ok(image) => return contained_in(alloc, image, given),
