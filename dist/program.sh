@@ -135,10 +135,29 @@ found() {
     [ -n "$ready" ]
 }
 
-# What a green gate leaves in out/check/green: what each program was made of, and its sum.
-green() {
+# The sum of everything that a part of the gate reads; with a folder's name, of all but that: everything [FOLDER]
+everything() (
+    cd "$top"
+    find . \( -name .git -o -name out -o -path "./${1:-out}" \) -prune -o -type f -print0 | LC_ALL=C sort -z | xargs -0 sha256sum | sum
+)
+
+# What the gate judged, as it stands now: what each program is made of, its sum, the sum of all files but those of dist/, and the toolchain.
+judged() {
     each sources
     each own_sum
+    everything dist
+    rt version
+}
+
+# Whether out/check/green is what a gate left that failed nothing: what it judged is as it is now, and each part's log is the one that counts.
+is_green() {
+    local file=$top/out/check/green passed=0 failed=0 name good bad log
+    [ -f "$file" ] && [ "$(judged)" = "$(sed '/^part /,$d' "$file")" ] || return 1
+    while read -r _ name good bad log; do
+        [ "$log" = "$(sum "$top/out/check/$name.log")" ] && grep -qx "$good passed, $bad failed" "$top/out/check/$name.log" || return 1
+        passed=$((passed + good)) failed=$((failed + bad))
+    done < <(grep '^part ' "$file")
+    [ "$passed" -gt 0 ] && [ "$failed" -eq 0 ] && [ "$(tail -n 1 "$file")" = "$passed passed, 0 failed" ]
 }
 
 # The sum of the program that stands here.

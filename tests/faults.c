@@ -1,5 +1,7 @@
 /* Fails one call of a program that opens, reads, writes or starts a thread: the one with the number in FAIL; with SHORT set, that call moves one byte
    instead, where it is to move several. With SAVES set, calls that sync, lock, seek, name and own files, and say what they are, are counted too.
+   With TURN set, only writes to files that the program opened are counted, and the first byte of that one is another. With MEDDLE set to a path,
+   only calls of fsync are counted, and before that one another program appends a byte to the file of this path.
    What is asked of /proc is not counted, since it changes from run to run. It writes which call it was to the file FAILED. For LD_PRELOAD: see tests/faults and tests/fs_faults. */
 #define _GNU_SOURCE
 #include <dlfcn.h>
@@ -39,9 +41,25 @@ static int is_process(const char *path) { return !strncmp(path, "/proc", 5); }
 /* Whether a path is one that a program opens only to hold the places of the standard streams. */
 static int is_held(const char *path) { return !strcmp(path, "/dev/null") || !strcmp(path, "/"); }
 
+/* Whether calls fail in this run. */
+static int fails(void) { return !getenv("SHORT") && !getenv("TURN") && !getenv("MEDDLE"); }
+
+/* Writes these bytes, the first of them turned. */
+static ssize_t turned(int file, const void *bytes, size_t count) {
+    unsigned char *copy = malloc(count);
+    ssize_t done;
+    memcpy(copy, bytes, count);
+    copy[0] ^= 0xff;
+    done = syscall(SYS_write, file, copy, count);
+    free(copy);
+    return done;
+}
+
 /* Reads or writes, or fails, or moves one byte. */
 static ssize_t moved(long call, const char *what, int file, const void *bytes, size_t count) {
-    if (is_it(what, file)) {
+    if (getenv("TURN"))
+        return call == SYS_write && file > 2 && count > 0 && is_it(what, file) ? turned(file, bytes, count) : syscall(call, file, bytes, count);
+    if (!getenv("MEDDLE") && is_it(what, file)) {
         if (!getenv("SHORT")) {
             errno = EIO;
             return -1;
@@ -63,7 +81,7 @@ int open(const char *path, int flags, ...) {
     va_start(more, flags);
     mode = flags & O_CREAT ? va_arg(more, int) : 0;
     va_end(more);
-    if (!getenv("SHORT") && !is_process(path) && is_it(is_held(path) ? "hold" : "open", flags & O_ACCMODE)) {
+    if (fails() && !is_process(path) && is_it(is_held(path) ? "hold" : "open", flags & O_ACCMODE)) {
         errno = EACCES;
         return -1;
     }
@@ -72,17 +90,25 @@ int open(const char *path, int flags, ...) {
 
 int pthread_create(pthread_t *thread, const pthread_attr_t *how, void *(*work)(void *), void *with) {
     int (*next)(pthread_t *, const pthread_attr_t *, void *(*)(void *), void *) = dlsym(RTLD_NEXT, "pthread_create");
-    return !getenv("SHORT") && is_it("thread", 0) ? EAGAIN : next(thread, how, work, with);
+    return fails() && is_it("thread", 0) ? EAGAIN : next(thread, how, work, with);
 }
 
 /* Whether this call of those that save files is the one. */
 static int saves(const char *what, long of) {
-    if (!getenv("SAVES") || getenv("SHORT") || !is_it(what, of)) return 0;
+    if (!getenv("SAVES") || !fails() || !is_it(what, of)) return 0;
     errno = EIO;
     return 1;
 }
 
-int fsync(int file) { return saves("fsync", file) ? -1 : syscall(SYS_fsync, file); }
+int fsync(int file) {
+    const char *path = getenv("MEDDLE");
+    if (path && is_it("fsync", file)) {
+        int other = syscall(SYS_open, path, O_WRONLY | O_APPEND);
+        syscall(SYS_write, other, "!", 1);
+        syscall(SYS_close, other);
+    }
+    return saves("fsync", file) ? -1 : syscall(SYS_fsync, file);
+}
 
 int flock(int file, int how) { return saves("flock", how) ? -1 : syscall(SYS_flock, file, how); }
 

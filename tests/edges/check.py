@@ -2,7 +2,7 @@
 import resource
 import struct
 
-from fs_image import Volume, changed
+from fs_image import Volume, changed, name
 from fs_room import equal
 from fs_rows import row
 from fs_volumes import plain_volume
@@ -59,6 +59,23 @@ def marked(names):
     volume = plain_volume()
     volume.directory(30, "001007.DIR;1", ("A.DAT;1", 3, 3), ("B.DAT;1", 3, 3))
     return changed(volume.bytes(), 32, 14 + 8, struct.pack("<HHH", 0, 1 if names else 0, 16 * names))
+
+
+def spoiled_twins():
+    """A volume with a directory that has one name twice, and a bad entry behind it."""
+    volume = plain_volume()
+    volume.directory(30, "001007.DIR;1", ("A.DAT;1", 3, 3), ("A.DAT;1", 3, 3), ("B.DAT;1", 3, 3))
+    good, bad = (struct.pack("<4H", 3, 3, 0, word) for word in (name("B.DAT;1")[0], 64_000))
+    image = volume.bytes()
+    assert image.count(good) == 1
+    return image.replace(good, bad)
+
+
+@row(image=spoiled_twins)
+def a_bad_entry_hides_no_twins(room):
+    status, output, _ = room.run("disk", "check", "--all")
+    lines = output.decode().splitlines()
+    equal((status, "BadDirectory 30" in lines, "DuplicateName 30" in lines), (7, True, True), "check --all")
 
 
 HIDDEN = b"directory 30 has used entries behind its end\n"

@@ -26,6 +26,9 @@ def record_volume():
         "LARGE.DAT;1": (CARDS, {"kind": 1, "control": 10, "size": 600}),
         "STREAM.TXT;1": (b"one\r\ntwo\r\n", {"kind": 4, "control": 2}),
         "INDEX.DAT;1": (variable(b"one", b"two"), {"attr": attributes(0o42, 2, 3, 1, 12)}),
+        "LONG.OBJ;1": (variable(*OBJECT), {"size": 5}),
+        "ORG.OBJ;1": (variable(*OBJECT), {"attr": attributes(0o42, 0, 128, 1, len(variable(*OBJECT)))}),
+        "HEADED.OBJ;1": (variable(b"abcd\x00", b"efgh\x01"), {"attr": attributes(3, 0, 0, 1, 16)[:15] + b"\4" + bytes(16)}),
         "NOEND.DAT;1": (b"", {"attr": attributes(1, 0, 512, 1, 0)[:8] + bytes(24), "places": [75]}),
     }
     it.directory(4, "000000.DIR;1", ("000000.DIR;1", 4, 4), ("001002.DIR;1", 6, 1), ("INDEXF.SYS;1", 1, 1), ("BITMAP.SYS;1", 2, 2),
@@ -51,6 +54,17 @@ def got(room, text, *words):
 def an_object_module_comes_as_its_bytes(room):
     equal(got(room, "PROG.OBJ"), (variable(*OBJECT), "f11fs: [1,2]PROG.OBJ;1: records that are no text, got as bytes; put -b --form variable,none,128 brings them back\n"), "PROG.OBJ")
     equal(got(room, "PROG.OBJ", "-t")[0], b"".join(it + b"\n" for it in OBJECT), "with -t")
+
+
+@of_records
+def a_form_is_said_only_where_it_takes_the_records_back(room):
+    for text in ("LONG.OBJ", "ORG.OBJ", "HEADED.OBJ"):
+        out, said = got(room, text)
+        equal(said, f"f11fs: [1,2]{text};1: records that are no text, got as bytes\n", text)
+    out, said = got(room, "PROG.OBJ")
+    (room.folder / "prog").write_bytes(out)
+    equal(room.run("disk", "put", "-b", "--form", said.split("--form ")[1].split()[0], "prog", "1,2/BACK.OBJ")[0], 0, "put")
+    equal(got(room, "BACK.OBJ"), (out, said.replace("PROG", "BACK")), "what came back")
 
 
 @of_records
@@ -84,7 +98,8 @@ def records_of_one_size_are_lines_with_t(room):
 @of_records
 def a_stream_loses_cr_before_lf_with_t(room):
     equal(got(room, "STREAM.TXT", "-t")[0], b"one\ntwo\n", "with -t")
-    equal(got(room, "STREAM.TXT")[0], b"one\r\ntwo\r\n", "without a form")
+    equal(got(room, "STREAM.TXT")[0], b"one\ntwo\n", "without a form")
+    equal(got(room, "STREAM.TXT", "-b")[0], b"one\r\ntwo\r\n", "with -b")
 
 
 @of_records

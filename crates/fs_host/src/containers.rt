@@ -1,4 +1,4 @@
-//! Files of the host in which a volume lies: how they are read, and what is to be said of one that is longer or shorter than its volume.
+//! Host files that hold a volume: how they are read, and the remark on one that is longer or shorter than its volume.
 use ods_base::{Image, ImageError};
 use ods_container::{Contained, Footer, MOST_BYTES, contained_in, footer_of, read_contained};
 use std::alloc::Global;
@@ -46,12 +46,16 @@ fn end_of<F: Seek>(file: &mut F) -> Result<u64, ImageError> {
 /// What is to be said of a file that is longer or shorter than its volume.
 #[derive(Clone, Copy, Debug, PartialEq, Eq, Error)]
 pub enum Extent {
+    /// So many bytes stand behind the volume.
     #[error("{0} bytes behind the volume")]
     Longer(usize),
+    /// So many bytes stand behind the volume, and begin as a footer of simh.
     #[error("{0} bytes behind the volume (a simh footer)")]
     Simh(usize),
+    /// So many bytes stand behind the volume, and begin as a footer of a VHD.
     #[error("{0} bytes behind the volume (a VHD footer)")]
     Vhd(usize),
+    /// The file has so many whole blocks, and the volume so many.
     #[error("the image ends at block {0} of {1}")]
     Shorter(u64, u32),
 }

@@ -1,4 +1,4 @@
-//! Why an image is not taken for a change, or not saved.
+//! Why an image cannot be locked for a change, or cannot be saved.
 use crate::host_fault::HostFault;
 use crate::in_use::Holder;
 use std::alloc::AllocError;
@@ -7,36 +7,52 @@ use thiserror::Error;
 /// Why an image is not taken for a change, or not saved.
 #[derive(Clone, Copy, Debug, PartialEq, Eq, Error)]
 pub enum SaveFault {
+    /// Opening or reading the image failed.
     #[error("reading failed: {0}")]
     Read(HostFault),
+    /// The user of the host may not write the image.
     #[error("no right to write to it")]
     Denied,
+    /// The image is no plain file.
     #[error("it is no plain file")]
     NotPlain,
+    /// Another program has locked the image.
     #[error("another program has locked it")]
     Held,
+    /// Locking the image failed.
     #[error("locking failed: {0}")]
     Lock(HostFault),
+    /// This process has the image open.
     #[error("{0} has it open; detach it there, or --force goes on")]
     InUse(Holder),
+    /// Another program changed or replaced the image since it was locked.
     #[error("it was changed or replaced meanwhile")]
     Changed,
+    /// The image has several names, as hard links.
     #[error("it has several names (hard links); --break-links changes this one alone")]
     Links,
+    /// The file to write is there already.
     #[error("it is there")]
     IsThere,
+    /// The new file cannot be made.
     #[error("no new file can be made: {0}")]
     Make(HostFault),
+    /// The new file cannot get the owner or the mode of the image.
     #[error("its owner or mode cannot be kept: {0}")]
     Mode(HostFault),
+    /// Opening the image for writing failed, or writing the new file did.
     #[error("writing failed: {0}")]
     Write(HostFault),
+    /// The bytes that were read back are not those that were written.
     #[error("what was written is not what is read back")]
     Differs,
+    /// The old image cannot be kept under its other name.
     #[error("the old image cannot be kept: {0}")]
     Backup(HostFault),
+    /// The new file cannot take its name.
     #[error("the new file cannot take its name: {0}")]
     Rename(HostFault),
+    /// The allocator refused memory.
     #[error("no memory")]
     NoMemory,
 }
@@ -50,8 +66,10 @@ impl From<AllocError> for SaveFault {
 /// What is wanting behind the saving of an image, which stands under its name.
 #[derive(Clone, Copy, Debug, PartialEq, Eq, Error)]
 pub enum Unfinished {
+    /// Syncing the folder of the image failed.
     #[error("the image is saved, but its folder could not be synced: {0}")]
     Unsynced(HostFault),
+    /// The hidden name of the new file could not be removed.
     #[error("the image is saved, but its second, hidden name could not be removed")]
     Left,
 }

@@ -7,51 +7,73 @@ use thiserror::Error;
 /// Why the host does not do what it is asked for.
 #[derive(Clone, Copy, Debug, PartialEq, Eq, Error)]
 pub enum HostFault {
+    /// There is no such file.
     #[error("not there")]
     NotThere,
+    /// The host denies permission.
     #[error("no permission")]
     Denied,
+    /// The path leads to a folder.
     #[error("it is a folder")]
     IsFolder,
+    /// A part of the path before the last is no folder.
     #[error("a part of its path is no folder")]
     NotFolder,
+    /// The path leads to a file that is no plain one.
     #[error("it is no plain file")]
     NotPlain,
+    /// A file of this name is there already.
     #[error("it is there")]
     IsThere,
+    /// Another run has locked the hidden new file.
     #[error("another program writes it")]
     Held,
+    /// Another program replaced the file.
     #[error("it was changed or replaced meanwhile")]
     Changed,
+    /// The file is written, and its hidden name could not be removed.
     #[error("it is written, but its second, hidden name could not be removed")]
     Left,
+    /// The device or the quota is full.
     #[error("no room")]
     NoRoom,
+    /// Memory was refused.
     #[error("no memory")]
     NoMemory,
+    /// The file is larger than the limit.
     #[error("it is too large")]
     TooLarge,
+    /// The file system is read-only.
     #[error("the file system is read-only")]
     ReadOnly,
+    /// The process or the host has too many files open.
     #[error("too many files are open")]
     TooManyOpen,
+    /// The host takes no file of this name.
     #[error("its name is too long, or no name")]
     BadName,
+    /// Symbolic links lead round in a circle.
     #[error("its symbolic links have no end")]
     Links,
+    /// The file or device is in use.
     #[error("it is in use")]
     Busy,
+    /// The stream is closed.
     #[error("it is closed")]
     Closed,
+    /// The reader of the pipe is gone.
     #[error("nobody reads it any more")]
     NoReader,
+    /// The device reports an error of input or output.
     #[error("the device failed")]
     Device,
+    /// The file system does not support the call.
     #[error("the file system cannot do it")]
     Unsupported,
     /// Another error of the system, by its number.
     #[error("error {0} of the system")]
     Failed(i32),
+    /// The host gives no reason.
     #[error("the system does not say why")]
     Unknown,
 }

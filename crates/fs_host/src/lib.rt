@@ -1,5 +1,6 @@
 //! The host of `f11fs`: images that are locked, changed and saved whole, new files, the streams, the local time, and what commands print until a
-//! run's end.
+//! run's end. No contract can say what a host file or a stream gives or takes, so these calls have no
+//! clause. `tests/fs_changes` and `tests/fs_faults` check them on the built program.
 #![tactic(auto)]
 
 mod collecting;
@@ -24,6 +25,7 @@ pub use faults::{SaveFault, Unfinished};
 pub use host_fault::HostFault;
 pub use in_use::Holder;
 pub use local_time::stamp_of_now;
+pub use names::end_of_links;
 pub use new_file::NewFile;
 pub use noting::Noting;
 pub use reading::{read_host, read_some};

@@ -12,6 +12,7 @@ const MONTHS: [&str; 12] = [
 ];
 
 /// The stamp of now, by the zone that `TZ` names, or else `/etc/localtime`; by UTC where neither names one. None where the clock fails.
+/// No contract can say what the host's clock and files give.
 pub fn stamp_of_now<R: Clock + Env + Files + AllocGlobal + Clone + Drop>(rt: &R) -> Option<Stamp> {
     let Ok(now) = Timestamp::now(rt) else {
         return None;

@@ -10,12 +10,26 @@ const LONGEST: usize = 255;
 /// The most symbolic links that are followed.
 const MOST_LINKS: u32 = 40;
 
-/// The path whose last part is the file itself: where it is a symbolic link that is followed, as are those that come then.
+/// The path whose last part is the file itself: where it is a symbolic link that is followed, as are those that come then. A file that is
+/// not there is an error.
 pub fn followed<R: Files + AllocGlobal>(rt: &R, path: &str) -> Result<String, HostFault> {
+    follow(rt, path, false)
+}
+
+/// The path to which symbolic links lead, whether something is there or not.
+pub fn end_of_links<R: Files + AllocGlobal>(rt: &R, path: &str) -> Result<String, HostFault> {
+    follow(rt, path, true)
+}
+
+/// Follows symbolic links, at most 40. With `to_new` the last one may lead to nothing.
+fn follow<R: Files + AllocGlobal>(rt: &R, path: &str, to_new: bool) -> Result<String, HostFault> {
     let mut path = String::from_str(rt.alloc(), path)?;
     for _ in 0..MOST_LINKS {
-        if !fs::symlink_metadata(rt, path.as_str())?.is_symlink() {
-            return Ok(path);
+        match fs::symlink_metadata(rt, path.as_str()) {
+            Ok(found) if found.is_symlink() => {}
+            Ok(_) => return Ok(path),
+            Err(_) if to_new => return Ok(path),
+            Err(error) => return Err(error.into()),
         }
         let link = fs::read_link(rt, path.as_str())?;
         path = from_folder(rt.alloc(), path.as_str(), link.as_str())?;

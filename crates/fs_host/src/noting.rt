@@ -11,6 +11,7 @@ pub struct Noting<'a, F> {
 }
 
 impl<'a, F> Noting<'a, F> {
+    /// A file or a stream of which no call has failed yet.
     pub fn new(inner: &'a mut F) -> Noting<'a, F> {
         Noting { inner, why: None }
     }

@@ -99,6 +99,7 @@ impl Locked {
     }
 
     /// The volume in the image that was locked, of so many blocks where a number is given.
+    /// No contract can say what a host file gives.
     pub fn read(&mut self, alloc: Global, given: Option<u32>) -> Result<Image, ImageError> {
         match volume_in(alloc, &mut self.file, given) {
             Ok(contained) => {
@@ -174,6 +175,7 @@ impl Locked {
     /// Saves the image under the name of the one that was locked: a new file beside it gets its owner and mode and the new bytes, is
     /// read back, and takes its name. After a failure that file is gone, and the old image is there. What it gives is to be said, and
     /// the image is saved.
+    /// No contract can say what a host file takes. `tests/fs_faults` checks that the image is whole or as it was.
     pub fn save<R: Files<File = File> + Clock + AllocGlobal + Clone + Drop>(
         &self,
         rt: &R,

@@ -14,6 +14,7 @@ use std::rt::Files;
 
 /// Writes an image, and what stands behind it, to a file that is not there before, with this mode where one is said, and reads it back.
 /// After a failure there is no such file.
+/// No contract can say what a host file takes; `tests/fs_faults` checks this on the built program.
 pub fn write_new<R: Files<File = File> + AllocGlobal>(
     rt: &R,
     path: &str,

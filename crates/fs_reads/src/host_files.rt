@@ -1,7 +1,6 @@
 //! Files of the host that are written: whole under their names, or not at all.
-use fs_host::{HostFault, NewFile, Noting};
+use fs_host::{HostFault, NewFile, Noting, end_of_links};
 use ods_shell::Contents;
-use std::alloc::{AllocError, Global};
 use std::fs;
 use std::fs::{File, Metadata, OpenOptions};
 use std::io::ErrorKind;
@@ -32,9 +31,6 @@ enum There {
     /// It cannot be written to.
     Closed(HostFault),
 }
-
-/// The most symbolic links that are followed.
-const MOST_LINKS: u32 = 40;
 
 /// Whether a file could be written to this path, as far as is seen without writing.
 pub(crate) fn could_write<R: Files>(rt: &R, host: &str, replaces: bool) -> Written {
@@ -97,28 +93,6 @@ fn is_file_at<R: Files>(rt: &R, path: &str, found: &Metadata) -> bool {
     match fs::metadata(rt, path) {
         Ok(other) => other.dev() == found.dev() && other.ino() == found.ino(),
         Err(_) => false,
-    }
-}
-
-/// The path to which symbolic links lead, whether something is there or not.
-fn end_of_links<R: Files + AllocGlobal>(rt: &R, host: &str) -> Result<String, HostFault> {
-    let mut path = String::from_str(rt.alloc(), host)?;
-    for _ in 0..MOST_LINKS {
-        match fs::symlink_metadata(rt, path.as_str()) {
-            Ok(found) if found.is_symlink() => {}
-            _ => return Ok(path),
-        }
-        let link = fs::read_link(rt, path.as_str())?;
-        path = from_folder(rt.alloc(), path.as_str(), link.as_str())?;
-    }
-    Err(HostFault::Links)
-}
-
-/// The path of a link that stands in the folder of this path.
-fn from_folder(alloc: Global, path: &str, link: &str) -> Result<String, AllocError> {
-    match path.rsplit_once('/') {
-        Some((folder, _)) if !link.starts_with('/') => format!(in alloc; "{folder}/{link}"),
-        _ => String::from_str(alloc, link),
     }
 }
 

@@ -1,5 +1,6 @@
 //! The commands of `f11fs` that only read: what a path finds and what is printed is settled by `ods_shell`; here are the files of the host, the
-//! streams and the statuses.
+//! streams and the statuses. No clause covers what these calls print and write: `tests/fs` checks it on the built
+//! program.
 #![tactic(auto)]
 
 mod checking;

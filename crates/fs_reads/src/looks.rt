@@ -7,26 +7,37 @@ use thiserror::Error;
 /// What a file of the host looks like that is no image of a volume, and what one can do.
 #[derive(Clone, Copy, Debug, PartialEq, Eq, Error)]
 pub enum Look {
+    /// The file has no bytes.
     #[error("the file is empty")]
     Empty,
+    /// A gzip file, by its first two bytes.
     #[error("it looks like gzip: unpack it")]
     Gzip,
+    /// A zip archive, by its first four bytes.
     #[error("it looks like a zip archive: unpack it")]
     Zip,
+    /// A VHD of growing size, by its first eight bytes.
     #[error("it looks like a VHD that grows: make one of fixed size of it")]
     Vhd,
+    /// A floppy image of IMD, by its first four bytes.
     #[error("it looks like an image of IMD: make one of its sectors alone")]
     Imd,
+    /// A floppy image of TeleDisk, by its first three bytes.
     #[error("it looks like an image of TeleDisk: make one of its sectors alone")]
     TeleDisk,
+    /// An RT-11 volume, by the mark in block 1.
     #[error("it looks like a volume of RT-11")]
     Rt11,
+    /// An ODS-2 volume, by the mark in block 1.
     #[error("it looks like a volume of Files-11 ODS-2, which VMS has")]
     Ods2,
+    /// An RX01 image in physical order, by its length of 256,256 bytes.
     #[error("it is as long as an RX01 in physical order: bring its sectors into logical order")]
     Rx01,
+    /// An RX02 image in physical order, by its length of 512,512 bytes.
     #[error("it is as long as an RX02 in physical order: bring its sectors into logical order")]
     Rx02,
+    /// An RX50 image, perhaps in physical order, by its length of 409,600 bytes.
     #[error("it is as long as an RX50, maybe in physical order: bring its sectors into logical order")]
     Rx50,
 }

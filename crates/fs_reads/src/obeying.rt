@@ -1,4 +1,4 @@
-//! What the words ask for on a sound volume that stays as it is.
+//! The commands that read a sound volume and leave it as it is.
 use crate::comparing::compare_all;
 use crate::finding::{du, find};
 use crate::getting::get;
@@ -15,6 +15,7 @@ use std::rt::Files;
 use std::time::Clock;
 
 /// Does what a command asks for on a volume.
+/// No clause covers what it prints and writes; `tests/fs` checks that on the built program.
 pub fn obey<'a, R: Files<File = File> + Clock + AllocGlobal + Print + Eprint>(
     rt: &R,
     volume: &Mounted,

@@ -1,4 +1,4 @@
-//! Why a command does not go on, and the line and the status of that.
+//! Why a command stops, and the error line and exit status for that.
 use crate::volume::VolumeFault;
 use fs_host::{HostFault, Noting, Shown};
 use ods_base::write_bytes;
@@ -23,6 +23,7 @@ pub enum Stop<'a> {
     Write,
     /// Writing to standard output failed for this reason.
     Unwritten(HostFault),
+    /// The allocator refused memory.
     NoMemory,
     /// The command goes no further, and its line is written.
     Said(Status),

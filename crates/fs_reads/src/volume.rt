@@ -20,6 +20,7 @@ pub enum VolumeFault {
     /// The file is not there, or reading it failed.
     #[error("reading failed: {0}")]
     Read(HostFault),
+    /// The allocator refused memory.
     #[error("no memory")]
     NoMemory,
     /// The bytes are no image; and what they look like.

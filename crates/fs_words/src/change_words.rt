@@ -12,7 +12,9 @@ use std::alloc::{AllocError, Global};
 pub enum Change<'a> {
     /// Puts files of the host.
     Put(PutWords<'a>),
+    /// Copies files.
     Cp,
+    /// Moves names, or gives files other names.
     Mv,
     /// Removes names with their files: the entry alone where `entry_alone`, the highest version where `newest`.
     Rm {
@@ -24,6 +26,7 @@ pub enum Change<'a> {
         names: Option<u32>,
         owner: Option<Uic>,
     },
+    /// Removes empty directories.
     Rmdir,
     /// Cuts a file behind this many bytes.
     Truncate {
@@ -175,21 +178,21 @@ fn owner<'a>(alloc: Global, help: &'a str) -> Arg<'a> {
 }
 
 fn put<'a>(alloc: Global) -> Result<Command<'a>, AllocError> {
-    let text = flag(alloc, "text", "Lines as records").short('t');
-    let binary = flag(alloc, "binary", "Bytes as they are").short('b');
+    let text = flag(alloc, "text", "Store each line as a record").short('t');
+    let binary = flag(alloc, "binary", "Store the bytes as they are").short('b');
     let form = Arg::new(alloc, "form")
         .long("form")
         .value_name("KIND,CONTROL,SIZE")
         .help(FORM_HELP);
     let like = Arg::new(alloc, "like").long("like").value_name("PATH").help(
-        "With the record type and control of this file, and the greater record size; with -b with all attributes of it but the end",
+        "Copy the record type and carriage control of this file. Take the larger record size.\nWith -b: copy all attributes of this file but the end of file",
     );
     Command::new(alloc, "put")
         .override_usage(
             "f11fs IMAGE put [OPTIONS] [-t|-b] [--form FORM | --like PATH] [--replace] [--owner OWNER] HOST.. [PATH]",
         )
         .about(
-            "Puts files of the host, or standard input by -; lines as records where get -t gives the same bytes back",
+            "Copy host files (- is standard input) into the volume. A file is stored as text records if that is lossless, otherwise as bytes",
         )
         .arg(
             text.conflicts_with("binary")?
@@ -199,42 +202,43 @@ fn put<'a>(alloc: Global) -> Result<Command<'a>, AllocError> {
         .arg(binary)?
         .arg(form.conflicts_with("like")?)?
         .arg(like)?
-        .arg(flag(alloc, "replace", "In place of the file of that name").long("replace"))?
+        .arg(flag(alloc, "replace", "Replace the file. Default: add a version").long("replace"))?
         .arg(owner(
             alloc,
-            "The owner of the new files, who makes them; the user who asks enters them",
+            "Create the new files as this owner. The user of -u enters them in the directory",
         ))?
         .arg(paths(alloc, true))
 }
 
 /// What the help of `put` says of forms.
-const FORM_HELP: &str =
-    "Bytes as they are, in this form: fixed, variable, sequenced, stream or undefined; none, cr, ftn or print, each perhaps
-with +blk behind; the record size, at most 32767";
+const FORM_HELP: &str = "Store the bytes as they are, as records of this form.
+KIND is fixed, variable, sequenced, stream or undefined.
+CONTROL is none, cr, ftn or print; each may have +blk after it.
+SIZE is the record size, at most 32767";
 
 fn cp<'a>(alloc: Global) -> Result<Command<'a>, AllocError> {
     Command::new(alloc, "cp")
         .override_usage("f11fs IMAGE cp [OPTIONS] PATH.. PATH")
-        .about("Copies files within the volume")
+        .about("Copy files within the volume")
         .arg(paths(alloc, true).num_args(2..))
 }
 
 fn mv<'a>(alloc: Global) -> Result<Command<'a>, AllocError> {
     Command::new(alloc, "mv")
         .override_usage("f11fs IMAGE mv [OPTIONS] PATH.. PATH")
-        .about("Moves names within the volume; the name in a file's header stays")
+        .about("Move or rename directory entries. The name in the header of a file stays")
         .arg(paths(alloc, true).num_args(2..))
 }
 
 fn rm<'a>(alloc: Global) -> Result<Command<'a>, AllocError> {
     Command::new(alloc, "rm")
         .override_usage("f11fs IMAGE rm [OPTIONS] [--entry] [--newest] PATH..")
-        .about("Removes names, and deletes the files that no name is left of")
-        .arg(flag(alloc, "entry", "The names alone; their files stay").long("entry"))?
+        .about("Remove names, and delete files that have no name left")
+        .arg(flag(alloc, "entry", "Remove only the names, and keep the files").long("entry"))?
         .arg(flag(
             alloc,
             "newest",
-            "The highest version, where a path says none",
+            "Remove the highest version if a path gives no version",
         )
         .long("newest"))?
         .arg(paths(alloc, true))
@@ -245,14 +249,14 @@ fn mkdir<'a>(alloc: Global) -> Result<Command<'a>, AllocError> {
         .long("names")
         .value_name("N")
         .value_parser(value_parser!(u32))
-        .help("With room for N names");
+        .help("Make room for N names");
     Command::new(alloc, "mkdir")
         .override_usage("f11fs IMAGE mkdir [OPTIONS] [--names N] [--owner OWNER] DIR..")
-        .about("Makes directories")
+        .about("Make directories")
         .arg(names)?
         .arg(owner(
             alloc,
-            "The owner of the directories; with none that of [1,2] is [1,2], and of others who asks",
+            "Give the directories this owner. Default: [1,2] for directory [1,2]; otherwise the user of -u",
         ))?
         .arg(paths(alloc, true))
 }
@@ -260,7 +264,7 @@ fn mkdir<'a>(alloc: Global) -> Result<Command<'a>, AllocError> {
 fn rmdir<'a>(alloc: Global) -> Result<Command<'a>, AllocError> {
     Command::new(alloc, "rmdir")
         .override_usage("f11fs IMAGE rmdir [OPTIONS] DIR..")
-        .about("Removes directories that are empty")
+        .about("Remove empty directories")
         .arg(paths(alloc, true))
 }
 
@@ -268,15 +272,15 @@ fn truncate<'a>(alloc: Global) -> Result<Command<'a>, AllocError> {
     let path = Arg::new(alloc, "path")
         .value_name("PATH")
         .required(true)
-        .help("A file");
+        .help("The file to cut");
     let bytes = Arg::new(alloc, "bytes")
         .value_name("BYTES")
         .required(true)
         .value_parser(value_parser!(u64))
-        .help("How many of its bytes stay");
+        .help("How many bytes to keep");
     Command::new(alloc, "truncate")
         .override_usage("f11fs IMAGE truncate [OPTIONS] PATH BYTES")
-        .about("Cuts a file")
+        .about("Cut a file to its first BYTES bytes")
         .arg(path)?
         .arg(bytes)
 }
@@ -291,14 +295,14 @@ fn init<'a>(alloc: Global) -> Result<Command<'a>, AllocError> {
         .value_name("N")
         .value_parser(value_parser!(u32))
         .help(
-            "The files that it may have beside the five reserved ones; 10 for each 40 blocks unless said",
+            "Make room for N files besides the five reserved ones. Default: 10 for each 40 blocks",
         );
     let label = Arg::new(alloc, "label").long("label").value_name("L").help(
-        "The volume's label: at most 12 of A to Z, 0 to 9 and dots",
+        "Give the volume this label: at most 12 of A to Z, 0 to 9 and dots. Default: NEWVOLUME",
     );
     Command::new(alloc, "init")
         .override_usage("f11fs IMAGE init [OPTIONS] [--files N] [--label L] SIZE")
-        .about("Makes the image of an empty volume; IMAGE is not there")
+        .about("Make the image of an empty volume. IMAGE must not exist")
         .arg(files)?
         .arg(label)?
         .arg(size)
@@ -306,5 +310,5 @@ fn init<'a>(alloc: Global) -> Result<Command<'a>, AllocError> {
 
 /// What the help of `init` says of sizes.
 const SIZE_HELP: &str =
-    "The blocks of the volume, 40 at least, or a device: RX01 494, RX02 988, RX50 800, RK05 4800, RL01 10240, RL02 20480,
+    "The number of blocks, at least 40, or a device: RX01 494, RX02 988, RX50 800, RK05 4800, RL01 10240, RL02 20480,
 RK06 27126, RK07 53790, RM03 131680, RP04 171798, RP06 340670, RM05 500384, RA81 891072";

@@ -83,7 +83,7 @@ fn front<'a>(alloc: Global, has_image: bool) -> Result<Command<'a>, AllocError> 
         .short('f')
         .long("commands")
         .value_name("FILE")
-        .help("Obey the commands in FILE, one a line; - is standard input");
+        .help("Run the commands in FILE, one a line. - is standard input");
     let mut command = Command::new(alloc, "f11fs")
         .about(ABOUT)
         .after_help(AFTER_HELP)
@@ -94,7 +94,7 @@ fn front<'a>(alloc: Global, has_image: bool) -> Result<Command<'a>, AllocError> 
     if has_image {
         let image = Arg::new(alloc, "image")
             .value_name("IMAGE")
-            .help("The image of a volume");
+            .help("The file with the disk image");
         command = command.arg(image)?;
     }
     command = command.arg(file)?;

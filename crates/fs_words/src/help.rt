@@ -2,29 +2,45 @@
 
 /// What the program is for.
 pub(crate) const ABOUT: &str =
-    "Looks at volumes of RSX-11, Files-11 structure level 1, gets files out of them, and changes them";
+    "List, check, copy and change the files of RSX-11 disk images (Files-11 structure level 1, ODS-1)";
 
 /// What `--version` prints behind the name.
 pub(crate) const VERSION: &str = "1.0";
 
 /// What the help says behind the words.
 pub(crate) const AFTER_HELP: &str =
-    "A path is [1,2]NOTES.TXT;3, or without quotes 1,2/NOTES.TXT. [1,2] is the directory of a group and a member, [NAME] one
-of the master directory, [A.B] one in another, [0,0] or nothing the master directory, [...] all. No version is the
-highest, ;-1 the lowest, ;* all. * stands for any characters, ? for one. #6,1 is a file by its ID. A shell wants quotes
-around ';*' and '[1,2]'. f11fs COMMAND --help has the words of a command.
+    "A path names files on the volume, such as [1,2]NOTES.TXT;3 or 1,2/NOTES.TXT.
+In a shell, put quotes around '[1,2]' and ';*'. The form 1,2/NOTES.TXT needs none. A path has these parts:
+  [1,2]   the directory of group 1, member 2, both in octal
+  [NAME]  a directory in the master directory
+  [A.B]   directory B in directory A
+  [0,0]   the master directory. Default: this one
+  [...]   all directories
+  *, ?    any characters; exactly one character
+  ;3      version 3. Default: the highest version. For ls and find: all versions
+  ;-1     the lowest version
+  ;*      all versions
+  #6,1    the file with the ID 6,1, its file number and its sequence number
 
-Detach an image from an emulator before you change it: emulators take no lock, and write on into the old file.
-An image that another process has open is refused, as far as the host tells of it; --force goes on.
-A changed image keeps owner, group and mode. Access control lists and other attributes of its file are not kept.
+Detach an image from an emulator before you change it. An emulator takes no lock, and writes on into the old file.
+f11fs refuses to change an image that another process has open, as far as /proc shows it. --force changes it anyway.
+A changed image keeps its owner, group and mode. Access control lists (ACLs) and other attributes of its file are lost.
 
-A change is made whole or not at all. The image is locked, a new one is written beside it, read back, and takes its
-name; a link is followed. New files have the host's local time (TZ, else UTC), the year by its last two digits.
+f11fs makes a change whole or not at all. It locks the image, writes a new one beside it, and reads that back.
+Then the new image takes the name of the old one. f11fs follows a symbolic link to the image.
+A new file gets the local time of the host. TZ sets the time zone. Default: /etc/localtime, otherwise UTC.
+The date of a file has only the last two digits of the year.
 
-In a FILE of commands there is one a line, of words as a shell has them: spaces part them, '..' and \"..\" hold together,
-and # behind a space begins a remark. FILE has at most 1 MiB. The image is saved once, behind the last command, and
-what is printed comes then.
+A FILE of commands has one command a line, and at most 1 MiB. Spaces separate words, as in a shell.
+Quotes, '..' or \"..\", keep a word together. A # after a space begins a comment.
+f11fs saves the image once, after the last command. It prints the output of all commands then.
 
-The status is 0; 1 where the image is refused; 2 for wrong words or a path that is none; 3 where reading, writing, locking or
-memory failed, or a file is there that must not be; 5 where a file or a change is refused; 6 where nothing is there;
-7 where check, rescue or cmp found something.";
+The status is 0 if f11fs did what you asked;
+1 if f11fs refuses the image;
+2 if a word of the command line, or a path, is not valid;
+3 if reading, writing, locking or memory fails, or a file exists that must not exist;
+5 if f11fs refuses a file or a change;
+6 if a path finds nothing;
+7 if check or rescue finds a problem, or cmp finds a difference.
+
+f11fs COMMAND --help describes a command. For more, read the manual: man f11fs";

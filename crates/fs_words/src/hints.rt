@@ -1,4 +1,4 @@
-//! What is said where a command is wanting, or a word is none.
+//! The messages for words that lack a command or name an unknown one.
 use crate::verbs::{Verb, nearest};
 use crate::words::WordsFault;
 use std::alloc::{AllocError, Global};

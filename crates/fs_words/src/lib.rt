@@ -1,4 +1,6 @@
 //! The words of `f11fs`: what the command line asks for, and the words of a line in a file of commands.
+//! No clause covers what words ask for: `tests/fs` checks it on the built program. Clauses say which options serve a
+//! command.
 #![tactic(auto)]
 
 mod change_words;

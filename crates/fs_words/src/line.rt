@@ -1,4 +1,4 @@
-//! The words of a line, as a shell parts them.
+//! The words of a line, split as a shell splits them.
 use std::alloc::{AllocError, Global};
 
 /// Why a line has no words.
@@ -6,6 +6,7 @@ use std::alloc::{AllocError, Global};
 pub enum LineFault {
     /// A quote is not closed.
     Open,
+    /// The allocator refused memory.
     NoMemory,
 }
 

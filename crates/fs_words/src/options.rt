@@ -10,16 +10,27 @@ use std::alloc::Global;
 /// An option that may stand before IMAGE or behind the command.
 #[derive(Clone, Copy, Debug, PartialEq, Eq)]
 pub enum Choice {
+    /// `-o`: the file of the host to write to.
     Out,
+    /// `--backup`: keeps the old image.
     Backup,
+    /// `--break-links`: changes an image with several hard links under this name alone.
     BreakLinks,
+    /// `-n`: writes nothing, and prints what would be done.
     OnlyTells,
+    /// `--force`: replaces files of the host, or changes an image that another process has open.
     Force,
+    /// `--json`: prints JSON, an object a line.
     Json,
+    /// `--stamp`: the time of new files.
     Stamp,
+    /// `-u`: the user whose rights are asked.
     User,
+    /// `-q`: shows no progress, and no remarks that are no faults.
     Quiet,
+    /// `--keep-going`: goes on past commands of a file that are refused.
     KeepGoing,
+    /// `--blocks`: the size of the volume in blocks, whatever the image says.
     Blocks,
 }
 
@@ -118,26 +129,28 @@ impl Choice {
     fn help<'a>(self, verb: Option<Verb>) -> &'a str {
         match self {
             Choice::Out if verb == Some(Verb::Get) => {
-                "The file or folder of the host to write to, or - for standard output"
+                "Write to this host file or folder. - is standard output"
             }
             Choice::Out if verb.is_none() => {
-                "Write the changed image to FILE, which is not there, and leave IMAGE as it is; of get, its target"
+                "Write the changed image to FILE, and keep IMAGE as it is. FILE must not exist. For get: write to FILE"
             }
             Choice::Out => {
-                "Write the changed image to FILE, which is not there, and leave IMAGE as it is"
+                "Write the changed image to FILE, and keep IMAGE as it is. FILE must not exist"
             }
             Choice::Backup => "Keep the old image as IMAGE~",
             Choice::BreakLinks => {
-                "Change an image with several names (hard links) under this one alone"
+                "Change an image with several hard links under this name only. Default: refuse it"
             }
-            Choice::OnlyTells => "Write nothing, and tell what would be done",
+            Choice::OnlyTells => "Write nothing. Print what the command would do",
             Choice::Force => force_help(verb),
             Choice::Json => json_help(verb),
-            Choice::Stamp => "The time of new files, as 24NOV85093000",
+            Choice::Stamp => "Give new files this time, such as 24NOV85093000. Default: now",
             Choice::User => user_help(verb),
-            Choice::Quiet => "Show no progress, and no remarks that are no faults",
-            Choice::KeepGoing => "With -f: go on past commands that are refused",
-            Choice::Blocks => { "The volume has N blocks, whatever the image says; 1 to 1048576" }
+            Choice::Quiet => "Hide progress and remarks, but not errors",
+            Choice::KeepGoing => "With -f: skip a command that f11fs refuses, and go on",
+            Choice::Blocks => {
+                "Assume that the volume has N blocks, 1 to 1048576, whatever the image says"
+            }
         }
     }
 
@@ -189,29 +202,29 @@ fn with_value<'a>(arg: Arg<'a>, choice: Choice, value: Option<&'a str>) -> Arg<'
 /// What `--force` does.
 fn force_help<'a>(verb: Option<Verb>) -> &'a str {
     match verb {
-        Some(Verb::Get) => "Files of the host may be replaced",
-        Some(_) => "Change an image that another process has open",
+        Some(Verb::Get) => "Replace host files that exist",
+        Some(_) => "Change the image even if another process has it open",
         None =>
-            "Of get: files of the host may be replaced. Of changes: another process may have IMAGE open",
+            "For get: replace host files that exist. For a change: change IMAGE even if another process has it open",
     }
 }
 
 /// What `--json` does.
 fn json_help<'a>(verb: Option<Verb>) -> &'a str {
     match verb {
-        Some(verb) if prints_only_plans(verb) => "With -n: print JSON, an object a line",
-        _ => "Print JSON, an object a line",
+        Some(verb) if prints_only_plans(verb) => "With -n: print JSON, one object a line",
+        _ => "Print JSON, one object a line",
     }
 }
 
 /// What `-u` does.
 fn user_help<'a>(verb: Option<Verb>) -> &'a str {
     match verb {
-        Some(Verb::Init) => "The owner of the volume, as [1,2]; with none [1,1]",
-        Some(verb) if verb.changes() => "Ask rights of this user, as [1,2]; with none of [1,1]",
+        Some(Verb::Init) => "Make this user the owner of the volume, such as [1,2]. Default: [1,1]",
+        Some(verb) if verb.changes() => "Act as this user, such as [1,2]. Default: [1,1]",
         Some(Verb::File) | None => {
-            "Ask rights of this user, as [1,2]; with none, reads ask none and changes those of [1,1]"
+            "Act as this user, such as [1,2]. Default: no access checks when reading; [1,1] when changing"
         }
-        Some(_) => "Ask rights of this user, as [1,2]; with none, none are asked",
+        Some(_) => "Act as this user, such as [1,2]. Default: no access checks",
     }
 }

@@ -18,7 +18,7 @@ pub(crate) fn read_command<'a>(
         Verb::Df => Ok(Some(
             Command::new(alloc, "df")
                 .override_usage("f11fs IMAGE df [OPTIONS]")
-                .about("How much of the volume is used"),
+                .about("Show how much of the volume is used"),
         )),
         Verb::Du => Ok(Some(du(alloc)?)),
         Verb::Check => Ok(Some(check(alloc)?)),
@@ -31,30 +31,30 @@ pub(crate) fn read_command<'a>(
 fn ls<'a>(alloc: Global) -> Result<Command<'a>, AllocError> {
     Command::new(alloc, "ls")
         .override_usage("f11fs IMAGE ls [OPTIONS] [-l] [-R] [-i] [PATH..]")
-        .about("Lists names")
+        .about("List names")
         .arg(flag(
             alloc,
             "long",
-            "ID, blocks, bytes, kind, owner, protection and date of each",
+            "Show ID, blocks, bytes, kind, owner, protection and date of each file",
         )
         .short('l'))?
-        .arg(flag(alloc, "below", "All directories below too").short('R'))?
-        .arg(flag(alloc, "ids", "The ID of each").short('i'))?
+        .arg(flag(alloc, "below", "List all directories below, too").short('R'))?
+        .arg(flag(alloc, "ids", "Show the ID of each file").short('i'))?
         .arg(paths(alloc, false))
 }
 
 fn find<'a>(alloc: Global) -> Result<Command<'a>, AllocError> {
     Command::new(alloc, "find")
         .override_usage("f11fs IMAGE find [OPTIONS] [--lost | PATH..]")
-        .about("Lists every file with its path, or - where no directory names it")
-        .arg(flag(alloc, "lost", "Only files that no directory names").long("lost"))?
+        .about("List every file with its path, or with - if no directory names it")
+        .arg(flag(alloc, "lost", "List only files that no directory names").long("lost"))?
         .arg(paths(alloc, false).conflicts_with("lost")?)
 }
 
 fn stat<'a>(alloc: Global) -> Result<Command<'a>, AllocError> {
     Command::new(alloc, "stat")
         .override_usage("f11fs IMAGE stat [OPTIONS] PATH..")
-        .about("Shows what is known of files, one field a line")
+        .about("Show what is known of each file, one field a line")
         .arg(paths(alloc, true))
 }
 
@@ -63,7 +63,7 @@ fn cat<'a>(alloc: Global) -> Result<Command<'a>, AllocError> {
         alloc,
         Command::new(alloc, "cat")
             .override_usage("f11fs IMAGE cat [OPTIONS] [-t|-b|--raw] PATH..")
-            .about("Writes files to standard output"),
+            .about("Write files to standard output"),
     )?
     .arg(paths(alloc, true))
 }
@@ -73,7 +73,7 @@ fn get<'a>(alloc: Global) -> Result<Command<'a>, AllocError> {
         alloc,
         Command::new(alloc, "get")
             .override_usage("f11fs IMAGE get [OPTIONS] [-t|-b|--raw] PATH.. [TARGET]")
-            .about("Writes files to the host"),
+            .about("Copy files to the host"),
     )?
     .arg(paths(alloc, true))
 }
@@ -83,21 +83,21 @@ fn du<'a>(alloc: Global) -> Result<Command<'a>, AllocError> {
         .long("top")
         .value_name("N")
         .value_parser(value_parser!(u32))
-        .help("The N largest files");
+        .help("Show the N largest files instead");
     Command::new(alloc, "du")
         .override_usage("f11fs IMAGE du [OPTIONS] [--top N]")
-        .about("How many blocks the files of each directory have")
+        .about("Show how many blocks the files of each directory have")
         .arg(top)
 }
 
 fn check<'a>(alloc: Global) -> Result<Command<'a>, AllocError> {
     Command::new(alloc, "check")
         .override_usage("f11fs IMAGE check [OPTIONS] [--all]")
-        .about("What is wrong with the volume")
+        .about("Check the volume")
         .arg(flag(
             alloc,
             "all",
-            "Every fault that is looked for, and what a mount does not refuse",
+            "Print every fault that check looks for, and lesser problems (findings). Default: the first fault",
         )
         .long("all"))
 }
@@ -106,24 +106,29 @@ fn rescue<'a>(alloc: Global) -> Result<Command<'a>, AllocError> {
     with_word(
         alloc,
         "rescue",
-        "Copies each file whose own chain is whole out of an image that may be refused",
+        "Copy each file with intact headers out of a damaged or refused image into a new folder",
         "FOLDER",
-        "A folder of the host, which is made",
+        "The host folder to make. An existing folder must be empty",
     )?
     .override_usage("f11fs IMAGE rescue [OPTIONS] [--text] FOLDER")
-    .arg(flag(alloc, "text", "Records as lines, where they are whole").long("text"))
+    .arg(flag(alloc, "text", "Write records as lines if they are intact").long("text"))
 }
 
 fn cmp<'a>(alloc: Global) -> Result<Command<'a>, AllocError> {
     with_word(
         alloc,
         "cmp",
-        "Which files differ from those of another image",
+        "List files that differ from those of another image",
         "IMAGE2",
         "The other image",
     )?
     .override_usage("f11fs IMAGE cmp [OPTIONS] [--all] IMAGE2")
-    .arg(flag(alloc, "all", "IDs, dates, owners and protection too").long("all"))
+    .arg(flag(
+        alloc,
+        "all",
+        "Compare IDs, dates, owners and protection, too",
+    )
+    .long("all"))
 }
 
 /// A command with one word behind it.
@@ -143,9 +148,14 @@ fn with_word<'a>(
 
 /// The command with the words for a form.
 fn with_forms<'a>(alloc: Global, command: Command<'a>) -> Result<Command<'a>, AllocError> {
-    let text = flag(alloc, "text", "Records as lines").short('t');
-    let binary = flag(alloc, "binary", "The bytes up to the end of file").short('b');
-    let raw = flag(alloc, "raw", "The bytes of all blocks").long("raw");
+    let text = flag(
+        alloc,
+        "text",
+        "Write records as lines. Default if it is lossless",
+    )
+    .short('t');
+    let binary = flag(alloc, "binary", "Write the bytes up to the end of file").short('b');
+    let raw = flag(alloc, "raw", "Write the bytes of all blocks").long("raw");
     command
         .arg(text.conflicts_with("binary")?.conflicts_with("raw")?)?
         .arg(binary.conflicts_with("raw")?)?

@@ -1,4 +1,4 @@
-//! What was said before the command and behind it, and how a word says a user.
+//! The options before and behind the command, and how a word names a user.
 use crate::words::WordsFault;
 use clap::ArgMatches;
 use ods_base::Uic;

@@ -7,24 +7,43 @@ use std::alloc::{AllocError, Global};
 /// A command, by its name; `File` is a file of commands.
 #[derive(Clone, Copy, Debug, PartialEq, Eq)]
 pub enum Verb {
+    /// `ls`: lists names in directories.
     Ls,
+    /// `find`: lists the paths of all files.
     Find,
+    /// `stat`: shows what is known of a file.
     Stat,
+    /// `cat`: writes files to standard output.
     Cat,
+    /// `get`: writes files to the host.
     Get,
+    /// `df`: shows how much of the volume is used.
     Df,
+    /// `du`: shows how many blocks the files of directories have.
     Du,
+    /// `check`: shows what is wrong with an image.
     Check,
+    /// `rescue`: copies files out of an image that may be refused.
     Rescue,
+    /// `cmp`: shows which files of two images differ.
     Cmp,
+    /// `put`: puts files of the host into the volume.
     Put,
+    /// `cp`: copies files within the volume.
     Cp,
+    /// `mv`: moves or renames entries.
     Mv,
+    /// `rm`: removes entries, and deletes files without a name.
     Rm,
+    /// `mkdir`: makes directories.
     Mkdir,
+    /// `rmdir`: removes empty directories.
     Rmdir,
+    /// `truncate`: cuts a file.
     Truncate,
+    /// `init`: makes an image of a new volume.
     Init,
+    /// `-f`: obeys the commands in a file.
     File,
 }
 

@@ -50,6 +50,7 @@ pub enum Action<'a> {
     Find {
         lost: bool,
     },
+    /// Shows what is known of files.
     Stat,
     /// Writes files to standard output.
     Cat(Wanted),
@@ -58,6 +59,7 @@ pub enum Action<'a> {
         wanted: Wanted,
         target: Option<&'a str>,
     },
+    /// Shows how much of the volume is used.
     Df,
     /// How many blocks directories have, or the largest files where a number is said.
     Du {
@@ -97,6 +99,7 @@ pub enum WordsFault {
     Help(String),
     /// The words are wrong; these are a line or two that say how, with no line feed at the end.
     Wrong(String),
+    /// The allocator refused memory.
     NoMemory,
 }
 
@@ -107,6 +110,7 @@ impl From<AllocError> for WordsFault {
 }
 
 /// What the words after the program's name ask for.
+/// No clause covers what they ask for; `tests/fs` checks it on the built program.
 pub fn parse_words<'a, S: AsStr>(alloc: Global, words: &'a [S]) -> Result<Words<'a>, WordsFault> {
     let before = match first_matches(alloc, words, true) {
         Ok(before) => before,
@@ -360,5 +364,5 @@ pub(crate) fn paths<'a>(alloc: Global, required: bool) -> Arg<'a> {
         .value_name("PATH")
         .num_args(0..)
         .required(required)
-        .help("Paths, as '[1,2]NOTES.TXT;3' or 1,2/NOTES.TXT")
+        .help("Paths on the volume, such as '[1,2]NOTES.TXT;3' or 1,2/NOTES.TXT")
 }

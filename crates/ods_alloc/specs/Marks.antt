@@ -31,10 +31,11 @@ abbrev pub IsBitOf : Type 0 → ℕ × ℕ → Option (ℕ × ℕ) → Type 0
 IsBitOf Covered bit None = ¬ Covered
 IsBitOf Covered bit (Some found) = Covered × (found ≡ bit)
 
--- the bit of a block in the storage bitmap, and of a number in the index bitmap
+-- the bit of a block in the storage bitmap: the bitmap's block that has it, and the bit's place there
 abbrev pub block_bit : VolumeLayout → ℕ → ℕ × ℕ
 block_bit L lbn = (slice_index L.bitmap (1 + lbn / 4096), lbn % 4096)
 
+-- the bit of a file number in the index bitmap, whose first bit is of number 1
 abbrev pub number_bit : VolumeLayout → ℕ → ℕ × ℕ
 number_bit L n = (L.home.index_bitmap_lbn + (n - 1) / 4096, (n - 1) % 4096)
 

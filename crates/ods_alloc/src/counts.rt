@@ -1,5 +1,5 @@
-//! Counts of free blocks and of clear index bits, one for each block of the bitmaps. They are kept beside an image, so that nobody
-//! reads blocks of a bitmap that have nothing left.
+//! Counts of free blocks and of clear index bits, one for each block of the bitmaps. A volume keeps them beside its
+//! image, so that a search skips each block of a bitmap that has nothing left.
 use crate::counting::{Bitmap, count_blocks, count_numbers, next_changed, recount, size_of};
 use ods_space::{Disk, Draft};
 use std::alloc::{AllocError, Global};

@@ -31,7 +31,8 @@ pub struct ChainEnd<'a> {
 impl<'a> ChainEnd<'a> {
     ghost use Rattle.ods_space.specs.Disks.{header_on, on};
 
-    /// Where the chain of a file ends, by one walk along it. `first` is its first header.
+    /// Where the chain of a file ends, by one walk along it. `first` is its first header. A chain has at most 256
+    /// headers.
     pub fn of(disk: &Disk<'a>, number: u16, first: &'a Block) -> Self
         requires layout { on IsLayoutOf disk.now }
         requires whole { (others : List ℕ) × (blocks : List ℕ) × on IsWhole disk.now number others blocks }

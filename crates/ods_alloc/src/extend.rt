@@ -17,7 +17,7 @@ use std::alloc::{AllocError, Global};
 
 /// Appends blocks to the chain of a file, whose first header is written but may not be in use yet, with these
 /// extension headers, in a draft; the bits of all of them say that they are in use. After an `Err` the draft is as
-/// it was.
+/// it was. The appended blocks keep their bytes. Each new header gets the sequence number that its block had, plus one.
 pub fn extend_chain(
     alloc: Global,
     disk: &Disk<'_>,
@@ -48,7 +48,7 @@ pub fn extend_chain(
 /// Appends blocks, whose runs these are, to the chain of a file that ends so, with these extension headers, in a draft; the bits
 /// of all of them say that they are in use. The first header, as the draft has it, is written but may not be in use yet; of the
 /// others that are there none is read but the last, which the caller has. It is handed the draft, and hands it back unless there
-/// is no memory.
+/// is no memory. The appended blocks keep their bytes.
 pub fn extend_from(
     disk: &Disk<'_>,
     number: u16,

@@ -16,6 +16,7 @@ pub enum SpaceFault {
     HeadersFull,
     /// The chain would have more than 256 headers.
     ChainFull,
+    /// Memory was refused.
     NoMemory,
 }
 

@@ -42,7 +42,7 @@ fn next_free(disk: &Disk<'_>, counts: &[u32], from: u32) -> Option<u32>
     None
 }
 
-/// The lowest free blocks, ascending.
+/// The lowest free blocks, ascending. The refusal is VolumeFull where fewer blocks are free, and otherwise NoMemory.
 pub fn pick_blocks(
     alloc: Global,
     disk: &Disk<'_>,

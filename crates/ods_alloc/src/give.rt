@@ -11,7 +11,7 @@ use std::alloc::AllocError;
 
 /// Gives blocks back and deletes headers, in a draft: a deleted header keeps its bytes but for its number, which
 /// becomes 0, and its sum; the bits of the blocks and of the numbers say that they are free. After an `Err` the
-/// draft is as it was.
+/// draft is as it was. No other block changes.
 pub fn give_back(
     disk: &Disk<'_>,
     blocks: &[u32],

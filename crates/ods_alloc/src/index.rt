@@ -16,7 +16,7 @@ use ods_space::{Disk, Draft};
 use std::alloc::{AllocError, Global};
 
 /// The draft by which INDEXF.SYS gets these blocks behind its own: they become zeros and are marked as taken, and its last
-/// header, which is this one, gets pointers to them.
+/// header, which is this one, gets pointers to them. No other block changes. The refusal is for want of memory alone.
 pub fn grow_index(
     alloc: Global,
     disk: &Disk<'_>,

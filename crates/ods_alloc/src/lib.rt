@@ -1,5 +1,5 @@
-//! The bitmaps at work: what is free is counted and picked, chains grow and shrink by pointers and extension headers, and what is
-//! taken or given back is marked.
+//! Allocation by the two bitmaps: counts and picks of free blocks and numbers, the growth of chains by pointers and
+//! extension headers, and the marks of what a file takes or gives back.
 #![tactic(auto)]
 
 mod bitmap;

@@ -89,7 +89,7 @@ fn skip_used(image: &Image, home: &Home, counts: &[u32], from: u32, last: u32) -
     at
 }
 
-/// The lowest free numbers, ascending.
+/// The lowest free numbers, ascending. The refusal is HeadersFull where fewer numbers are free, and otherwise NoMemory.
 pub fn pick_numbers(
     alloc: Global,
     disk: &Disk<'_>,
@@ -105,7 +105,7 @@ pub fn pick_numbers(
 }
 
 /// The lowest numbers that new headers may get where INDEXF.SYS may grow, ascending: free ones, and then such for which it has
-/// no block yet.
+/// no block yet. The refusal is HeadersFull where there are fewer such numbers, and otherwise NoMemory.
 pub fn pick_open_numbers(
     alloc: Global,
     disk: &Disk<'_>,

@@ -9,7 +9,8 @@ use ods_header::Run;
 use ods_space::Draft;
 use std::alloc::AllocError;
 
-/// The blocks of these runs become zeros in a draft.
+/// The blocks of these runs become zeros in a draft. No other block changes. After an `Err` the draft may make some of
+/// these blocks zeros.
 pub fn zero_runs(runs: &[Run], draft: &mut Draft) -> Result<(), AllocError>
     ensures { OnOk result ((I : List (List ℕ)) → IsZeroed (applied I draft.old) (flat_map run_blocks runs.now) (applied I draft.new)) }
 {

@@ -12,7 +12,7 @@ pub fn bit(block: &Block, i: u32) -> bool
     block.byte((i / 8) as usize) >> (i % 8) & 1 == 1
 }
 
-/// Sets or clears bit `i` of a block.
+/// Sets or clears bit `i` of a block. Every other bit stays.
 pub fn set_bit(block: &mut Block, i: u32, value: bool)
     requires { i < 4096 }
     ensures stays { IsBlock block.new }

@@ -40,7 +40,8 @@ impl Model for Image {
 pub const MAX_BYTES: usize = 536_870_912;
 
 impl Image {
-    /// The image of these bytes. Too many bytes are found before a last block that is not whole.
+    /// The image of these bytes. Too many bytes are found before a last block that is not whole. Bytes that are whole
+    /// blocks within the limit are refused for want of memory alone.
     pub fn from_bytes(alloc: Global, bytes: &[u8]) -> Result<Image, ImageError>
         ensures ok { IfOk result (λ image. IsImage image × (image_bytes image ≡ bytes.now)) }
         ensures err { IfErr result (IsNoImage bytes.now) }

@@ -1,4 +1,4 @@
--- The first header of a file that grows, without UC.CON, says what it said.
+-- The first header of a file that grows keeps its other fields when UC.CON is cleared.
 use Rattle.std.proofs.Common.{◌≡◌, ℕ, ap, ◌∙◌, List}
 use Rattle.std.specs.Prelude.{◌||◌, ◌&&◌, ◌==◌, nat_lt}
 use Rattle.ods_base.specs.Name.{directory_type}

@@ -1,4 +1,4 @@
--- Where it is noted where the chain of a file ends, and where it ends once the file has grown.
+-- The noted end of a file's chain of headers, and its end after the file has grown.
 use Rattle.std.proofs.Common.{◌≡◌, ℕ, ◌+◌, ◌≤◌, List, [], ◌∷◌, ◌++◌, length, refl, sym, ap, ◌∙◌, subst, arith}
 use Rattle.std.specs.List.{Contains}
 use Rattle.std.proofs.lemmas.List.{length-append}

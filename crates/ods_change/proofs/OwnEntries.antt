@@ -1,4 +1,4 @@
--- An entry that an Enter writes knows its volume and its directory: what holds of them holds in its own words, and the other way round.
+-- An entry that an Enter writes carries its volume and its directory: a statement about either is one about the entry.
 use Rattle.std.proofs.Common.{◌≡◌, ℕ, sym, subst, List, Option}
 use Rattle.ods_base.specs.Name.{RadName}
 use Rattle.ods_base.specs.declared.file_id.FileId.{FileId}

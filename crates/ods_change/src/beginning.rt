@@ -1,4 +1,5 @@
-//! What a request that takes blocks begins with: where its numbers need it, INDEXF.SYS has grown already, in the draft and in the layout.
+//! The start of a request that takes blocks: where its new headers need it, INDEXF.SYS grows first, in the draft and in
+//! the layout.
 ghost use Rattle.std.specs.Prelude.{◌≡◌, IfOk, unwrap_or};
 ghost use Rattle.ods_mount.specs.Sound.{IsSoundBy};
 ghost use Rattle.ods_space.specs.Draft.{applied};

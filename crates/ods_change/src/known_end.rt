@@ -1,4 +1,4 @@
-//! Where the chain of a file ends: as that is noted, and as it is noted once the file has grown.
+//! The noted end of a file's chain of headers, before and after the file grows.
 ghost use Rattle.std.specs.Prelude.{◌≡◌, ◌+◌, ◌≤◌, ℕ, List, length};
 ghost use Rattle.ods_alloc.specs.{Ends.IsEndOf, Ends.IsMeasured, Extend.last_of};
 ghost use Rattle.ods_space.specs.{Chain.chain_blocks, Files.IsLayoutOf, Files.IsWhole};

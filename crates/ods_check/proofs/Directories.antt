@@ -1,6 +1,6 @@
 -- The lines of directories, and the files that they name.
 use Rattle.std.proofs.Common.{◌≡◌, ◌≢◌, ◌⊎◌, ◌<◌, ℕ, Bool, true, false, List, [], length, map, slice_get, Some, not, inl, inr, refl, sym, ap, ◌∙◌, subst, arith}
-use Rattle.std.specs.List.{Contains}
+use Rattle.std.specs.List.{All, Contains}
 use Rattle.std.specs.Prelude.{MatchBool, slice_index_or}
 use Rattle.std.proofs.lemmas.List.{length-map}
 use Rattle.std.proofs.lemmas.List.Elements.{All-contains_itself}
@@ -10,9 +10,9 @@ use Rattle.ods_base.specs.Names.{lines_of}
 use Rattle.ods_base.specs.declared.listed.Listed.{Listed}
 use Rattle.ods_base.specs.declared.file_id.FileId.{FileId}
 use Rattle.ods_header.specs.Header.{sequence_of}
-use Rattle.ods_directory.specs.Entry.{IsGoodEntry, used_entries}
+use Rattle.ods_directory.specs.Entry.{Entry, IsGoodEntry, used_entries}
 use Rattle.ods_directory.specs.Mark.{mark_in}
-use Rattle.ods_directory.specs.Names.{IsDirectory, HasBadEntry, HasTwins, names_of}
+use Rattle.ods_directory.specs.Names.{AreDistinct, IsDirectory, HasBadEntry, HasTwins, names_of}
 use Rattle.ods_space.specs.Layout.{VolumeLayout, header_at}
 use Rattle.ods_space.specs.Chain.{index_for}
 use Rattle.ods_space.specs.Files.{IsFile, HasBlocks, AreInside}
@@ -27,7 +27,7 @@ use Rattle.ods_mount.proofs.Soundness.{all_at}
 use Rattle.ods_check.specs.declared.finding.Finding.{Finding}
 use Rattle.ods_check.specs.declared.finding.Finding.TheVariants.{NamesNone}
 use Rattle.ods_check.specs.Sets.{IsSetOf}
-use Rattle.ods_check.specs.Hidden.{HasHidden}
+use Rattle.ods_directory.specs.Hidden.{HasHidden}
 use Rattle.ods_check.specs.Findings.{IsRead, IsHiding, HasName, AreNames, IsIdOfFile, IsNumberOf, NamesAt, NamesFile, IsLostFile, id_at}
 use Rattle.ods_check.proofs.StillTold.{TellsLine}
 use Rattle.ods_check.proofs.Noting.{set_as}
@@ -42,11 +42,25 @@ no_blocks I L n (OutsideVolume lbn) (ns, bs, chain, one, past) some blocks h =
     omega arith
 no_blocks I L n NoMemory none some blocks h = some refl
 
+-- good entries are none of them bad
+none_bad : (es : List Entry) → All IsGoodEntry es → ¬ HasBadEntry es
+none_bad es good h = h.bad (subst IsGoodEntry (get_or_from_slice_get es h.i h.entry h.entry h.found) (good h.i h.entry (slice_get_within es h.i h.entry h.found)))
+
+none_alike : (es : List Entry) → AreDistinct es → ¬ HasTwins es
+none_alike es distinct h = distinct h.i h.j h.apart h.one h.other h.first h.second h.same
+
 -- a directory has neither a bad entry nor two of one name
 pub good_names : (blocks : List (List ℕ)) (mark : ℕ) → IsDirectory blocks mark → (HasBadEntry (used_entries blocks mark) ⊎ HasTwins (used_entries blocks mark)) → ⊥
-good_names blocks mark d (inl bad) =
-    bad.bad (subst IsGoodEntry (get_or_from_slice_get (used_entries blocks mark) bad.i bad.entry bad.entry bad.found) (d.good bad.i bad.entry (slice_get_within (used_entries blocks mark) bad.i bad.entry bad.found)))
-good_names blocks mark d (inr twins) = d.distinct twins.i twins.j twins.apart twins.one twins.other twins.first twins.second twins.same
+good_names blocks mark d (inl bad) = none_bad (used_entries blocks mark) d.good bad
+good_names blocks mark d (inr twins) = none_alike (used_entries blocks mark) d.distinct twins
+
+pub whether_bad : (es : List Entry) (b : Bool) → MatchBool b (HasBadEntry es) (All IsGoodEntry es) → MatchBool b (HasBadEntry es) (¬ HasBadEntry es)
+whether_bad es true h = h
+whether_bad es false good = none_bad es good
+
+pub whether_alike : (es : List Entry) (b : Bool) → MatchBool b (HasTwins es) (AreDistinct es) → MatchBool b (HasTwins es) (¬ HasTwins es)
+whether_alike es true h = h
+whether_alike es false distinct = none_alike es distinct
 
 -- what was found of the blocks and the mark at hand is so of those of the file
 pub moved : (P : List (List ℕ) → ℕ → Type 0) (I J : List (List ℕ)) (xs ys : List ℕ) (attributes at_hand : List ℕ) (mark count : ℕ) → (J ≡ I) → (ys ≡ xs) → (at_hand ≡ attributes)
@@ -134,21 +148,34 @@ module _ (I : List (List ℕ)) (L : VolumeLayout) where
         absurd cc;
   }
 
-  -- a file without a list of blocks is no directory whose names are not read, nor one that hides entries
-  pub read_without : (n : ℕ) → ((blocks : List ℕ) → ¬ HasBlocks I L n blocks) → IsRead I L n
-  read_without n none = record { good = λ t. none t.1 t.2; distinct = λ t. none t.1 t.2 }
+  -- a number that is no file is no directory whose names are not read
+  pub read_none : (n : ℕ) → ¬ IsFile I L n → IsRead I L n
+  read_none n none = record { whole = λ directory. absurd (none directory.0); good = λ t. none t.2.file; distinct = λ t. none t.2.file }
+
+  -- a directory without a list of blocks is not read
+  pub not_read : (n : ℕ) → IsDirectoryFile I L n → ((blocks : List ℕ) → ¬ HasBlocks I L n blocks) → ¬ IsRead I L n
+  not_read n directory none read = let found = read.whole directory in none found.0 found.1
 
   pub read_plain : (n : ℕ) → ¬ IsDirectoryFile I L n → IsRead I L n
-  read_plain n other = record { good = λ t. other t.0; distinct = λ t. other t.0 }
+  read_plain n other = record { whole = λ directory. absurd (other directory); good = λ t. other t.0; distinct = λ t. other t.0 }
 
   -- a directory is read
   pub read_good : (n : ℕ) (blocks : List ℕ) → HasBlocks I L n blocks → IsDirectory (contents_of I blocks) (mark_at I L n blocks) → IsRead I L n
   read_good n blocks own good =
       let P : List ℕ → Type 0 = λ xs. IsDirectory (contents_of I xs) (mark_at I L n xs) in
       record {
+        whole = λ directory. (blocks, own);
         good = λ t. good_names (contents_of I t.1) (mark_at I L n t.1) (subst P (same_blocks I L n blocks t.1 own t.2) good) (inl t.3);
         distinct = λ t. good_names (contents_of I t.1) (mark_at I L n t.1) (subst P (same_blocks I L n blocks t.1 own t.2) good) (inr t.3);
       }
+
+  -- what is so of a directory with these blocks and its mark
+  pub directory_is : (P : List (List ℕ) → ℕ → Type 0) (n : ℕ) (blocks : List ℕ) (b : Bool) → HasBlocks I L n blocks → IsDirectoryFile I L n → MatchBool b (P (contents_of I blocks) (mark_at I L n blocks)) (¬ P (contents_of I blocks) (mark_at I L n blocks))
+      → MatchBool b (IsDirectoryFile I L n × (bs : List ℕ) × HasBlocks I L n bs × P (contents_of I bs) (mark_at I L n bs)) (¬ (IsDirectoryFile I L n × (bs : List ℕ) × HasBlocks I L n bs × P (contents_of I bs) (mark_at I L n bs)))
+  directory_is P n blocks true own file h = (file, blocks, own, h)
+  directory_is P n blocks false own file none = λ t.
+      let Q : List ℕ → Type 0 = λ xs. P (contents_of I xs) (mark_at I L n xs) in
+      none (subst Q (same_blocks I L n t.1 blocks t.2 own) t.3)
 
   -- whether a directory with these blocks hides entries
   pub hiding_is : (n : ℕ) (blocks : List ℕ) (b : Bool) → HasBlocks I L n blocks → IsDirectoryFile I L n → MatchBool b (HasHidden (contents_of I blocks) (mark_at I L n blocks)) (¬ HasHidden (contents_of I blocks) (mark_at I L n blocks))

@@ -1,5 +1,5 @@
 -- What a list of faults tells of a file.
-use Rattle.std.proofs.Common.{◌≢◌, ℕ, ◌⊎◌, List, [], length, inl, inr, refl, subst, arith}
+use Rattle.std.proofs.Common.{◌≢◌, ℕ, List, [], length, inl, inr, refl, subst, arith}
 use Rattle.std.specs.List.{Contains}
 use Rattle.ods_space.specs.Layout.{VolumeLayout}
 use Rattle.ods_space.specs.Chain.{index_for}
@@ -10,7 +10,7 @@ use Rattle.ods_space.specs.declared.fault.ChainFault.TheVariants as chain
 use Rattle.ods_space.specs.declared.fault.LayoutFault.TheVariants.{Chain}
 use Rattle.ods_space.proofs.Chains.{same_chain}
 use Rattle.ods_mount.specs.Checks.{mount_fault_of}
-use Rattle.ods_mount.specs.declared.fault.MountFault.TheVariants.{BadChain, BadDirectory, DuplicateName}
+use Rattle.ods_mount.specs.declared.fault.MountFault.TheVariants.{BadChain}
 use Rattle.ods_mount.specs.Faults.{IsTrueOf, SharesHeader}
 use Rattle.ods_mount.proofs.Soundness.{all_at}
 use Rattle.ods_check.specs.declared.fault_line.FaultLine.{FaultLine}
@@ -28,16 +28,13 @@ module _ (I : List (List ℕ)) (L : VolumeLayout) where
     chain_true chain.NoMemory file none some = absurd (some refl)
 
     module _ (faults : List FaultLine) where
-      no_names : ((blocks : List ℕ) → ¬ HasBlocks I L n blocks) → (IsTrueOf I L (BadDirectory n) ⊎ IsTrueOf I L (DuplicateName n)) → ⊥
-      no_names none (inl d) = none d.1 d.2
-      no_names none (inr d) = none d.1 d.2
-
       -- nothing is to be told of a file that has no whole chain
       no_whole : ((blocks : List ℕ) → ¬ HasBlocks I L n blocks) → TellsWhole I L faults n
       no_whole none = record {
         free = λ b t. absurd (none t.1.blocks t.1.file);
         places = λ k t. absurd (none t.2.blocks t.2.file);
-        names = λ t. absurd (no_names none t);
+        names = λ t. absurd (none t.1 t.2);
+        twins = λ t. absurd (none t.1 t.2);
       }
 
       pub no_file : ¬ IsFile I L n → TellsFile I L faults n
@@ -86,7 +83,8 @@ module _ (I : List (List ℕ)) (L : VolumeLayout) where
       told_whole_still t = record {
         free = λ b h. still _ (t.free b h);
         places = λ k h. still _ (t.places k h);
-        names = λ h. elim (t.names h) [ inl c ↦ inl (still _ c) | inr c ↦ inr (still _ c) ];
+        names = λ h. still _ (t.names h);
+        twins = λ h. still _ (t.twins h);
       }
 
       pub told_file_still : TellsFile I L old.0 n → TellsFile I L new.0 n

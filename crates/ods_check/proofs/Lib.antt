@@ -7,6 +7,7 @@ pub mod Directories
 pub mod Reaching
 pub mod FileFaults
 pub mod Pairs
+pub mod Holding
 pub mod Others
 pub mod Lines
 pub mod SharedHeaders

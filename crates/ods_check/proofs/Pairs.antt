@@ -29,6 +29,12 @@ module _ (I : List (List ℕ)) (L : VolumeLayout) where
   pub no_pair_behind : (faults : List FaultLine) (m n : ℕ) → ((b : ℕ) → ¬ HasBlock I L n b) → TellsPair I L faults m n
   no_pair_behind faults m n none b share = absurd (none b (share.1, share.3))
 
+  -- a file that is not among those near makes no pair
+  pub pair_apart : (faults : List FaultLine) (m n : ℕ) (near : List ℕ) → m < n → ((k b : ℕ) → k < n → HasBlock I L k b → HasBlock I L n b → has near k ≡ true) → has near m ≡ false → TellsPair I L faults m n
+  pair_apart faults m n near low all none b share =
+      let clash : true ≡ false = sym (all m b low (share.0, share.2) (share.1, share.3)) ∙ none in
+      absurd cc
+
   -- the set of these numbers, which are the blocks of a file, has what the file has
   pub blocks_set : (n : ℕ) (xs : List ℕ) (old new : List ℕ) → HasBlocks I L n xs → ((b : ℕ) → has old b ≡ false) → IsSetOf (λ b. (has old b ≡ true) ⊎ ((j : ℕ) × (slice_get xs j ≡ Some b))) new → IsSetOf (HasBlock I L n) new
   blocks_set n xs old new own none s = set_as (λ b. (has old b ≡ true) ⊎ ((j : ℕ) × (slice_get xs j ≡ Some b))) (HasBlock I L n) new

@@ -74,7 +74,8 @@ none_to_tell I L others faults s = record {
     whole = record {
       free = λ b h. absurd (none_true_of I L s (MarkedFree n b) h);
       places = λ k h. absurd (none_true_of I L s BadIndex (index_true I L (HeldPlace k n) h));
-      names = λ h. absurd (elim h [ inl d ↦ none_true_of I L s (BadDirectory n) d | inr d ↦ none_true_of I L s (DuplicateName n) d ]);
+      names = λ h. absurd (none_true_of I L s (BadDirectory n) h);
+      twins = λ h. absurd (none_true_of I L s (DuplicateName n) h);
     };
   };
   shared = λ m n low. inl (λ b h. absurd (none_true_of I L s (DoublyUsed m n b) h));

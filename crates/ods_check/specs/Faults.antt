@@ -16,12 +16,13 @@ use Rattle.ods_check.specs.Lines.{Share, IsElsewhere, IsIndexFault}
 abbrev pub Tells : List FaultLine → MountFault → Type 0
 Tells faults fault = Contains faults (Plain fault)
 
--- Of file n, where its chain is whole, each block that is marked free is told, and each place of a lower home block in it that a request can change; and of a directory that its names are no
--- good or no distinct ones, one of both.
+-- Of file n, where its chain is whole, each block that is marked free is told, and each place of a lower home block in it that a request can change; and of a directory that it has a bad entry,
+-- and that two of its names are one.
 pub record TellsWhole (I : List (List ℕ)) (L : VolumeLayout) (faults : List FaultLine) (n : ℕ) : Type 0 where
   pub free : (b : ℕ) → IsTrueOf I L (MarkedFree n b) → Tells faults (MarkedFree n b)
   pub places : (k : ℕ) → IsIndexFault I L (HeldPlace k n) → Contains faults (Index (HeldPlace k n))
-  pub names : (IsTrueOf I L (BadDirectory n) ⊎ IsTrueOf I L (DuplicateName n)) → Tells faults (BadDirectory n) ⊎ Tells faults (DuplicateName n)
+  pub names : IsTrueOf I L (BadDirectory n) → Tells faults (BadDirectory n)
+  pub twins : IsTrueOf I L (DuplicateName n) → Tells faults (DuplicateName n)
 
 -- Of file n it is told that it has no chain, or shares a header with another file; of a chain that names blocks which the image lacks, one of them; and what there is to tell of a whole one.
 pub record TellsFile (I : List (List ℕ)) (L : VolumeLayout) (faults : List FaultLine) (n : ℕ) : Type 0 where

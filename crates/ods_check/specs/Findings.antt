@@ -19,7 +19,7 @@ use Rattle.ods_check.specs.declared.finding.NoHeader.{NoHeader}
 use Rattle.ods_check.specs.declared.finding.NoHeader.TheVariants.{NoBlock, Checksum, Number, Level, Areas, Format}
 use Rattle.ods_check.specs.declared.finding.Finding.{Finding}
 use Rattle.ods_check.specs.declared.finding.Finding.TheVariants.{BadHeader, LostHeader, HeldByNone, NamesNone, LostFile, EndPast, HiddenEntries}
-use Rattle.ods_check.specs.Hidden.{HasHidden}
+use Rattle.ods_directory.specs.Hidden.{HasHidden}
 
 -- There is no valid header n: it has no block, or this is the first check of it that fails.
 abbrev pub IsWithout : List (List ℕ) → VolumeLayout → ℕ → NoHeader → Type 0
@@ -55,12 +55,13 @@ pub record IsHeldByNone (I : List (List ℕ)) (L : VolumeLayout) (b : ℕ) : Typ
 abbrev pub id_at : List (List ℕ) → VolumeLayout → ℕ → FileId
 id_at I L n = record { number = n; sequence = sequence_of (header_at I L n) }
 
--- File d is no directory with a whole chain that has a bad entry, or two of one name.
+-- If file d is a directory, its chain is whole, and it has neither a bad entry nor two of one name.
 pub record IsRead (I : List (List ℕ)) (L : VolumeLayout) (d : ℕ) : Type 0 where
+  pub whole : IsDirectoryFile I L d → (blocks : List ℕ) × HasBlocks I L d blocks
   pub good : ¬ IsTrueOf I L (BadDirectory d)
   pub distinct : ¬ IsTrueOf I L (DuplicateName d)
 
--- no directory has such a fault, so that the names of all are read
+-- so it is with all directories, so that the names of all are read
 abbrev pub AreAllRead : List (List ℕ) → VolumeLayout → Type 0
 AreAllRead I L = (d : ℕ) → IsRead I L d
 

@@ -3,5 +3,5 @@ pub mod Lines
 pub mod Faults
 pub mod Sets
 pub mod Marks
-pub mod Hidden
 pub mod Findings
+pub mod Holders

@@ -1,5 +1,5 @@
 -- Lists to which what is found is added.
-use Rattle.std.specs.Prelude.{◌≡◌, ℕ, ◌-◌, List, ◌++◌, length, take, slice_get, Some}
+use Rattle.std.specs.Prelude.{◌≡◌, ℕ, ◌-◌, ◌≤◌, List, ◌++◌, length, take, slice_get, Some}
 use Rattle.std.specs.List.{All}
 
 -- The list is the old one with more behind it, each of which has P. Beside a list stands at most how many of it are kept, which stays.
@@ -16,3 +16,7 @@ AreDistinct xs = (i j b : ℕ) → slice_get xs i ≡ Some b → slice_get xs j 
 pub record IsCut {X : Type 0} (kept : List X) (more most : ℕ) (whole : List X) : Type 0 where
   pub first : kept ≡ take most whole
   pub rest : more ≡ length whole - most
+
+-- as many lines are told as are kept
+abbrev pub IsFull : {X : Type 0} → List X × ℕ → Type 0
+IsFull told = told.1 ≤ length told.0

@@ -1,5 +1,5 @@
 //! Faults of one file: its chain, its blocks that are marked free or places of a home block, and its names where it is a directory.
-ghost use Rattle.std.specs.Prelude.{◌≡◌, ◌+◌, ℕ, ◌⊎◌, OnOk};
+ghost use Rattle.std.specs.Prelude.{◌≡◌, ◌+◌, ℕ, OnOk};
 ghost use Rattle.std.specs.List.{Contains};
 ghost use Rattle.ods_header.specs.Home.{IsHomeAt};
 ghost use Rattle.ods_header.specs.Header.{attributes_of};
@@ -12,7 +12,7 @@ use crate::add::push_if;
 use crate::shared_headers::{header_numbers, shared_headers};
 use crate::sharing::first_in;
 use crate::{FaultLine, IndexFault, Told};
-use ods_directory::{DirBlocks, Verdict, check, mark_of};
+use ods_directory::{DirBlocks, has_bad_entry, has_twins, mark_of};
 use ods_header::attributes;
 use ods_mount::{
     FileBlocks, MountFault, NumberSet, chain_fault, is_directory_file, is_loose_place,
@@ -164,7 +164,7 @@ fn push_free(
     Ok(())
 }
 
-/// Adds that the names of a directory are no good ones, where the file is one and they are not.
+/// Adds that a directory has a bad entry, and that two of its names are one, where it is so.
 fn push_names(
     alloc: Global,
     disk: &Disk<'_>,
@@ -176,8 +176,8 @@ fn push_names(
     requires whole { on HasBlocks disk.now number lbns.now }
     requires attributes { attributes.now ≡ attributes_of (header_on disk.now number) }
     ensures adds { OnOk result (Adds (on IsLineOf disk.now) faults.old faults.new) }
-    ensures names { OnOk result ((on IsTrueOf disk.now (MountFault.BadDirectory number) ⊎ on IsTrueOf disk.now (MountFault.DuplicateName number))
-        → Tells faults.new.0 (MountFault.BadDirectory number) ⊎ Tells faults.new.0 (MountFault.DuplicateName number)) }
+    ensures names { OnOk result (on IsTrueOf disk.now (MountFault.BadDirectory number) → Tells faults.new.0 (MountFault.BadDirectory number)) }
+    ensures twins { OnOk result (on IsTrueOf disk.now (MountFault.DuplicateName number) → Tells faults.new.0 (MountFault.DuplicateName number)) }
 {
     if !is_directory_file(disk, number) {
         return Ok(());
@@ -186,16 +186,17 @@ fn push_names(
     let _ = disk.image.len();
     let blocks = FileBlocks::new(disk.image, lbns);
     let mark = mark_of(attributes, blocks.count());
-    match check(alloc, &blocks, mark) {
-        Ok(Verdict::Good) => Ok(()),
-        Ok(Verdict::BadEntry) => {
-            faults.push(FaultLine::Plain(MountFault::BadDirectory(number)))?;
-            Ok(())
-        }
-        Ok(Verdict::Twice) => {
-            faults.push(FaultLine::Plain(MountFault::DuplicateName(number)))?;
-            Ok(())
-        }
-        Err(error) => Err(error),
-    }
+    let bad = has_bad_entry(&blocks, mark);
+    push_if(
+        faults,
+        FaultLine::Plain(MountFault::BadDirectory(number)),
+        bad,
+    )?;
+    let twins = has_twins(alloc, &blocks, mark)?;
+    push_if(
+        faults,
+        FaultLine::Plain(MountFault::DuplicateName(number)),
+        twins,
+    )?;
+    Ok(())
 }

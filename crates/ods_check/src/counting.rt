@@ -7,7 +7,7 @@ use ods_mount::NumberSet;
 use std::alloc::{AllocError, Global};
 
 /// A zero for each block of an image that has `len`.
-pub(crate) fn new_counted(alloc: Global, len: u32) -> Result<Vec<u32>, AllocError>
+pub(crate) fn new_counted(alloc: Global, len: u32) -> Result<Vec<u64>, AllocError>
     ensures size { IfOk result (λ counted. length counted.items ≡ len) }
     ensures zeros { IfOk result (λ counted. (i : ℕ) → slice_index counted.items i ≡ 0) }
 {
@@ -17,7 +17,7 @@ pub(crate) fn new_counted(alloc: Global, len: u32) -> Result<Vec<u32>, AllocErro
 
 /// How many of these numbers are in the set, each counted once. At the place of each that is counted `counted` gets `stamp`, which
 /// it has nowhere before.
-pub(crate) fn count_of(numbers: &[u32], set: &NumberSet, counted: &mut [u32], stamp: u32) -> u32
+pub(crate) fn count_of(numbers: &[u32], set: &NumberSet, counted: &mut [u64], stamp: u64) -> u32
     requires few { length numbers.now < 2 ^ 32 }
     requires inside { All (λ b. b < length counted.old) numbers.now }
     requires counted { (i : ℕ) → slice_index counted.old i < stamp }
@@ -33,7 +33,7 @@ pub(crate) fn count_of(numbers: &[u32], set: &NumberSet, counted: &mut [u32], st
 }
 
 /// One, where the number is in the set and not counted yet, else none.
-fn count_one(number: u32, set: &NumberSet, counted: &mut [u32], stamp: u32) -> u32
+fn count_one(number: u32, set: &NumberSet, counted: &mut [u64], stamp: u64) -> u32
     requires { number < length counted.old }
     ensures { IsCounted set.now number stamp counted.old result counted.new }
 {

@@ -35,7 +35,7 @@ pub const MOST_LINES: u32 = 10_000;
 /// mount answers. Where there is one these are told, and each line is true: each reason why the index is bad, a storage bitmap that
 /// is too short, no master directory, each header whose pointers have another format, each file with no chain or a header of another
 /// file's, of each chain that names blocks which the image lacks one of these, each block of a whole chain that is marked free, each
-/// directory whose names are no good or no distinct ones, and each pair of files with whole chains that share blocks, with the first
+/// directory with a bad entry, each with two names that are one, and each pair of files with whole chains that share blocks, with the first
 /// of these and how many they are, and so each file that holds blocks twice.
 ///
 /// A sound image costs a mount. Any other costs a few walks over all its chains; and each file that has a block of one before it costs

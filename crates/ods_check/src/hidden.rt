@@ -1,17 +1,15 @@
 //! Directories with used entries behind their end.
-ghost use Rattle.std.specs.Prelude.{◌≡◌, ◌*◌, ◌<◌, ℕ, length, IfOk, OnOk, MatchBool};
+ghost use Rattle.std.specs.Prelude.{◌≡◌, ℕ, IfOk, OnOk, MatchBool};
 ghost use Rattle.std.specs.List.{Contains};
 ghost use Rattle.ods_header.specs.Header.{attributes_of};
 ghost use Rattle.ods_space.specs.Files.{HasBlocks, IsLayoutOf};
 ghost use Rattle.ods_mount.specs.Faults.{IsDirectoryFile};
-ghost use Rattle.ods_check.specs.{Lists.Adds, Hidden.HasHidden, Findings.IsFound, Findings.IsHiding};
-ghost use Rattle.ods_directory.specs.Entry.{entry_at, is_used};
+ghost use Rattle.ods_check.specs.{Lists.Adds, Findings.IsFound, Findings.IsHiding};
 ghost use Rattle.ods_space.specs.Disks.{header_on, on};
 
 use crate::add::push_if;
 use crate::{Finding, Told};
-use ods_base::word;
-use ods_directory::{DirBlocks, mark_of};
+use ods_directory::{DirBlocks, has_hidden, mark_of};
 use ods_header::attributes;
 use ods_mount::{FileBlocks, is_directory_file};
 use ods_space::{ChainFault, Disk, chain, first_header};
@@ -64,26 +62,5 @@ fn hides_in(disk: &Disk<'_>, number: u16, attributes: &[u8; 32], lbns: &[u32]) -
     let _ = disk.image.len();
     let blocks = FileBlocks::new(disk.image, lbns);
     let mark = mark_of(attributes, blocks.count());
-    hides(&blocks, mark)
-}
-
-/// Whether an entry behind the mark is used.
-fn hides<B: DirBlocks>(blocks: &B, mark: u64) -> bool
-    ensures { MatchBool result (HasHidden (B.blocks blocks.now) mark) (¬ HasHidden (B.blocks blocks.now) mark) }
-{
-    for k in mark / 16..32 * u64::from(blocks.count()) {
-        if is_used_at(blocks, k) {
-            return true;
-        }
-    }
-    false
-}
-
-/// Whether entry `k` of the blocks is used: whether it has a file number.
-fn is_used_at<B: DirBlocks>(blocks: &B, k: u64) -> bool
-    requires { k < 32 * length (B.blocks blocks.now) }
-    ensures { result ≡ is_used (entry_at (B.blocks blocks.now) k) }
-{
-    let _ = blocks.count();
-    word(blocks.block((k / 32) as u32), 8 * (k % 32) as usize) != 0
+    has_hidden(&blocks, mark)
 }

@@ -3,6 +3,7 @@
 
 mod add;
 mod all_findings;
+mod before;
 mod chains;
 mod counting;
 mod ends;
@@ -12,6 +13,7 @@ mod finding;
 mod first;
 mod headers;
 mod hidden;
+mod holders;
 mod ids;
 mod index_faults;
 mod lost_headers;

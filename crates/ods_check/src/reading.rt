@@ -12,7 +12,7 @@ use ods_mount::{FileBlocks, is_directory_file};
 use ods_space::{ChainFault, Disk, chain, first_header};
 use std::alloc::{AllocError, Global};
 
-/// Whether no directory with a whole chain has a bad entry, or two of one name: whether all their names are read.
+/// Whether each directory has a whole chain, and neither a bad entry nor two of one name: whether all their names are read.
 pub fn are_all_read(alloc: Global, disk: &Disk<'_>) -> Result<bool, AllocError>
     requires { on IsLayoutOf disk.now }
     ensures { IfOk result (λ read. MatchBool read (on AreAllRead disk.now) (¬ on AreAllRead disk.now)) }
@@ -26,7 +26,7 @@ pub fn are_all_read(alloc: Global, disk: &Disk<'_>) -> Result<bool, AllocError>
     Ok(true)
 }
 
-/// Whether this is no directory with a whole chain that has a bad entry, or two of one name.
+/// Whether this is no directory, or one with a whole chain and with neither a bad entry nor two of one name.
 fn is_read(alloc: Global, disk: &Disk<'_>, number: u16) -> Result<bool, AllocError>
     requires { on IsLayoutOf disk.now }
     ensures { IfOk result (λ read. MatchBool read (on IsRead disk.now number) (¬ on IsRead disk.now number)) }
@@ -40,8 +40,8 @@ fn is_read(alloc: Global, disk: &Disk<'_>, number: u16) -> Result<bool, AllocErr
     match chain(alloc, disk, number) {
         Ok(lbns) => is_good(alloc, disk, number, &attributes(first), &lbns),
         Err(ChainFault::NoMemory) => Err(AllocError),
-        Err(ChainFault::BadChain) => Ok(true),
-        Err(ChainFault::OutsideVolume(_)) => Ok(true),
+        Err(ChainFault::BadChain) => Ok(false),
+        Err(ChainFault::OutsideVolume(_)) => Ok(false),
     }
 }
 

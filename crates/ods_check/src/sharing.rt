@@ -3,10 +3,12 @@ ghost use Rattle.std.specs.Prelude.{◌≡◌, ◌⊎◌, ◌*◌, ◌+◌, ◌<
 ghost use Rattle.std.specs.List.{Contains};
 ghost use Rattle.ods_space.specs.Files.{HasBlocks, IsLayoutOf};
 ghost use Rattle.ods_mount.specs.{Tables.has};
-ghost use Rattle.ods_check.specs.{Lists.Adds, Lists.AreDistinct, Sets.IsSetOf, Findings.HasBlock, Lines.IsLineOf, Faults.TellsPair, Faults.AreOthers, Faults.IsOneMore, Marks.HasShared, Marks.IsFirstIn};
+ghost use Rattle.ods_check.specs.{Lists.Adds, Lists.AreDistinct, Lists.IsFull, Sets.IsSetOf, Findings.HasBlock, Holders.IsBefore, Holders.IsStamped, Lines.IsLineOf, Faults.TellsPair, Faults.AreOthers, Faults.IsOneMore, Marks.HasShared, Marks.IsFirstIn};
 ghost use Rattle.ods_space.specs.Disks.{on};
 
-use crate::counting::{count_of, new_counted};
+use crate::before::Before;
+use crate::counting::count_of;
+use crate::holders::{insert_holders, note_holder};
 use crate::repeats::{insert_new, insert_twice};
 use crate::unheld::insert_all;
 use crate::{FaultLine, Told};
@@ -15,9 +17,9 @@ use ods_space::{ChainFault, Disk, chain};
 use std::alloc::{AllocError, Global};
 
 /// Adds each pair of files with whole chains that share blocks, and each such file that holds blocks twice, with the first of these
-/// and how many they are. Only a file that has a block of one before it is compared with each of these, and no more once as many lines are
-/// kept as may be: then it is added to `others` instead. So this takes one walk over all chains where no blocks are shared, and one
-/// more for each file that is compared, at most as many as lines are kept, with a number for each block of the image made for it.
+/// and how many they are. A file is compared with those before it that are noted of one of its blocks. Once as many lines are kept as may
+/// be, none is compared any more: a file that has a block of one before it is then added to `others`. So this takes one walk over all
+/// chains, and one along the chain of a file for each line.
 pub(crate) fn push_shared(
     alloc: Global,
     disk: &Disk<'_>,
@@ -31,63 +33,93 @@ pub(crate) fn push_shared(
     ensures others { OnOk result (on AreOthers disk.now faults.new others.new.0) }
     ensures most { OnOk result (others.new.1 ≡ others.old.1) }
 {
-    let mut held = NumberSet::new(alloc, disk.image.len())?;
+    let mut before = Before::first(alloc, disk)?;
     for number in 0..disk.layout.home().max_files as u32 + 1 {
-        push_shared_of(alloc, disk, number as u16, &mut held, faults, others)?;
+        push_shared_of(alloc, disk, number as u16, &mut before, faults, others)?;
     }
     Ok(())
 }
 
-/// Adds each pair of this file with one before it and with itself, and notes its blocks. `held` has the blocks of the files before it.
+/// Adds each pair of this file with one before it and with itself, and notes its blocks.
 fn push_shared_of(
     alloc: Global,
     disk: &Disk<'_>,
     number: u16,
-    held: &mut NumberSet,
+    before: &mut Before,
     faults: &mut Told<FaultLine>,
     others: &mut Told<u16>,
 ) -> Result<(), AllocError>
     requires layout { on IsLayoutOf disk.now }
-    requires held { IsSetOf (λ b. (m : ℕ) × (m < number) × on HasBlock disk.now m b) held.old }
-    requires room { length disk.now.image.now ≤ 64 * length held.old }
+    requires before { on IsBefore disk.now (IsFull faults.old) number before.old }
     ensures adds { OnOk result (Adds (on IsLineOf disk.now) faults.old faults.new) }
     ensures told { OnOk result ((m : ℕ) → m ≤ number → on TellsPair disk.now faults.new.0 m number ⊎ Contains others.new.0 number) }
     ensures others { OnOk result ((others.new ≡ others.old) ⊎ on IsOneMore disk.now faults.old number others.old others.new) }
-    ensures held { OnOk result (IsSetOf (λ b. (m : ℕ) × (m < number + 1) × on HasBlock disk.now m b) held.new) }
-    ensures room { length held.new ≡ length held.old }
+    ensures before { OnOk result (on IsBefore disk.now (IsFull faults.new) (number + 1) before.new) }
 {
     match chain(alloc, disk, number) {
-        Ok(lbns) => {
-            push_pairs(alloc, disk, number, &lbns, held, faults, others)?;
-            let is_new = insert_new(&lbns, held);
-            push_own(alloc, disk, number, &lbns, is_new, faults)?;
-            Ok(())
-        }
+        Ok(lbns) => push_shared_blocks(alloc, disk, number, &lbns, before, faults, others),
         Err(ChainFault::NoMemory) => Err(AllocError),
         Err(ChainFault::BadChain) => Ok(()),
         Err(ChainFault::OutsideVolume(_)) => Ok(()),
     }
 }
 
-/// Adds each pair of this file, which has these blocks, with one before it, or, where no more lines are kept, the file to the others.
-/// `held` has the blocks of the files before it.
-fn push_pairs(
+/// Adds each pair of this file, which has these blocks, with one before it and with itself, and notes the blocks.
+fn push_shared_blocks(
     alloc: Global,
     disk: &Disk<'_>,
     number: u16,
     lbns: &[u32],
-    held: &NumberSet,
+    before: &mut Before,
     faults: &mut Told<FaultLine>,
     others: &mut Told<u16>,
 ) -> Result<(), AllocError>
     requires layout { on IsLayoutOf disk.now }
     requires whole { on HasBlocks disk.now number lbns.now }
-    requires held { IsSetOf (λ b. (m : ℕ) × (m < number) × on HasBlock disk.now m b) held.now }
+    requires before { on IsBefore disk.now (IsFull faults.old) number before.old }
+    ensures adds { OnOk result (Adds (on IsLineOf disk.now) faults.old faults.new) }
+    ensures told { OnOk result ((m : ℕ) → m ≤ number → on TellsPair disk.now faults.new.0 m number ⊎ Contains others.new.0 number) }
+    ensures others { OnOk result ((others.new ≡ others.old) ⊎ on IsOneMore disk.now faults.old number others.old others.new) }
+    ensures before { OnOk result (on IsBefore disk.now (IsFull faults.new) (number + 1) before.new) }
+{
+    push_pairs(alloc, disk, number, lbns, before, faults, others)?;
+    let is_new = insert_new(lbns, &mut before.held);
+    push_own(
+        alloc,
+        disk,
+        number,
+        lbns,
+        is_new,
+        &mut before.stamps,
+        faults,
+    )?;
+    if !faults.is_full() {
+        note_holder(&mut before.holders, lbns, number)?;
+    }
+    Ok(())
+}
+
+/// Adds each pair of this file, which has these blocks, with one before it, or, where no more lines are kept, the file to the others.
+fn push_pairs(
+    alloc: Global,
+    disk: &Disk<'_>,
+    number: u16,
+    lbns: &[u32],
+    before: &mut Before,
+    faults: &mut Told<FaultLine>,
+    others: &mut Told<u16>,
+) -> Result<(), AllocError>
+    requires layout { on IsLayoutOf disk.now }
+    requires whole { on HasBlocks disk.now number lbns.now }
+    requires before { on IsBefore disk.now (IsFull faults.old) number before.old }
     ensures adds { OnOk result (Adds (on IsLineOf disk.now) faults.old faults.new) }
     ensures told { OnOk result ((m : ℕ) → m < number → on TellsPair disk.now faults.new.0 m number ⊎ Contains others.new.0 number) }
     ensures others { OnOk result ((others.new ≡ others.old) ⊎ on IsOneMore disk.now faults.old number others.old others.new) }
+    ensures held { before.new.held ≡ before.old.held }
+    ensures holders { before.new.holders ≡ before.old.holders }
+    ensures stamps { IsStamped disk.now.image.now before.new.stamps.items (65536 * number + number) }
 {
-    let Some(_) = first_in(lbns, held) else {
+    let Some(_) = first_in(lbns, &before.held) else {
         return Ok(());
     };
     if faults.is_full() {
@@ -96,29 +128,34 @@ fn push_pairs(
     }
     let mut own = NumberSet::new(alloc, disk.image.len())?;
     insert_all(lbns, &mut own);
-    let mut counted = new_counted(alloc, disk.image.len())?;
-    push_each_pair(alloc, disk, number, &own, &mut counted, faults)?;
+    let mut near = NumberSet::new(alloc, 65_536)?;
+    insert_holders(&before.holders, lbns, &mut near);
+    push_each_pair(alloc, disk, number, &own, &near, &mut before.stamps, faults)?;
     Ok(())
 }
 
-/// Adds each pair of this file, which has the blocks `own`, with one before it.
+/// Adds each pair of this file, which has the blocks `own`, with one before it. `near` has those before it that share a block with it.
 fn push_each_pair(
     alloc: Global,
     disk: &Disk<'_>,
     number: u16,
     own: &NumberSet,
-    counted: &mut [u32],
+    near: &NumberSet,
+    stamps: &mut [u64],
     faults: &mut Told<FaultLine>,
 ) -> Result<(), AllocError>
     requires layout { on IsLayoutOf disk.now }
     requires own { IsSetOf (on HasBlock disk.now number) own.now }
-    requires size { length counted.old ≡ length disk.now.image.now }
-    requires counted { (i : ℕ) → slice_index counted.old i ≡ 0 }
+    requires near { (m b : ℕ) → m < number → on HasBlock disk.now m b → on HasBlock disk.now number b → has near.now m ≡ true }
+    requires stamps { IsStamped disk.now.image.now stamps.old (65536 * number) }
     ensures adds { OnOk result (Adds (on IsLineOf disk.now) faults.old faults.new) }
     ensures told { OnOk result ((m : ℕ) → m < number → on TellsPair disk.now faults.new.0 m number) }
+    ensures stamps { IsStamped disk.now.image.now stamps.new (65536 * number + number) }
 {
     for one in 0..number {
-        push_pair(alloc, disk, one, number, own, counted, faults)?;
+        if near.contains(u32::from(one)) {
+            push_pair(alloc, disk, one, number, own, stamps, faults)?;
+        }
     }
     Ok(())
 }
@@ -130,30 +167,22 @@ fn push_pair(
     one: u16,
     other: u16,
     own: &NumberSet,
-    counted: &mut [u32],
+    stamps: &mut [u64],
     faults: &mut Told<FaultLine>,
 ) -> Result<(), AllocError>
     requires layout { on IsLayoutOf disk.now }
     requires before { one < other }
     requires own { IsSetOf (on HasBlock disk.now other) own.now }
-    requires size { length counted.old ≡ length disk.now.image.now }
-    requires counted { (i : ℕ) → slice_index counted.old i ≤ one }
+    requires stamps { IsStamped disk.now.image.now stamps.old (65536 * other + one) }
     ensures adds { OnOk result (Adds (on IsLineOf disk.now) faults.old faults.new) }
     ensures told { OnOk result (on TellsPair disk.now faults.new.0 one other) }
-    ensures size { length counted.new ≡ length disk.now.image.now }
-    ensures counted { (i : ℕ) → slice_index counted.new i ≤ one + 1 }
+    ensures stamps { IsStamped disk.now.image.now stamps.new (65536 * other + one + 1) }
 {
     match chain(alloc, disk, one) {
-        Ok(lbns) => push_common(
-            disk,
-            one,
-            other,
-            &lbns,
-            own,
-            counted,
-            one as u32 + 1,
-            faults,
-        ),
+        Ok(lbns) => {
+            let stamp = 65_536 * u64::from(other) + u64::from(one) + 1;
+            push_common(disk, one, other, &lbns, own, stamps, stamp, faults)
+        }
         Err(ChainFault::NoMemory) => Err(AllocError),
         Err(ChainFault::BadChain) => Ok(()),
         Err(ChainFault::OutsideVolume(_)) => Ok(()),
@@ -167,13 +196,16 @@ fn push_own(
     number: u16,
     lbns: &[u32],
     is_new: bool,
+    stamps: &mut [u64],
     faults: &mut Told<FaultLine>,
 ) -> Result<(), AllocError>
     requires layout { on IsLayoutOf disk.now }
     requires whole { on HasBlocks disk.now number lbns.now }
     requires new { is_new ≡ true → AreDistinct lbns.now }
+    requires stamps { IsStamped disk.now.image.now stamps.old (65536 * number + number) }
     ensures adds { OnOk result (Adds (on IsLineOf disk.now) faults.old faults.new) }
     ensures told { OnOk result (on TellsPair disk.now faults.new.0 number number) }
+    ensures stamps { IsStamped disk.now.image.now stamps.new (65536 * number + number + 1) }
 {
     if is_new {
         return Ok(());
@@ -181,37 +213,36 @@ fn push_own(
     let mut once = NumberSet::new(alloc, disk.image.len())?;
     let mut twice = NumberSet::new(alloc, disk.image.len())?;
     insert_twice(lbns, &mut once, &mut twice);
-    let mut counted = new_counted(alloc, disk.image.len())?;
-    push_common(disk, number, number, lbns, &twice, &mut counted, 1, faults)
+    let stamp = 65_536 * u64::from(number) + u64::from(number) + 1;
+    push_common(disk, number, number, lbns, &twice, stamps, stamp, faults)
 }
 
 /// Adds a pair of files, where they share blocks. `lbns` are the blocks of the first, of which `shared` has those that they share.
-/// `counted` has a number for each block of the image, none of which is `stamp`.
+/// `stamps` has a number for each block of the image, all of them below `stamp`.
 fn push_common(
     disk: &Disk<'_>,
     one: u16,
     other: u16,
     lbns: &[u32],
     shared: &NumberSet,
-    counted: &mut [u32],
-    stamp: u32,
+    stamps: &mut [u64],
+    stamp: u64,
     faults: &mut Told<FaultLine>,
 ) -> Result<(), AllocError>
     requires whole { on HasBlocks disk.now one lbns.now }
     requires shared { on HasShared disk.now one other shared.now }
-    requires size { length counted.old ≡ length disk.now.image.now }
-    requires counted { (i : ℕ) → slice_index counted.old i < stamp }
+    requires size { length stamps.old ≡ length disk.now.image.now }
+    requires stamps { (i : ℕ) → slice_index stamps.old i < stamp }
     ensures adds { OnOk result (Adds (on IsLineOf disk.now) faults.old faults.new) }
     ensures told { OnOk result (on TellsPair disk.now faults.new.0 one other) }
-    ensures size { length counted.new ≡ length disk.now.image.now }
-    ensures counted { (i : ℕ) → slice_index counted.new i ≤ stamp }
+    ensures stamps { IsStamped disk.now.image.now stamps.new stamp }
 {
     // An image has few blocks, and so has a chain.
     let _ = disk.image.len();
     let Some(lbn) = first_in(lbns, shared) else {
         return Ok(());
     };
-    let count = count_of(lbns, shared, counted, stamp);
+    let count = count_of(lbns, shared, stamps, stamp);
     faults.push(FaultLine::Shared(one, other, lbn, count))?;
     Ok(())
 }

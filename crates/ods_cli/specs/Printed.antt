@@ -1,4 +1,4 @@
--- What sessions give back that printed their replies, and what is written of it.
+-- What sessions that print their replies give back, and which of it is written.
 use Rattle.std.specs.Prelude.{ℕ, ◌+◌, List, [], ◌∷◌, ◌++◌, codes, map}
 use Rattle.std.specs.Fmt.{decimal}
 use Rattle.std.specs.String.{string_bytes}

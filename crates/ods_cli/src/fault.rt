@@ -21,6 +21,7 @@ pub enum ServeFault {
     /// A write of the image failed, after so many bytes.
     #[error("writing failed")]
     WriteOut(WriteFault),
+    /// The allocator refused memory.
     #[error("no memory")]
     NoMemory,
     /// A thread could not be started.

@@ -1,4 +1,4 @@
-//! Replies: how a run reads the image that it is to speak of, and how it writes what it says.
+//! How a run reads its image, and how it writes its reply.
 ghost use Rattle.std.specs.Prelude.{◌≡◌, ℕ, List, IfOk, MatchResult};
 ghost use Rattle.std.specs.String.{string_bytes};
 ghost use Rattle.std.specs.Io.KnownBytes.{Appends, Consumes};

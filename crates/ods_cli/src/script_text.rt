@@ -25,6 +25,7 @@ pub enum ScriptFault {
     Read,
     /// It has more than 1,048,576 bytes.
     TooLarge,
+    /// The allocator refused memory.
     NoMemory,
 }
 

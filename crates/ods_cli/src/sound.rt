@@ -1,4 +1,4 @@
-//! Sound images from the bytes of a reader, and why there is none.
+//! A sound image from the bytes of a reader, or why there is none.
 ghost use Rattle.std.specs.Prelude.{◌≡◌, ◌≢◌, ℕ, List, MatchResult, IfOk, IsOkUnless};
 ghost use Rattle.std.specs.String.{string_bytes};
 ghost use Rattle.std.specs.Io.KnownBytes.{Consumes};

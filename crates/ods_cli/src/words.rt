@@ -43,6 +43,7 @@ pub enum WordsFault {
     Help(String),
     /// The words are wrong; this is one line that says how, with no line feed.
     Wrong(String),
+    /// The allocator refused memory.
     NoMemory,
 }
 

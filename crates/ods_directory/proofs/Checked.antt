@@ -1,6 +1,7 @@
 -- What the check of a directory finds.
 use Rattle.std.proofs.Common.{◌≡◌, ℕ, zero, suc, ◌+◌, ◌-◌, ◌*◌, ◌/◌, ◌%◌, ◌<◌, ◌≤◌, min, Bool, true, false, cond, not, ◌&&◌, ltb, leb, List, [], ◌∷◌, ◌++◌, length, Option, Some, None, is_some, slice_index, refl, sym, ap, ◌∙◌, arith}
 use Rattle.std.specs.List.{All, slice_get}
+use Rattle.std.specs.Prelude.{MatchBool}
 use Rattle.std.proofs.lemmas.Bool.{ltb-true, leb-true, leb-false, eqb-true, eq-eqb, lt-ltb, le-leb, and_parts, and_from}
 use Rattle.std.proofs.lemmas.List.{append-nil, get_or_past}
 use Rattle.ods_directory.specs.declared.first.Kind.TheVariants.{Bad}
@@ -50,12 +51,12 @@ a_fault false good h = absurd (cc)
 
 module _ (blocks : List (List ℕ)) (mark : ℕ) where
   -- there is no first bad entry: all are good
-  pub all_good : (position : Option ℕ) → IsFirst Bad (entry_at blocks) (mark / 16) position → is_some position ≡ false → All IsGoodEntry (used_entries blocks mark)
+  all_good : (position : Option ℕ) → IsFirst Bad (entry_at blocks) (mark / 16) position → is_some position ≡ false → All IsGoodEntry (used_entries blocks mark)
   all_good (Some k) h none = absurd (cc)
   all_good None h none = good_from_positions blocks mark (λ k below used. good_of_test (entry_at blocks k) (no_fault (is_used (entry_at blocks k)) (is_good (entry_at blocks k)) (h k below) used))
 
   -- there is a first bad entry
-  pub one_bad : (position : Option ℕ) → IsFirst Bad (entry_at blocks) (mark / 16) position → is_some position ≡ true → HasBadEntry (used_entries blocks mark)
+  one_bad : (position : Option ℕ) → IsFirst Bad (entry_at blocks) (mark / 16) position → is_some position ≡ true → HasBadEntry (used_entries blocks mark)
   one_bad None h some = absurd (cc)
   one_bad (Some k) h some =
       let fault = a_fault (is_used (entry_at blocks k)) (is_good (entry_at blocks k)) h.1 in
@@ -67,6 +68,10 @@ module _ (blocks : List (List ℕ)) (mark : ℕ) where
         found = ap (λ es. slice_get es there.at) (used_entries-is blocks mark) ∙ there.there;
         bad = λ good. let clash : true ≡ false = sym (test_of_good (entry_at blocks k) good) ∙ fault.1 in absurd (cc);
       }
+
+  pub badness : (position : Option ℕ) (b : Bool) → IsFirst Bad (entry_at blocks) (mark / 16) position → b ≡ is_some position → MatchBool b (HasBadEntry (used_entries blocks mark)) (All IsGoodEntry (used_entries blocks mark))
+  badness position true h is = one_bad position h (sym is)
+  badness position false h is = all_good position h (sym is)
 
   -- an entry past the blocks is empty
   past_unused : (k : ℕ) → length blocks ≤ k / 32 → is_used (entry_at blocks k) ≡ false

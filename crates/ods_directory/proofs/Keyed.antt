@@ -30,6 +30,22 @@ same_option None None there back = refl
 same_option None (Some f) there back = back f refl
 same_option (Some f) p there back = sym (there f refl)
 
+-- element i of the list is taken to y
+pub record IsTakenTo {X Y : Type 0} (f : X → Y) (xs : List X) (i : ℕ) (y : Y) : Type 0 where
+  pub element : X
+  pub there : slice_get xs i ≡ Some element
+  pub same : f element ≡ y
+
+pub taken_to : {X Y : Type 0} (f : X → Y) (xs : List X) (i : ℕ) (y : Y) → slice_get (map f xs) i ≡ Some y → IsTakenTo f xs i y
+taken_to f [] i y h = absurd (cc)
+taken_to f (x ∷ xs) zero y h = record { element = x; there = refl; same = same_Some _ _ h }
+taken_to f (x ∷ xs) (suc i) y h = let rest = taken_to f xs i y h in record { element = rest.element; there = rest.there; same = rest.same }
+
+pub map_at : {X Y : Type 0} (f : X → Y) (xs : List X) (i : ℕ) (x : X) → slice_get xs i ≡ Some x → slice_get (map f xs) i ≡ Some (f x)
+map_at f [] i x h = absurd (cc)
+map_at f (y ∷ xs) zero x h = ap (λ z. Some (f z)) (same_Some _ _ h)
+map_at f (y ∷ xs) (suc i) x h = map_at f xs i x h
+
 module _ {X : Type 0} (key : X → List ℕ) (file : X → FileId) where
   abbrev pub pairs : List X → List (List ℕ × FileId)
   pairs xs = map (λ x. (key x, file x)) xs

@@ -16,4 +16,5 @@ pub mod Rooms
 pub mod Entered
 pub mod InOrder
 pub mod LinesOf
+pub mod KeysOf
 pub mod Checked

@@ -14,12 +14,15 @@ use Rattle.ods_base.specs.declared.file_id.FileId.{FileId}
 use Rattle.ods_base.specs.declared.listed.Listed.{Listed}
 use Rattle.ods_base.specs.Names.{name_of, version_of, lines_of}
 use Rattle.ods_directory.specs.Entry.{Entry, entry_at, used_entries}
-use Rattle.ods_directory.specs.Lines.{line_of, line_key, IsInOrder, HasTwinLines, HasNoTwinLines}
+use Rattle.ods_directory.specs.Lines.{line_of, line_key, IsInOrder, HasNoTwinNeighbours}
 use Rattle.ods_directory.specs.Names.{AreDistinct, HasTwins, IsDirectory, names_of, HasTwoOf}
-use Rattle.ods_directory.proofs.InOrder.{line_file, line_pairs, strictly_sorted, no_twins}
-use Rattle.ods_directory.proofs.Keyed.{find, HasNoTwins, find_permuted, two_moved}
+use Rattle.ods_directory.proofs.InOrder.{strictly_sorted, no_twins}
+use Rattle.ods_directory.proofs.Keyed.{find, pairs, HasNoTwins, find_permuted, two_moved, taken_to}
 use Rattle.ods_directory.proofs.Lookups.{entry_pairs, get_names}
 use Rattle.ods_directory.proofs.Used.{used_among, used_entries-is}
+
+abbrev line_file : Listed → FileId
+line_file line = line.file
 
 -- the line of an entry that has a key of five words has that key
 key_of_line : (key : List ℕ) (file : FileId) (volume : ℕ) → length key ≡ 5 → line_key (line_of (record { file = file; volume = volume; key = key })) ≡ key
@@ -40,51 +43,24 @@ five_words blocks mark i e there =
     let g = used_among (entry_at blocks) 0 (mark / 16) e i (subst (λ es. slice_get es i ≡ Some e) (used_entries-is blocks mark) there) in
     ap (λ x. length x.key) (sym g.same)
 
-record IsLineOf (es : List Entry) (i : ℕ) (line : Listed) : Type 0 where
-  entry : Entry
-  there : slice_get es i ≡ Some entry
-  same : line_of entry ≡ line
-
-line_there : (es : List Entry) (i : ℕ) (line : Listed) → slice_get (map line_of es) i ≡ Some line → IsLineOf es i line
-line_there [] i line h = absurd (cc)
-line_there (e ∷ es) zero line h = record { entry = e; there = refl; same = same_Some _ _ h }
-line_there (e ∷ es) (suc i) line h = let rest = line_there es i line h in record { entry = rest.entry; there = rest.there; same = rest.same }
-
-line_at : (es : List Entry) (i : ℕ) (e : Entry) → slice_get es i ≡ Some e → slice_get (map line_of es) i ≡ Some (line_of e)
-line_at [] i e h = absurd (cc)
-line_at (x ∷ es) zero e h = ap (λ y. Some (line_of y)) (same_Some _ _ h)
-line_at (x ∷ es) (suc i) e h = line_at es i e h
-
 module _ (es : List Entry) (five : HaveFive es) where
   key_at : (i : ℕ) (e : Entry) → slice_get es i ≡ Some e → line_key (line_of e) ≡ e.key
   key_at i e there = key_of_line e.key e.file e.volume (five i e there)
 
   twins_of_lines : HasTwoOf line_key (map line_of es) → HasTwins es
   twins_of_lines h =
-      let one = line_there es h.i h.one h.first in
-      let other = line_there es h.j h.other h.second in
+      let one = taken_to line_of es h.i h.one h.first in
+      let other = taken_to line_of es h.j h.other h.second in
       record {
         i = h.i;
         j = h.j;
         apart = h.apart;
-        one = one.entry;
-        other = other.entry;
+        one = one.element;
+        other = other.element;
         first = one.there;
         second = other.there;
-        same = sym (key_at h.i one.entry one.there) ∙ ap line_key one.same ∙ h.same ∙ ap line_key (sym other.same) ∙ key_at h.j other.entry other.there;
+        same = sym (key_at h.i one.element one.there) ∙ ap line_key one.same ∙ h.same ∙ ap line_key (sym other.same) ∙ key_at h.j other.element other.there;
       }
-
-  distinct_of_lines : (HasTwoOf line_key (map line_of es) → ⊥) → AreDistinct es
-  distinct_of_lines none i j apart e f there here = λ same. none (record {
-    i = i;
-    j = j;
-    apart = apart;
-    one = line_of e;
-    other = line_of f;
-    first = line_at es i e there;
-    second = line_at es j f here;
-    same = key_at i e there ∙ same ∙ sym (key_at j f here);
-  })
 
   lines_of_distinct : AreDistinct es → HasTwoOf line_key (map line_of es) → ⊥
   lines_of_distinct distinct h = let t = twins_of_lines h in distinct t.i t.j t.apart t.one t.other t.first t.second t.same
@@ -98,7 +74,7 @@ spelled e five =
     let same = key_of_line e.key e.file e.volume five in
     (ap name_of same, ap version_of same)
 
-respelled : (lines : List Listed) → All IsSpelled lines → map (λ e. record { name = name_of e.0; version = version_of e.0; file = e.1 }) (line_pairs lines) ≡ lines
+respelled : (lines : List Listed) → All IsSpelled lines → map (λ e. record { name = name_of e.0; version = version_of e.0; file = e.1 }) (pairs line_key line_file lines) ≡ lines
 respelled [] all = refl
 respelled (x ∷ lines) all =
     let head = All-head IsSpelled x lines all in
@@ -107,7 +83,7 @@ respelled (x ∷ lines) all =
     let rest = respelled lines (All-tail IsSpelled x lines all) in
     λ i. record { name = name i; version = version i; file = x.file } ∷ rest i
 
-same_pairs : (es : List Entry) → HaveFive es → entry_pairs es ≡ line_pairs (map line_of es)
+same_pairs : (es : List Entry) → HaveFive es → entry_pairs es ≡ pairs line_key line_file (map line_of es)
 same_pairs [] five = refl
 same_pairs (e ∷ es) five =
     let key : e.key ≡ line_key (line_of e) = sym (key_of_line e.key e.file e.volume (five 0 e refl)) in
@@ -116,33 +92,16 @@ same_pairs (e ∷ es) five =
 
 all_spelled : (es : List Entry) → HaveFive es → All IsSpelled (map line_of es)
 all_spelled es five k d below =
-    let line = line_there es k (get_or (map line_of es) k d) (slice_get-get_or (map line_of es) k d below) in
-    subst IsSpelled line.same (spelled line.entry (five k line.entry line.there))
+    let line = taken_to line_of es k (get_or (map line_of es) k d) (slice_get-get_or (map line_of es) k d below) in
+    subst IsSpelled line.same (spelled line.element (five k line.element line.there))
 
 -- the lines of the used entries, put into order
-module _ (blocks : List (List ℕ)) (mark : ℕ) (lines : List Listed) (permuted : IsPermutation (map line_of (used_entries blocks mark)) lines) (order : IsInOrder lines) where
+module _ (blocks : List (List ℕ)) (mark : ℕ) (lines : List Listed) (permuted : IsPermutation (map line_of (used_entries blocks mark)) lines) (order : IsInOrder line_key lines) where
   es : List Entry
   es = used_entries blocks mark
 
   back : IsPermutation lines (map line_of (used_entries blocks mark))
   back = IsPermutation-sym (map line_of (used_entries blocks mark)) lines permuted
-
-  pub twins_found : HasTwinLines lines → HasTwins (used_entries blocks mark)
-  twins_found h = twins_of_lines (used_entries blocks mark) (five_words blocks mark) (two_moved line_key lines (map line_of (used_entries blocks mark)) back (record {
-    i = h.at;
-    j = h.at + 1;
-    apart = omega arith;
-    one = h.one;
-    other = h.other;
-    first = h.first;
-    second = h.second;
-    same = h.same;
-  }))
-
-  pub distinct_found : HasNoTwinLines lines (length lines) → AreDistinct (used_entries blocks mark)
-  distinct_found alone = distinct_of_lines (used_entries blocks mark) (five_words blocks mark) (λ h.
-      let t = two_moved line_key (map line_of (used_entries blocks mark)) lines permuted h in
-      no_twins lines (strictly_sorted lines order alone) t.i t.j t.apart t.one t.other t.first t.second t.same)
 
   module _ (directory : IsDirectory blocks mark) where
     alone_before : HasTwoOf line_key (map line_of (used_entries blocks mark)) → ⊥
@@ -151,7 +110,7 @@ module _ (blocks : List (List ℕ)) (mark : ℕ) (lines : List Listed) (permuted
     no_twins_before : HasNoTwins line_key line_file (map line_of (used_entries blocks mark))
     no_twins_before i j apart one other first second same = alone_before (record { i = i; j = j; apart = apart; one = one; other = other; first = first; second = second; same = same })
 
-    alone_now : HasNoTwinLines lines (length lines)
+    alone_now : HasNoTwinNeighbours line_key lines (length lines)
     alone_now k high one other first second same = alone_before (two_moved line_key lines (map line_of (used_entries blocks mark)) back (record {
       i = k;
       j = k + 1;
@@ -163,21 +122,21 @@ module _ (blocks : List (List ℕ)) (mark : ℕ) (lines : List Listed) (permuted
       same = same;
     }))
 
-    sorted : is_sorted (slice_cmp nat_cmp) (line_pairs lines) ≡ true
-    sorted = strictly_sorted lines order alone_now
+    sorted : is_sorted (slice_cmp nat_cmp) (pairs line_key line_file lines) ≡ true
+    sorted = strictly_sorted line_key line_file lines order alone_now
 
-    is_sorted_so : T (is_sorted (slice_cmp nat_cmp) (line_pairs lines))
+    is_sorted_so : T (is_sorted (slice_cmp nat_cmp) (pairs line_key line_file lines))
     is_sorted_so = subst T (sym sorted) tt
 
-    names_sorted : names_of blocks mark ≡ names.from_sorted (line_pairs lines)
+    names_sorted : names_of blocks mark ≡ names.from_sorted (pairs line_key line_file lines)
     names_sorted = same_map nat_list_cmp_total (slice_cmp-IsAntisymmetric nat_cmp-IsAntisymmetric) _ _ (λ q.
         get_names blocks mark q ∙ ap (find q) (same_pairs (used_entries blocks mark) (five_words blocks mark))
-        ∙ find_permuted line_key line_file (map line_of (used_entries blocks mark)) lines q permuted back no_twins_before (no_twins lines sorted)
-        ∙ sym (get-from_sorted (slice_cmp nat_cmp) (line_pairs lines) q is_sorted_so))
+        ∙ find_permuted line_key line_file (map line_of (used_entries blocks mark)) lines q permuted back no_twins_before (no_twins line_key line_file lines sorted)
+        ∙ sym (get-from_sorted (slice_cmp nat_cmp) (pairs line_key line_file lines) q is_sorted_so))
 
     -- the lines in order are those of the map
     pub lines_found : lines ≡ lines_of (names_of blocks mark)
     lines_found =
         let all : All IsSpelled lines = All-permutation IsSpelled (map line_of (used_entries blocks mark)) lines permuted (all_spelled (used_entries blocks mark) (five_words blocks mark)) in
-        let entries : names.entries (names_of blocks mark) ≡ line_pairs lines = ap names.entries names_sorted ∙ entries-from_sorted (slice_cmp nat_cmp) (line_pairs lines) is_sorted_so in
+        let entries : names.entries (names_of blocks mark) ≡ pairs line_key line_file lines = ap names.entries names_sorted ∙ entries-from_sorted (slice_cmp nat_cmp) (pairs line_key line_file lines) is_sorted_so in
         sym (ap (map (λ e. record { name = name_of e.0; version = version_of e.0; file = e.1 })) entries ∙ respelled lines all)

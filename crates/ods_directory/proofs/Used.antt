@@ -101,18 +101,18 @@ pub used_entries-is : (blocks : List (List ℕ)) (mark : ℕ) → used_entries b
 unfolding used_entries
 used_entries-is blocks mark = refl
 
-good_among : (es : List Entry) (e : Entry) → All IsGoodEntry es → IsAmong es e → IsGoodEntry e
-good_among es e h there = subst IsGoodEntry (get_or_from_slice_get es there.at e e there.there) (h there.at e (slice_get_within es there.at e there.there))
+all_among : (P : Entry → Type 0) (es : List Entry) (e : Entry) → All P es → IsAmong es e → P e
+all_among P es e h there = subst P (get_or_from_slice_get es there.at e e there.there) (h there.at e (slice_get_within es there.at e there.there))
 
--- the goodness of the list, position by position
-pub good_by_positions : (blocks : List (List ℕ)) (mark : ℕ) → All IsGoodEntry (used_entries blocks mark) → (k : ℕ) → k < mark / 16 → is_used (entry_at blocks k) ≡ true → IsGoodEntry (entry_at blocks k)
-good_by_positions blocks mark good k below used =
-    good_among (used_from (entry_at blocks) 0 (mark / 16)) (entry_at blocks k) (subst (All IsGoodEntry) (used_entries-is blocks mark) good)
+-- what each of the list is, position by position
+pub all_by_positions : (P : Entry → Type 0) (blocks : List (List ℕ)) (mark : ℕ) → All P (used_entries blocks mark) → (k : ℕ) → k < mark / 16 → is_used (entry_at blocks k) ≡ true → P (entry_at blocks k)
+all_by_positions P blocks mark all k below used =
+    all_among P (used_from (entry_at blocks) 0 (mark / 16)) (entry_at blocks k) (subst (All P) (used_entries-is blocks mark) all)
     (among_used (entry_at blocks) 0 (mark / 16) k (omega arith) (omega arith) used)
 
 pub by_positions : (blocks : List (List ℕ)) (mark : ℕ) → IsDirectory blocks mark → IsDirectoryBy (entry_at blocks) (mark / 16)
 by_positions blocks mark h = record {
-  good = good_by_positions blocks mark h.good;
+  good = all_by_positions IsGoodEntry blocks mark h.good;
   apart = apart_from_distinct (entry_at blocks) 0 (mark / 16) (subst AreDistinct (used_entries-is blocks mark) h.distinct);
 }
 

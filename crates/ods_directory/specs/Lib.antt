@@ -7,3 +7,4 @@ pub mod First
 pub mod Search
 pub mod Entering
 pub mod Lines
+pub mod Hidden

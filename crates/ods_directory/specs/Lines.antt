@@ -16,19 +16,19 @@ line_of e = record { name = name_of e.key; version = version_of e.key; file = e.
 abbrev pub line_key : Listed → List ℕ
 line_key line = key_of line.name line.version
 
--- the keys never fall
-abbrev pub IsInOrder : List Listed → Type 0
-IsInOrder lines = IsSortedByKey line_key (slice_cmp nat_cmp) lines
+-- the keys of these never fall
+abbrev pub IsInOrder : {X : Type 0} → (X → List ℕ) → List X → Type 0
+IsInOrder key xs = IsSortedByKey key (slice_cmp nat_cmp) xs
 
 -- two neighbours have one key
-pub record HasTwinLines (lines : List Listed) : Type 0 where
+pub record HasTwinNeighbours {X : Type 0} (key : X → List ℕ) (xs : List X) : Type 0 where
   pub at : ℕ
-  pub one : Listed
-  pub other : Listed
-  pub first : slice_get lines at ≡ Some one
-  pub second : slice_get lines (at + 1) ≡ Some other
-  pub same : line_key one ≡ line_key other
+  pub one : X
+  pub other : X
+  pub first : slice_get xs at ≡ Some one
+  pub second : slice_get xs (at + 1) ≡ Some other
+  pub same : key one ≡ key other
 
--- no two neighbours among the first n lines have one key
-abbrev pub HasNoTwinLines : List Listed → ℕ → Type 0
-HasNoTwinLines lines n = (k : ℕ) → k + 1 < n → (one other : Listed) → slice_get lines k ≡ Some one → slice_get lines (k + 1) ≡ Some other → line_key one ≢ line_key other
+-- no two neighbours among the first n have one key
+abbrev pub HasNoTwinNeighbours : {X : Type 0} → (X → List ℕ) → List X → ℕ → Type 0
+HasNoTwinNeighbours key xs n = (k : ℕ) → k + 1 < n → (one other : _) → slice_get xs k ≡ Some one → slice_get xs (k + 1) ≡ Some other → key one ≢ key other

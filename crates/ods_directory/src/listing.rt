@@ -1,11 +1,12 @@
 //! The check of a directory, and all its names.
-ghost use Rattle.std.specs.Prelude.{◌≡◌, ◌*◌, ◌≤◌, length, IfOk, OnErr};
+ghost use Rattle.std.specs.Prelude.{◌≡◌, ◌*◌, ◌≤◌, length, IfOk, OnErr, MatchBool};
 ghost use Rattle.std.specs.List.{All};
 ghost use Rattle.ods_base.specs.Names.{lines_of};
 ghost use Rattle.ods_directory.specs.{Entry.IsGoodEntry, Entry.used_entries, Names.IsDirectory, Names.HasBadEntry, Names.HasTwins, Names.names_of};
 
 use crate::first::{Kind, first_entry};
-use crate::lines::{has_twins, read_lines, sort};
+use crate::lines::{read_rows, sort};
+use crate::twins::has_twins;
 use crate::{DirBlocks, Verdict};
 use ods_base::Listed;
 use std::alloc::{AllocError, Global};
@@ -18,15 +19,23 @@ pub fn check<B: DirBlocks>(alloc: Global, blocks: &B, mark: u64) -> Result<Verdi
     ensures memory { OnErr result (All IsGoodEntry (used_entries (B.blocks blocks.now) mark)) }
 {
     let cut = mark.min(512 * u64::from(blocks.count()));
-    if first_entry(blocks, cut, Kind::Bad).is_some() {
+    if has_bad_entry(blocks, cut) {
         return Ok(Verdict::BadEntry);
     }
-    let mut lines = read_lines(alloc, blocks, cut)?;
-    sort(&mut lines);
-    if has_twins(&lines) {
+    let twins = has_twins(alloc, blocks, cut)?;
+    if twins {
         return Ok(Verdict::Twice);
     }
     Ok(Verdict::Good)
+}
+
+/// Whether a used entry before the mark is not good: whether a word of its name or type, its version or its relative volume number is none
+/// that a name may have.
+pub fn has_bad_entry<B: DirBlocks>(blocks: &B, mark: u64) -> bool
+    requires { mark ≤ 512 * length (B.blocks blocks.now) }
+    ensures { MatchBool result (HasBadEntry (used_entries (B.blocks blocks.now) mark)) (All IsGoodEntry (used_entries (B.blocks blocks.now) mark)) }
+{
+    first_entry(blocks, mark, Kind::Bad).is_some()
 }
 
 /// All names, ascending by name, type and version.
@@ -39,7 +48,7 @@ pub fn entries<B: DirBlocks>(
     requires mark { mark ≤ 512 * length (B.blocks blocks.now) }
     ensures { IfOk result (λ names. names.items ≡ lines_of (names_of (B.blocks blocks.now) mark)) }
 {
-    let mut lines = read_lines(alloc, blocks, mark)?;
+    let mut lines = read_rows(alloc, blocks, mark)?;
     sort(&mut lines);
     Ok(lines)
 }

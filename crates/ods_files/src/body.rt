@@ -39,6 +39,8 @@ impl<'a> FileBody<'a> {
     ghost use Rattle.ods_space.specs.Disks.{on};
 
     /// The body of a file, where its own chain is whole.
+    /// INDEXF.SYS and directories have bodies too.
+    /// A number that is no file is refused with `NoSuchFile`, and else the fault is that of its chain.
     pub fn open(alloc: Global, disk: &Disk<'a>, number: u16) -> Result<FileBody<'a>, FileFault>
         requires { on IsLayoutOf disk.now }
         ensures ok { IfOk result (on HasBody disk.now number) }
@@ -73,7 +75,7 @@ impl<'a> FileBody<'a> {
         self.attributes
     }
 
-    /// Whether nothing was ever written into the attributes.
+    /// Whether nothing was ever written into the attributes: all 32 bytes are zeros.
     pub fn has_no_attributes(&self) -> bool
         ensures { result ≡ are_zeros self.now.attributes }
     {

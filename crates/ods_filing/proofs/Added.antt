@@ -1,4 +1,4 @@
--- A file more, request by request.
+-- A catalogue with one more file, request by request.
 use Rattle.std.proofs.Common.{◌≡◌, ◌≢◌, ℕ, ◌-◌, refl, ap, sym, ◌∙◌, subst, Bool, true, false, cond, List, ◌++◌, replicate, Some}
 use Rattle.std.specs.Prelude.{◌==◌, slice_set, unwrap_or}
 use Rattle.std.specs.FinMap as map

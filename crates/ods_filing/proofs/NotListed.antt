@@ -1,4 +1,4 @@
--- No fault of a request, and nothing that a volume lacks, is a full list.
+-- The refusal ListFull is neither a fault of a request nor a lack of the volume.
 use Rattle.std.proofs.Common.{◌≢◌, ℕ, ◌<◌, ◌∙◌, subst, Bool, true, false, cond, List, [], ◌∷◌, Option, Some, None, length, arith}
 use Rattle.std.specs.Prelude.{nat_lt}
 use Rattle.std.specs.FinMap as map

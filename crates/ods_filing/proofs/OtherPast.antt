@@ -1,4 +1,4 @@
--- A step does not look at the past, but for the ID of a new file.
+-- A step depends on the past for the ID of a new file alone.
 use Rattle.std.proofs.Common.{◌≡◌, refl, ap, sym, ◌∙◌, Bool, true, false, cond, Option, Some, None, is_some}
 use Rattle.std.specs.Prelude.{◌&&◌, not, nat_le}
 use Rattle.std.specs.FinSet as set

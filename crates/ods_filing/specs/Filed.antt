@@ -37,6 +37,10 @@ filed_in seat user = record { image = (disk_in seat).image; layout = (disk_in se
 abbrev pub filed_by : State → Uic → Filed
 filed_by v user = record { image = v.image; layout = v.layout; user = user }
 
+-- the volume, for another user
+abbrev pub for_another : Filed → Uic → Filed
+for_another f user = record { image = f.image; layout = f.layout; user = user }
+
 -- the blocks with their layout
 abbrev pub disk_at : Filed → Disk
 disk_at f = record { image = f.image; layout = f.layout }

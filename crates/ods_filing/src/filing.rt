@@ -4,7 +4,7 @@ ghost use Rattle.ods_space.specs.Disks.{on};
 ghost use Rattle.ods_mount.specs.Sound.{IsSoundBy};
 ghost use Rattle.ods_request.specs.declared.refusals.Refusal.{Refusal};
 ghost use Rattle.ods_state.specs.{Outcome.CanBeAsked, Outcome.disk_of, Served.IsRefusalOf};
-ghost use Rattle.ods_filing.specs.Filed.{filed_by, IsDone, IsRefusedFor};
+ghost use Rattle.ods_filing.specs.Filed.{filed_by, for_another, IsDone, IsRefusedFor};
 
 use crate::seat::{LIMIT, Seat, with_room};
 use ods_base::{Image, Uic};
@@ -93,6 +93,18 @@ impl Filing {
                 (Filing { alloc, seat, user }, Err(Refusal::NoMemory))
             }
         }
+    }
+
+    /// The same volume, whose requests are then those of another user. It takes no memory.
+    pub fn for_user(self, user: Uic) -> Filing
+        ensures { result ≡ for_another self user }
+    {
+        let Filing {
+            alloc,
+            seat,
+            user: _,
+        } = self;
+        Filing { alloc, seat, user }
     }
 
     /// The image now. It is sound.

@@ -23,6 +23,7 @@ pub fn chosen_comes_back()
 {}
 
 /// Requests that lead from one volume to another, one after another, are steps of each catalogue that the blocks show.
+/// The last step leaves a catalogue that the new blocks show.
 pub fn lists_are_steps()
     ensures { ListsAreSteps }
 {}

@@ -1,4 +1,4 @@
--- A header keeps what it says but for its user characteristics, where byte 12 and the sum are others.
+-- A header whose byte 12 and sum change keeps every field but its user characteristics.
 use Rattle.std.proofs.Common.{◌≡◌, ℕ, ◌+◌, ◌-◌, ◌<◌, ◌≤◌, ◌⊎◌, ◌∷◌, [], List, length, inl, inr, sym, ◌∙◌, arith}
 use Rattle.std.specs.Prelude.{bit_and}
 use Rattle.std.proofs.lemmas.Bool.{cases_lt}

@@ -1,4 +1,4 @@
--- A header keeps what it says but for its attributes, where bytes 14 to 45 and the sum are others.
+-- A header whose bytes 14 to 45 and sum change keeps every field but its attributes.
 use Rattle.std.proofs.Common.{◌≡◌, ℕ, ◌+◌, ◌≤◌, List, length, inl, inr, sym, ◌∙◌, arith}
 use Rattle.ods_base.specs.Block.{IsBlock, with_bytes}
 use Rattle.ods_header.specs.Header.{header_of}

@@ -1,4 +1,4 @@
--- The last header of a chain, appended more pointers and a link.
+-- The last header of a chain, with more pointers and a link to a next header.
 use Rattle.std.proofs.Common.{◌≡◌, ◌≢◌, ℕ, ◌+◌, ◌*◌, ◌/◌, ◌≤◌, min, List, length, take, refl, ap, ◌∙◌, subst, arith, inl, inr}
 use Rattle.std.proofs.lemmas.List.{length-take, take_min}
 use Rattle.ods_base.specs.Block.{byte}

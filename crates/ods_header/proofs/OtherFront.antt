@@ -1,4 +1,5 @@
--- A header where only bytes among the user characteristics and the attributes, and the sum, are others: it stays valid, and keeps every other field.
+-- A header that changes only in its user characteristics, its attributes and its sum: it stays valid, and keeps every
+-- other field.
 use Rattle.std.proofs.Common.{◌≡◌, ℕ, ◌+◌, ◌-◌, ◌*◌, ◌/◌, ◌<◌, ◌≤◌, ◌⊎◌, List, length, inl, inr, refl, ap, ◌∙◌, arith}
 use Rattle.std.specs.Prelude.{min, slice_range}
 use Rattle.ods_base.specs.Block.{IsBlock, byte, word, sum_of, with_bytes}

@@ -60,7 +60,7 @@ fn link(next: FileId) -> [u8; 5]
 }
 
 /// The block of the last header of a chain that grows: as many of the runs as have room stand behind its pointers,
-/// and it names the first new header, unless its number is 0.
+/// and it names the first new header, unless its number is 0. A valid header stays one and keeps its other fields.
 pub fn grown_last(block: &Block, number: u16, runs: &[Run], next: FileId) -> Block
     requires valid { IsValidHeader block.now number }
     requires runs { All IsRun runs.now }

@@ -11,7 +11,8 @@ use ods_base::{Image, Uic, print_words};
 use std::alloc::{AllocError, Global};
 
 /// The line of one of the first 16 headers, which follow the index bitmap on the disk: its fields and its
-/// pointers as text, without a line feed. A block that the image lacks is read as zeros.
+/// pointers as text, without a line feed. A block that the image lacks is read as zeros. A block that is no valid
+/// header of this number gives its first fault.
 pub fn header_line(
     alloc: Global,
     image: &Image,

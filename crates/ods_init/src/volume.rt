@@ -1,4 +1,4 @@
-//! What a new volume is to be, and why there is none.
+//! The parameters of a new volume, and why no volume can be made of them.
 ghost use Rattle.std.specs.Prelude.{◌≡◌};
 ghost use Rattle.ods_init.specs.Places.{default_of};
 

@@ -12,7 +12,8 @@ use ods_request::{Listing, Refusal, Right};
 use ods_space::Disk;
 use std::alloc::Global;
 
-/// The file and the version that a name with a pick means in a directory, or the first fault of looking it up.
+/// The file and the version that a name with a pick means in a directory, or the first fault of looking it up. The call
+/// takes no memory.
 pub fn look_up(
     disk: &Disk<'_>,
     who: Uic,

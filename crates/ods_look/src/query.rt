@@ -12,7 +12,8 @@ use ods_base::{Block, Uic};
 use ods_request::{Answer, Query, Refusal};
 use ods_space::Disk;
 
-/// Writes the answer of a query into this place, or gives its first fault and leaves the place as it is.
+/// Writes the answer of a query into this place, or gives its first fault and leaves the place as it is. The call takes
+/// no memory.
 pub fn look_into(
     disk: &Disk<'_>,
     who: Uic,
@@ -61,7 +62,7 @@ fn put_block(answer: &mut Answer, block: &Block)
     }
 }
 
-/// The answer of a query, or its first fault.
+/// The answer of a query, or its first fault. The call takes no memory.
 pub fn look(disk: &Disk<'_>, who: Uic, query: Query) -> Result<Answer, Refusal>
     requires { on IsSoundBy disk.now }
     ensures { MatchResult result (on IsAnsweredBy disk.now who (request_of query)) (on IsRefusalOf disk.now who (request_of query)) }

@@ -27,7 +27,8 @@ pub(crate) fn shown_block<'a>(
     }
 }
 
-/// The block of a file with this virtual block number, counted from 1, or the first fault of reading it.
+/// The block of a file with this virtual block number, counted from 1, or the first fault of reading it. The call
+/// takes no memory.
 pub fn read(disk: &Disk<'_>, who: Uic, file: FileId, vbn: u32) -> Result<Block, Refusal>
     requires { on IsSoundBy disk.now }
     ensures { MatchResult result (λ block. on IsAnsweredBy disk.now who (ReadRequest file vbn) (Bytes block))

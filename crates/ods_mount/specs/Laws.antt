@@ -1,4 +1,4 @@
--- That a sound image, said by what it has, is one of which no fault is true.
+-- The law that no fault is true of a sound image, which the definitions describe by what it has.
 use Rattle.std.specs.Prelude.{ℕ, List}
 use Rattle.ods_space.specs.Layout.{VolumeLayout}
 use Rattle.ods_mount.specs.Faults.{IsSound}

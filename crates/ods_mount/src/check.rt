@@ -14,7 +14,8 @@ use ods_base::Image;
 use ods_space::{Disk, Layout};
 use std::alloc::Global;
 
-/// The image with its layout, where it is sound. Else the image as it came, and one of its faults.
+/// The image with its layout, where it is sound. Else the image as it came, and one of its faults. A fault other than
+/// NoMemory is true of the image with all that it carries. A sound image is refused for want of memory alone.
 pub fn mount(alloc: Global, image: Image) -> Result<Mounted, (Image, MountFault)>
     ensures mounted { IfOk result (λ m. (m.image ≡ image) × IsSoundBy image m.layout) }
     ensures sound { IfOk result (λ _. IsSound image) }
@@ -27,7 +28,8 @@ pub fn mount(alloc: Global, image: Image) -> Result<Mounted, (Image, MountFault)
     }
 }
 
-/// The layout of an image that is sound: it passes each check. Else one of its faults.
+/// The layout of an image that is sound: it passes each check. Else one of its faults. NoMemory says nothing of the
+/// image.
 pub fn check_image(alloc: Global, image: &Image) -> Result<Layout, MountFault>
     ensures ok { IfOk result (IsChecked image.now) }
     ensures err { IfErr result (λ e. e ≢ MountFault.NoMemory → FaultIsTrue image.now e) }

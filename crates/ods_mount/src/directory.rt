@@ -14,7 +14,8 @@ use ods_header::is_directory;
 use ods_space::{Disk, chain, header_block};
 use std::alloc::Global;
 
-/// Where this file is a directory, its used entries are good and distinct. `attributes` are those of its header.
+/// Where this file is a directory, its used entries are good and distinct. `attributes` are those of its header. A file
+/// that is no directory passes. BadDirectory says that an entry is bad, and DuplicateName that two are alike.
 pub fn check_directory(
     alloc: Global,
     disk: &Disk<'_>,

@@ -8,7 +8,8 @@ use crate::MountFault;
 use crate::places::check_free_places;
 use ods_space::{Disk, Layout};
 
-/// INDEXF.SYS maps what headers are found by and the home block, and no lower place of a home block is free.
+/// INDEXF.SYS maps what headers are found by and the home block, and no lower place of a home block is free. Otherwise
+/// the fault is BadIndex, and it is true of the image.
 pub fn check_index(disk: &Disk<'_>, home_lbn: u32) -> Result<(), MountFault>
     requires { IsHomeAt disk.now.image.now home_lbn }
     ensures ok { OnOk result (IsWellIndexed disk.now.layout.now home_lbn × on NoPlaceIsFree disk.now home_lbn) }

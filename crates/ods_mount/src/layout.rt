@@ -10,7 +10,8 @@ use ods_header::find_home;
 use ods_space::{ChainFault, Layout, LayoutFault};
 use std::alloc::Global;
 
-/// The LBN of the home block, and the layout of the volume.
+/// The LBN of the home block, and the layout of the volume. Otherwise it gives one of the faults of the image, or
+/// NoMemory.
 pub fn read_layout(alloc: Global, image: &Image) -> Result<(u32, Layout), MountFault>
     ensures home { IfOk result (λ found. IsHomeAt image.now found.0) }
     ensures layout { IfOk result (λ found. IsLayoutOf image.now found.1) }
@@ -45,7 +46,7 @@ fn mount_fault(fault: LayoutFault) -> MountFault
     }
 }
 
-/// The fault of a file whose chain has this one.
+/// The mount's fault for this fault of a file's chain.
 pub fn chain_fault(number: u16, fault: ChainFault) -> MountFault
     ensures { result ≡ mount_fault_of (LayoutFault.Chain number fault) }
 {

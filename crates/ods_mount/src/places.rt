@@ -1,4 +1,4 @@
-//! What stands below the home block, where a lower one could come to stand.
+//! Places of a home block below the one that the volume has: a block there could be taken for the home block.
 ghost use Rattle.std.specs.Prelude.{◌≡◌, ◌↔◌, ◌<◌, ℕ, IsTrue, MatchBool, OnOk, IfErr};
 ghost use Rattle.ods_header.specs.Home.{IsHomeAt, IsHomePlace};
 ghost use Rattle.ods_space.specs.Free.{is_free_block};

@@ -1,4 +1,4 @@
--- What paths say, without where their texts lie in memory.
+-- What paths say, without the places of their texts in memory.
 use Rattle.std.specs.Prelude.{ℕ, List, map, Option, Some, None}
 use Rattle.std.specs.List.{slice_split}
 use Rattle.ods_paths.specs.declared.files.Files.{Files}

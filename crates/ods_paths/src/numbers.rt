@@ -89,6 +89,7 @@ pub(crate) fn read_choice(text: &[u8]) -> Option<Option<u8>>
 }
 
 /// The group and the member of which a directory's name is the six octal digits, as `001002`; `None` for every other name.
+/// The group and the member have three digits each, and are at most octal 377.
 pub fn numbered_name(name: &[u8]) -> Option<(u8, u8)>
     ensures { MatchOption result ((group member : ℕ) → IsNumberedName name.now group member → ⊥) (λ n. IsNumberedName name.now n.0 n.1) }
 {

@@ -12,7 +12,9 @@ use ods_base::FileId;
 /// What a path says: a file by its ID, or a directory and, where they are said, files in it.
 #[derive(Clone, Copy)]
 pub enum Path<'a> {
+    /// The file with this ID.
     File(FileId),
+    /// Directories, and files in them where the path names some.
     Within(Folder<'a>, Option<Files<'a>>),
 }
 

@@ -9,9 +9,13 @@ const LAST_VERSION: u16 = 32_767;
 /// Which versions of a name are chosen.
 #[derive(Clone, Copy, Debug, PartialEq, Eq)]
 pub enum Versions {
+    /// This version, 1 to 32,767.
     Exact(u16),
+    /// The highest version, `;0`.
     Highest,
+    /// The lowest version, `;-1`.
     Lowest,
+    /// All versions, `;*`.
     Every,
 }
 

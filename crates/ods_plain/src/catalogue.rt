@@ -13,7 +13,8 @@ use ods_request::{Answer, Listing, Request, Stamp, Stat};
 use std::alloc::{AllocError, Global};
 use std::marker::Model;
 
-/// A catalogue. A contract sees the catalogue of the definitions.
+/// A catalogue. A contract sees the catalogue of the definitions. Tests use it as their oracle, since its calls give
+/// the answers and changes that the definitions say.
 #[derive(Drop, Debug)]
 pub struct Catalogue {
     alloc: Global,

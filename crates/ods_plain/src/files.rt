@@ -12,8 +12,11 @@ use std::alloc::{AllocError, Global};
 /// What a file is made of.
 #[derive(Drop, Debug)]
 pub enum Body {
+    /// INDEXF.SYS or BITMAP.SYS, of which no blocks are kept.
     System,
+    /// A directory with these names.
     Directory(Names),
+    /// A plain file with these 32 bytes of user attributes and these blocks.
     Plain {
         attributes: [u8; 32],
         blocks: Vec<Block>,

@@ -1,4 +1,4 @@
--- Texts that lack one thing of those that come back from records as they were, and are text.
+-- Texts that would have text bytes alone and come back from records unchanged, but for one thing.
 use Rattle.std.specs.Prelude.{◌≡◌, ◌≢◌, ℕ, ◌+◌, ◌-◌, ◌<◌, ◌≤◌, true, false, List, length, slice_index, take, ◌==◌}
 use Rattle.std.specs.List.{All, list_all, count_by}
 use Rattle.std.specs.Str.Lines.{lines}

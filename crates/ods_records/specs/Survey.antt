@@ -1,4 +1,4 @@
--- What all records of a file have in common, and when their lines are got without a word.
+-- What all records of a file have in common, and when they are read as lines though no form is asked for.
 use Rattle.std.specs.Prelude.{◌≡◌, ◌-◌, ℕ, Bool, true, not, ◌&&◌, ◌||◌, ◌==◌, List, length, slice_index}
 use Rattle.std.specs.List.{list_all}
 use Rattle.ods_records.specs.declared.survey.Survey.{Survey}

@@ -105,7 +105,7 @@ fn is_blocked(attributes: &[u8; 32]) -> bool
     attributes[1] / 8 % 2 == 1
 }
 
-/// F.RSIZ.
+/// The record size in bytes, F.RSIZ.
 pub fn record_size(attributes: &[u8; 32]) -> u16
     ensures { result ≡ word_at attributes.now 2 }
 {

@@ -152,6 +152,7 @@ pub struct FormWords {
 }
 
 /// The form that the first four bytes of attributes say, in words.
+/// No clause says which words it prints.
 pub fn print_form(form: &[u8; 4]) -> FormWords {
     FormWords { form: *form }
 }

@@ -1,4 +1,4 @@
-//! Texts that lack one thing of those that come back from records as they were, and what it is.
+//! Texts that would come back from records unchanged but for one thing, and which thing that is.
 ghost use Rattle.std.specs.Prelude.{◌≡◌, ◌↔◌, ◌⊎◌, ◌==◌, ◌<◌, ℕ, length, slice_index, take, IsTrue, IfSome, IfNone, MatchOption};
 ghost use Rattle.std.specs.List.{count_by};
 ghost use Rattle.ods_records.specs.declared.near.NearText.{NearText as Near};
@@ -12,11 +12,13 @@ use thiserror::Error;
 /// What the one thing is that keeps bytes from being put as a text. A line is counted from 1.
 #[derive(Clone, Copy, Debug, PartialEq, Eq, Error)]
 pub enum NearText {
+    /// No LF ends the last line.
     #[error("the last line has no LF")]
     NoLastLf,
     /// The first such line.
     #[error("line {0} ends with CR LF")]
     CrLf(usize),
+    /// A line has more than 32,767 bytes.
     #[error("a line has more than 32767 bytes")]
     LongLine,
     /// The first such line, and the byte.

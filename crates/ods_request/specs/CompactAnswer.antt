@@ -1,4 +1,4 @@
--- Which answers want a box where they are kept in little room.
+-- Which answers a compact answer keeps in a box.
 use Rattle.std.specs.Prelude.{Bool, true, false}
 use Rattle.ods_request.specs.declared.answers.Answer.{Answer}
 use Rattle.ods_request.specs.declared.answers.Answer.TheVariants as answer

@@ -1,4 +1,4 @@
--- Which requests have a block, which stands apart where they are kept in little room.
+-- Which requests have a block, which a compact request keeps apart.
 use Rattle.std.specs.Prelude.{Bool, true, false}
 use Rattle.ods_request.specs.declared.requests.Request.{Request}
 use Rattle.ods_request.specs.declared.requests.Request.TheVariants as request

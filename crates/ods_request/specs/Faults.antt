@@ -24,7 +24,7 @@ abbrev pub on_file : Option File → (File → List (Bool × Refusal)) → Optio
 on_file None checks = Some refusal.NoSuchFile
 on_file (Some f) checks = first_of (checks f)
 
--- numbers 1 to 5 are the system's files, and 1 and 2 hold its index and storage maps
+-- the file number is at most 5; numbers 1 to 5 are the system's files
 abbrev pub is_reserved : FileId → Bool
 is_reserved id = nat_le id.number 5
 

@@ -112,7 +112,7 @@ first_blocks body count = Plain (attributes_of body) (take count (blocks_of body
 abbrev pub entered_version : Catalogue → FileId → RadName → Option ℕ → ℕ
 entered_version C dir name version = version_entered (names_of (file_at C dir).body) name version
 
--- the version that is looked for, and the file that stands under it
+-- the version that is looked for, and 0 where there is none
 abbrev pub found_version : Catalogue → FileId → RadName → Pick → ℕ
 found_version C dir name pick = unwrap_or (picked_version (names_of (file_at C dir).body) name pick) 0
 

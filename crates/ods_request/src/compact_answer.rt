@@ -16,15 +16,25 @@ pub struct CompactAnswer {
 /// How an answer is kept: as it is, with a block or a stat in a box.
 #[derive(Drop, PartialEq, Eq, Debug)]
 pub enum AnswerForm {
+    /// Create: the ID of the new file.
     Created(FileId),
+    /// Extend: how many blocks the file has now.
     Extended(u32),
+    /// Truncate: how many blocks the file has now.
     Truncated(u32),
+    /// Delete, Write and SetUser.
     Done,
+    /// Enter: the version under which the file was entered.
     Entered(u16),
+    /// LookUp: the file and the version that were found.
     Found(FileId, u16),
+    /// Remove: the file and the version whose name is gone.
     Removed(FileId, u16),
+    /// Read: the block, in a box.
     Bytes(Box<Block>),
+    /// List: the directory's lines.
     Names(Listing),
+    /// Stat: what is shown of the file, in a box.
     Info(Box<Stat>),
 }
 

@@ -20,54 +20,66 @@ pub struct CompactRequest {
 /// How a request is kept: as it is, with a block that may be shared.
 #[derive(Drop, PartialEq, Eq, Debug)]
 pub enum RequestForm {
+    /// Makes a file of the user, of this many blocks of zeros, or a directory where the type is DIR.
     Create {
         name: Name,
         version: u16,
         blocks: u32,
         stamp: Stamp,
     },
+    /// Puts this many blocks of zeros behind a file's own.
     Extend {
         file: FileId,
         blocks: u32,
     },
+    /// Keeps this many of a file's blocks, the first ones, and gives the others back.
     Truncate {
         file: FileId,
         blocks: u32,
     },
+    /// Deletes a file.
     Delete {
         file: FileId,
     },
+    /// Enters a file in a directory, under the version given, or the highest of the name and one more, or 1.
     Enter {
         dir: FileId,
         name: Name,
         version: Option<u16>,
         file: FileId,
     },
+    /// Looks a name up in a directory.
     LookUp {
         dir: FileId,
         name: Name,
         pick: Pick,
     },
+    /// Takes a name out of a directory.
     Remove {
         dir: FileId,
         name: Name,
         pick: Pick,
     },
+    /// Reads the block with this virtual block number, counted from 1.
     Read {
         file: FileId,
         vbn: u32,
     },
+    /// Replaces the block with this virtual block number, counted from 1.
     Write {
         file: FileId,
         vbn: u32,
         block: Arc<Block, Global>,
     },
+    /// Lists a directory.
     List {
         dir: FileId,
     },
+    /// Shows what a file is.
     Stat {
         file: FileId,
     },
+    /// Replaces a file's 32 bytes of user attributes.
     SetUser {
         file: FileId,
         attributes: [u8; 32],

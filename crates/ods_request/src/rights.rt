@@ -8,9 +8,13 @@ use ods_base::Uic;
 /// What a user may be allowed to do with a file, in the order of the bits of one class.
 #[derive(Clone, Copy, PartialEq, Eq, Debug)]
 pub enum Right {
+    /// Read its blocks, or look up and list the names of a directory.
     Read,
+    /// Write its blocks, set its user attributes, or enter and remove names of a directory.
     Write,
+    /// Extend or truncate it.
     Extend,
+    /// Delete it.
     Delete,
 }
 

@@ -1,4 +1,4 @@
--- The commands of lines may be asked.
+-- Each command that a line spells may be asked of a desk.
 use Rattle.std.proofs.Common.{ℕ, List, [], ◌∷◌, Option, Some, None, MatchOption, suc, zero, arith}
 use Rattle.ods_base.specs.declared.file_id.FileId.{FileId}
 use Rattle.std.specs.Option.{option_map, option_and_then}

@@ -1,4 +1,4 @@
-//! What a file is, as it is printed.
+//! What STAT shows of a file, as a reply prints it.
 ghost use Rattle.std.specs.Prelude.{◌≡◌, ◌++◌, ◌∷◌, OnOk};
 ghost use Rattle.std.specs.String.{string_bytes};
 ghost use Rattle.ods_header.specs.Text.{file_id_text};

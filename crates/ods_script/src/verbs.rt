@@ -14,19 +14,33 @@ use std::sync::Arc;
 /// The word that a command begins with.
 #[derive(Clone, Copy, Debug, PartialEq, Eq)]
 pub enum Verb {
+    /// `USER`: sets the user that asks from here on.
     User,
+    /// `CREATE`: makes a file.
     Create,
+    /// `EXTEND`: gives a file more blocks.
     Extend,
+    /// `TRUNCATE`: takes the last blocks of a file away.
     Truncate,
+    /// `DELETE`: deletes a file.
     Delete,
+    /// `ENTER`: enters a name in a directory.
     Enter,
+    /// `LOOK`: looks up a name in a directory.
     LookUp,
+    /// `REMOVE`: removes a name from a directory.
     Remove,
+    /// `READ`: reads a block of a file by its VBN.
     Read,
+    /// `WRITE`: writes a block of a file by its VBN.
     Write,
+    /// `LIST`: lists the names in a directory.
     List,
+    /// `STAT`: shows what a file's header says.
     Stat,
+    /// `SETUSER`: sets the 32 bytes of user attributes of a file.
     SetUser,
+    /// `VIEW`: asks a query of a view of the volume, by LOOK, READ or STAT.
     View,
 }
 

@@ -1,5 +1,5 @@
-//! The desk: a volume that is to lie under a lock, with the name of what it began with, so that something is known of it there, and the
-//! writer that shows its versions.
+//! The desk: a volume for a lock, and the writer that shows its versions. Its type names the image and the list that it
+//! began with, so contracts know them under the lock.
 ghost use Rattle.std.specs.Prelude.{◌≡◌, ◌<◌, ◌≤◌, All, length, vec_len, IfOk, IfErr, IsErr, OnErr, Err, Some, None};
 ghost use Rattle.ods_request.specs.{declared.refusals.Refusal.Refusal, Catalogue.Catalogue, Faults.fault_of, Lists.Begins};
 ghost use Rattle.ods_state.specs.{Version.IsPresent, Version.IsLawful, Wants.Lacks, Outcome.Accepts, Outcome.CanBeAsked, Outcome.IsLawfulPlan, Outcome.entry_of};
@@ -23,7 +23,7 @@ use std::sync::Wait;
 /// A volume for several sessions, which is to lie under a lock, with the writer that shows its versions to viewers beside the lock.
 /// Contracts see the volume, which is lawful whenever the lock is free. Wherever the desk lies, its mounted image is that of its name, its
 /// list begins with the entries of its name, and what is shown is the volume's list and blocks. It is ended by [`Desk::close`], and cannot
-/// fall.
+/// fall. While the lock is free no change is pending.
 pub struct Desk<J: Naming> {
     volume: Volume,
     writer: Option<DeskWriter<J>>,
@@ -127,7 +127,7 @@ impl<J: Naming> Desk<J> {
     }
 
     /// Makes a request as [`Desk::submit`] does. The list shares a Write's block with the request that
-    /// is given.
+    /// is given. Each clause of `submit` holds of the request that the compact one stands for.
     pub fn submit_shared<R: Wait>(
         &mut self,
         rt: &R,

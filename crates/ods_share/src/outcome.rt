@@ -1,4 +1,4 @@
-//! What comes of a script, and how many calls may, for which room is taken before the first command.
+//! The outcome of a script, and the most calls that it can have, for which a session takes room at its start.
 ghost use Rattle.std.specs.Prelude.{◌≡◌, ◌≤◌, length};
 ghost use Rattle.ods_share.specs.Sittings.{room_for};
 

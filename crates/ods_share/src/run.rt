@@ -65,7 +65,10 @@ fn run_desk<K: Keep + Send, J: Naming + Send + Sync, G: Gate + Sync, R: Threads 
 
 /// Runs each of at most 8 scripts as a session in a thread of its own, the first as session 1 and with the first viewer, waits for all,
 /// and gives the volume back with what came of each script, in their order. Files are made with this stamp. After a fault, of memory or of
-/// threads, all threads have ended too, and the volume is given up.
+/// threads, all threads have ended too, and the volume is given up. An outcome has one reply for each command, in
+/// order. Its calls are just the requests that were answered, each once and in order. BAD is the reply just to a line
+/// that is no command, and where `$` stands for no file. A query beside the lock is no call. The volume that comes back
+/// is over the same mounted image, and its list begins as it was.
 pub fn run_sessions<J: Naming + Send + Sync, G: Gate + Sync, R: Threads + Wait + Sync>(
     rt: &R,
     alloc: Global,
@@ -127,7 +130,8 @@ fn run_named<K: Keep + Send, J: Naming + Send + Sync, G: Gate + Sync, R: Threads
 }
 
 /// Opens a desk of a volume, and runs each of at most 8 scripts as a session at it, as [`run_sessions`] does, with no name to be picked. Of
-/// its replies a session keeps what `K` makes of each, in its own thread and as soon as it is given.
+/// its replies a session keeps what `K` makes of each, in its own thread and as soon as it is given. What is kept
+/// stands in the relation `keeps` of `K` to the commands and their replies.
 pub fn run_keeping<K: Keep + Send, G: Gate + Sync, R: Threads + Wait + Sync>(
     rt: &R,
     alloc: Global,

@@ -1,4 +1,4 @@
-//! One session: its script is obeyed command by command.
+//! One session, which carries out its script command by command.
 ghost use Rattle.std.specs.Prelude.{◌≡◌, ◌+◌, ◌<◌, ◌≤◌, IfOk, length};
 ghost use Rattle.std.specs.Vec.{vec_capacity};
 ghost use Rattle.ods_state.specs.Outcome.{CanBeAsked};

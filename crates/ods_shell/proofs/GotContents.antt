@@ -1,4 +1,4 @@
--- What is got where no text is.
+-- What is got out of a file where that is not a text.
 use Rattle.std.proofs.Common.{◌≡◌, ℕ, List, Option, Some, take, refl, subst}
 use Rattle.ods_base.specs.Image.{image_bytes}
 use Rattle.ods_files.specs.Body.{Body, size_in, bytes_in}

@@ -1,5 +1,5 @@
--- What is got out of a file: a text of it, or its bytes; and what is to be said of that.
-use Rattle.std.specs.Prelude.{◌≡◌, ℕ, ◌<◌, ◌≤◌, ◌&&◌, ◌==◌, ◌⊎◌, not, Bool, true, false, List, length, take, Option, Some, None, if◌then◌else◌}
+-- What is got out of a file: a text of it, or its bytes; and the remark on that.
+use Rattle.std.specs.Prelude.{◌≡◌, ℕ, ◌<◌, ◌≤◌, ◌&&◌, ◌||◌, ◌==◌, ◌⊎◌, nat_le, not, Bool, true, false, List, length, slice_index, take, Option, Some, None, MatchBool, if◌then◌else◌}
 use Rattle.ods_space.specs.Layout.{VolumeLayout}
 use Rattle.ods_space.specs.Files.{IsFile}
 use Rattle.ods_files.specs.Body.{Body, HasBody, bytes_in, are_zeros}
@@ -7,7 +7,8 @@ use Rattle.ods_files.specs.declared.form.Form.{Form}
 use Rattle.ods_files.specs.declared.form.Form.TheVariants as form
 use Rattle.ods_records.specs.Attributes.{end_of, kind_in, text_form_in}
 use Rattle.ods_records.specs.Faults.{IsFirstFault}
-use Rattle.ods_records.specs.Records.{Spells, text_of}
+use Rattle.ods_records.specs.Lines.{longest_of}
+use Rattle.ods_records.specs.Records.{Spells, text_of, word_at}
 use Rattle.ods_records.specs.Sized.{LinesFrom, without_cr}
 use Rattle.ods_records.specs.Survey.{come_as_lines}
 use Rattle.ods_records.specs.declared.kind.RecordKind.{RecordKind}
@@ -56,18 +57,53 @@ IsTextOf (text.Blocked size) bytes got = (size ≤ 512) × ((lines : List (List 
 IsTextOf text.Stream bytes got = got ≡ without_cr bytes
 IsTextOf text.Bytes bytes got = got ≡ bytes
 
--- What is got of records without a word: their text, where they are lines that come back; else the bytes, and that is said with the form that brings them back.
+-- F.RATT that `--form` has words for
+abbrev pub has_words : ℕ → Bool
+has_words control = (control == 0) || (control == 1) || (control == 2) || (control == 4) || (control == 8) || (control == 9) || (control == 10) || (control == 12)
+
+-- Sequenced records have a header of two bytes, which `--form` does not say.
+abbrev pub has_known_header : List ℕ → Bool
+has_known_header attributes = not (slice_index attributes 0 == 3) || (slice_index attributes 15 == 0) || (slice_index attributes 15 == 2)
+
+-- `put -b --form` takes the bytes of such records back: `--form` has words for F.RTYP, F.RATT and F.RSIZ, the records' header is known, and no record is longer than F.RSIZ where that is not 0
+abbrev pub is_taken_back : List ℕ → ℕ → Bool
+is_taken_back attributes longest =
+    nat_le (slice_index attributes 0) 4 && has_words (slice_index attributes 1) && has_known_header attributes && nat_le (word_at attributes 2) 32767
+    && ((word_at attributes 2 == 0) || nat_le longest (word_at attributes 2))
+
+-- what is said of records that are got as bytes: that they are, and the form by which `put -b` takes them back where it does
+abbrev pub bytes_remark : List ℕ → ℕ → Remark
+bytes_remark attributes longest = if is_taken_back attributes longest then remark.NoText (take 4 attributes) else remark.NoForm
+
+-- What is got of records without a word: their text, where they are lines that come back; else the bytes, and that is said.
 abbrev pub IsChosen : RecordKind → Body → List ℕ → List ℕ → Option Remark → Type 0
 IsChosen kind body bytes got said = (records : List (List ℕ)) × Spells kind bytes records
     × (((come_as_lines body.attributes records ≡ true) × (got ≡ text_of records) × (said ≡ end_remark ByKind body))
-    ⊎ ((come_as_lines body.attributes records ≡ false) × (got ≡ bytes) × (said ≡ Some (remark.NoText (take 4 body.attributes)))))
+    ⊎ ((come_as_lines body.attributes records ≡ false) × (got ≡ bytes) × (said ≡ Some (bytes_remark body.attributes (longest_of records)))))
 
 -- where no text is got, the bytes
 abbrev pub AreBytes : Wanted → Body → List ℕ → Option Remark → Type 0
 AreBytes wanted body got said = (bytes_in (form_got wanted) body ≡ Some got) × (said ≡ end_remark wanted body)
 
+-- a file is read as a stream
+abbrev pub is_stream : TextForm → Bool
+is_stream (text.Records kind) = false
+is_stream (text.Fixed size) = false
+is_stream (text.Blocked size) = false
+is_stream text.Stream = true
+is_stream text.Bytes = false
+
+-- a stream of lines: F.RTYP 4, and F.RATT 2, an implied carriage return
+abbrev pub is_line_stream : List ℕ → Bool
+is_line_stream attributes = is_stream (text_form_in attributes) && (slice_index attributes 1 == 2)
+
+-- the lines of a stream
+abbrev pub AreStreamLines : Body → List ℕ → Option Remark → Type 0
+AreStreamLines body got said = (bytes : List ℕ) × (bytes_in form.Binary body ≡ Some bytes) × (got ≡ without_cr bytes) × (said ≡ end_remark ByKind body)
+
+-- what is got without a word: of records as above, of a stream of lines these, of any other file its bytes
 abbrev pub IsGotAlone : Option RecordKind → Body → List ℕ → Option Remark → Type 0
-IsGotAlone None body got said = AreBytes ByKind body got said
+IsGotAlone None body got said = MatchBool (is_line_stream body.attributes) (AreStreamLines body got said) (AreBytes ByKind body got said)
 IsGotAlone (Some kind) body got said = (bytes : List ℕ) × (bytes_in form.Binary body ≡ Some bytes) × IsChosen kind body bytes got said
 
 -- what is got out of a file with this body in the wanted form, and what is said of it

@@ -15,11 +15,13 @@ use ods_space::{block_count, first_header};
 /// What a file holds, by its header.
 #[derive(Clone, Copy, Debug, PartialEq, Eq)]
 pub enum Kind {
+    /// A directory.
     Directory,
     /// Records with a length, each a line by its carriage control.
     Text,
     /// Records with a length, and no carriage control.
     Records,
+    /// Bytes: neither a directory nor records with a length.
     Binary,
 }
 
@@ -36,6 +38,7 @@ impl Kind {
 }
 
 /// What is known of a file.
+/// No clause covers the texts of its dates, its revision and the word of its kind.
 #[derive(Clone, Copy, Debug)]
 pub struct Facts {
     pub file: FileId,

@@ -28,6 +28,7 @@ pub struct Finding {
 
 /// The files that a path finds; with no files said all of its directories. `unsaid` are the versions that are meant where the path
 /// says none.
+/// No clause says which directories are found.
 pub fn find_files(
     alloc: Global,
     volume: &Mounted,
@@ -41,6 +42,7 @@ pub fn find_files(
 }
 
 /// The files that a path finds where of these closed directories no names are read: nothing is found in them, nor by their names.
+/// No clause says which directories are found.
 pub fn find_open(
     alloc: Global,
     volume: &Mounted,

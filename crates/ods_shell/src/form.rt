@@ -3,7 +3,7 @@ ghost use Rattle.std.specs.Prelude.{◌≡◌, ◌⊎◌, ℕ, List, take, IfOk,
 ghost use Rattle.std.specs.Io.KnownBytes.{Appends};
 ghost use Rattle.ods_base.specs.Image.{TookBytes};
 ghost use Rattle.ods_shell.specs.declared.form.FormFault.TheVariants as faults;
-ghost use Rattle.ods_shell.specs.{Contents.IsGot, Contents.IsGotBy, Contents.IsNotGot, Contents.IsNotGotBy, Contents.AreBytes, Contents.IsChosen, Contents.IsTextOf, Contents.HasNoText, Contents.end_remark as remark_of_end, Contents.ends_early as early, Contents.form_got as form_wanted, Shown.ContentsAre, Compared.HasNone};
+ghost use Rattle.ods_shell.specs.{Contents.IsGot, Contents.IsGotBy, Contents.IsNotGot, Contents.IsNotGotBy, Contents.AreBytes, Contents.AreStreamLines, Contents.IsGotAlone, Contents.is_line_stream as line_stream, Contents.IsChosen, Contents.IsTextOf, Contents.HasNoText, Contents.has_words as words_for, Contents.has_known_header as header_known, Contents.is_taken_back as taken_back, Contents.bytes_remark as said_of_bytes, Contents.end_remark as remark_of_end, Contents.ends_early as early, Contents.form_got as form_wanted, Shown.ContentsAre, Compared.HasNone};
 ghost use Rattle.ods_files.specs.Body.{HasBody, bytes_in};
 ghost use Rattle.ods_files.specs.declared.form.Form.TheVariants as forms;
 ghost use Rattle.ods_records.specs.Attributes.{kind_in, text_form_in};
@@ -14,7 +14,7 @@ use ods_files::{CopyFault, FileBody, FileFault, Form};
 use ods_mount::Mounted;
 use ods_records::{
     RecordFault, RecordKind, TextForm, end_of_file, fixed_to_text, kind_of, print_form,
-    records_to_text, stream_to_text, survey_records, text_form,
+    record_size, records_to_text, stream_to_text, survey_records, text_form,
 };
 use ods_space::ChainFault;
 use std::alloc::{AllocError, Global};
@@ -25,25 +25,32 @@ use thiserror::Error;
 /// Which form is asked for.
 #[derive(Clone, Copy, Debug, PartialEq, Eq)]
 pub enum Wanted {
-    /// Lines where the file is of records that come back from them, else bytes.
+    /// Lines where the file is of records that come back from them, or a stream of lines; else bytes.
     ByKind,
+    /// A text, by the attributes: the lines of records, a stream with CR LF as LF, or the bytes.
     Text,
+    /// The bytes up to the end of file.
     Binary,
+    /// The bytes of all blocks.
     Raw,
 }
 
 /// Why nothing is got out of a file.
 #[derive(Clone, Copy, Debug, PartialEq, Eq, Error)]
 pub enum FormFault {
+    /// The number is no file.
     #[error("no such file")]
     NoSuchFile,
+    /// The end of file lies past the blocks, and not all blocks are asked for.
     #[error("its end lies past its blocks")]
     EndPastBlocks,
+    /// The records have this first fault.
     #[error("{0}")]
     Records(RecordFault),
     /// Records of one size that do not go on in the next block, of so many bytes.
     #[error("records of {0} bytes do not fit in a block")]
     TooLongForBlock(u16),
+    /// The allocator refused memory.
     #[error("no memory")]
     NoMemory,
 }
@@ -59,8 +66,11 @@ impl From<AllocError> for FormFault {
 /// What is to be said of what is got.
 #[derive(Clone, Copy, Debug, PartialEq, Eq)]
 pub enum Remark {
-    /// Records that are no text are got as bytes, where no form is asked for: the first four bytes of the attributes.
+    /// Records that are no text are got as bytes, where no form is asked for: the first four bytes of the attributes, by which
+    /// `put -b --form` takes these bytes back.
     NoText([u8; 4]),
+    /// Records that are no text are got as bytes, and no form that can be said takes them back.
+    NoForm,
     /// Nothing was ever written into the attributes.
     NoAttributes,
     /// The file ends at 0, and has blocks.
@@ -77,6 +87,7 @@ impl fmt::Display for Remark {
                     "records that are no text, got as bytes; put -b --form {form} brings them back"
                 )
             }
+            Remark::NoForm => f.write_str("records that are no text, got as bytes"),
             Remark::NoAttributes => {
                 f.write_str("nothing says where it ends, so all blocks are got")
             }
@@ -147,12 +158,47 @@ fn contents_of<'a>(alloc: Global, body: FileBody<'a>, wanted: Wanted) -> Result<
     match wanted {
         Wanted::ByKind => match kind_of(&body.attributes()) {
             Some(kind) => chosen(alloc, body, kind),
-            None => as_bytes(body, Wanted::ByKind),
+            None => without_records(alloc, body),
         },
         Wanted::Text => as_text(alloc, body),
         Wanted::Binary => as_bytes(body, Wanted::Binary),
         Wanted::Raw => as_bytes(body, Wanted::Raw),
     }
+}
+
+/// What is got without a word of a file that has no records with a length: the lines of a stream, or its bytes.
+fn without_records<'a>(alloc: Global, body: FileBody<'a>) -> Result<Got<'a>, FormFault>
+    ensures ok { IfOk result (λ got. (bytes : List ℕ) × ContentsAre got.contents bytes × IsGotAlone None body.entry bytes got.remark) }
+    ensures err { IfErr result (IsNotGotBy Wanted.ByKind body.entry) }
+{
+    if is_line_stream(&body.attributes()) {
+        return as_lines(alloc, body);
+    }
+    as_bytes(body, Wanted::ByKind)
+}
+
+/// Whether a file with these attributes is a stream of lines.
+fn is_line_stream(attributes: &[u8; 32]) -> bool
+    ensures { result ≡ line_stream attributes.now }
+{
+    match text_form(attributes) {
+        TextForm::Stream => attributes[1] == 2,
+        _ => false,
+    }
+}
+
+/// The lines of a stream.
+fn as_lines<'a>(alloc: Global, body: FileBody<'a>) -> Result<Got<'a>, FormFault>
+    ensures ok { IfOk result (λ got. (bytes : List ℕ) × ContentsAre got.contents bytes × AreStreamLines body.entry bytes got.remark) }
+    ensures err { IfErr result (IsNotGotBy Wanted.ByKind body.entry) }
+{
+    let bytes = ended(alloc, &body)?;
+    let remark = end_remark(&body, Wanted::ByKind);
+    let text = stream_to_text(alloc, &bytes)?;
+    Ok(Got {
+        contents: Contents::Lines(text),
+        remark,
+    })
 }
 
 /// The bytes of a file, as they are.
@@ -192,11 +238,50 @@ fn chosen<'a>(alloc: Global, body: FileBody<'a>, kind: RecordKind) -> Result<Got
             Err(_) => Err(FormFault::NoMemory),
         };
     }
-    let remark = Some(Remark::NoText(first_four(&attributes)));
+    let remark = Some(bytes_remark(&attributes, survey.longest));
     Ok(Got {
         contents: Contents::Body(body, Form::Binary),
         remark,
     })
+}
+
+/// What is to be said of records of a file with these attributes that are got as bytes. The longest has so many bytes.
+fn bytes_remark(attributes: &[u8; 32], longest: usize) -> Remark
+    ensures { result ≡ said_of_bytes attributes.now longest }
+{
+    if is_taken_back(attributes, longest) {
+        return Remark::NoText(first_four(attributes));
+    }
+    Remark::NoForm
+}
+
+/// Whether `put -b --form` takes back records of a file with these attributes, of which the longest has so many bytes.
+fn is_taken_back(attributes: &[u8; 32], longest: usize) -> bool
+    ensures { result ≡ taken_back attributes.now longest }
+{
+    let size = record_size(attributes);
+    attributes[0] <= 4
+        && has_words(attributes[1])
+        && has_known_header(attributes)
+        && size <= 32_767
+        && (size == 0 || longest <= usize::from(size))
+}
+
+/// Whether the header of the records has two bytes where they are sequenced.
+fn has_known_header(attributes: &[u8; 32]) -> bool
+    ensures { result ≡ header_known attributes.now }
+{
+    attributes[0] != 3 || attributes[15] == 0 || attributes[15] == 2
+}
+
+/// Whether `--form` has words for this F.RATT.
+fn has_words(control: u8) -> bool
+    ensures { result ≡ words_for control }
+{
+    match control {
+        0 | 1 | 2 | 4 | 8 | 9 | 10 | 12 => true,
+        _ => false,
+    }
 }
 
 /// The first four bytes of the attributes.

@@ -108,6 +108,7 @@ pub fn pair_object(
 }
 
 /// An object for each line that was found: its path, the ID that it names, and what is known of the file.
+/// No clause covers the JSON; `tests/fs` checks it on the built program.
 pub fn ls_objects(
     alloc: Global,
     volume: &Mounted,

@@ -1,4 +1,5 @@
 //! The commands of `f11fs`: which files a path finds, what is known of each, and the text that a command prints.
+//! No clause covers the printed texts, the JSON objects and the statuses: `tests/fs` checks them on the built program.
 #![tactic(auto)]
 
 mod choosing;

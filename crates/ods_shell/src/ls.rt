@@ -23,6 +23,7 @@ pub struct Columns {
 }
 
 /// The lines of what was found, and a last one with how many files and blocks these are.
+/// No clause covers the text; `tests/fs` checks it on the built program.
 pub fn ls_lines(
     alloc: Global,
     volume: &Mounted,

@@ -26,6 +26,7 @@ pub struct Target {
 /// Why a path names no files.
 #[derive(Clone, Copy, Debug, PartialEq, Eq, Error)]
 pub enum PathFault {
+    /// The text is no path.
     #[error("{0}")]
     Bad(BadPath),
     /// A directory, and no file in it.
@@ -40,6 +41,7 @@ pub enum PathFault {
     /// This ID is that of no file.
     #[error("no such file")]
     NoSuchFile,
+    /// The allocator refused memory.
     #[error("no memory")]
     NoMemory,
 }
@@ -69,6 +71,7 @@ impl PathFault {
 }
 
 /// The files that a path names, in the order of a listing; without a version the highest of each name.
+/// No clause says which files these are.
 pub fn targets(alloc: Global, volume: &Mounted, path: &str) -> Result<Vec<Target>, PathFault> {
     match open_targets(alloc, volume, path, &[]) {
         Ok((targets, _)) => Ok(targets),
@@ -77,6 +80,7 @@ pub fn targets(alloc: Global, volume: &Mounted, path: &str) -> Result<Vec<Target
 }
 
 /// The files that a path names where of these closed directories no names are read; and those of them that are on the way.
+/// No clause says which files these are.
 pub fn open_targets(
     alloc: Global,
     volume: &Mounted,

@@ -199,7 +199,7 @@ const ROWS: [Row; 32] = [
         name: "OutsideVolume",
         advice: Advice {
             why: "a file goes on behind the end of the image",
-            what: "'rescue' gets the other files",
+            what: "with '--blocks N' an image that was cut short reads as its N blocks; 'rescue' gets the other files",
         },
     },
     Row {

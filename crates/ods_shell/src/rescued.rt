@@ -22,6 +22,7 @@ pub enum Rescued<'a> {
 
 /// What is got out of the file with this number: its bytes up to the end of file where that lies in its blocks, else of all blocks; with
 /// `text` the lines of its records where these are whole.
+/// No clause of its own says which bytes these are; the clauses of the calls that it makes do.
 pub fn open_rescued<'a>(
     alloc: Global,
     disk: &Disk<'a>,

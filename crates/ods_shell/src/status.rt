@@ -1,8 +1,10 @@
 //! How a command ends.
 
 /// How a command ends: the exit status of the program.
+/// No clause covers the statuses; `tests/fs` checks them on the built program.
 #[derive(Clone, Copy, Debug, PartialEq, Eq)]
 pub enum Status {
+    /// The command did all that it was asked for.
     Done,
     /// The image is refused.
     Image,

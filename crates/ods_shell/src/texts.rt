@@ -39,6 +39,7 @@ fn push_names(text: &mut String, names: &[Name]) -> Result<(), AllocError> {
 }
 
 /// Appends the path of an entry of the directory to which these names lead.
+/// No clause covers the text; `tests/fs` checks it on the built program.
 pub fn push_path(text: &mut String, names: &[Name], entry: &Listed) -> Result<(), AllocError> {
     push_directory(text, names)?;
     text.push_str(print_name(&entry.name, entry.version).as_str())

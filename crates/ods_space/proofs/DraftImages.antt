@@ -1,4 +1,4 @@
--- With changes made whose blocks are blocks, an image is an image.
+-- An image stays an image under changes whose blocks have 512 bytes.
 use Rattle.std.proofs.Common.{◌≡◌, ◌∙◌, ℕ, ◌+◌, ◌<◌, ◌≤◌, ◌^◌, List, [], length, get_or, take, refl, sym, subst, arith, inl, inr}
 use Rattle.std.specs.Prelude.{unwrap_or}
 use Rattle.std.proofs.lemmas.Bool.{cases_lt}

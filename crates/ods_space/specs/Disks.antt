@@ -1,4 +1,4 @@
--- What contracts say of a disk, which is blocks with their layout: what they say of its blocks and its layout, as they are or as a draft makes them.
+-- Statements of contracts about a disk, which is blocks with their layout: as the blocks are, or as a draft makes them.
 use Rattle.std.specs.Prelude.{ℕ, List}
 use Rattle.ods_space.specs.Draft.{Changes, applied}
 use Rattle.ods_space.specs.Layout.{VolumeLayout, header_at}

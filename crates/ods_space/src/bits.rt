@@ -18,7 +18,7 @@ pub(crate) fn is_used(image: &Image, home: &Home, number: u16) -> bool
     at < image.len() as u64 && bit(image.block(at as u32), (number as u32 - 1) % 4096)
 }
 
-/// Whether a block is free.
+/// Whether a block is free. A set bit of the storage bitmap says that a block of the image is free.
 pub fn is_free(disk: &Disk<'_>, lbn: u32) -> bool
     ensures { result ≡ seen is_free_block disk.now lbn }
 {

@@ -73,7 +73,7 @@ impl<'a> ChainRuns<'a> {
     }
 }
 
-/// The blocks of a chain, run after run. A contract sees the LBNs that are still to come.
+/// The blocks of a chain, run after run. A contract sees the LBNs that are still to come. A cursor takes no memory.
 #[derive(Drop)]
 pub struct BlockCursor<'a> {
     /// The runs behind the present one.

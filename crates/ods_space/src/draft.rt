@@ -205,7 +205,8 @@ impl Draft {
         Ok(Draft { changes })
     }
 
-    /// Makes the changes, the oldest first, and passes over each block that the image lacks.
+    /// Makes the changes, the oldest first, and passes over each block that the image lacks. A
+    /// block that no change names stays as it was.
     pub fn apply(&self, image: &mut Image)
         ensures { image.new ≡ applied image.old self.now }
     {

@@ -15,6 +15,7 @@ pub enum ChainFault {
     /// A pointer names this block, which the image lacks.
     #[error("OutsideVolume {0}")]
     OutsideVolume(u32),
+    /// Memory was refused.
     #[error("NoMemory")]
     NoMemory,
 }
@@ -44,10 +45,13 @@ impl From<AllocError> for ChainFault {
 /// Why there is no layout.
 #[derive(Clone, Copy, Debug, PartialEq, Eq, Error)]
 pub enum LayoutFault {
+    /// File 1 or 2, which this number says, does not exist.
     #[error("file {0} does not exist")]
     NoFile(u16),
+    /// The chain of file 1 or 2, which this number says, has this fault.
     #[error("{1} {0}")]
     Chain(u16, ChainFault),
+    /// Memory was refused.
     #[error("NoMemory")]
     NoMemory,
 }

@@ -16,7 +16,7 @@ use ods_base::{Block, Image};
 use ods_header::{Header, read_header};
 use std::alloc::Global;
 
-/// The first header of a file.
+/// The first header of a file. There is none where the number is no file.
 pub fn file_header(disk: &Disk<'_>, number: u16) -> Option<Header>
     requires { on IsLayoutOf disk.now }
     ensures { SomeIff result (on IsFile disk.now number) (header_of (header_on disk.now number)) }
@@ -37,7 +37,8 @@ pub fn file_header(disk: &Disk<'_>, number: u16) -> Option<Header>
     }
 }
 
-/// The block of a file's first header. It is looked at in place, with no copy of its fields.
+/// The block of a file's first header. It is looked at in place, with no copy of its fields. There is none where the
+/// number is no file.
 pub fn first_header<'a>(disk: &Disk<'a>, number: u16) -> Option<&'a Block>
     ensures some { IfSome result (λ block. on IsFile disk.now number × (block.now ≡ header_on disk.now number)) }
     ensures none { IfNone result (¬ on IsFile disk.now number) }
@@ -95,7 +96,8 @@ pub(crate) fn outside(image: &Image, blocks: &[u32]) -> Option<u32>
     None
 }
 
-/// The chain of a file is whole, and all its blocks are of the image. A number that is no file has no chain.
+/// The chain of a file is whole, and all its blocks are of the image. A number that is no file has no chain. The check
+/// takes no memory.
 pub fn check_chain(disk: &Disk<'_>, number: u16) -> Result<(), ChainFault>
     requires { on IsLayoutOf disk.now }
     ensures ok { OnOk result ((blocks : List ℕ) × on HasBlocks disk.now number blocks) }
@@ -123,7 +125,7 @@ pub fn locate(disk: &Disk<'_>, number: u16, vbn: u32) -> Option<u32>
     survey_whole(disk, number, vbn - 1)?.found
 }
 
-/// How many blocks a file has.
+/// How many blocks a file has. There is no count where the file has no whole chain.
 pub fn block_count(disk: &Disk<'_>, number: u16) -> Option<u32>
     requires { on IsLayoutOf disk.now }
     ensures count { IfSome result (λ count. (blocks : List ℕ) × on HasBlocks disk.now number blocks × (count ≡ length blocks)) }

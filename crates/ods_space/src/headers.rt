@@ -42,7 +42,7 @@ pub(crate) fn block_by<'a>(
     }
 }
 
-/// The block of header `number`.
+/// The block of header `number`. There is none where the number has no place, or where the image lacks the block.
 pub fn header_block<'a>(disk: &Disk<'a>, number: u16) -> Option<&'a Block>
     ensures some { IfSome result (λ block. block.now ≡ header_on disk.now number) }
     ensures none { IfNone result (header_on disk.now number ≡ []) }
@@ -50,7 +50,7 @@ pub fn header_block<'a>(disk: &Disk<'a>, number: u16) -> Option<&'a Block>
     block_by(disk.image, &disk.layout.home(), disk.layout.index(), number)
 }
 
-/// The sequence word of header `number`.
+/// The sequence word of header `number`. It is 0 where there is no such block.
 pub fn sequence(disk: &Disk<'_>, number: u16) -> u16
     ensures { result ≡ sequence_of (header_on disk.now number) }
 {

@@ -38,6 +38,7 @@ impl Layout {
     ghost use Rattle.ods_space.specs.{Files.IsLayoutOf, Faults.IsLayoutFault};
 
     /// The home block's fields with the blocks of INDEXF.SYS and BITMAP.SYS, and room for the most blocks that INDEXF.SYS may ever have.
+    /// The refusal is for want of memory, or the fault of file 1 or 2: it does not exist, or its chain is not whole.
     pub fn read(alloc: Global, image: &Image, home: Home) -> Result<Layout, LayoutFault>
         requires { IsHomeOf image.now home }
         ensures ok { IfOk result (λ layout. IsLayoutOf image.now layout × (layout.home ≡ home)) }

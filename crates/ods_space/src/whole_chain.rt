@@ -10,7 +10,8 @@ use ods_base::Block;
 use ods_header::{next_number, pointer_sum};
 use std::marker::Model;
 
-/// The headers of a chain, one after another. A contract sees those that are still to come, each with its number.
+/// The headers of a chain, one after another. A contract sees those that are still to come, each with its number. The
+/// chain is known to be whole, so no header is checked again.
 #[derive(Drop)]
 pub struct ChainHeaders<'a> {
     disk: Disk<'a>,

@@ -1,4 +1,5 @@
--- What it gives that a chain has grown: J is the sound volume I with the file grown, and its headers are made as they are to be. K stands between them, with the first header and the taken blocks written.
+-- What follows from a grown chain: J is the sound volume I with the file grown, and its new headers have their form.
+-- K stands between them, with the first header and the taken blocks written.
 use Rattle.std.proofs.Common.{◌≡◌, ◌≢◌, ℕ, zero, suc, ◌+◌, ◌-◌, ◌*◌, ◌/◌, ◌%◌, ◌<◌, ◌≤◌, refl, ap, sym, ◌∙◌, subst, Bool, true, false, cond, get_or, List, [], ◌∷◌, ◌++◌, length, drop, Option, Some, None, arith, inl, inr}
 use Rattle.std.specs.Prelude.{◌⊎◌, ◌&&◌, ◌||◌, not, slice_get, slice_index, IsTrue}
 use Rattle.std.specs.Option.{option_map_or}

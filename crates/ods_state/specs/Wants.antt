@@ -49,7 +49,7 @@ abbrev pub new_headers : ℕ → ℕ → ℕ → ℕ
 new_headers zero room runs = 1 + headers_needed (room / 2) runs
 new_headers (suc headers) room runs = headers_needed (room / 2) runs
 
--- the blocks that are taken, lowest first; the runs that they are cut into; the numbers of new headers, lowest first
+-- the blocks that are taken: the n lowest free ones, lowest first; all that are free where they are fewer
 abbrev pub taken_blocks : List (List ℕ) → VolumeLayout → ℕ → List ℕ
 taken_blocks I L n = take n (free_blocks I L)
 
@@ -57,7 +57,7 @@ taken_blocks I L n = take n (free_blocks I L)
 abbrev pub count_for : List (List ℕ) → VolumeLayout → ℕ → ℕ → ℕ → ℕ
 count_for I L headers room n = new_headers headers room (length (cut (taken_blocks I L n)))
 
--- the numbers of those headers, lowest first: free ones, and then such for which INDEXF.SYS has no block yet
+-- the numbers of the new headers that a file takes to get n blocks, lowest first: free ones, and then such for which INDEXF.SYS has no block yet
 abbrev pub numbers_for : List (List ℕ) → VolumeLayout → ℕ → ℕ → ℕ → List ℕ
 numbers_for I L headers room n = take (count_for I L headers room n) (open_numbers I L)
 
@@ -65,11 +65,11 @@ numbers_for I L headers room n = take (count_for I L headers room n) (open_numbe
 abbrev pub index_growth : VolumeLayout → List ℕ → ℕ
 index_growth L numbers = last_of 0 numbers - last_number L
 
--- those blocks, for these numbers of a file that gets n blocks: the lowest free ones behind the file's own
+-- the blocks that INDEXF.SYS gets for these numbers of a file that gets n blocks: the lowest free ones behind the file's own
 abbrev pub blocks_behind : List (List ℕ) → VolumeLayout → List ℕ → ℕ → List ℕ
 blocks_behind I L numbers n = take (index_growth L numbers) (drop n (free_blocks I L))
 
--- the last header of INDEXF.SYS, which gets the pointers to them
+-- the number of the last header of INDEXF.SYS, which gets the pointers to its new blocks
 abbrev pub index_end : List (List ℕ) → VolumeLayout → ℕ
 index_end I L = last_of 0 (numbers_of (headers_of I L 1))
 
@@ -86,16 +86,19 @@ lack_for I L headers room n = first_of (
     ∷ (nat_lt (length (open_numbers I L)) (count_for I L headers room n) || lacks_places I L (numbers_for I L headers room n) n, refusal.HeadersFull)
     ∷ (nat_lt 256 (headers + count_for I L headers room n), refusal.ChainFull) ∷ [])
 
--- the same of a file with these headers: how many new ones it takes to get n blocks, their numbers, the blocks that INDEXF.SYS gets for them, and what the volume lacks
+-- how many new headers the file with these headers takes to get n blocks
 abbrev pub taken_count : List (List ℕ) → VolumeLayout → List ℕ → ℕ → ℕ
 taken_count I L headers n = count_for I L (length headers) (room_in I L headers) n
 
+-- the numbers of these new headers, lowest first
 abbrev pub taken_numbers : List (List ℕ) → VolumeLayout → List ℕ → ℕ → List ℕ
 taken_numbers I L headers n = numbers_for I L (length headers) (room_in I L headers) n
 
+-- the blocks that INDEXF.SYS gets for these new headers
 abbrev pub index_blocks : List (List ℕ) → VolumeLayout → List ℕ → ℕ → List ℕ
 index_blocks I L headers n = blocks_behind I L (taken_numbers I L headers n) n
 
+-- what the volume lacks for the file with these headers to get n blocks
 abbrev pub lack_of : List (List ℕ) → VolumeLayout → List ℕ → ℕ → Option Refusal
 lack_of I L headers n = lack_for I L (length headers) (room_in I L headers) n
 

@@ -11,7 +11,7 @@ pub fn has_catalogue()
     ensures { HasCatalogue }
 {}
 
-/// It has only one, and entries make only one of it.
+/// A sound image has only one catalogue, and entries make only one of it.
 pub fn catalogue_is_one()
     ensures { CatalogueIsOne }
 {}
@@ -46,12 +46,12 @@ pub fn grown_index_is_sound()
     ensures { GrownIndexIsSound }
 {}
 
-/// Where it grew for a request, the request wants the same, and nothing is lacking.
+/// Where INDEXF.SYS grew for a request, the request wants the same, and nothing is lacking.
 pub fn wants_stay()
     ensures { WantsStay }
 {}
 
-/// And a step of the grown volume is a step of the volume.
+/// A step of the volume with the grown INDEXF.SYS is a step of the volume before.
 pub fn step_behind_growth()
     ensures { StepBehindGrowth }
 {}

@@ -1,4 +1,4 @@
--- What putting a file leaves, for whom.
+-- What putting a file leaves of the volume, for the user and for the file's owner.
 use Rattle.std.proofs.Common.{◌≡◌, refl, sym, subst, Bool, Option, Some, None}
 use Rattle.ods_base.specs.declared.file_id.Uic.{Uic}
 use Rattle.ods_request.specs.declared.requests.Request.{Request}

@@ -1,4 +1,4 @@
--- Directories that mkdir makes: whose they are, and what it leaves of a mounted volume.
+-- Directories that mkdir makes: their owners, and what it leaves of a mounted volume.
 use Rattle.std.specs.Prelude.{◌≡◌, ℕ, zero, suc, List, ◌⊎◌, Option, Some, None}
 use Rattle.ods_base.specs.Name.{RadName, title}
 use Rattle.ods_base.specs.declared.file_id.FileId.{FileId}

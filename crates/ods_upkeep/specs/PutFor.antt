@@ -5,7 +5,7 @@ use Rattle.ods_base.specs.declared.file_id.Uic.{Uic}
 use Rattle.ods_base.specs.Name.{RadName}
 use Rattle.ods_request.specs.declared.requests.Request.{Request}
 use Rattle.ods_request.specs.declared.requests.Request.TheVariants.{Enter}
-use Rattle.ods_filing.specs.Filed.{Filed}
+use Rattle.ods_filing.specs.Filed.{Filed, for_another}
 use Rattle.ods_filing.specs.Led.{IsLed, IsObeyed, Fills}
 use Rattle.ods_records.specs.Attributes.{kind_in}
 use Rattle.ods_records.specs.Faults.{IsFirstFault}
@@ -37,10 +37,6 @@ IsUnfit own bytes (Untyped character) = ⊥
 -- the attributes with the record type and the record attributes of others, and the greater record size of both
 abbrev pub like_greater : List ℕ → List ℕ → List ℕ
 like_greater attributes others = if nat_le (word_at attributes 2) (word_at others 2) then take 4 others ++ drop 4 attributes else take 2 others ++ drop 2 attributes
-
--- the volume, for requests of another user
-abbrev pub for_another : Filed → Uic → Filed
-for_another f user = record { image = f.image; layout = f.layout; user = user }
 
 -- a file is entered
 abbrev pub IsEnter : Request → Type 0

@@ -1,6 +1,6 @@
 //! `mkdir` and `rmdir`: directories are made and removed.
 ghost use Rattle.std.specs.Prelude.{◌≡◌, false, length, IfOk};
-ghost use Rattle.ods_upkeep.specs.{Kinds.MakesDirectories, Kinds.Removes, Left.IsLeft, Made.AreMade, Made.IsCreated, Made.IsMade};
+ghost use Rattle.ods_upkeep.specs.{Kinds.MakesDirectories, Kinds.Removes, Hidden.HidesEntries, Left.IsLeft, Made.AreMade, Made.IsCreated, Made.IsMade};
 
 use crate::asking::{enter, make};
 use crate::copying::begin;
@@ -96,6 +96,7 @@ fn create(
 }
 
 /// Whether the path of a new directory lies below another directory than the master. RSX knows no such directories.
+/// It has no clause.
 pub fn is_below_another(alloc: Global, path: &str) -> bool {
     let Ok(text) = path_text(alloc, path) else {
         return false;
@@ -107,7 +108,9 @@ pub fn is_below_another(alloc: Global, path: &str) -> bool {
 }
 
 /// Where a directory is made: the directory above it, and its name, which is there in no version.
-fn new_place(alloc: Global, volume: &Mounted, path: &str) -> Result<(FileId, Name), Why> {
+fn new_place(alloc: Global, volume: &Mounted, path: &str) -> Result<(FileId, Name), Why>
+    ensures { IfOk result (λ place. ¬ HidesEntries volume.now.image volume.now.layout place.0.number) }
+{
     let text = path_text(alloc, path)?;
     let meant = read_meant(alloc, text.as_bytes())?;
     if has_wildcard(&meant.name) {
@@ -119,13 +122,14 @@ fn new_place(alloc: Global, volume: &Mounted, path: &str) -> Result<(FileId, Nam
         return Err(Why::Request(Refusal::Reserved));
     }
     match found(alloc, volume, &meant, Versions::Every) {
-        Ok(_) => Err(Why::DirectoryThere),
-        Err(Why::Path(PathFault::Nothing)) if hides_entries(alloc, volume, dir.number)? => {
-            Err(Why::Hidden)
-        }
-        Err(Why::Path(PathFault::Nothing)) => Ok((dir, name)),
-        Err(why) => Err(why),
+        Ok(_) => return Err(Why::DirectoryThere),
+        Err(Why::Path(PathFault::Nothing)) => {}
+        Err(why) => return Err(why),
     }
+    if hides_entries(alloc, volume, dir.number)? {
+        return Err(Why::Hidden);
+    }
+    Ok((dir, name))
 }
 
 /// The entries that are meant, in these versions.

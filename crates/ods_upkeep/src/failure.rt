@@ -1,4 +1,4 @@
-//! Why a command is refused, and the path or the file of which.
+//! Why a command is refused, and for which path or file.
 ghost use Rattle.ods_upkeep.specs.Pieces.{HasStatus};
 
 use crate::put_fault::PutFault;
@@ -13,12 +13,16 @@ use thiserror::Error;
 /// Why a command is refused.
 #[derive(Clone, Copy, Debug, PartialEq, Eq, Error)]
 pub enum Why {
+    /// The path is refused for this reason.
     #[error("{0}")]
     Path(PathFault),
+    /// The volume refuses a request of the command for this reason.
     #[error("{}: {}; {}", self.refusal(), self.reason(), self.remedy())]
     Request(Refusal),
+    /// The bytes are no text that can be written as records.
     #[error("{0}")]
     Text(TextFault),
+    /// The host file cannot be put for this reason.
     #[error("{0}")]
     Put(PutFault),
     /// A text, or what a header says, is no name of a file.

@@ -1,13 +1,11 @@
 //! Entries that a directory's end mark hides: they stand in its blocks, behind the mark, and name files.
-ghost use Rattle.std.specs.Prelude.{◌≡◌, ◌*◌, ◌<◌, length, IfOk, MatchBool};
-ghost use Rattle.ods_directory.specs.Entry.{entry_at, is_used};
+ghost use Rattle.std.specs.Prelude.{IfOk, MatchBool};
 ghost use Rattle.ods_mount.specs.{Faults.IsDirectoryFile, Sound.IsSoundBy};
 ghost use Rattle.ods_space.specs.Disks.{on};
-ghost use Rattle.ods_upkeep.specs.Hidden.{HidesEntries, IsUsedBehind};
+ghost use Rattle.ods_upkeep.specs.Hidden.{HidesEntries};
 
 use crate::names::is_directory_file;
-use ods_base::word;
-use ods_directory::{DirBlocks, mark_of};
+use ods_directory::{DirBlocks, has_hidden, mark_of};
 use ods_header::attributes;
 use ods_mount::{FileBlocks, Mounted};
 use ods_space::{ChainFault, Disk, chain, first_header};
@@ -47,26 +45,5 @@ fn directory_hides(alloc: Global, disk: &Disk<'_>, number: u16) -> Result<bool, 
     };
     let blocks = FileBlocks::new(disk.image, &lbns);
     let mark = mark_of(&attributes(header), blocks.count());
-    Ok(is_used_behind(&blocks, mark))
-}
-
-/// Whether an entry at the mark, or behind it, is used.
-fn is_used_behind<B: DirBlocks>(blocks: &B, mark: u64) -> bool
-    ensures { MatchBool result (IsUsedBehind (B.blocks blocks.now) mark) (¬ IsUsedBehind (B.blocks blocks.now) mark) }
-{
-    for k in mark / 16..32 * u64::from(blocks.count()) {
-        if is_used_at(blocks, k) {
-            return true;
-        }
-    }
-    false
-}
-
-/// Whether entry `k` of the blocks is used: whether it has a file number.
-fn is_used_at<B: DirBlocks>(blocks: &B, k: u64) -> bool
-    requires { k < 32 * length (B.blocks blocks.now) }
-    ensures { result ≡ is_used (entry_at (B.blocks blocks.now) k) }
-{
-    let _ = blocks.count();
-    word(blocks.block((k / 32) as u32), 8 * (k % 32) as usize) != 0
+    Ok(has_hidden(&blocks, mark))
 }

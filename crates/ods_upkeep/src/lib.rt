@@ -1,4 +1,6 @@
 //! What the changing commands of `f11fs` do on a volume: which files their paths mean, and which requests they make.
+//! The clauses say which kinds of requests a command makes. Which requests it makes, and when it is refused, has no
+//! clause: `tests/fs_changes` checks that on the built program.
 #![tactic(auto)]
 
 mod asked;

@@ -1,4 +1,4 @@
-//! `mv`: names go to other directories, or become others.
+//! `mv` moves names to other directories, or gives files other names.
 ghost use Rattle.std.specs.Prelude.{IfOk};
 ghost use Rattle.ods_filing.specs.Led.{IsLed};
 ghost use Rattle.ods_upkeep.specs.{Kinds.Renames, Left.IsLeft};
@@ -22,6 +22,7 @@ use std::alloc::Global;
 
 /// Moves names to a directory that is there, or gives one another name. The file is entered under the next version where none is said; then the very
 /// entry that was found goes.
+/// None of its requests changes the bytes of a plain file.
 pub fn move_names(
     alloc: Global,
     volume: Mounted,

@@ -1,4 +1,4 @@
-//! Whose a new directory is.
+//! The owner of a new directory.
 ghost use Rattle.ods_upkeep.specs.Made.{IsOwner};
 
 use crate::found::MASTER;

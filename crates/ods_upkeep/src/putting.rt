@@ -2,7 +2,7 @@
 ghost use Rattle.std.specs.Prelude.{◌≡◌, is_some, Some, None, IfOk};
 ghost use Rattle.ods_base.specs.declared.file_id.Uic.{Uic as Id};
 ghost use Rattle.ods_filing.specs.Led.{IsAsked, IsLed};
-ghost use Rattle.ods_upkeep.specs.{Kinds.Copies, Kinds.Puts, Left.filed_for, PutFor.IsPut, PutFor.IsMadeFor, PutFor.for_another};
+ghost use Rattle.ods_upkeep.specs.{Kinds.Copies, Kinds.Puts, Left.filed_for, PutFor.IsPut, PutFor.IsMadeFor};
 
 use crate::asking::{delete, enter, look_up, next_version, put_new, remove};
 use crate::copying::{begin, target_of};
@@ -143,7 +143,7 @@ impl Putting {
             attributes: written.attributes,
             bytes: written.bytes(),
         };
-        let (filing, id) = put_for(putting.alloc, filing, putting.owner, dir, said, &file)?;
+        let (filing, id) = put_for(filing, putting.owner, dir, said, &file)?;
         if let Some(names) = &mut putting.names {
             names.add(id);
         }
@@ -242,7 +242,6 @@ fn version_of(
 
 /// Puts a new file, and enters it. Where another owner is said, he makes it, and the user who asks enters it.
 fn put_for(
-    alloc: Global,
     filing: Filing,
     owner: Option<Uic>,
     dir: FileId,
@@ -252,14 +251,13 @@ fn put_for(
     ensures { IfOk result (λ made. (owner ≡ None → IsLed Copies filing made.0) × ((id : Id) → owner ≡ Some id → IsMadeFor id filing made.0)) }
 {
     match owner {
-        Some(owner) => put_owned(alloc, filing, owner, dir, version, file),
+        Some(owner) => put_owned(filing, owner, dir, version, file),
         None => put_new(filing, dir, version, file),
     }
 }
 
 /// Puts a new file of this owner, who makes it; the user who asks enters it.
 fn put_owned(
-    alloc: Global,
     filing: Filing,
     owner: Uic,
     dir: FileId,
@@ -275,25 +273,14 @@ fn put_owned(
         return Err(Why::Request(Refusal::VersionsFull));
     }
     let user = filing.user();
-    let filing = for_user(alloc, filing, owner)?;
-    let (filing, made) = put_file(filing, file);
+    let (filing, made) = put_file(filing.for_user(owner), file);
     match made {
         Ok(id) => {
-            let filing = for_user(alloc, filing, user)?;
+            let filing = filing.for_user(user);
             let filing = enter(filing, dir, file.name, version, id)?;
             Ok((filing, id))
         }
         Err(refusal) => Err(Why::Request(refusal)),
-    }
-}
-
-/// The volume, for requests of this user.
-fn for_user(alloc: Global, filing: Filing, user: Uic) -> Result<Filing, Why>
-    ensures { IfOk result (λ new. new ≡ for_another filing user) }
-{
-    match Filing::new(alloc, filing.into_mounted(), user) {
-        Ok(filing) => Ok(filing),
-        Err(error) => Err(error.into()),
     }
 }
 

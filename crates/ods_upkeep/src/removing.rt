@@ -1,4 +1,4 @@
-//! `rm`: names go, and the files for which no name is left.
+//! `rm` removes names, and deletes the files that have no name left.
 ghost use Rattle.std.specs.Prelude.{true, IfOk};
 ghost use Rattle.ods_filing.specs.Led.{IsLed, IsObeyed};
 ghost use Rattle.ods_base.specs.declared.name.Pick.{Pick};
@@ -21,6 +21,7 @@ use std::alloc::Global;
 
 /// Removes entries, and deletes each file that no entry of any directory names any more. A path has to say its versions, or `newest` is asked for. A
 /// file by its ID is deleted where no entry names it. Directories stay.
+/// None of its requests writes a block of a plain file.
 pub fn remove_files(
     alloc: Global,
     volume: Mounted,

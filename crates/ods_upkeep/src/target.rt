@@ -1,4 +1,7 @@
-//! Where names go: a directory, and a name in it where one is said.
+//! The target of a command: a directory, and a name in it where the path has one.
+ghost use Rattle.std.specs.Prelude.{IfOk};
+ghost use Rattle.ods_upkeep.specs.Hidden.{HidesEntries};
+
 use crate::failure::Why;
 use crate::found::{by_names, named};
 use crate::hidden::hides_entries;
@@ -21,7 +24,9 @@ pub(crate) struct Target {
 
 /// The target that a path says: a directory that is there, or a name in one. A directory that hides entries is refused, since a name that is
 /// entered there could be one of them.
-pub(crate) fn read_target(alloc: Global, volume: &Mounted, to: &str) -> Result<Target, Why> {
+pub(crate) fn read_target(alloc: Global, volume: &Mounted, to: &str) -> Result<Target, Why>
+    ensures { IfOk result (λ target. ¬ HidesEntries volume.now.image volume.now.layout target.directory.number) }
+{
     let target = match parse_path(to.as_bytes()) {
         Ok(Path::File(file)) => match named(volume, file) {
             Some(facts) if facts.kind == Kind::Directory => whole(file),

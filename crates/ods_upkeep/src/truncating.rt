@@ -1,4 +1,4 @@
-//! `truncate`: a file ends earlier.
+//! `truncate` cuts a file to fewer bytes.
 ghost use Rattle.std.specs.Prelude.{IfOk};
 ghost use Rattle.ods_filing.specs.Led.{IsLed, IsObeyed};
 ghost use Rattle.ods_upkeep.specs.{Kinds.Cuts, Left.IsLeft};

@@ -1,4 +1,4 @@
--- What a desk with a writer, and a viewer, are to a contract.
+-- What a contract sees of a desk with its writer, and of a viewer.
 use Rattle.std.specs.Prelude.{◌≡◌, ℕ, ◌≤◌, List, [], ◌∷◌, ◌++◌, Option, Result, Ok, Err, fold, length}
 use Rattle.atomic_table.specs.declared.shared.Seat.{Seat}
 use Rattle.left_right.specs.declared.part.Part.{Part}

@@ -1,4 +1,4 @@
-//! What is known of a desk wherever it lies, under a lock too.
+//! The name of a desk, by which contracts know its mounted image and its opening list wherever the desk lies.
 use std::marker::Brand;
 
 /// The name of a desk: which image was mounted, and which entries there were when the desk was opened. Only contracts see it. A program

@@ -11,7 +11,8 @@ pub struct View {
     pub seen: LinkedList<Entry>,
 }
 
-/// The rule for the desk of this name. No value of it is made.
+/// The rule for the desk of this name. No value of it is made. One list of entries leads from the mounted image to the
+/// published version. It begins with the entries of the desk's name and with all that any viewer has seen.
 pub struct Lists<J> {
     of: PhantomData<J>,
 }

@@ -1,4 +1,4 @@
-//! What a desk tells after each request.
+//! The list of a desk after each request, as the desk tells it to its callers.
 ghost use Rattle.std.specs.Prelude.{◌≡◌, length};
 ghost use Rattle.ods_request.specs.Lists.{Begins};
 ghost use Rattle.ods_views.specs.Viewers.{IsOpened, LeadsOn};

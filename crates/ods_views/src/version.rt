@@ -1,4 +1,4 @@
-//! What readers take: the blocks of one moment with their layout, and how many entries led to them.
+//! Versions, which readers take: the blocks of one moment with their layout, and how many entries led to them.
 ghost use Rattle.ods_views.specs.Versions.{led_on};
 
 use left_right::Absorb;

@@ -1,4 +1,4 @@
-//! Who looks beside the lock.
+//! Viewers, which answer queries from the published version and take no lock.
 ghost use Rattle.std.specs.Prelude.{◌≡◌, max, length, vec_len, All, IfOk, MatchResult, Ok, Err};
 ghost use Rattle.left_right.specs.Sides.{view};
 ghost use Rattle.ods_request.specs.Lists.{Begins};
@@ -74,6 +74,7 @@ impl<J: Naming> Viewer<J> {
     }
 
     /// From now on it answers from no fewer entries than it was told of: there are so many in the list that it then has seen.
+    /// A viewer that learns of more entries than its desk ever has answers Closed from then on.
     pub fn learn(&mut self, told: Told<J>)
         ensures { self.new ≡ record self.old { least = max self.old.least (length told) } }
     {
@@ -81,6 +82,8 @@ impl<J: Naming> Viewer<J> {
     }
 
     /// Answers from the version that is published now. It waits for nobody and takes no memory. The answer is moved once, when it is given back.
+    /// The entries that it has seen then begin with those that it had seen before. They are at least as many as it was
+    /// told of. After Closed the viewer is as it was.
     pub fn ask(&mut self, who: Uic, query: Query) -> Result<Answer, ViewFault>
         ensures later { Begins self.old.seen self.new.seen }
         ensures least { self.new.least ≡ self.old.least }
@@ -96,8 +99,8 @@ impl<J: Naming> Viewer<J> {
         result
     }
 
-    /// The same, with the answer written into its place, which stays as it was where there is none. Out of line it has no answer of its own;
-    /// within its caller LLVM makes room for two more.
+    /// Does what [`Viewer::ask`] does, and writes the answer into its place, which stays as it was where there is none.
+    /// Out of line it has no answer of its own; within its caller LLVM makes room for two more.
     #[inline(never)]
     pub fn ask_into(&mut self, who: Uic, query: Query, answer: &mut Answer) -> Result<(), ViewFault>
         ensures later { Begins self.old.seen self.new.seen }
@@ -133,7 +136,8 @@ impl<J: Naming> Viewer<J> {
     }
 }
 
-/// A viewer for each of so many places of this writer's desk, which has seen the opening list.
+/// A viewer for each of so many places of this writer's desk, which has seen the opening list. It was told of nothing
+/// yet.
 pub fn make_viewers<J: Naming>(
     alloc: Global,
     writer: &DeskWriter<J>,

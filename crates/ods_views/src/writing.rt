@@ -14,7 +14,7 @@ use std::sync::Wait;
 /// The writer of a desk with this name.
 pub type DeskWriter<J> = Writer<Version, Change, View, Lists<J>>;
 
-/// The writer over two copies of the volume's blocks.
+/// The writer over two copies of the volume's blocks. It shows the volume, and no change is pending.
 pub fn open_writer<J: Naming>(
     alloc: Global,
     volume: &Volume,
@@ -61,7 +61,8 @@ pub fn add_change<J: Naming>(
     }
 }
 
-/// Shows the pending change, which leads to the blocks of this volume, whose last entry this plan has.
+/// Shows the pending change, which leads to the blocks of this volume, whose last entry this plan has. Then the writer
+/// shows the volume, and no change is pending.
 pub fn publish_change<J: Naming, N: Adding, R: Wait>(
     rt: &R,
     writer: DeskWriter<J>,

@@ -1,4 +1,4 @@
--- How a list of accepted requests is kept: a row for each entry, and what is large of answers in two pools beside the rows.
+-- The form of a list of accepted requests: a row for each entry, and two pools beside the rows for large answers.
 use Rattle.std.specs.Prelude.{◌≡◌, ℕ, ◌<◌, ◌≤◌, List, [], ◌++◌, All, length, slice_index_or}
 use Rattle.ods_request.specs.declared.answers.Answer.{Answer}
 use Rattle.ods_request.specs.declared.answers.Answer.TheVariants as answer

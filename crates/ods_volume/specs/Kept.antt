@@ -1,4 +1,5 @@
--- What a volume is made of, and what it keeps beside what contracts see: the memory of its list is reserved, what the bitmaps have left is counted, and where a file's chain ends may be noted.
+-- The parts of a volume, and what it keeps beside what contracts see: reserved memory for its list, counts of what the
+-- bitmaps have left, and the noted end of a file's chain, if there is one.
 use Rattle.std.specs.Prelude.{◌≡◌, ℕ, ◌≤◌, List, Option, MatchOption}
 use Rattle.ods_alloc.specs.Counts.{Counts, counts_of}
 use Rattle.ods_base.specs.declared.listed.Listed.{Listed}

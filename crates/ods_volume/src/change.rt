@@ -48,7 +48,8 @@ impl Volume {
         prepared.lines
     }
 
-    /// Prepares a request and makes its change.
+    /// Prepares a request and makes its change. At the limit the answer is ListFull. After a refusal nothing has
+    /// changed.
     pub fn request(
         &mut self,
         session: u16,

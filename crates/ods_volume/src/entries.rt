@@ -1,5 +1,5 @@
-//! The list of accepted requests, in little room: a row for each entry, and what is large of answers, the blocks of Reads and what
-//! Stats show, in two pools beside the rows. All memory is taken when the list is made, and a page of a pool is touched by such answers alone.
+//! The list of accepted requests: a row for each entry, and two pools for large answers, blocks of Reads and Stats. The
+//! list takes all its memory when it is made, and large answers alone touch the pages of a pool.
 ghost use Rattle.std.specs.Prelude.{◌≡◌, ◌<◌, ◌↔◌, ◌++◌, ◌∷◌, [], length, vec_capacity, slice_index_or, IsTrue, IfOk, OnErr};
 ghost use Rattle.ods_request.specs.{declared.answers.Entry.Entry, Lines.HasLines};
 ghost use Rattle.ods_request.specs.declared.answers.Answer.TheVariants as Answer;

@@ -10,8 +10,10 @@ use ods_state::KnownEnd;
 use std::alloc::{AllocError, Global};
 use std::marker::Model;
 
-/// A request that is accepted, with its answer, the blocks that it changes, those that INDEXF.SYS gets, and the counts of the bitmaps
-/// afterwards, where they are made anew; and what is noted then of where a file's chain ends. The lines of a directory are there twice, once for the list and once for the caller, so that making the change takes no memory.
+/// A request that is accepted, with its answer, the blocks that it changes, and those that INDEXF.SYS gets. It has the
+/// counts of the bitmaps afterwards, where they are made anew, and what is noted then of where a file's chain ends. The
+/// lines of a directory are there twice, once for the list and once for the caller, so that making the change takes no
+/// memory.
 #[derive(Drop)]
 pub struct Prepared {
     pub(crate) entry: Entry,

@@ -1,5 +1,5 @@
-//! What a request would do, with all the memory that it takes. Here alone the calls of the layers below are made that answer a
-//! request or draft its change.
+//! What a request would do, with all the memory that it takes. This file alone calls what answers a request or drafts
+//! its change in the layers below.
 ghost use Rattle.std.specs.Prelude.{◌≡◌, ◌≢◌, ◌<◌, false, true, length, MatchResult, IfOk, IfErr, IfSome, OnErr, IsErr, Some};
 ghost use Rattle.ods_alloc.specs.Counts.{AreCountsAfter, counts_of};
 ghost use Rattle.ods_space.specs.{Draft.applied, Layout.VolumeLayout};
@@ -240,7 +240,8 @@ fn counts_after(
 }
 
 impl Volume {
-    /// What a request would do, with all the memory that it takes: where it is given, the change itself takes none.
+    /// What a request would do, with all the memory that it takes: where it is given, the change itself takes none. The
+    /// volume does not change.
     pub fn prepare(
         &self,
         session: u16,

@@ -17,7 +17,9 @@ use std::marker::Model;
 
 /// A mounted image that changes by requests, and the list of those that were accepted. What is free is counted for
 /// each block of the bitmaps, so that a request reads none of which nothing is left. Where the chain of the file ends that was
-/// extended last is noted, so that its next Extend does not walk along it.
+/// extended last is noted, so that its next Extend does not walk along it. The image is always sound. It shows what the
+/// entries, one after another, make of the catalogue of the mounted image. The list stays within its limit. No new
+/// file gets an ID of the catalogue's past.
 #[derive(Drop)]
 pub struct Volume {
     pub(crate) mounted: FixedImage,

@@ -1,4 +1,4 @@
-//! What is so of every walk.
+//! The law that a walk from the master directory is complete.
 ghost use Rattle.ods_walk.specs.Complete.{WalksAreComplete};
 
 /// A walk from the master directory has just the entries of the directories to which names lead from there.

@@ -119,6 +119,38 @@ fn failed_reads_are_not_repeated(rt: HostRuntime) {
     assert!(rt; ImageError::ReadFailed.code() == 0);
 }
 
+/// A device that gives one block over and over, and how many bytes it gave.
+#[derive(Drop)]
+struct Endless {
+    block: [u8; 512],
+    at: usize,
+    given: u64,
+}
+
+impl Read for Endless {
+    fn read(&mut self, buf: &mut [u8]) -> io::Result<usize> {
+        let rest = &self.block[self.at.min(512)..];
+        let count = buf.len().min(rest.len());
+        buf[..count].copy_from_slice(&rest[..count]);
+        self.at = (self.at + count) % 512;
+        self.given = self.given.saturating_add(count as u64);
+        Ok(count)
+    }
+}
+
+/// Reading ends one byte behind the largest image, or where memory ends.
+#[test]
+fn a_device_without_an_end_is_too_big(rt: HostRuntime) {
+    let mut reader = Endless {
+        block: [0x5a; 512],
+        at: 0,
+        given: 0,
+    };
+    let fault = Image::read_from(rt.alloc(), &mut reader).err();
+    assert!(rt; fault == Some(ImageError::TooBig) || fault == Some(ImageError::NoMemory));
+    assert!(rt; reader.given <= 536_870_913);
+}
+
 /// An image of 300 blocks of the byte 3.
 fn image_of_threes(alloc: Global) -> Result<Image, Fail> {
     let bytes = vec![in alloc; 3; 300 * 512]?;

@@ -1,7 +1,7 @@
 //! Devices that fail once, at each call in turn, while a sound image is read, answered and written: how the run ends, and what went out before.
 use super::check_runs::NoGate;
 use crate::volumes::sample_of;
-use ods_base::WriteFault;
+use ods_base::{Image, WriteFault};
 use ods_cli::{Options, ServeFault, serve};
 use ods_request::Stamp;
 use std::alloc::Global;
@@ -146,7 +146,35 @@ fn written_until<R: Threads + Wait + Sync>(
     Ok((ended, out.ok_or("a writer")?))
 }
 
-/// 40 blocks are 2,560 pieces. What went out are the first bytes of the image, and the fault counts them. Of the calls in between some are tried.
+/// Whether what went out until this call failed are the first bytes of the image, and the fault counts them.
+fn has_first_bytes(image: &[u8], call: u32, ended: Option<WriteFault>, taken: &Device) -> bool {
+    let written = 8 * (call as u64 - 1);
+    ended == Some(WriteFault { written })
+        && taken.calls == call
+        && taken.bytes.len() as u64 == written
+        && image.starts_with(&taken.bytes)
+}
+
+/// 40 blocks are 2,560 pieces, and each of them fails.
+#[test]
+fn each_piece_of_an_image_fails(rt: HostRuntime) -> Result<(), Fail> {
+    let bytes = sample_of(40).image_bytes(rt.alloc())?;
+    let image = Image::from_bytes(rt.alloc(), &bytes)?;
+    for call in 1..=2_560u32 {
+        for failing in [Failing::Error, Failing::Nothing] {
+            let mut taken = Device::of(Vec::new(rt.alloc()), 8, call);
+            taken.failing = failing;
+            let ended = image.write_to(&mut taken).err();
+            assert!(rt;
+                has_first_bytes(&bytes, call, ended, &taken),
+                "at call {call}"
+            );
+        }
+    }
+    Ok(())
+}
+
+/// What a run leaves where a piece of the image fails: of the 2,560 calls some are tried.
 #[test]
 fn each_write_of_the_image_fails(rt: HostRuntime) -> Result<(), Fail> {
     let image = sample_of(40).image_bytes(rt.alloc())?;
@@ -157,17 +185,12 @@ fn each_write_of_the_image_fails(rt: HostRuntime) -> Result<(), Fail> {
             Failing::Error
         };
         let (ended, taken) = written_until(&rt, &image, call, failing, rt.alloc())?;
-        let written = 8 * (call as u64 - 1);
+        let ended = match ended {
+            Some(ServeFault::WriteOut(fault)) => Some(fault),
+            _ => None,
+        };
         assert!(rt;
-            ended == Some(ServeFault::WriteOut(WriteFault { written })),
-            "at call {call}"
-        );
-        assert!(rt;
-            taken.calls == call && taken.bytes.len() as u64 == written,
-            "at call {call}"
-        );
-        assert!(rt;
-            image.as_slice().starts_with(&taken.bytes),
+            has_first_bytes(&image, call, ended, &taken),
             "at call {call}"
         );
     }

@@ -25,4 +25,5 @@ returns-clause-file c =
       free = λ b t. told_still P free end (Plain (MarkedFree n b)) later (c.in_ok-push_free.ensures.free b t);
       places = λ k t. told_still P places end (Index (HeldPlace k n)) last (c.in_ok-push_places.ensures.places k t);
       names = c.in_ok-push_names.ensures.names;
+      twins = c.in_ok-push_names.ensures.twins;
     }

@@ -4,7 +4,7 @@ use Rattle.ods_base.specs.Image.{block_at}
 use Rattle.ods_space.specs.Chain.{index_for}
 use Rattle.ods_space.proofs.Sizes.{chain_size}
 use Rattle.ods_mount.specs.Faults.{contents_of, mark_at}
-use Rattle.ods_check.specs.Hidden.{HasHidden}
+use Rattle.ods_directory.specs.Hidden.{HasHidden}
 use Rattle.ods_check.proofs.Directories.{moved, hiding_is}
 use Rattle.ods_check.proofs.hidden.hides_in.Goals as goal
 use Rattle.ods_check.proofs.hidden.hides_in.Goals.{After-mark_of-mark}
@@ -24,5 +24,5 @@ found c P =
 pub returns : goal.returns
 returns c =
     let all = (goal.at.returns c).After-mark_of-mark in
-    hiding_is c.args.disk.now.image.now c.args.disk.now.layout.now c.args.number c.args.lbns.now c.hides.result c.requires.whole c.requires.directory
-    (found all (λ bs m. MatchBool c.hides.result (HasHidden bs m) (¬ HasHidden bs m)) c.hides.ensures)
+    hiding_is c.args.disk.now.image.now c.args.disk.now.layout.now c.args.number c.args.lbns.now c.has_hidden.result c.requires.whole c.requires.directory
+    (found all (λ bs m. MatchBool c.has_hidden.result (HasHidden bs m) (¬ HasHidden bs m)) c.has_hidden.ensures)

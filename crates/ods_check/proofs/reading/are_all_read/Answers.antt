@@ -2,7 +2,7 @@ use Rattle.std.proofs.Common.{◌≡◌, inl, inr, ap, subst, arith}
 use Rattle.std.proofs.lemmas.Bool.{cases_lt}
 use Rattle.ods_mount.proofs.Holders.{file_small}
 use Rattle.ods_check.specs.Findings.{IsRead}
-use Rattle.ods_check.proofs.Directories.{read_without}
+use Rattle.ods_check.proofs.Directories.{read_none}
 use Rattle.ods_check.proofs.Telling.{true_holds, false_fails}
 use Rattle.ods_check.proofs.reading.are_all_read.Goals as goal
 
@@ -26,9 +26,9 @@ returns c =
     let L = c.args.disk.now.layout.now in
     λ n. elim (cases_lt n c.loop-number.number) [
       | inl less ↦ c.loop-number.invariant n less
-      | inr more ↦ read_without I L n (λ blocks has. absurd (
+      | inr more ↦ read_none I L n (λ file. absurd (
           let end = c.loop-number-test.false in
           let last = ap (λ h. h.max_files) c.home.ensures in
-          let small = file_small I L n has.file in
+          let small = file_small I L n file in
           omega arith))
     ]

@@ -1,4 +1,4 @@
-use Rattle.std.proofs.Common.{arith}
+use Rattle.std.proofs.Common.{◌∙◌, arith}
 use Rattle.ods_space.specs.Chain.{index_for}
 use Rattle.ods_space.proofs.Sizes.{chain_size}
 use Rattle.ods_check.specs.declared.fault_line.FaultLine.TheVariants.{Shared}
@@ -25,3 +25,12 @@ count_of-count-requires-clause-few c =
     let has = c.requires.whole in
     let small = chain_size c.args.disk.now.image.now c.args.disk.now.layout.now.home (index_for c.args.disk.now.layout.now c.args.one) c.args.one has.others c.args.lbns.now c.len.ensures.image has.whole.chain in
     omega arith
+
+pub returns-in_default-clause-stamps : goal.returns-in_default-clause-stamps
+returns-in_default-clause-stamps c = record { size = c.requires.size; low = λ i. let below = c.requires.stamps i in omega arith }
+
+pub returns-in_err-push-clause-stamps : goal.returns-in_err-push-clause-stamps
+returns-in_err-push-clause-stamps c = record { size = c.count_of-count.ensures.size ∙ c.requires.size; low = c.count_of-count.ensures.counted }
+
+pub returns-clause-stamps : goal.returns-clause-stamps
+returns-clause-stamps c = record { size = c.count_of-count.ensures.size ∙ c.requires.size; low = c.count_of-count.ensures.counted }

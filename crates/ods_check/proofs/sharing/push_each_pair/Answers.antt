@@ -1,15 +1,20 @@
-use Rattle.std.proofs.Common.{arith}
+use Rattle.std.proofs.Common.{ℕ, ◌+◌, ◌*◌, List, sym, ap, ◌∙◌, subst, arith}
+use Rattle.ods_mount.specs.Tables.{has}
 use Rattle.ods_check.specs.Faults.{TellsPair}
+use Rattle.ods_check.specs.Holders.{IsStamped}
+use Rattle.ods_check.specs.declared.fault_line.FaultLine.{FaultLine}
 use Rattle.ods_check.specs.Lines.{IsLineOf}
-use Rattle.ods_check.proofs.Pairs.{told_pair_still}
-use Rattle.ods_check.proofs.Sweeping.{sweeps_none, sweeps_more}
+use Rattle.ods_check.proofs.Adding.{adds_none}
+use Rattle.ods_check.proofs.Holding.{stamped_more}
+use Rattle.ods_check.proofs.Pairs.{told_pair_still, pair_apart}
+use Rattle.ods_check.proofs.Sweeping.{Sweeps, sweeps_none, sweeps_more}
 use Rattle.ods_check.proofs.sharing.push_each_pair.Goals as goal
+use Rattle.ods_check.proofs.sharing.push_each_pair.Goals.{then-contains+in_ok-push_pair, else-contains}
 
 pub loop-one-init : goal.loop-one-init
 loop-one-init c = record {
   sweeps = sweeps_none (IsLineOf c.args.disk.now.image.now c.args.disk.now.layout.now) (λ m found. TellsPair c.args.disk.now.image.now c.args.disk.now.layout.now found m c.args.number) c.args.faults.now;
-  size = c.requires.size;
-  counted = λ i. let zero = c.requires.counted i in omega arith;
+  stamps = stamped_more _ _ _ _ c.requires.stamps (omega arith);
 }
 
 pub loop-one-preserved : goal.loop-one-preserved
@@ -19,13 +24,24 @@ loop-one-preserved c =
     let n = c.args.number in
     let P = IsLineOf I L in
     let mid = c.loop-one.faults in
-    let new = c.push_pair.new.faults in
-    let adds = c.in_ok-push_pair.ensures.adds in
-    record {
-      sweeps = sweeps_more P (λ m found. TellsPair I L found m n) c.args.faults.now mid new c.loop-one.one (λ m. told_pair_still I L P mid new adds m n) c.loop-one.invariant.sweeps adds c.in_ok-push_pair.ensures.told;
-      size = c.push_pair.ensures.size;
-      counted = c.push_pair.ensures.counted;
-    }
+    let Q : List FaultLine × ℕ → Type 0 = λ new. Sweeps P (λ m found. TellsPair I L found m n) c.args.faults.now new (c.loop-one.one + 1) in
+    let R : List ℕ → Type 0 = λ stamps. IsStamped I stamps (65536 * n + (c.loop-one.one + 1)) in
+    elim c.if-contains.branch [
+      | then-contains+in_ok-push_pair w ↦
+          let new = w.push_pair.new.faults in
+          let adds = w.in_ok-push_pair.ensures.adds in
+          record {
+            sweeps = subst Q (sym w.faults-is) (sweeps_more P (λ m found. TellsPair I L found m n) c.args.faults.now mid new c.loop-one.one (λ m. told_pair_still I L P mid new adds m n) c.loop-one.invariant.sweeps adds w.in_ok-push_pair.ensures.told);
+            stamps = subst R (sym w.stamps-is) (stamped_more _ _ _ _ w.push_pair.ensures.stamps (omega arith));
+          }
+      | else-contains w ↦
+          let adds = adds_none P mid in
+          record {
+            sweeps = subst Q (sym w.faults-is) (sweeps_more P (λ m found. TellsPair I L found m n) c.args.faults.now mid mid c.loop-one.one (λ m told. told) c.loop-one.invariant.sweeps adds
+                (pair_apart I L mid.0 c.loop-one.one n c.args.near.now c.loop-one-test.true c.requires.near (ap (has c.args.near.now) (sym c.from.ensures) ∙ sym c.contains.ensures ∙ w.if-contains.false)));
+            stamps = subst R (sym w.stamps-is) (stamped_more _ _ _ _ c.loop-one.invariant.stamps (omega arith));
+          }
+    ]
 
 pub returns-clause-told : goal.returns-clause-told
 returns-clause-told c m low = let end = c.loop-one-test.false in c.loop-one.invariant.sweeps.told m (omega arith)

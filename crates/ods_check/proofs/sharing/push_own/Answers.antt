@@ -1,5 +1,5 @@
-use Rattle.std.proofs.Common.{◌<◌, ℕ, List, subst, sym, arith}
-use Rattle.std.specs.Prelude.{slice_index}
+use Rattle.std.proofs.Common.{arith}
+use Rattle.ods_check.proofs.Holding.{stamped_more}
 use Rattle.ods_check.proofs.Pairs.{none_twice, shared_of_own}
 use Rattle.ods_check.proofs.sharing.push_own.Goals as goal
 
@@ -17,8 +17,8 @@ insert_twice-requires-clause-twice c k d low =
     let size = c.len-2.ensures.value in
     omega arith
 
-pub push_common-requires-clause-counted : goal.push_common-requires-clause-counted
-push_common-requires-clause-counted c i =
-    let zero = c.in_ok-counted.ensures.zeros i in
-    let P : List ℕ → Type 0 = λ l. slice_index l i < 1 in
-    subst P (sym c.deref_mut.ensures.value) (omega arith)
+pub push_common-requires-clause-stamps : goal.push_common-requires-clause-stamps
+push_common-requires-clause-stamps c i = let low = c.requires.stamps.low i in omega arith
+
+pub returns-then-is_new-clause-stamps : goal.returns-then-is_new-clause-stamps
+returns-then-is_new-clause-stamps c = stamped_more _ _ _ _ c.requires.stamps (omega arith)

@@ -11,8 +11,17 @@ push_common-requires-clause-whole c = subst (HasBlocks c.args.disk.now.image.now
 pub push_common-requires-clause-shared : goal.push_common-requires-clause-shared
 push_common-requires-clause-shared c = shared_of_pair c.args.disk.now.image.now c.args.disk.now.layout.now c.args.one c.args.other c.args.own.now c.requires.before c.requires.own
 
-pub push_common-requires-clause-counted : goal.push_common-requires-clause-counted
-push_common-requires-clause-counted c i = let low = c.requires.counted i in omega arith
+pub push_common-requires-clause-stamps : goal.push_common-requires-clause-stamps
+push_common-requires-clause-stamps c i = let low = c.requires.stamps.low i in omega arith
+
+pub returns-in-Err-NoMemory-clause-stamps : goal.returns-in-Err-NoMemory-clause-stamps
+returns-in-Err-NoMemory-clause-stamps c = record { size = c.requires.stamps.size; low = λ i. let below = c.requires.stamps.low i in omega arith }
+
+pub returns-in-Err-BadChain-clause-stamps : goal.returns-in-Err-BadChain-clause-stamps
+returns-in-Err-BadChain-clause-stamps c = record { size = c.requires.stamps.size; low = λ i. let below = c.requires.stamps.low i in omega arith }
+
+pub returns-in-Err-OutsideVolume-clause-stamps : goal.returns-in-Err-OutsideVolume-clause-stamps
+returns-in-Err-OutsideVolume-clause-stamps c = record { size = c.requires.stamps.size; low = λ i. let below = c.requires.stamps.low i in omega arith }
 
 pub returns-in-Err-BadChain-clause-told : goal.returns-in-Err-BadChain-clause-told
 returns-in-Err-BadChain-clause-told c =

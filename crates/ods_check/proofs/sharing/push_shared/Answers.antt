@@ -1,10 +1,8 @@
-use Rattle.std.proofs.Common.{◌≡◌, ℕ, ◌*◌, ◌≤◌, length, inl, inr, sym, ap, subst, arith}
+use Rattle.std.proofs.Common.{◌≡◌, ℕ, ◌≤◌, inl, inr, ap, subst, arith}
 use Rattle.std.proofs.lemmas.Bool.{cases_lt}
 use Rattle.ods_check.specs.Lines.{IsLineOf}
 use Rattle.ods_mount.proofs.Holders.{file_small}
-use Rattle.ods_check.specs.Findings.{HasBlock}
 use Rattle.ods_check.proofs.Adding.{adds_none, adds_more}
-use Rattle.ods_check.proofs.Noting.{files_none}
 use Rattle.ods_check.proofs.Others.{TellsOr, has_none, others_more, tells_or_still}
 use Rattle.ods_check.proofs.sharing.push_shared.Goals as goal
 
@@ -12,14 +10,12 @@ pub loop-number-init : goal.loop-number-init
 loop-number-init c =
     let I = c.args.disk.now.image.now in
     let L = c.args.disk.now.layout.now in
-    let room = c.in_ok-held.ensures.room in
-    let size = c.len.ensures.value in
+    let first = c.in_ok-before.ensures in
     record {
       adds = adds_none (IsLineOf I L) c.args.faults.now;
       told = λ n low. absurd (omega arith);
       others = has_none I L c.args.faults.now c.args.others.now c.requires.none;
-      files = files_none (HasBlock I L) c.in_ok-held.held c.in_ok-held.ensures.empty;
-      room = omega arith;
+      before = record { held = first.held; room = first.room; noted = λ some. first.noted (λ never. never); lists = first.lists; stamps = first.stamps };
     }
 
 pub loop-number-preserved : goal.loop-number-preserved
@@ -32,7 +28,6 @@ loop-number-preserved c =
     let xs = c.loop-number.others in
     let ys = c.push_shared_of.new.others in
     let e = c.in_ok-push_shared_of.ensures in
-    let P : ℕ → Type 0 = λ l. length I ≤ 64 * l in
     record {
       adds = adds_more (IsLineOf I L) c.args.faults.now mid new c.loop-number.invariant.adds e.adds;
       told = λ n low m within. elim (cases_lt n k) [
@@ -43,8 +38,7 @@ loop-number-preserved c =
             subst Q is (e.told m) within
       ];
       others = others_more I L (IsLineOf I L) mid new k xs ys e.adds e.others c.args.others.now c.loop-number.invariant.others;
-      files = e.held;
-      room = subst P (sym e.room) c.loop-number.invariant.room;
+      before = e.before;
     }
 
 pub returns-clause-all : goal.returns-clause-all

@@ -1,8 +1,7 @@
-use Rattle.std.proofs.Common.{ℕ, ◌*◌, ◌<◌, ◌≤◌, length}
-use Rattle.ods_check.specs.Lists.{Adds}
+use Rattle.std.proofs.Common.{ℕ, ◌<◌, ◌≤◌}
+use Rattle.ods_check.specs.Holders.{IsBefore}
+use Rattle.ods_check.specs.Lists.{Adds, IsFull}
 use Rattle.ods_check.specs.Lines.{IsLineOf}
-use Rattle.ods_check.specs.Findings.{HasBlock}
-use Rattle.ods_check.proofs.Noting.{IsOfFiles}
 use Rattle.ods_check.proofs.Others.{TellsOr, HasOthers}
 use Rattle.ods_check.proofs.sharing.push_shared.Given as goal
 
@@ -11,6 +10,5 @@ invariant-loop-number l = record {
   adds : Adds (IsLineOf l.fn.disk.image.now l.fn.disk.layout.now) l.initial.faults l.faults;
   told : (n : ℕ) → n < l.number → (m : ℕ) → m ≤ n → TellsOr l.fn.disk.image.now l.fn.disk.layout.now l.faults l.others m n;
   others : HasOthers l.fn.disk.image.now l.fn.disk.layout.now l.faults l.initial.others l.others l.number;
-  files : IsOfFiles (HasBlock l.fn.disk.image.now l.fn.disk.layout.now) l.number l.held;
-  room : length l.fn.disk.image.now ≤ 64 * length l.held;
+  before : IsBefore l.fn.disk.image.now l.fn.disk.layout.now (IsFull l.faults) l.number l.before;
 }

@@ -31,4 +31,4 @@ here c =
 pub returns : goal.returns
 returns c =
     let is = here (goal.at.returns c).After-mark_of-mark in
-    hides_as c.args.disk.now.image.now c.args.disk.now.layout.now c.args.number c.in-Ok.lbns.items _ _ c.is_used_behind.result c.requires.directory c.in-Ok.ensures.ok is c.is_used_behind.ensures
+    hides_as c.args.disk.now.image.now c.args.disk.now.layout.now c.args.number c.in-Ok.lbns.items _ _ c.has_hidden.result c.requires.directory c.in-Ok.ensures.ok is c.has_hidden.ensures
