@@ -1,5 +1,5 @@
 -- Whether a directory hides entries, by the blocks and the end mark at hand.
-use Rattle.std.proofs.Common.{◌≡◌, ℕ, subst, Bool, true, false, List}
+use Rattle.std.proofs.Common.{ℕ, subst, Bool, true, false, List}
 use Rattle.std.specs.Prelude.{MatchBool}
 use Rattle.ods_space.specs.Layout.{VolumeLayout}
 use Rattle.ods_space.specs.Files.{HasBlocks}

@@ -2,11 +2,11 @@
 use Rattle.std.proofs.Common.{◌≡◌, refl, sym, subst, Bool, Option, Some, None}
 use Rattle.ods_base.specs.declared.file_id.Uic.{Uic}
 use Rattle.ods_request.specs.declared.requests.Request.{Request}
-use Rattle.ods_filing.specs.Filed.{Filed}
+use Rattle.ods_filing.specs.Filed.{Filed, for_another}
 use Rattle.ods_filing.specs.Led.{Fills, IsLed, IsObeyed}
 use Rattle.ods_filing.proofs.Led.{allows_more, then_led}
 use Rattle.ods_upkeep.specs.Kinds.{Copies, Puts}
-use Rattle.ods_upkeep.specs.PutFor.{for_another, IsEnter, IsMadeFor, IsPut}
+use Rattle.ods_upkeep.specs.PutFor.{IsEnter, IsMadeFor, IsPut}
 use Rattle.ods_upkeep.proofs.Lists.{copies_puts}
 
 -- requests of the user, and then the file
