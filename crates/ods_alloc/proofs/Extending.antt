@@ -3,11 +3,11 @@ use Rattle.std.proofs.Common.{◌≡◌, ◌≢◌, ℕ, zero, suc, ◌+◌, ◌
 use Rattle.std.specs.Prelude.{slice_index}
 use Rattle.std.specs.Option.{option_map_or}
 use Rattle.std.specs.List.{Contains, flat_map}
-use Rattle.std.proofs.lemmas.Bool.{cases_eq, ltb-true, or_right, or_left, ne_eqb, eq-eqb}
+use Rattle.std.proofs.lemmas.Bool.{cases_eq, cases_lt, ltb-true, or_right, or_left, ne_eqb, eq-eqb}
 use Rattle.std.proofs.lemmas.List.Folds.{list_any-append, list_any_at, list_any_none}
 use Rattle.std.proofs.lemmas.List.Elements.{Contains-append_left, Contains-append_right, All-cons}
 use Rattle.std.proofs.lemmas.Option.{same_Some, get_or_from_slice_get}
-use Rattle.std.proofs.lemmas.List.{append-nil, length-drop, length-take, get_or_default}
+use Rattle.std.proofs.lemmas.List.{append-nil, drop_all, length-drop, length-take, get_or_default}
 use Rattle.std.proofs.lemmas.List.Concat.{flat_map-append}
 use Rattle.ods_base.specs.Block.{byte, has_bit}
 use Rattle.ods_base.specs.Image.{block_at}
@@ -16,9 +16,9 @@ use Rattle.ods_header.specs.Header.{IsValidHeader, map_word, segment_of, sequenc
 use Rattle.ods_space.specs.Layout.{VolumeLayout, place_of, header_at, is_in_use}
 use Rattle.ods_space.specs.Chain.{IsChain}
 use Rattle.ods_space.specs.Free.{is_covered, storage_bit}
-use Rattle.ods_header.specs.Pointing.{KeepsFields, BeginsPointers}
+use Rattle.ods_header.specs.Pointing.{KeepsFields, KeepsRest, BeginsPointers}
 use Rattle.ods_header.specs.Extension.{IsExtensionOf}
-use Rattle.ods_alloc.specs.Extend.{IsWellPlaced, CanExtend, Extends, IsIndexBitmap, IsStorageBitmap, is_one_of, with_in_use, last_of, cut}
+use Rattle.ods_alloc.specs.Extend.{IsWellPlaced, CanExtend, EndsClean, Extends, IsIndexBitmap, IsStorageBitmap, is_one_of, with_in_use, last_of, cut}
 use Rattle.ods_alloc.specs.Extension.{IsMade, WritesHeaders, first_number, first_sequence}
 use Rattle.ods_header.specs.Pointing.{IsGrown}
 use Rattle.ods_alloc.specs.Marks.{MarksNumbers, MarksBlocks}
@@ -29,6 +29,7 @@ use Rattle.ods_alloc.proofs.Places.{place_not_index, place_not_storage, bitmaps_
 use Rattle.ods_alloc.proofs.FreeTests.{IsFreeNumber, free_number}
 use Rattle.ods_alloc.proofs.Chained.{follows, first_valid, first_link, first_covered, same_header, others_in_use, last_link, last_names_none, not_new, last_valid}
 use Rattle.ods_alloc.proofs.Fields.{new_runs, all_links, old_runs, whole_runs, last_in, made_full, extension_stays}
+use Rattle.ods_alloc.proofs.Rests.{rest_still}
 use Rattle.ods_alloc.proofs.Longer as longer
 
 take_bits : (a b c : Bool) → cond a true (cond b true c) ≡ (c || (a || b))
@@ -237,6 +238,20 @@ module _ (I C J1 J2 J3 J4 : List (List ℕ)) (L : VolumeLayout) (n : ℕ) (other
     | inr other ↦ ([], ap runs_of (old_link m k link other) ∙ sym (append-nil (runs_of (header_at I L m))))
   ]
 
+  rest_link : (m k : ℕ) → IsLink C L m k → KeepsRest (header_at I L m) (header_at J4 L m)
+  rest_link m k link = elim (cases_eq m (last_of n others)) [
+    | inl e ↦ let P : ℕ → Type 0 = λ x. KeepsRest (header_at I L x) (header_at J4 L x) in subst P (sym e) grown.rest
+    | inr other ↦ rest_still (header_at I L m) (header_at J4 L m) (old_link m k link other)
+  ]
+
+  clean_at : (i : ℕ) → i < length numbers → EndsClean (header_at J4 L (get_or numbers i 0))
+  clean_at i below e =
+      let made = made_at i below in
+      made.next_sequence ∙ elim (cases_lt (i + 1) (length numbers)) [
+        | inl within ↦ let low = (free_at (i + 1) within).low in let at = first_at numbers (i + 1) within in let named = made.next_number in absurd (omega (arith, at, e, named))
+        | inr past ↦ ap (first_sequence I L) (drop_all (i + 1) numbers past)
+      ]
+
   size_link : (m k : ℕ) → IsLink C L m k → length (header_at J4 L m) ≡ length (header_at I L m)
   size_link m k link = elim (cases_eq m (last_of n others)) [
     | inl e ↦ let P : ℕ → Type 0 = λ x. length (header_at J4 L x) ≡ length (header_at I L x) in subst P (sym e) grown.size
@@ -255,11 +270,13 @@ module _ (I C J1 J2 J3 J4 : List (List ℕ)) (L : VolumeLayout) (n : ℕ) (other
         ∙ whole_runs (flat_map (λ m. runs_of (header_at I L m)) (n ∷ others)) runs (room_of (header_at I L (last_of n others)) / 2) ∙ ap (λ l. flat_map (λ m. runs_of (header_at I L m)) (n ∷ others) ++ l) cuts;
     stays = all_links C L (λ m. KeepsFields (header_at I L m) (header_at J4 L m)) keeps_link others 0 n [] all (follows I C L n others all places high is chain);
     begins = all_links C L (λ m. BeginsPointers (header_at I L m) (header_at J4 L m)) begins_link others 0 n [] all (follows I C L n others all places high is chain);
+    rest = all_links C L (λ m. KeepsRest (header_at I L m) (header_at J4 L m)) rest_link others 0 n [] all (follows I C L n others all places high is chain);
     sizes = all_links C L (λ m. length (header_at J4 L m) ≡ length (header_at I L m)) size_link others 0 n [] all (follows I C L n others all places high is chain);
     made = λ i d below.
         let P : ℕ → Type 0 = λ m. IsExtensionOf (header_at J4 L n) (header_at J4 L m) in
         subst P (get_or_default numbers i 0 d below) (extension_stays (header_at I L n) (header_at J4 L n) (header_at J4 L (get_or numbers i 0)) n (first_valid I C L n others all places high is chain) (size_link n 0 (first_link I C L n others all places high is chain))
         (keeps_link n 0 (first_link I C L n others all places high is chain)) (made_at i below).extension);
+    clean = λ i d below. let P : ℕ → Type 0 = λ m. EndsClean (header_at J4 L m) in subst P (get_or_default numbers i 0 d below) (clean_at i below);
     filled = filled;
     last_volume = λ none. grown.volume (ap first_number none);
     sequences = λ i d below.

@@ -56,8 +56,8 @@ unfolding runs_of
 made_full f b n valid extension count =
     let size = length-map-range_with_len (run_at b) 0 (used_words_of b / 2) in
     let even = valid.header.layout.even in
-    let map : map_word b ≡ 46 = extension.form.1 in
-    let most : most_words_of b ≡ 204 = extension.form.2 in
+    let map : map_word b ≡ 46 = extension.form.map in
+    let most : most_words_of b ≡ 204 = extension.form.most in
     omega (arith, size, count)
 
 -- an extension of a header is one of the header with other pointers

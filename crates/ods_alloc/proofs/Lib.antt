@@ -1,4 +1,5 @@
 pub mod Cuts
+pub mod Rests
 pub mod OneBit
 pub mod ManyBits
 pub mod Places

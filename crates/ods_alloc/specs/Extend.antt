@@ -8,9 +8,9 @@ use Rattle.ods_base.specs.Image.{block_at}
 use Rattle.ods_header.specs.declared.home.Home.{Home}
 use Rattle.ods_header.specs.declared.header.Run.{Run}
 use Rattle.ods_header.specs.Extension.{IsExtensionOf}
-use Rattle.ods_header.specs.Pointing.{KeepsFields, BeginsPointers}
+use Rattle.ods_header.specs.Pointing.{KeepsFields, KeepsRest, BeginsPointers}
 use Rattle.ods_header.specs.Writing.{deleted}
-use Rattle.ods_header.specs.Header.{next_volume_of, runs_of, room_of, sequence_of}
+use Rattle.ods_header.specs.Header.{next_number_of, next_sequence_of, next_volume_of, runs_of, room_of, sequence_of}
 use Rattle.ods_space.specs.Layout.{VolumeLayout, header_at, place_of, is_in_use}
 use Rattle.ods_space.specs.Chain.{IsChain}
 use Rattle.ods_space.specs.Draft.{Changes, applied}
@@ -92,6 +92,10 @@ pub record ChangesOnly (I : List (List ℕ)) (L : VolumeLayout) (numbers : List 
   pub size : length J ≡ length I
   pub others : (lbn : ℕ) → ¬ IsBookkeeping L numbers lbn → block_at J lbn ≡ block_at I lbn
 
+-- where the header names no next one, M.EFSQ is 0 too
+abbrev pub EndsClean : List ℕ → Type 0
+EndsClean b = next_number_of b ≡ 0 → next_sequence_of b ≡ 0
+
 -- J is I with the chain of n, which was n and then `others` with the blocks `all`, grown by these blocks and these extension headers.
 pub record Extends (I : List (List ℕ)) (L : VolumeLayout) (n : ℕ) (others all blocks numbers : List ℕ) (J : List (List ℕ)) : Type 0 where
   pub chain : IsChain J L n (others ++ numbers) (all ++ blocks)
@@ -100,8 +104,10 @@ pub record Extends (I : List (List ℕ)) (L : VolumeLayout) (n : ℕ) (others al
   -- headers that were there stay what they were, each with its own pointers first, and new ones are made in one form
   pub stays : All (λ m. KeepsFields (header_at I L m) (header_at J L m)) (n ∷ others)
   pub begins : All (λ m. BeginsPointers (header_at I L m) (header_at J L m)) (n ∷ others)
+  pub rest : All (λ m. KeepsRest (header_at I L m) (header_at J L m)) (n ∷ others)
   pub sizes : All (λ m. length (header_at J L m) ≡ length (header_at I L m)) (n ∷ others)
   pub made : All (λ m. IsExtensionOf (header_at J L n) (header_at J L m)) numbers
+  pub clean : All (λ m. EndsClean (header_at J L m)) numbers
   -- the old last header and each new one but the last are full
   pub filled : (i m : ℕ) → i < length numbers → slice_get (last_of n others ∷ numbers) i ≡ Some m → room_of (header_at J L m) / 2 ≡ 0
   -- where no new one follows, the last header names the volume that it named

@@ -5,7 +5,6 @@ use Rattle.std.specs.List.{Contains}
 use Rattle.ods_base.specs.Image.{IsImage}
 use Rattle.ods_base.specs.declared.file_id.Uic.{Uic}
 use Rattle.ods_header.specs.Header.{sequence_of}
-use Rattle.ods_header.specs.declared.home.Home.{Home}
 use Rattle.ods_space.specs.Layout.{VolumeLayout, header_at, with_places}
 use Rattle.ods_space.specs.Files.{IsFile}
 use Rattle.ods_mount.specs.Faults.{contents_of}

@@ -5,6 +5,7 @@ use Rattle.ods_base.specs.Name.{RadName}
 use Rattle.ods_base.specs.declared.file_id.FileId.{FileId}
 use Rattle.ods_base.specs.declared.file_id.Uic.{Uic}
 use Rattle.ods_header.specs.Header.{IsValidHeader, map_word, most_words_of, room_of, run_at, runs_of, used_words_of}
+use Rattle.ods_header.proofs.Made.{zeros_behind}
 use Rattle.ods_space.specs.Layout.{VolumeLayout, header_at}
 use Rattle.ods_state.specs.Growth.{IsNewFirst}
 use Rattle.ods_change.specs.Creating.{IsNewHeaderFor, new_id}
@@ -28,8 +29,15 @@ new_first I L n who protection id name version count stamp b is h =
       valid = subst (λ m. IsValidHeader b m) number h.valid;
       segment = ap (λ f. f.segment) h.fields;
       alone = ap (λ f. f.next.number) h.fields;
+      clean = ap (λ f. f.next.sequence) h.fields;
       pointers = none;
       room = whole_room b id.number h.valid none map most;
-      form = (ap (λ f. f.ident_offset) h.fields, map, most, ap (λ f. f.next_volume) h.fields);
+      form = record {
+        ident = ap (λ f. f.ident_offset) h.fields;
+        map = map;
+        most = most;
+        volume = ap (λ f. f.next_volume) h.fields;
+        rest = zeros_behind b id.number 0 h.valid map (ap length none) h.rest;
+      };
       sequence = ap (λ f. f.file.sequence) h.fields ∙ ap (λ f. f.sequence) is;
     }

@@ -8,6 +8,7 @@ use Rattle.ods_base.specs.declared.file_id.FileId.{FileId}
 use Rattle.ods_base.specs.declared.file_id.Uic.{Uic}
 use Rattle.ods_header.specs.First.{first_header}
 use Rattle.ods_header.specs.Header.{IsValidHeader, header_of, sequence_of}
+use Rattle.ods_header.specs.Writing.{AreZeros}
 use Rattle.ods_space.specs.Layout.{VolumeLayout, header_at}
 use Rattle.ods_alloc.specs.Extend.{Extends}
 use Rattle.ods_request.specs.Steps.{new_ident}
@@ -22,6 +23,7 @@ new_id I L n = record { number = n; sequence = sequence_of (header_at I L n) + 1
 -- b is the first header of a new file of this user, under this ID
 pub record IsNewHeaderFor (who : Uic) (protection : ℕ) (id : FileId) (name : RadName) (version count : ℕ) (stamp b : List ℕ) : Type 0 where
   pub valid : IsValidHeader b id.number
+  pub rest : AreZeros b 102 510
   pub fields : header_of b ≡ first_header id who protection (new_attributes name count) (new_ident name version stamp)
 
 -- J is I with file n made: b is written as its first header and zeros as the blocks that it takes, and then its chain grows by them

@@ -1,10 +1,10 @@
 -- The last header of a chain, with more pointers and a link to a next header.
-use Rattle.std.proofs.Common.{◌≡◌, ◌≢◌, ℕ, ◌+◌, ◌*◌, ◌/◌, ◌≤◌, min, List, length, take, refl, ap, ◌∙◌, subst, arith, inl, inr}
+use Rattle.std.proofs.Common.{◌≡◌, ◌≢◌, ℕ, ◌+◌, ◌*◌, ◌/◌, ◌≤◌, min, List, length, take, refl, sym, ap, ◌∙◌, subst, arith, inl, inr}
 use Rattle.std.proofs.lemmas.List.{length-take, take_min}
 use Rattle.ods_base.specs.Block.{byte}
 use Rattle.ods_header.specs.declared.header.Run.{Run}
-use Rattle.ods_header.specs.Header.{IsValidHeader, IsLaidOut, runs_of, map_word, used_words_of, most_words_of, next_number_of, next_volume_of, room_of}
-use Rattle.ods_header.specs.Pointing.{KeepsFields, IsWithRuns, IsWithNext, IsGrown}
+use Rattle.ods_header.specs.Header.{IsValidHeader, IsLaidOut, runs_of, map_word, used_words_of, most_words_of, next_number_of, next_sequence_of, next_volume_of, room_of}
+use Rattle.ods_header.specs.Pointing.{KeepsFields, KeepsRest, IsWithRuns, IsWithNext, IsGrown}
 
 map_kept : (b c : List ℕ) → IsLaidOut b → KeepsFields b c → map_word c ≡ map_word b
 map_kept b c laid kept = let p = laid.ident in let q = laid.map in kept 1 (inl (omega arith))
@@ -43,6 +43,24 @@ volume_stays b c runs laid appended kept =
     let low = laid.low in
     ap (λ k. byte c (2 * k + 1)) (map_kept b c laid kept) ∙ appended.others (2 * map_word b + 1) (omega arith) (λ e. absurd (omega arith)) (inl (omega arith))
 
+sequence_stays : (b c : List ℕ) (runs : List Run) → IsLaidOut b → IsWithRuns b runs c → KeepsFields b c → next_sequence_of c ≡ next_sequence_of b
+sequence_stays b c runs laid appended kept =
+    let m = map_kept b c laid kept in
+    let low = laid.low in
+    let first : byte c (2 * (map_word c + 2)) ≡ byte b (2 * (map_word b + 2)) = ap (λ k. byte c (2 * (k + 2))) m ∙ appended.others (2 * (map_word b + 2)) (omega arith) (λ e. absurd (omega arith)) (inl (omega arith)) in
+    let second : byte c (2 * (map_word c + 2) + 1) ≡ byte b (2 * (map_word b + 2) + 1) = ap (λ k. byte c (2 * (k + 2) + 1)) m ∙ appended.others (2 * (map_word b + 2) + 1) (omega arith) (λ e. absurd (omega arith)) (inl (omega arith)) in
+    λ i. first i + 256 * second i
+
+-- what stands behind the pointers stays where pointers are appended
+rest_behind_runs : (b c : List ℕ) (runs : List Run) → IsLaidOut b → IsWithRuns b runs c → KeepsFields b c → KeepsRest b c
+rest_behind_runs b c runs laid appended kept =
+    let m = map_kept b c laid kept in let used = appended.used in
+    record {
+      further = omega arith;
+      behind = λ i at below. appended.others i below (λ e. absurd (omega arith)) (inr (omega arith));
+      none = λ e. (sym (next_stays b c runs laid appended kept) ∙ e, sequence_stays b c runs laid appended kept);
+    }
+
 -- the pointers that have room, where they were cut to those that there are
 pub as_many_as_fit : (b c : List ℕ) (runs : List Run) (n room : ℕ) → n ≡ min room (length runs) → room ≡ room_of b / 2 → IsWithRuns b (take n runs) c → IsWithRuns b (take (room_of b / 2) runs) c
 as_many_as_fit b c runs n room least is appended =
@@ -61,6 +79,7 @@ grown_alone b c runs number n s valid appended kept stays none =
       linked = λ some. absurd (some none);
       alone = λ e. next_stays b c (take (room_of b / 2) runs) laid appended kept;
       volume = λ e. volume_stays b c (take (room_of b / 2) runs) laid appended kept;
+      rest = rest_behind_runs b c (take (room_of b / 2) runs) laid appended kept;
     }
 
 pub grown_linked : (b c d : List ℕ) (runs : List Run) (number n s : ℕ) → IsValidHeader b number → IsWithRuns b (take (room_of b / 2) runs) c → KeepsFields b c → ((m : ℕ) → IsValidHeader b m → IsValidHeader c m)
@@ -80,4 +99,13 @@ grown_linked b c d runs number n s valid appended kept stays next again same las
       linked = λ e. (next.number, next.volume, next.sequence);
       alone = λ none. absurd (some none);
       volume = λ none. absurd (some none);
+      rest =
+          let before = rest_behind_runs b c (take (room_of b / 2) runs) laid appended kept in
+          let m = map_kept c d mid again in
+          let further = before.further in
+          record {
+            further = omega arith;
+            behind = λ i at below. next.others i below (inr (omega arith)) ∙ before.behind i (omega arith) below;
+            none = λ e. absurd (some (sym next.number ∙ e));
+          };
     }

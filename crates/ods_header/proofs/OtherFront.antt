@@ -1,11 +1,11 @@
 -- A header that changes only in its user characteristics, its attributes and its sum: it stays valid, and keeps every
 -- other field.
-use Rattle.std.proofs.Common.{◌≡◌, ℕ, ◌+◌, ◌-◌, ◌*◌, ◌/◌, ◌<◌, ◌≤◌, ◌⊎◌, List, length, inl, inr, refl, ap, ◌∙◌, arith}
+use Rattle.std.proofs.Common.{◌≡◌, ℕ, ◌+◌, ◌-◌, ◌*◌, ◌/◌, ◌<◌, ◌≤◌, ◌⊎◌, List, length, inl, inr, refl, sym, ap, ◌∙◌, arith}
 use Rattle.std.specs.Prelude.{min, slice_range}
 use Rattle.ods_base.specs.Block.{IsBlock, byte, word, sum_of, with_bytes}
 use Rattle.ods_base.proofs.Blocks.{byte-with_bytes, byte-with_bytes_before, byte-with_bytes_behind}
 use Rattle.ods_header.specs.Header.{IsValidHeader, IsLaidOut, attributes_of, header_of, ident_ext_of, ident_of, ident_word, map_word, most_words_of, room_of, runs_of, segment_of, system_char_of, used_words_of, user_char_of}
-use Rattle.ods_header.specs.Pointing.{KeepsForm}
+use Rattle.ods_header.specs.Pointing.{KeepsForm, KeepsRest}
 use Rattle.ods_header.specs.Writing.{with_sum}
 use Rattle.ods_header.proofs.HeaderPlaces.{same_runs}
 use Rattle.ods_header.proofs.Ranges.{same_range}
@@ -91,6 +91,16 @@ module _ {b c : List ℕ} {a e : ℕ} (w : IsOtherWithin b c a e) where
 
     pub room_kept : room_of c ≡ room_of b
     room_kept = λ i. min (most_is i) ((510 - (2 * map_word_is i + 10)) / 2) - used_is i
+
+    -- the link, M.USE and what is behind the pointers stand in the tail, which stays
+    pub rest_kept : KeepsRest b c
+    rest_kept =
+        let p = laid.ident in let q = laid.map in let m = map_word_is in let u = used_is in
+        record {
+          further = omega arith;
+          behind = λ i from below. tail i (omega arith) below;
+          none = λ e. (sym (map_words 1 (omega arith)) ∙ e, map_words 2 (omega arith));
+        }
 
     pub form_kept : KeepsForm b c
     form_kept i (inl low) = head i low

@@ -5,6 +5,8 @@ use Rattle.ods_base.specs.declared.file_id.FileId.{FileId}
 use Rattle.ods_header.specs.declared.header.Run.{Run}
 use Rattle.ods_header.specs.declared.header.Header.{Header}
 use Rattle.ods_header.specs.Header.{attributes_of, ident_of, ident_word, map_word, most_words_of, next_volume_of}
+use Rattle.ods_header.specs.Pointing.{behind_pointers}
+use Rattle.ods_header.specs.Writing.{AreZeros}
 
 -- the fields of a new extension header of the file with this first header: its owner, protection and ident, no characteristics and no attributes
 abbrev pub extension_of : Header → FileId → ℕ → FileId → List Run → Header
@@ -25,9 +27,13 @@ extension_of first file segment next runs = record {
   pointers = record { items = runs };
 }
 
--- b has the form that this software gives to a header: the ident at word 23, the map at word 46, room for 204 words of pointers; and a next one is on this volume
-abbrev pub IsMadeHeader : List ℕ → Type 0
-IsMadeHeader b = (ident_word b ≡ 23) × (map_word b ≡ 46) × (most_words_of b ≡ 204) × (next_volume_of b ≡ 0)
+-- b has the form that this software gives to a header: the ident at word 23, the map at word 46, room for 204 words of pointers, and zeros behind the pointers; and a next one is on this volume
+pub record IsMadeHeader (b : List ℕ) : Type 0 where
+  pub ident : ident_word b ≡ 23
+  pub map : map_word b ≡ 46
+  pub most : most_words_of b ≡ 204
+  pub volume : next_volume_of b ≡ 0
+  pub rest : AreZeros b (behind_pointers b) 510
 
 -- b is an extension header as this software makes it, for a file whose first header is f
 pub record IsExtensionOf (f b : List ℕ) : Type 0 where

@@ -25,6 +25,12 @@ behind_pointers b = 2 * map_word b + 10 + 2 * used_words_of b
 abbrev pub link_bytes : ℕ → ℕ → List ℕ
 link_bytes number sequence = 0 ∷ (number % 256) ∷ (number / 256) ∷ (sequence % 256) ∷ (sequence / 256) ∷ []
 
+-- c keeps of header b what stands where no pointer does: the bytes behind the pointers, up to the sum, and M.EFSQ where no header is next. It has no fewer pointers, and a next header where b has one.
+pub record KeepsRest (b c : List ℕ) : Type 0 where
+  pub further : behind_pointers b ≤ behind_pointers c
+  pub behind : (i : ℕ) → behind_pointers c ≤ i → i < 510 → byte c i ≡ byte b i
+  pub none : next_number_of c ≡ 0 → (next_number_of b ≡ 0) × (next_sequence_of c ≡ next_sequence_of b)
+
 -- c is the header block b with these pointers behind its own: M.USE counts them, the sum is made anew, and every other byte stays
 pub record IsWithRuns (b : List ℕ) (runs : List Run) (c : List ℕ) : Type 0 where
   pub size : length c ≡ length b
@@ -52,3 +58,4 @@ pub record IsGrown (b : List ℕ) (runs : List Run) (n s : ℕ) (c : List ℕ) :
   pub linked : n ≢ 0 → (next_number_of c ≡ n) × (next_volume_of c ≡ 0) × (next_sequence_of c ≡ s)
   pub alone : n ≡ 0 → next_number_of c ≡ next_number_of b
   pub volume : n ≡ 0 → next_volume_of c ≡ next_volume_of b
+  pub rest : KeepsRest b c

@@ -15,12 +15,13 @@ use Rattle.ods_base.specs.Block.{byte, has_bit}
 use Rattle.ods_base.specs.Image.{block_at}
 use Rattle.ods_header.specs.Extension.{IsExtensionOf, IsMadeHeader}
 use Rattle.ods_header.specs.Header.{IsValidHeader, map_word, next_volume_of, room_of, runs_of, segment_of, sequence_of}
-use Rattle.ods_header.specs.Pointing.{BeginsPointers, KeepsFields, KeepsForm}
+use Rattle.ods_header.specs.Pointing.{BeginsPointers, KeepsFields, KeepsForm, KeepsRest}
 use Rattle.ods_space.specs.Layout.{VolumeLayout, place_of, header_at, is_in_use}
 use Rattle.ods_space.specs.Chain.{Follows, IsChain, index_for}
 use Rattle.ods_space.specs.Free.{is_covered, storage_bit}
-use Rattle.ods_alloc.specs.Extend.{Extends, IsBookkeeping, chain_runs, cut, is_one_of, last_of}
+use Rattle.ods_alloc.specs.Extend.{EndsClean, Extends, IsBookkeeping, chain_runs, cut, is_one_of, last_of}
 use Rattle.ods_alloc.proofs.Fields.{all_links}
+use Rattle.ods_alloc.proofs.Rests.{rest_on, rest_still}
 use Rattle.ods_alloc.proofs.Places.{place_not_index, place_not_storage, place_once, stands_in_storage}
 use Rattle.ods_mount.specs.Sound.{IsSoundBy}
 use Rattle.ods_state.specs.Change.{disk}
@@ -54,15 +55,17 @@ form_on b c d n valid form kept i at =
     ]) ∙ form i at
 
 -- a made header whose fields are kept is one, where it names no other volume
-made_on : (b c : List ℕ) → KeepsFields b c → IsMadeHeader b → next_volume_of c ≡ 0 → IsMadeHeader c
-made_on b c kept made volume =
-    let place = made.1 in
-    let map : map_word c ≡ map_word b = kept 1 (inl (omega arith)) in (
-      kept 0 (inl (omega arith)) ∙ made.0,
-      map ∙ made.1,
-      ap (λ k. byte c (2 * k + 9)) map ∙ kept (2 * map_word b + 9) (inr (inr (inr refl))) ∙ made.2,
-      volume,
-    )
+made_on : (b c : List ℕ) → KeepsFields b c → KeepsRest b c → IsMadeHeader b → next_volume_of c ≡ 0 → IsMadeHeader c
+made_on b c kept rest made volume =
+    let place = made.map in let further = rest.further in
+    let map : map_word c ≡ map_word b = kept 1 (inl (omega arith)) in
+    record {
+      ident = kept 0 (inl (omega arith)) ∙ made.ident;
+      map = map ∙ made.map;
+      most = ap (λ k. byte c (2 * k + 9)) map ∙ kept (2 * map_word b + 9) (inr (inr (inr refl))) ∙ made.most;
+      volume = volume;
+      rest = λ i from below. rest.behind i from below ∙ made.rest i (omega arith) below;
+    }
 
 -- one more list behind the last header of a chain, by places
 at_last : (n : ℕ) (os ns : List ℕ) (i j : ℕ) → i ≡ length os + j → slice_get (n ∷ os ++ ns) i ≡ slice_get (last_of n os ∷ ns) j
@@ -104,6 +107,9 @@ module _ (I K J : List (List ℕ)) (L : VolumeLayout) (S : IsSoundBy I L) (n : �
   -- the first header keeps its fields
   pub first_fields : KeepsFields (header_at K L n) (header_at J L n)
   first_fields = e.stays 0 n (omega arith)
+
+  first_rest : KeepsRest (header_at K L n) (header_at J L n)
+  first_rest = e.rest 0 n (omega arith)
 
   pub first_valid : IsValidHeader (header_at K L n) n
   first_valid = by which
@@ -161,6 +167,13 @@ module _ (I K J : List (List ℕ)) (L : VolumeLayout) (S : IsSoundBy I L) (n : �
       by : (m ≡ n) ⊎ (m ≢ n) → KeepsForm (header_at I L m) (header_at K L m)
       by (inl is) = subst (λ x. KeepsForm (header_at I L x) (header_at K L x)) (sym is) o.kept.form
       by (inr other) = λ i at. ap (λ b. byte b i) (same_header m other)
+
+  rest_before : Old → (m : ℕ) → KeepsRest (header_at I L m) (header_at K L m)
+  rest_before o m = by (cases_eq m n)
+    where
+      by : (m ≡ n) ⊎ (m ≢ n) → KeepsRest (header_at I L m) (header_at K L m)
+      by (inl is) = subst (λ x. KeepsRest (header_at I L x) (header_at K L x)) (sym is) o.kept.rest
+      by (inr other) = rest_still (header_at I L m) (header_at K L m) (same_header m other)
 
   runs_before : Old → (m : ℕ) → runs_of (header_at K L m) ≡ runs_of (header_at I L m)
   runs_before o = field_before runs_of o.kept.pointers
@@ -281,6 +294,20 @@ module _ (I K J : List (List ℕ)) (L : VolumeLayout) (S : IsSoundBy I L) (n : �
           (more.0, more.1 ∙ ap (λ l. l ++ more.0) (runs_before o m))
       by (inr f) = absurd (no_header f m c)
 
+  rest_stays : (m : ℕ) → Contains headers m → KeepsRest (header_at I L m) (header_at J L m)
+  rest_stays m c = by which
+    where
+      by : Old ⊎ New → KeepsRest (header_at I L m) (header_at J L m)
+      by (inl o) = rest_on (header_at I L m) (header_at K L m) (header_at J L m) (rest_before o m) (All-contains (λ x. KeepsRest (header_at K L x) (header_at J L x)) written m e.rest (among o m c))
+      by (inr f) = absurd (no_header f m c)
+
+  ends_clean : (m : ℕ) → Contains (taken_numbers I L headers count) m → EndsClean (header_at J L m)
+  ends_clean m c = by (number_from m c)
+    where
+      by : (New × (m ≡ n)) ⊎ Contains numbers m → EndsClean (header_at J L m)
+      by (inl p) = subst (λ x. EndsClean (header_at J L x)) (sym p.1) (λ none. (first_rest.none none).1 ∙ p.0.made.clean)
+      by (inr c') = All-contains (λ x. EndsClean (header_at J L x)) numbers m e.clean c'
+
   -- the first header of a new file names no other volume: it names a new header, or none as it did
   first_volume : New → next_volume_of (header_at J L n) ≡ 0
   first_volume f = by numbers refl
@@ -291,7 +318,7 @@ module _ (I K J : List (List ℕ)) (L : VolumeLayout) (S : IsSoundBy I L) (n : �
       by : (ns : List ℕ) → numbers ≡ ns → next_volume_of (header_at J L n) ≡ 0
       by [] is =
           let last : last_of n (drop 1 headers) ≡ n = ap (last_of n) none in
-          subst (λ m. next_volume_of (header_at J L m) ≡ next_volume_of (header_at K L m)) last (e.last_volume is) ∙ f.made.form.3
+          subst (λ m. next_volume_of (header_at J L m) ≡ next_volume_of (header_at K L m)) last (e.last_volume is) ∙ f.made.form.volume
       by (m ∷ ms) is =
           let chain : Follows J L.home (Some L.index) [] 0 n (m ∷ ms) (old ++ taken_blocks I L count) =
           subst (λ l. Follows J L.home (Some L.index) [] 0 n l (old ++ taken_blocks I L count)) (ap (λ l. l ++ numbers) none ∙ is) (chain_in J (drop 1 headers ++ numbers) (old ++ taken_blocks I L count) e.chain) in
@@ -301,7 +328,7 @@ module _ (I K J : List (List ℕ)) (L : VolumeLayout) (S : IsSoundBy I L) (n : �
   new_form m c = by (number_from m c)
     where
       by : (New × (m ≡ n)) ⊎ Contains numbers m → IsMadeHeader (header_at J L m)
-      by (inl p) = subst (λ x. IsMadeHeader (header_at J L x)) (sym p.1) (made_on (header_at K L n) (header_at J L n) first_fields p.0.made.form (first_volume p.0))
+      by (inl p) = subst (λ x. IsMadeHeader (header_at J L x)) (sym p.1) (made_on (header_at K L n) (header_at J L n) first_fields first_rest p.0.made.form (first_volume p.0))
       by (inr c') = (All-contains (λ x. IsExtensionOf (header_at J L n) (header_at J L x)) numbers m e.made c').form
 
   extension : (first m : ℕ) → slice_get (headers ++ taken_numbers I L headers count) 0 ≡ Some first → Contains (taken_numbers I L headers count) m → m ≢ first → IsExtensionOf (header_at J L first) (header_at J L m)
@@ -350,8 +377,10 @@ module _ (I K J : List (List ℕ)) (L : VolumeLayout) (S : IsSoundBy I L) (n : �
     stays = λ k d below. form_stays (get_or headers k d) (Contains-get_or headers k d below);
     others = λ k d below. fields_stay (get_or (drop 1 headers) k d) (Contains-get_or (drop 1 headers) k d below);
     begins = λ k d below. pointers_begin (get_or headers k d) (Contains-get_or headers k d below);
+    rest = λ k d below. rest_stays (get_or headers k d) (Contains-get_or headers k d below);
     form = λ k d below. let m : ℕ = get_or (taken_numbers I L headers count) k d in new_form m (Contains-get_or (taken_numbers I L headers count) k d below);
     made = extension;
+    clean = λ k d below. let m : ℕ = get_or (taken_numbers I L headers count) k d in ends_clean m (Contains-get_or (taken_numbers I L headers count) k d below);
     filled = full;
     last_volume = last_names;
   }

@@ -3,7 +3,7 @@ use Rattle.std.proofs.Common.{◌≡◌, ℕ, ap, sym, List}
 use Rattle.std.specs.List.{flat_map}
 use Rattle.ods_header.specs.declared.header.Header.{Header}
 use Rattle.ods_header.specs.Header.{IsValidHeader, attributes_of, header_of, run_blocks, user_char_of}
-use Rattle.ods_header.proofs.OtherFront.{IsOtherWithin, fields_kept, form_kept, room_kept, runs_kept, stays_valid}
+use Rattle.ods_header.proofs.OtherFront.{IsOtherWithin, fields_kept, form_kept, rest_kept, room_kept, runs_kept, stays_valid}
 use Rattle.ods_state.specs.Growth.{IsKeptFirst}
 use Rattle.ods_state.specs.Links.{SameLinks}
 
@@ -42,6 +42,7 @@ module _ {b c : List ℕ} {a e : ℕ} (w : IsOtherWithin b c a e) (n : ℕ) (val
     links = links_to;
     back = links_back;
     form = form_kept w valid.header.layout;
+    rest = rest_kept w valid.header.layout;
     pointers = runs_kept w valid.header.layout;
     room = room_kept w valid.header.layout;
   }

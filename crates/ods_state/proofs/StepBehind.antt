@@ -13,7 +13,7 @@ use Rattle.ods_base.specs.declared.file_id.FileId.{FileId}
 use Rattle.ods_base.specs.declared.file_id.Uic.{Uic}
 use Rattle.ods_header.specs.Header.{attributes_of, blocks_of, map_word, next_number_of, next_volume_of, runs_of}
 use Rattle.ods_header.specs.declared.header.Run.{Run}
-use Rattle.ods_header.specs.Pointing.{BeginsPointers, IsWithRuns, KeepsFields, KeepsForm, behind_pointers}
+use Rattle.ods_header.specs.Pointing.{BeginsPointers, IsWithRuns, KeepsFields, KeepsForm, KeepsRest, behind_pointers}
 use Rattle.ods_space.specs.Layout.{VolumeLayout, header_at, header_by, last_number, place_of}
 use Rattle.ods_space.specs.Chain.{Follows, headers_along, headers_of, numbers_of}
 use Rattle.ods_space.specs.Files.{HasBlocks, Holds, IsWhole}
@@ -232,8 +232,10 @@ module _ (I K J : List (List ℕ)) (L : VolumeLayout) (headers old : List ℕ) (
         stays = λ i d low. subst (λ b. KeepsForm b (header_at J M (get_or headers i d))) (own_same (get_or headers i d) (Contains-get_or headers i d low)) (m.stays i d low);
         others = λ i d low. subst (λ b. KeepsFields b (header_at J M (get_or (drop 1 headers) i d))) (own_same (get_or (drop 1 headers) i d) (behind_first headers (get_or (drop 1 headers) i d) (Contains-get_or (drop 1 headers) i d low))) (m.others i d low);
         begins = λ i d low. subst (λ b. BeginsPointers b (header_at J M (get_or headers i d))) (own_same (get_or headers i d) (Contains-get_or headers i d low)) (m.begins i d low);
+        rest = λ i d low. subst (λ b. KeepsRest b (header_at J M (get_or headers i d))) (own_same (get_or headers i d) (Contains-get_or headers i d low)) (m.rest i d low);
         form = m.form;
         made = m.made;
+        clean = m.clean;
         filled = m.filled;
         last_volume = λ none first behind is. m.last_volume none first behind is ∙ ap next_volume_of (own_same (last_of first behind) (subst (λ l. Contains l (last_of first behind)) (sym is) (last_in first behind)));
       }

@@ -4,8 +4,8 @@ use Rattle.std.specs.Prelude.{◌≡◌, ◌≢◌, ◌⊎◌, ℕ, ◌+◌, ◌
 use Rattle.std.specs.List.{Contains}
 use Rattle.ods_base.specs.Image.{block_at}
 use Rattle.ods_header.specs.Extension.{IsMadeHeader}
-use Rattle.ods_header.specs.Header.{IsValidHeader, next_number_of, room_of, runs_of, segment_of, sequence_of}
-use Rattle.ods_header.specs.Pointing.{KeepsForm}
+use Rattle.ods_header.specs.Header.{IsValidHeader, next_number_of, next_sequence_of, room_of, runs_of, segment_of, sequence_of}
+use Rattle.ods_header.specs.Pointing.{KeepsForm, KeepsRest}
 use Rattle.ods_space.specs.Layout.{VolumeLayout, header_at, place_of}
 use Rattle.ods_space.specs.Chain.{IsChain}
 use Rattle.ods_space.specs.Files.{IsFile}
@@ -35,6 +35,7 @@ pub record IsKeptFirst (b c : List ℕ) (n : ℕ) : Type 0 where
   pub links : SameLinks b c n
   pub back : SameLinks c b n
   pub form : KeepsForm b c
+  pub rest : KeepsRest b c
   pub pointers : runs_of c ≡ runs_of b
   pub room : room_of c ≡ room_of b
 
@@ -43,6 +44,7 @@ pub record IsNewFirst (b c : List ℕ) (n : ℕ) : Type 0 where
   pub valid : IsValidHeader c n
   pub segment : segment_of c ≡ 0
   pub alone : next_number_of c ≡ 0
+  pub clean : next_sequence_of c ≡ 0
   pub pointers : runs_of c ≡ []
   pub room : room_of c ≡ 204
   pub form : IsMadeHeader c

@@ -5,10 +5,10 @@ use Rattle.ods_base.specs.Block.{zeros}
 use Rattle.ods_base.specs.Image.{block_at}
 use Rattle.ods_header.specs.Extension.{IsExtensionOf, IsMadeHeader}
 use Rattle.ods_header.specs.Header.{attributes_of, next_volume_of, room_of}
-use Rattle.ods_header.specs.Pointing.{BeginsPointers, IsWithRuns, KeepsFields, KeepsForm}
+use Rattle.ods_header.specs.Pointing.{BeginsPointers, IsWithRuns, KeepsFields, KeepsForm, KeepsRest}
 use Rattle.ods_space.specs.Files.{HasBlocks}
 use Rattle.ods_space.specs.Layout.{Disk, header_at, last_number}
-use Rattle.ods_alloc.specs.Extend.{cut, last_of}
+use Rattle.ods_alloc.specs.Extend.{EndsClean, cut, last_of}
 use Rattle.ods_directory.specs.declared.slot.Slot.{Slot}
 use Rattle.ods_directory.specs.Entry.{entry_at, is_used}
 use Rattle.ods_directory.specs.Mark.{IsSlot, grown, marked, written}
@@ -25,9 +25,13 @@ pub record AreMade (D E : Disk) (headers numbers : List ℕ) : Type 0 where
   pub stays : All (λ m. KeepsForm (header_on D m) (header_on E m)) headers
   pub others : All (λ m. KeepsFields (header_on D m) (header_on E m)) (drop 1 headers)
   pub begins : All (λ m. BeginsPointers (header_on D m) (header_on E m)) headers
+  -- what stands behind their pointers stays, and M.EFSQ where no header is next
+  pub rest : All (λ m. KeepsRest (header_on D m) (header_on E m)) headers
   -- new ones have one form, and each but the first of the file is an extension header of it
   pub form : All (λ m. IsMadeHeader (header_on E m)) numbers
   pub made : (first m : ℕ) → slice_get (headers ++ numbers) 0 ≡ Some first → Contains numbers m → m ≢ first → IsExtensionOf (header_on E first) (header_on E m)
+  -- a new one that names no next header names no sequence number
+  pub clean : All (λ m. EndsClean (header_on E m)) numbers
   -- a header is full before a new one follows it
   pub filled : (i m : ℕ) → length headers ≤ i + 1 → i + 1 < length (headers ++ numbers) → slice_get (headers ++ numbers) i ≡ Some m → room_of (header_on E m) / 2 ≡ 0
   -- where no new one follows, the last one names the volume that it named

@@ -1,4 +1,4 @@
-use Rattle.std.proofs.Common.{arith, ap}
+use Rattle.std.proofs.Common.{arith}
 use Rattle.ods_change.proofs.TakingBlocks.{last_at}
 use Rattle.ods_change.proofs.taking.index_growth.Goals as goal
 

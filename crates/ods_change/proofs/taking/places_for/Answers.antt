@@ -1,4 +1,4 @@
-use Rattle.std.proofs.Common.{◌≡◌, ◌+◌, ◌-◌, ◌≤◌, ◌<◌, ℕ, List, length, take, drop, refl, ap, sym, ◌∙◌, subst, inl, inr, arith}
+use Rattle.std.proofs.Common.{◌≡◌, ◌-◌, length, take, drop, refl, ap, sym, ◌∙◌, inr, arith}
 use Rattle.ods_space.specs.Free.{free_blocks}
 use Rattle.ods_alloc.specs.Extend.{cut}
 use Rattle.ods_state.specs.Wants.{index_growth}
