@@ -98,6 +98,18 @@ def ring_volume():
     return it
 
 
+def second_master_volume():
+    """A volume with a directory 000000.DIR that is not the master directory, with one in it."""
+    it = Volume()
+    it.directory(4, "000000.DIR;1", ("000000.DIR;1", 6, 1), ("X.TXT;1", 9, 1))
+    it.directory(6, "000000.DIR;1", ("A.DIR;1", 7, 1), ("Y.TXT;1", 10, 1))
+    it.directory(7, "A.DIR;1", ("Z.TXT;1", 11, 1))
+    it.file(9, "X.TXT;1", variable(b"x"))
+    it.file(10, "Y.TXT;1", variable(b"y"))
+    it.file(11, "Z.TXT;1", variable(b"z"))
+    return it
+
+
 def index_volume(places, free=(), blocks=80):
     """A volume with these blocks of INDEXF.SYS; `free` are those that are not its own any more."""
     it = Volume(blocks)
@@ -168,4 +180,4 @@ def more_images():
     long = changed(changed(long.bytes(), 2 + 9, 94, b"\x1b\0\1\0"), 2 + 27, 92, b"\1")
     bits = [changed(plain, 2, 0, bytes([plain[2 * BLOCK] & ~(1 << bit)]), has_sum=False) for bit in (0, 1, 3)]
     rest = {"noindex": bits[0], "nomap": bits[1], "nomaster": bits[2], "badentry": changed(plain, 46, 14, b"\0", has_sum=False), "outside": changed(plain, 2 + 9, 104, b"\xc8\0")}
-    return {**rest, "later": changed(later.bytes(), 2 + 26, 92, b"\1"), "doubly": doubly.bytes(), "long": long, "ring": ring_volume().bytes(), "shut": shut_volume().bytes(), "names": names_volume().bytes(), "few": few.bytes(), "stale": stale, "twonames": same.bytes(), "broken": changed(plain, 2 + 9, 94, b"\x1e\0\1\0")}
+    return {**rest, "later": changed(later.bytes(), 2 + 26, 92, b"\1"), "doubly": doubly.bytes(), "long": long, "ring": ring_volume().bytes(), "zeros": second_master_volume().bytes(), "shut": shut_volume().bytes(), "names": names_volume().bytes(), "few": few.bytes(), "stale": stale, "twonames": same.bytes(), "broken": changed(plain, 2 + 9, 94, b"\x1e\0\1\0")}

@@ -1,5 +1,5 @@
 -- What a list of faults tells of a file.
-use Rattle.std.proofs.Common.{◌≢◌, ℕ, List, [], length, inl, inr, refl, subst, arith}
+use Rattle.std.proofs.Common.{◌≢◌, ℕ, List, [], length, inl, inr, refl, subst, arith, ◌≡◌, ◌+◌, ◌⊎◌, ◌∷◌, ◌++◌, ap, ◌∙◌}
 use Rattle.std.specs.List.{Contains}
 use Rattle.ods_space.specs.Layout.{VolumeLayout}
 use Rattle.ods_space.specs.Chain.{index_for}
@@ -10,12 +10,16 @@ use Rattle.ods_space.specs.declared.fault.ChainFault.TheVariants as chain
 use Rattle.ods_space.specs.declared.fault.LayoutFault.TheVariants.{Chain}
 use Rattle.ods_space.proofs.Chains.{same_chain}
 use Rattle.ods_mount.specs.Checks.{mount_fault_of}
-use Rattle.ods_mount.specs.declared.fault.MountFault.TheVariants.{BadChain}
+use Rattle.ods_mount.specs.declared.fault.MountFault.TheVariants.{BadChain, OutsideVolume, MarkedFree}
 use Rattle.ods_mount.specs.Faults.{IsTrueOf, SharesHeader}
 use Rattle.ods_mount.proofs.Soundness.{all_at}
 use Rattle.ods_check.specs.declared.fault_line.FaultLine.{FaultLine}
-use Rattle.ods_check.specs.Lists.{Adds}
+use Rattle.ods_check.specs.Lists.{Adds, AddsInTurn}
 use Rattle.ods_check.specs.Faults.{Tells, TellsFile, TellsWhole}
+use Rattle.ods_check.specs.declared.fault_line.FaultLine.TheVariants.{Plain, Index}
+use Rattle.ods_check.specs.declared.fault_line.IndexFault.TheVariants.{HeldPlace}
+use Rattle.ods_check.specs.Turns.{turn_of, file_turn}
+use Rattle.ods_check.proofs.Turning.{turn_one, turn_more}
 use Rattle.ods_check.proofs.Adding.{told_still}
 
 -- what a list of faults tells of a file
@@ -93,3 +97,21 @@ module _ (I : List (List ℕ)) (L : VolumeLayout) where
         outside = λ b h. let o = t.outside b h in (o.0, still _ o.1);
         whole = told_whole_still t.whole;
       }
+
+-- The fault of a chain comes behind the line that the file shares a header, or is that line, which is told of no file without a chain.
+pub chain_in_turn : (I : List (List ℕ)) (L : VolumeLayout) (n : ℕ) (start mid new : List FaultLine × ℕ) (fault : ChainFault) → IsChainFault I L n fault → fault ≢ chain.NoMemory → (mid ≡ start) ⊎ SharesHeader I L n
+    → AddsInTurn turn_of (file_turn n) (file_turn n + 1) start mid → new ≡ (mid.0 ++ Plain (mount_fault_of (Chain n fault)) ∷ [], mid.1) → AddsInTurn turn_of (file_turn n) (file_turn n + 2) start new
+chain_in_turn I L n start mid new chain.BadChain none some (inl same) before is =
+    turn_one turn_of (file_turn n) (file_turn n + 2) start new (Plain (BadChain n)) (is ∙ ap (λ l. (l.0 ++ Plain (BadChain n) ∷ [], l.1)) same) (omega arith) (omega arith)
+chain_in_turn I L n start mid new chain.BadChain none some (inr s) before is = absurd (none s.2 s.4 s.9)
+chain_in_turn I L n start mid new (chain.OutsideVolume lbn) fault some only before is =
+    turn_more turn_of (file_turn n) (file_turn n + 1) (file_turn n + 2) start mid new (omega arith) (omega arith) before
+    (turn_one turn_of (file_turn n + 1) (file_turn n + 2) mid new (Plain (OutsideVolume n lbn)) is (omega arith) (omega arith))
+chain_in_turn I L n start mid new chain.NoMemory fault some only before is = absurd (some refl)
+
+-- lines of one file that are the same are of one block
+pub same_marked : (n b c : ℕ) → Plain (MarkedFree n b) ≡ Plain (MarkedFree n c) → b ≡ c
+same_marked n b c e = cc
+
+pub same_held : (n b c : ℕ) → Index (HeldPlace b n) ≡ Index (HeldPlace c n) → b ≡ c
+same_held n b c e = cc

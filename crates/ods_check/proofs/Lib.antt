@@ -15,3 +15,5 @@ pub mod Counted
 pub mod Repeating
 pub mod HeldPlaces
 pub mod Walks
+pub mod Turning
+pub mod Stamping

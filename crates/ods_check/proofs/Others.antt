@@ -15,6 +15,7 @@ use Rattle.ods_check.specs.Lists.{Adds, AreDistinct}
 use Rattle.ods_check.specs.Faults.{TellsPair, SharesBefore, AreOthers, IsOneMore}
 use Rattle.ods_check.proofs.Adding.{adds_most}
 use Rattle.ods_check.proofs.Counted.{last_or}
+use Rattle.ods_check.proofs.Turning.{at_place, distinct_one, distinct_append}
 use Rattle.ods_check.proofs.Pairs.{told_pair_still}
 
 -- each of these is below n
@@ -23,16 +24,12 @@ AreBelow n xs = (i x : ℕ) → slice_get xs i ≡ Some x → x < n
 
 -- a list with a greater number behind it has none twice
 distinct_push : (xs : List ℕ) (n : ℕ) → AreBelow n xs → AreDistinct xs → AreDistinct (xs ++ n ∷ [])
-distinct_push xs n below once i j b at also = elim (last_or xs n i b at) [
-  | inl one ↦ elim (last_or xs n j b also) [
-    | inl other ↦ once i j b one other
-    | inr (there, is) ↦ absurd (let low = below i b one in omega arith)
-  ]
-  | inr (here, is) ↦ elim (last_or xs n j b also) [
-    | inl other ↦ absurd (let low = below j b other in omega arith)
-    | inr (there, also_is) ↦ here ∙ sym there
-  ]
-]
+distinct_push xs n below once =
+    distinct_append xs (n ∷ []) once (distinct_one n) (λ i j x at also.
+    let P : ℕ → Type 0 = λ y. y ≡ n in
+    let is : x ≡ n = at_place P (n ∷ []) j x (All-cons P n [] refl (All-nil P)) also in
+    let low = below i x at in
+    omega arith)
 
 module _ (I : List (List ℕ)) (L : VolumeLayout) where
   -- as many lines as are kept stay told

@@ -5,3 +5,4 @@ pub mod Sets
 pub mod Marks
 pub mod Findings
 pub mod Holders
+pub mod Turns

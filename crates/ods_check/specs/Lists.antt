@@ -1,5 +1,5 @@
 -- Lists to which what is found is added.
-use Rattle.std.specs.Prelude.{◌≡◌, ℕ, ◌-◌, ◌≤◌, List, ◌++◌, length, take, slice_get, Some}
+use Rattle.std.specs.Prelude.{◌≡◌, ℕ, ◌-◌, ◌<◌, ◌≤◌, List, ◌++◌, length, take, slice_get, Some}
 use Rattle.std.specs.List.{All}
 
 -- The list is the old one with more behind it, each of which has P. Beside a list stands at most how many of it are kept, which stays.
@@ -8,9 +8,16 @@ pub record Adds {X : Type 0} (P : X → Type 0) (old new : List X × ℕ) : Type
   pub is : new ≡ (old.0 ++ more, old.1)
   pub each : All P more
 
--- no number is in the list twice
-abbrev pub AreDistinct : List ℕ → Type 0
-AreDistinct xs = (i j b : ℕ) → slice_get xs i ≡ Some b → slice_get xs j ≡ Some b → i ≡ j
+-- nothing is in the list twice
+abbrev pub AreDistinct : {X : Type 0} → List X → Type 0
+AreDistinct {X = X} xs = (i j : ℕ) (x : X) → slice_get xs i ≡ Some x → slice_get xs j ≡ Some x → i ≡ j
+
+-- The list is the old one with more behind it, nothing of it twice. The turn of each is a or later, and before b.
+pub record AddsInTurn {X : Type 0} (turn : X → ℕ) (a b : ℕ) (old new : List X × ℕ) : Type 0 where
+  pub more : List X
+  pub is : new ≡ (old.0 ++ more, old.1)
+  pub turns : All (λ x. (a ≤ turn x) × (turn x < b)) more
+  pub once : AreDistinct more
 
 -- These are the first lines of a list, at most so many, and so many more are in it.
 pub record IsCut {X : Type 0} (kept : List X) (more most : ℕ) (whole : List X) : Type 0 where

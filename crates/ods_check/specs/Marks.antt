@@ -1,5 +1,5 @@
 -- Numbers of a list that are in a set, that come again, and that two files share.
-use Rattle.std.specs.Prelude.{◌≡◌, ◌≢◌, ◌⊎◌, ◌↔◌, ℕ, ◌<◌, true, false, List, slice_get, slice_index, slice_set, Some}
+use Rattle.std.specs.Prelude.{◌≡◌, ◌≢◌, ◌⊎◌, ◌↔◌, ℕ, ◌<◌, Bool, true, false, List, slice_get, slice_index, slice_set, Some}
 use Rattle.ods_space.specs.Layout.{VolumeLayout}
 use Rattle.ods_mount.specs.Tables.{has}
 use Rattle.ods_mount.specs.Checks.{HasHeader}
@@ -25,6 +25,12 @@ abbrev pub IsCounted : List ℕ → ℕ → ℕ → List ℕ → ℕ → List �
 IsCounted set b stamp old count new =
     ((count ≡ 0) × (new ≡ old) × ((has set b ≡ false) ⊎ (slice_index old b ≡ stamp)))
     ⊎ ((count ≡ 1) × (new ≡ slice_set old b stamp) × (has set b ≡ true) × (slice_index old b ≢ stamp))
+
+-- Where it holds of a number that has another stamp, the number gets this one. The answer says whether it got it.
+abbrev pub PutsStamp : ℕ → Bool → ℕ → List ℕ → Bool → List ℕ → Type 0
+PutsStamp b holds stamp old put new =
+    ((put ≡ false) × (new ≡ old) × ((holds ≡ false) ⊎ (slice_index old b ≡ stamp)))
+    ⊎ ((put ≡ true) × (new ≡ slice_set old b stamp) × (holds ≡ true) × (slice_index old b ≢ stamp))
 
 -- of the blocks of file m the set has those that file m shares with file n
 pub record HasShared (I : List (List ℕ)) (L : VolumeLayout) (m n : ℕ) (set : List ℕ) : Type 0 where

@@ -1,7 +1,7 @@
-//! How many numbers of a list are in a set, each counted once.
+//! Numbers of a list that are counted, or told, once each: they get a stamp.
 ghost use Rattle.std.specs.Prelude.{◌≡◌, ◌^◌, ◌<◌, ◌≤◌, ◌⊎◌, ℕ, List, length, slice_index, IfOk};
 ghost use Rattle.std.specs.List.{All};
-ghost use Rattle.ods_check.specs.Marks.{AreBoth, IsCounted};
+ghost use Rattle.ods_check.specs.Marks.{AreBoth, IsCounted, PutsStamp};
 
 use ods_mount::NumberSet;
 use std::alloc::{AllocError, Global};
@@ -42,4 +42,16 @@ fn count_one(number: u32, set: &NumberSet, counted: &mut [u64], stamp: u64) -> u
     }
     counted[number as usize] = stamp;
     1
+}
+
+/// Gives the number this stamp where it holds, and it has another one. Whether the number got it.
+pub(crate) fn put_stamp(number: u32, holds: bool, stamps: &mut [u64], stamp: u64) -> bool
+    requires { number < length stamps.old }
+    ensures { PutsStamp number holds stamp stamps.old result stamps.new }
+{
+    if !holds || stamps[number as usize] == stamp {
+        return false;
+    }
+    stamps[number as usize] = stamp;
+    true
 }

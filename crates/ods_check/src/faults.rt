@@ -1,10 +1,10 @@
 //! All faults of an image.
-ghost use Rattle.std.specs.Prelude.{◌≡◌, ◌≢◌, ◌⊎◌, ◌++◌, ◌∷◌, [], IsTrue, MatchBool, OnOk, IfOk, IfSome, IfNone, Some};
-ghost use Rattle.std.specs.List.{All};
+ghost use Rattle.std.specs.Prelude.{◌≡◌, ◌≢◌, ◌⊎◌, ◌<◌, ◌++◌, ◌∷◌, [], true, MatchBool, OnOk, IfOk, IfSome, IfNone, Some};
+ghost use Rattle.std.specs.List.{All, Contains};
 ghost use Rattle.ods_header.specs.Home.{IsHomeAt};
-ghost use Rattle.ods_space.specs.Files.{IsLayoutOf};
+ghost use Rattle.ods_space.specs.{Files.IsLayoutOf, Layout.VolumeLayout};
 ghost use Rattle.ods_mount.specs.Faults.{IsSound, FaultIsTrue};
-ghost use Rattle.ods_check.specs.{Lists.Adds, Lines.fault_of, Lines.IsLineOf, Lines.LineIsTrue, Faults.TellsAll, Faults.AreOthers};
+ghost use Rattle.ods_check.specs.{Lists.Adds, Lists.AddsInTurn, Lists.AreDistinct, Lines.fault_of, Lines.IsLineOf, Lines.LineIsTrue, Faults.TellsAll, Faults.AreOthers, Turns.turn_of, Turns.last_turn};
 ghost use Rattle.ods_space.specs.Disks.{on};
 
 use crate::chains::push_files;
@@ -36,7 +36,7 @@ pub const MOST_LINES: u32 = 10_000;
 /// is too short, no master directory, each header whose pointers have another format, each file with no chain or a header of another
 /// file's, of each chain that names blocks which the image lacks one of these, each block of a whole chain that is marked free, each
 /// directory with a bad entry, each with two names that are one, and each pair of files with whole chains that share blocks, with the first
-/// of these and how many they are, and so each file that holds blocks twice.
+/// of these and how many they are, and so each file that holds blocks twice. No line is told twice.
 ///
 /// A sound image costs a mount. Any other costs a few walks over all its chains; and each file that has a block of one before it costs
 /// a walk over the chains of all files before it, and four bytes for each block of the image, which it lets go again. So the time is
@@ -47,6 +47,8 @@ pub fn check_all(alloc: Global, image: &Image) -> Result<Checked, AllocError>
     ensures answer { IfOk result (λ c. IfSome c.answer (FaultIsTrue image.now) × IfNone c.answer (IsSound image.now)) }
     ensures sound { IfOk result (λ c. c.faults.0 ≡ [] → IsSound image.now) }
     ensures layout { IfOk result (λ c. IfSome c.layout (λ layout. IsLayoutOf image.now layout × TellsAll image.now layout c.sharing.0 c.faults.0 × AreOthers image.now layout c.faults c.sharing.0)) }
+    ensures none { IfOk result (λ c. IfNone c.layout ((L : VolumeLayout) → ¬ IsLayoutOf image.now L)) }
+    ensures once { IfOk result (λ c. AreDistinct c.faults.0) }
     ensures most { IfOk result (λ c. (c.faults.1 ≡ 10000) × (c.sharing.1 ≡ 0)) }
 {
     match check_image(alloc, image) {
@@ -93,20 +95,22 @@ fn all_faults(alloc: Global, image: &Image, known: MountFault) -> Result<Checked
     ensures answer { IfOk result (λ c. c.answer ≡ Some known) }
     ensures some { IfOk result (λ c. c.faults.0 ≢ []) }
     ensures layout { IfOk result (λ c. IfSome c.layout (λ layout. IsLayoutOf image.now layout × TellsAll image.now layout c.sharing.0 c.faults.0 × AreOthers image.now layout c.faults c.sharing.0)) }
+    ensures none { IfOk result (λ c. IfNone c.layout ((L : VolumeLayout) → ¬ IsLayoutOf image.now L)) }
+    ensures once { IfOk result (λ c. AreDistinct c.faults.0) }
     ensures most { IfOk result (λ c. (c.faults.1 ≡ 10000) × (c.sharing.1 ≡ 0)) }
 {
     let mut faults = Told::new(alloc, MOST_LINES);
     let mut sharing = Told::new(alloc, 0);
     match read_layout(alloc, image) {
-        Ok((home_lbn, layout)) => {
+        Ok((home_lbn, found)) => {
             let disk = Disk {
                 image,
-                layout: &layout,
+                layout: &found,
             };
             push_all(alloc, &disk, home_lbn, &mut faults, &mut sharing)?;
             tell(known, &mut faults)?;
             Ok(Checked {
-                layout: Some(layout),
+                layout: Some(found),
                 answer: Some(known),
                 faults,
                 sharing,
@@ -125,12 +129,18 @@ fn all_faults(alloc: Global, image: &Image, known: MountFault) -> Result<Checked
     }
 }
 
-/// Adds a fault that is known, where none of these is the same, or of the same pair of files. So there is one at least.
+/// Adds a fault that is known, where none of these is the same, or of the same pair of files. So there is one at least. Where as many lines
+/// are kept as may be, it adds none.
 fn tell(known: MountFault, faults: &mut Told<FaultLine>) -> Result<(), AllocError>
+    requires { 0 < faults.old.1 }
     ensures added { OnOk result ((faults.new ≡ faults.old) ⊎ (faults.new ≡ (faults.old.0 ++ FaultLine.Plain known ∷ [], faults.old.1))) }
     ensures most { OnOk result (faults.new.1 ≡ faults.old.1) }
     ensures some { OnOk result (faults.new.0 ≢ []) }
+    ensures once { OnOk result (AreDistinct faults.old.0 → AreDistinct faults.new.0) }
 {
+    if faults.is_full() {
+        return Ok(());
+    }
     if is_told(known, faults.kept()) {
         return Ok(());
     }
@@ -140,7 +150,7 @@ fn tell(known: MountFault, faults: &mut Told<FaultLine>) -> Result<(), AllocErro
 
 /// Whether one of these faults is this one, or is of the same pair of files.
 fn is_told(known: MountFault, faults: &[FaultLine]) -> bool
-    ensures { IsTrue result → faults.now ≢ [] }
+    ensures { MatchBool result (faults.now ≢ []) (¬ Contains faults.now (FaultLine.Plain known)) }
 {
     for i in 0..faults.len() {
         if is_same(faults[i].fault(), known) {
@@ -151,10 +161,15 @@ fn is_told(known: MountFault, faults: &[FaultLine]) -> bool
 }
 
 /// Whether two faults are the same, or of the same pair of files that hold a block.
-fn is_same(one: MountFault, other: MountFault) -> bool {
+fn is_same(one: MountFault, other: MountFault) -> bool
+    ensures { one ≡ other → result ≡ true }
+{
+    if one == other {
+        return true;
+    }
     match pair_of(one) {
         Some(pair) => pair_of(other) == Some(pair),
-        None => one == other,
+        None => false,
     }
 }
 
@@ -179,6 +194,7 @@ fn push_all(
     requires home { IsHomeAt disk.now.image.now home_lbn }
     requires none { others.old.0 ≡ [] }
     ensures adds { OnOk result (Adds (on IsLineOf disk.now) faults.old faults.new) }
+    ensures once { OnOk result (AddsInTurn turn_of 0 last_turn faults.old faults.new) }
     ensures all { OnOk result (on TellsAll disk.now others.new.0 faults.new.0) }
     ensures others { OnOk result (on AreOthers disk.now faults.new others.new.0) }
     ensures most { OnOk result (others.new.1 ≡ others.old.1) }

@@ -3,7 +3,7 @@ ghost use Rattle.std.specs.Prelude.{◌≡◌, ◌≢◌, ◌+◌, ◌<◌, ℕ,
 ghost use Rattle.std.specs.List.{Contains};
 ghost use Rattle.ods_header.specs.Home.{IsHomeAt, IsHomePlace};
 ghost use Rattle.ods_space.specs.Free.{is_free_block};
-ghost use Rattle.ods_check.specs.{Lists.Adds, Lines.IsElsewhere, Lines.IsIndexFault, Lines.IsLineOf, Faults.TellsIndex};
+ghost use Rattle.ods_check.specs.{Lists.Adds, Lists.AddsInTurn, Lines.IsElsewhere, Lines.IsIndexFault, Lines.IsLineOf, Faults.TellsIndex, Turns.turn_of, Turns.volume_turn};
 ghost use Rattle.ods_space.specs.Disks.{on, seen};
 
 use crate::add::push_if;
@@ -20,6 +20,7 @@ pub(crate) fn push_index(
 ) -> Result<(), AllocError>
     requires { IsHomeAt disk.now.image.now home_lbn }
     ensures adds { OnOk result (Adds (on IsLineOf disk.now) faults.old faults.new) }
+    ensures once { OnOk result (AddsInTurn turn_of 0 volume_turn faults.old faults.new) }
     ensures index { OnOk result (on TellsIndex disk.now faults.new.0) }
 {
     let short = FaultLine::Index(IndexFault::TooShort);
@@ -53,6 +54,7 @@ fn is_other_home(layout: &Layout, home_lbn: u32) -> bool
 /// Adds the first block of INDEXF.SYS that is not where the index bitmap or one of the first 16 headers is.
 fn push_misplaced(disk: &Disk<'_>, faults: &mut Told<FaultLine>) -> Result<(), AllocError>
     ensures adds { OnOk result (Adds (on IsLineOf disk.now) faults.old faults.new) }
+    ensures once { OnOk result (AddsInTurn turn_of 1 2 faults.old faults.new) }
     ensures some { OnOk result ((i : ℕ) → IsElsewhere disk.now.layout.now i → (v : ℕ) × Contains faults.new.0 (FaultLine.Index (IndexFault.Misplaced v))) }
     ensures first { OnOk result ((v : ℕ) → on IsIndexFault disk.now (IndexFault.Misplaced v) → Contains faults.new.0 (FaultLine.Index (IndexFault.Misplaced v))) }
 {
@@ -97,6 +99,7 @@ fn push_free_places(
 ) -> Result<(), AllocError>
     requires { IsHomeAt disk.now.image.now home_lbn }
     ensures adds { OnOk result (Adds (on IsLineOf disk.now) faults.old faults.new) }
+    ensures once { OnOk result (AddsInTurn turn_of 3 volume_turn faults.old faults.new) }
     ensures free { OnOk result ((k : ℕ) → on IsIndexFault disk.now (IndexFault.FreePlace k) → Contains faults.new.0 (FaultLine.Index (IndexFault.FreePlace k))) }
 {
     for lbn in 0..home_lbn {

@@ -3,7 +3,7 @@ ghost use Rattle.std.specs.Prelude.{◌≡◌, ◌⊎◌, ◌*◌, ◌+◌, ◌<
 ghost use Rattle.std.specs.List.{Contains};
 ghost use Rattle.ods_space.specs.Files.{HasBlocks, IsLayoutOf};
 ghost use Rattle.ods_mount.specs.{Tables.has};
-ghost use Rattle.ods_check.specs.{Lists.Adds, Lists.AreDistinct, Lists.IsFull, Sets.IsSetOf, Findings.HasBlock, Holders.IsBefore, Holders.IsStamped, Lines.IsLineOf, Faults.TellsPair, Faults.AreOthers, Faults.IsOneMore, Marks.HasShared, Marks.IsFirstIn};
+ghost use Rattle.ods_check.specs.{Lists.Adds, Lists.AddsInTurn, Lists.AreDistinct, Lists.IsFull, Sets.IsSetOf, Findings.HasBlock, Holders.IsBefore, Holders.IsStamped, Lines.IsLineOf, Faults.TellsPair, Faults.AreOthers, Faults.IsOneMore, Marks.HasShared, Marks.IsFirstIn, Turns.turn_of, Turns.pair_turn, Turns.last_turn};
 ghost use Rattle.ods_space.specs.Disks.{on};
 
 use crate::before::Before;
@@ -29,6 +29,7 @@ pub(crate) fn push_shared(
     requires layout { on IsLayoutOf disk.now }
     requires none { others.old.0 ≡ [] }
     ensures adds { OnOk result (Adds (on IsLineOf disk.now) faults.old faults.new) }
+    ensures once { OnOk result (AddsInTurn turn_of (pair_turn 0 0) last_turn faults.old faults.new) }
     ensures all { OnOk result ((m n : ℕ) → m ≤ n → on TellsPair disk.now faults.new.0 m n ⊎ Contains others.new.0 n) }
     ensures others { OnOk result (on AreOthers disk.now faults.new others.new.0) }
     ensures most { OnOk result (others.new.1 ≡ others.old.1) }
@@ -52,6 +53,7 @@ fn push_shared_of(
     requires layout { on IsLayoutOf disk.now }
     requires before { on IsBefore disk.now (IsFull faults.old) number before.old }
     ensures adds { OnOk result (Adds (on IsLineOf disk.now) faults.old faults.new) }
+    ensures once { OnOk result (AddsInTurn turn_of (pair_turn 0 number) (pair_turn 0 (number + 1)) faults.old faults.new) }
     ensures told { OnOk result ((m : ℕ) → m ≤ number → on TellsPair disk.now faults.new.0 m number ⊎ Contains others.new.0 number) }
     ensures others { OnOk result ((others.new ≡ others.old) ⊎ on IsOneMore disk.now faults.old number others.old others.new) }
     ensures before { OnOk result (on IsBefore disk.now (IsFull faults.new) (number + 1) before.new) }
@@ -78,6 +80,7 @@ fn push_shared_blocks(
     requires whole { on HasBlocks disk.now number lbns.now }
     requires before { on IsBefore disk.now (IsFull faults.old) number before.old }
     ensures adds { OnOk result (Adds (on IsLineOf disk.now) faults.old faults.new) }
+    ensures once { OnOk result (AddsInTurn turn_of (pair_turn 0 number) (pair_turn 0 (number + 1)) faults.old faults.new) }
     ensures told { OnOk result ((m : ℕ) → m ≤ number → on TellsPair disk.now faults.new.0 m number ⊎ Contains others.new.0 number) }
     ensures others { OnOk result ((others.new ≡ others.old) ⊎ on IsOneMore disk.now faults.old number others.old others.new) }
     ensures before { OnOk result (on IsBefore disk.now (IsFull faults.new) (number + 1) before.new) }
@@ -113,6 +116,7 @@ fn push_pairs(
     requires whole { on HasBlocks disk.now number lbns.now }
     requires before { on IsBefore disk.now (IsFull faults.old) number before.old }
     ensures adds { OnOk result (Adds (on IsLineOf disk.now) faults.old faults.new) }
+    ensures once { OnOk result (AddsInTurn turn_of (pair_turn 0 number) (pair_turn number number) faults.old faults.new) }
     ensures told { OnOk result ((m : ℕ) → m < number → on TellsPair disk.now faults.new.0 m number ⊎ Contains others.new.0 number) }
     ensures others { OnOk result ((others.new ≡ others.old) ⊎ on IsOneMore disk.now faults.old number others.old others.new) }
     ensures held { before.new.held ≡ before.old.held }
@@ -149,6 +153,7 @@ fn push_each_pair(
     requires near { (m b : ℕ) → m < number → on HasBlock disk.now m b → on HasBlock disk.now number b → has near.now m ≡ true }
     requires stamps { IsStamped disk.now.image.now stamps.old (65536 * number) }
     ensures adds { OnOk result (Adds (on IsLineOf disk.now) faults.old faults.new) }
+    ensures once { OnOk result (AddsInTurn turn_of (pair_turn 0 number) (pair_turn number number) faults.old faults.new) }
     ensures told { OnOk result ((m : ℕ) → m < number → on TellsPair disk.now faults.new.0 m number) }
     ensures stamps { IsStamped disk.now.image.now stamps.new (65536 * number + number) }
 {
@@ -175,6 +180,7 @@ fn push_pair(
     requires own { IsSetOf (on HasBlock disk.now other) own.now }
     requires stamps { IsStamped disk.now.image.now stamps.old (65536 * other + one) }
     ensures adds { OnOk result (Adds (on IsLineOf disk.now) faults.old faults.new) }
+    ensures once { OnOk result (AddsInTurn turn_of (pair_turn one other) (pair_turn one other + 1) faults.old faults.new) }
     ensures told { OnOk result (on TellsPair disk.now faults.new.0 one other) }
     ensures stamps { IsStamped disk.now.image.now stamps.new (65536 * other + one + 1) }
 {
@@ -204,6 +210,7 @@ fn push_own(
     requires new { is_new ≡ true → AreDistinct lbns.now }
     requires stamps { IsStamped disk.now.image.now stamps.old (65536 * number + number) }
     ensures adds { OnOk result (Adds (on IsLineOf disk.now) faults.old faults.new) }
+    ensures once { OnOk result (AddsInTurn turn_of (pair_turn number number) (pair_turn number number + 1) faults.old faults.new) }
     ensures told { OnOk result (on TellsPair disk.now faults.new.0 number number) }
     ensures stamps { IsStamped disk.now.image.now stamps.new (65536 * number + number + 1) }
 {
@@ -234,6 +241,7 @@ fn push_common(
     requires size { length stamps.old ≡ length disk.now.image.now }
     requires stamps { (i : ℕ) → slice_index stamps.old i < stamp }
     ensures adds { OnOk result (Adds (on IsLineOf disk.now) faults.old faults.new) }
+    ensures once { OnOk result (AddsInTurn turn_of (pair_turn one other) (pair_turn one other + 1) faults.old faults.new) }
     ensures told { OnOk result (on TellsPair disk.now faults.new.0 one other) }
     ensures stamps { IsStamped disk.now.image.now stamps.new stamp }
 {

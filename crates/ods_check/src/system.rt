@@ -1,8 +1,8 @@
 //! Faults of the volume as a whole: its storage bitmap, its master directory, and headers of another format.
-ghost use Rattle.std.specs.Prelude.{◌≡◌, ℕ, OnOk, MatchBool};
+ghost use Rattle.std.specs.Prelude.{◌≡◌, ℕ, ◌+◌, OnOk, MatchBool};
 ghost use Rattle.ods_space.specs.Files.{IsLayoutOf};
 ghost use Rattle.ods_mount.specs.Faults.{IsTrueOf};
-ghost use Rattle.ods_check.specs.{Lists.Adds, Lines.IsLineOf, Faults.Tells};
+ghost use Rattle.ods_check.specs.{Lists.Adds, Lists.AddsInTurn, Lines.IsLineOf, Faults.Tells, Turns.turn_of, Turns.volume_turn, Turns.file_turn};
 ghost use Rattle.ods_space.specs.Disks.{on};
 
 use crate::add::push_if;
@@ -15,6 +15,7 @@ use std::alloc::AllocError;
 pub(crate) fn push_system(disk: &Disk<'_>, faults: &mut Told<FaultLine>) -> Result<(), AllocError>
     requires { on IsLayoutOf disk.now }
     ensures adds { OnOk result (Adds (on IsLineOf disk.now) faults.old faults.new) }
+    ensures once { OnOk result (AddsInTurn turn_of volume_turn (volume_turn + 2) faults.old faults.new) }
     ensures storage { OnOk result (on IsTrueOf disk.now MountFault.BadStorageMap → Tells faults.new.0 MountFault.BadStorageMap) }
     ensures master { OnOk result (on IsTrueOf disk.now MountFault.BadMaster → Tells faults.new.0 MountFault.BadMaster) }
 {
@@ -50,6 +51,7 @@ fn lacks_master(disk: &Disk<'_>) -> bool
 /// Adds each header that is left aside for the format of its pointers alone.
 pub(crate) fn push_formats(disk: &Disk<'_>, faults: &mut Told<FaultLine>) -> Result<(), AllocError>
     ensures adds { OnOk result (Adds (on IsLineOf disk.now) faults.old faults.new) }
+    ensures once { OnOk result (AddsInTurn turn_of (volume_turn + 2) (file_turn 0) faults.old faults.new) }
     ensures all { OnOk result ((n : ℕ) → on IsTrueOf disk.now (MountFault.UnsupportedMap n) → Tells faults.new.0 (MountFault.UnsupportedMap n)) }
 {
     // The blocks of an image have bytes, so no header has a greater number than a word.

@@ -1,7 +1,7 @@
 //! Where the volume's structures lie, or why that cannot be found.
 ghost use Rattle.std.specs.Prelude.{◌≡◌, ◌≢◌, IfOk, IfErr};
 ghost use Rattle.ods_header.specs.Home.{IsHomeAt};
-ghost use Rattle.ods_space.specs.Files.{IsLayoutOf};
+ghost use Rattle.ods_space.specs.{Files.IsLayoutOf, Layout.VolumeLayout};
 ghost use Rattle.ods_mount.specs.{Faults.FaultIsTrue, Checks.mount_fault_of};
 
 use crate::MountFault;
@@ -10,12 +10,13 @@ use ods_header::find_home;
 use ods_space::{ChainFault, Layout, LayoutFault};
 use std::alloc::Global;
 
-/// The LBN of the home block, and the layout of the volume. Otherwise it gives one of the faults of the image, or
-/// NoMemory.
+/// The LBN of the home block, and the layout of the volume. An image without a layout is answered with one of its faults.
+/// NoMemory says nothing of the image.
 pub fn read_layout(alloc: Global, image: &Image) -> Result<(u32, Layout), MountFault>
     ensures home { IfOk result (λ found. IsHomeAt image.now found.0) }
     ensures layout { IfOk result (λ found. IsLayoutOf image.now found.1) }
     ensures err { IfErr result (λ e. e ≢ MountFault.NoMemory → FaultIsTrue image.now e) }
+    ensures none { IfErr result (λ e. e ≢ MountFault.NoMemory → (L : VolumeLayout) → ¬ IsLayoutOf image.now L) }
 {
     // The blocks of an image have bytes, so a chain has at most 256 headers.
     let _ = image.len();

@@ -5,7 +5,8 @@ use ods_paths::numbered_name;
 use std::alloc::AllocError;
 
 /// Appends a directory as a path names it: `[0,0]` for the master directory, `[g,m]` for one of a group and a member, else the names
-/// with dots between them.
+/// with dots between them. A directory 000000.DIR that is another one has no path of its own, since `[000000]` is the master directory. It is
+/// shown as `[0,0.000000]`, which is no path.
 pub fn push_directory(text: &mut String, names: &[Name]) -> Result<(), AllocError> {
     text.push('[')?;
     match names {
@@ -20,6 +21,7 @@ pub fn push_directory(text: &mut String, names: &[Name]) -> Result<(), AllocErro
 fn push_one(text: &mut String, name: &Name) -> Result<(), AllocError> {
     let title = print_title(name);
     match numbered_name(title.as_bytes()) {
+        Some((0, 0)) => text.push_str("0,0.000000"),
         Some((group, member)) => write!(text, "{group:o},{member:o}"),
         None => text.push_str(title.as_str()),
     }

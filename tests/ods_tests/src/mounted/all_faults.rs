@@ -152,6 +152,25 @@ fn a_file_that_holds_blocks_twice_is_told(rt: HostRuntime) -> Result<(), Fail> {
 }
 
 #[test]
+fn a_free_block_that_a_file_names_twice_is_told_once(rt: HostRuntime) -> Result<(), Fail> {
+    let volume = Variant {
+        headers: &[(
+            8,
+            added(6, a_txt()).mapping(&[run(22, 1), run(22, 1), run(23, 1), run(22, 1)]),
+        )],
+        storage_bits: &[(22, true), (23, true)],
+        ..sample_of(40)
+    };
+    let wanted = [
+        Plain(MarkedFree(6, 22)),
+        Plain(MarkedFree(6, 23)),
+        Shared(6, 6, 22, 1),
+    ];
+    let answer = Some(MarkedFree(6, 22));
+    tells(&rt, rt.alloc(), &volume, true, answer, &wanted)
+}
+
+#[test]
 fn each_file_with_a_header_of_another_is_told(rt: HostRuntime) -> Result<(), Fail> {
     let volume = Variant {
         headers: &[
@@ -235,7 +254,10 @@ fn each_lower_place_of_a_home_block_is_told(rt: HostRuntime) -> Result<(), Fail>
     let free = [Index(FreePlace(1))];
     tells_late_home(&rt, rt.alloc(), no_third, no_sixth, true, &free)?;
     let held = [Index(HeldPlace(1, 6))];
-    tells_late_home(&rt, rt.alloc(), no_third, in_sixth, false, &held)
+    tells_late_home(&rt, rt.alloc(), no_third, in_sixth, false, &held)?;
+    let twice_in_sixth = sixth.mapping(&[run(1, 1), run(1, 1)]);
+    let twice = [Index(HeldPlace(1, 6)), Shared(6, 6, 1, 1)];
+    tells_late_home(&rt, rt.alloc(), no_third, twice_in_sixth, false, &twice)
 }
 
 #[test]

@@ -1,44 +1,10 @@
-use Rattle.std.proofs.Common.{◌≡◌, ap, subst, arith, inl, inr}
-use Rattle.std.proofs.lemmas.Bool.{cases_lt}
-use Rattle.ods_mount.proofs.Holders.{file_small}
-use Rattle.ods_check.specs.Faults.{TellsFile}
-use Rattle.ods_check.specs.Lines.{IsLineOf}
-use Rattle.ods_check.proofs.Adding.{adds_none, adds_more}
-use Rattle.ods_check.proofs.FileFaults.{told_file_still, no_file}
+use Rattle.std.proofs.Common.{List, ℕ, sym, subst, arith}
+use Rattle.ods_check.specs.Holders.{IsStamped}
 use Rattle.ods_check.proofs.chains.push_files.Goals as goal
 
-pub loop-number-init : goal.loop-number-init
-loop-number-init c = record {
-  adds = adds_none (IsLineOf c.args.disk.now.image.now c.args.disk.now.layout.now) c.args.faults.now;
-  files = λ n low. absurd (omega arith);
-}
-
-pub loop-number-preserved : goal.loop-number-preserved
-loop-number-preserved c =
-    let I = c.args.disk.now.image.now in
-    let L = c.args.disk.now.layout.now in
-    let old = c.loop-number.faults in
-    let new = c.push_file.new.faults in
-    let added = c.in_ok-push_file.ensures.adds in
-    record {
-      adds = adds_more (IsLineOf I L) c.args.faults.now old new c.loop-number.invariant.adds added;
-      files = λ n low. elim (cases_lt n c.loop-number.number) [
-        | inl less ↦ told_file_still I L n (IsLineOf I L) old new added (c.loop-number.invariant.files n less)
-        | inr more ↦
-            let e : c.loop-number.number ≡ n = omega arith in
-            subst (TellsFile I L new.0) e c.in_ok-push_file.ensures.file
-      ];
-    }
-
-pub returns-clause-files : goal.returns-clause-files
-returns-clause-files c n =
-    let I = c.args.disk.now.image.now in
-    let L = c.args.disk.now.layout.now in
-    elim (cases_lt n c.loop-number.number) [
-      | inl less ↦ c.loop-number.invariant.files n less
-      | inr more ↦ no_file I L n c.loop-number.faults.0 (λ file.
-          let small = file_small I L n file in
-          let same = ap (λ h. h.max_files) c.home.ensures in
-          let end = c.loop-number-test.false in
-          omega arith)
-    ]
+pub push_each_file-requires-clause-stamps : goal.push_each_file-requires-clause-stamps
+push_each_file-requires-clause-stamps c =
+    let P : List ℕ → Type 0 = λ stamps. IsStamped c.args.disk.now.image.now stamps 0 in
+    let size = c.in_ok-stamps.ensures.size in
+    let len = c.len.ensures.value in
+    subst P (sym c.deref_mut.ensures.value) (record { size = omega arith; low = λ i. (let zero = c.in_ok-stamps.ensures.zeros i in omega arith) })

@@ -1,4 +1,4 @@
-use Rattle.std.proofs.Common.{ℕ, List, map, arith}
+use Rattle.std.proofs.Common.{ℕ, List, map, arith, ◌+◌}
 use Rattle.std.specs.Prelude.{MatchBool}
 use Rattle.ods_base.specs.Image.{block_at}
 use Rattle.ods_directory.specs.Names.{HasBadEntry, HasTwins}
@@ -13,6 +13,8 @@ use Rattle.ods_check.proofs.Adding.{adds_none, adds_more, adds_if, told_if, told
 use Rattle.ods_check.proofs.Telling.{true_holds, holds_true}
 use Rattle.ods_check.proofs.Directories.{moved, directory_is, whether_bad, whether_alike}
 use Rattle.ods_check.proofs.chains.push_names.Goals as goal
+use Rattle.ods_check.specs.Turns.{turn_of, file_turn}
+use Rattle.ods_check.proofs.Turning.{turn_none, turn_if, turn_more}
 use Rattle.ods_check.proofs.chains.push_names.Goals.{In_ok-twins}
 
 pub new-blocks-requires-clause-few : goal.new-blocks-requires-clause-few
@@ -72,3 +74,17 @@ pub returns-clause-twins : goal.returns-clause-twins
 returns-clause-twins c t =
     let all = (goal.at.returns-clause-twins c).In_ok-twins in
     told_if c.push_if.new.list c.push_if-2.new.list (Plain (DuplicateName c.args.number)) c.in_ok-twins.twins c.in_ok-push_if-2.ensures (holds_true _ _ (alike_of all) t)
+
+pub returns-then-not-is_directory_file-clause-once : goal.returns-then-not-is_directory_file-clause-once
+returns-then-not-is_directory_file-clause-once c = turn_none turn_of _ _ c.args.faults.now
+
+pub returns-clause-once : goal.returns-clause-once
+returns-clause-once c =
+    let n = c.args.number in
+    let start = c.args.faults.now in
+    let mid = c.push_if.new.list in
+    let new = c.push_if-2.new.list in
+    let f = file_turn n in
+    turn_more turn_of (f + 4) (f + 5) (f + 6) start mid new (omega arith) (omega arith)
+    (turn_if turn_of (f + 4) (f + 5) start mid (Plain (BadDirectory n)) c.has_bad_entry-bad.result c.in_ok-push_if.ensures (omega arith) (omega arith))
+    (turn_if turn_of (f + 5) (f + 6) mid new (Plain (DuplicateName n)) c.in_ok-twins.twins c.in_ok-push_if-2.ensures (omega arith) (omega arith))

@@ -1,4 +1,4 @@
-use Rattle.std.proofs.Common.{ℕ}
+use Rattle.std.proofs.Common.{ℕ, ◌+◌, arith}
 use Rattle.ods_mount.specs.declared.fault.MountFault.TheVariants.{BadStorageMap, BadMaster, UnsupportedMap}
 use Rattle.ods_check.specs.declared.fault_line.FaultLine.TheVariants.{Plain}
 use Rattle.ods_check.specs.Lines.{IsLineOf}
@@ -6,6 +6,8 @@ use Rattle.ods_check.specs.Faults.{TellsFile}
 use Rattle.ods_check.proofs.Adding.{adds_more, told_still}
 use Rattle.ods_check.proofs.FileFaults.{told_file_still}
 use Rattle.ods_check.proofs.Lines.{each_reason, some_reason, told_index_still}
+use Rattle.ods_check.specs.Turns.{turn_of, volume_turn, file_turn, pair_turn, last_turn}
+use Rattle.ods_check.proofs.Turning.{turn_more}
 use Rattle.ods_check.proofs.faults.push_all.Goals as goal
 
 pub returns-clause-adds : goal.returns-clause-adds
@@ -41,3 +43,17 @@ returns-clause-all c =
       files = of_files;
       shared = c.in_ok-push_shared.ensures.all;
     }
+
+pub returns-clause-once : goal.returns-clause-once
+returns-clause-once c =
+    let start = c.args.faults.now in
+    let index = c.push_index.new.faults in
+    let system = c.push_system.new.faults in
+    let formats = c.push_formats.new.faults in
+    let files = c.push_files.new.faults in
+    let end = c.push_shared.new.faults in
+    let v = volume_turn in
+    turn_more turn_of 0 v last_turn start index end (omega arith) (omega arith) c.in_ok-push_index.ensures.once
+    (turn_more turn_of v (v + 2) last_turn index system end (omega arith) (omega arith) c.in_ok-push_system.ensures.once
+    (turn_more turn_of (v + 2) (file_turn 0) last_turn system formats end (omega arith) (omega arith) c.in_ok-push_formats.ensures.once
+    (turn_more turn_of (file_turn 0) (pair_turn 0 0) last_turn formats files end (omega arith) (omega arith) c.in_ok-push_files.ensures.once c.in_ok-push_shared.ensures.once)))

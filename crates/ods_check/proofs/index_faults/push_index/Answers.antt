@@ -1,4 +1,4 @@
-use Rattle.std.proofs.Common.{◌≢◌, ◌+◌, ◌<◌, ℕ, Some, length, slice_get, subst}
+use Rattle.std.proofs.Common.{◌≢◌, ◌+◌, ◌<◌, ℕ, Some, length, slice_get, subst, arith}
 use Rattle.std.specs.List.{Contains}
 use Rattle.ods_mount.proofs.Layouts.{same_place}
 use Rattle.ods_check.specs.declared.fault_line.FaultLine.TheVariants.{Index}
@@ -6,6 +6,8 @@ use Rattle.ods_check.specs.declared.fault_line.IndexFault.TheVariants.{TooShort,
 use Rattle.ods_check.specs.Lines.{IsIndexFault, IsLineOf}
 use Rattle.ods_check.proofs.Adding.{adds_if, adds_more, told_if, told_still}
 use Rattle.ods_check.proofs.Telling.{true_holds, holds_true}
+use Rattle.ods_check.specs.Turns.{turn_of, volume_turn}
+use Rattle.ods_check.proofs.Turning.{turn_if, turn_more}
 use Rattle.ods_check.proofs.index_faults.push_index.Goals as goal
 
 pub returns-clause-adds : goal.returns-clause-adds
@@ -54,3 +56,15 @@ returns-clause-index c =
       home = λ lbn h. subst Q (same_place I home lbn c.requires h.0) here h;
       free = c.in_ok-push_free_places.ensures.free;
     }
+
+pub returns-clause-once : goal.returns-clause-once
+returns-clause-once c =
+    let start = c.args.faults.now in
+    let one = c.push_if.new.list in
+    let two = c.push_misplaced.new.faults in
+    let three = c.push_if-2.new.list in
+    let end = c.push_free_places.new.faults in
+    turn_more turn_of 0 1 volume_turn start one end (omega arith) (omega arith) (turn_if turn_of 0 1 start one (Index TooShort) c.is_too_short.result c.in_ok-push_if.ensures (omega arith) (omega arith))
+    (turn_more turn_of 1 2 volume_turn one two end (omega arith) (omega arith) c.in_ok-push_misplaced.ensures.once
+    (turn_more turn_of 2 3 volume_turn two three end (omega arith) (omega arith)
+    (turn_if turn_of 2 3 two three (Index (OtherHome c.args.home_lbn)) c.is_other_home.result c.in_ok-push_if-2.ensures (omega arith) (omega arith)) c.in_ok-push_free_places.ensures.once))

@@ -5,6 +5,8 @@ use Rattle.ods_check.specs.declared.fault_line.FaultLine.TheVariants.{Index}
 use Rattle.ods_check.specs.declared.fault_line.IndexFault.TheVariants.{Misplaced}
 use Rattle.ods_check.specs.Lines.{IsLineOf}
 use Rattle.ods_check.proofs.Adding.{adds_one, told_one}
+use Rattle.ods_check.specs.Turns.{turn_of}
+use Rattle.ods_check.proofs.Turning.{turn_none, turn_one}
 use Rattle.ods_check.proofs.index_faults.push_misplaced.Goals as goal
 
 pub returns-in_default-clause-some : goal.returns-in_default-clause-some
@@ -35,3 +37,9 @@ returns-clause-first c v h =
     let place : at + 3 ≡ v = omega arith in
     let P : ℕ → Type 0 = λ k. Contains c.push.new.self.0 (Index (Misplaced k)) in
     subst P place (told_one _ _ (Index (Misplaced (at + 3))) c.in_ok-push.ensures)
+
+pub returns-in_default-clause-once : goal.returns-in_default-clause-once
+returns-in_default-clause-once c = turn_none turn_of _ _ c.args.faults.now
+
+pub returns-clause-once : goal.returns-clause-once
+returns-clause-once c = turn_one turn_of 1 2 _ _ (Index (Misplaced (c.in-Some.at + 3))) c.in_ok-push.ensures (omega arith) (omega arith)

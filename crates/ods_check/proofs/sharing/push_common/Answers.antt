@@ -1,10 +1,12 @@
-use Rattle.std.proofs.Common.{◌∙◌, arith}
+use Rattle.std.proofs.Common.{◌∙◌, arith, ◌+◌}
 use Rattle.ods_space.specs.Chain.{index_for}
 use Rattle.ods_space.proofs.Sizes.{chain_size}
 use Rattle.ods_check.specs.declared.fault_line.FaultLine.TheVariants.{Shared}
 use Rattle.ods_check.specs.Lines.{IsLineOf}
 use Rattle.ods_check.proofs.Adding.{adds_one, told_one}
 use Rattle.ods_check.proofs.Pairs.{none_shared, pair_shares}
+use Rattle.ods_check.specs.Turns.{turn_of, pair_turn}
+use Rattle.ods_check.proofs.Turning.{turn_none, turn_one}
 use Rattle.ods_check.proofs.sharing.push_common.Goals as goal
 
 pub returns-in_default-clause-told : goal.returns-in_default-clause-told
@@ -34,3 +36,11 @@ returns-in_err-push-clause-stamps c = record { size = c.count_of-count.ensures.s
 
 pub returns-clause-stamps : goal.returns-clause-stamps
 returns-clause-stamps c = record { size = c.count_of-count.ensures.size ∙ c.requires.size; low = c.count_of-count.ensures.counted }
+
+pub returns-in_default-clause-once : goal.returns-in_default-clause-once
+returns-in_default-clause-once c = turn_none turn_of _ _ c.args.faults.now
+
+pub returns-clause-once : goal.returns-clause-once
+returns-clause-once c =
+    let t = pair_turn c.args.one c.args.other in
+    turn_one turn_of t (t + 1) _ _ (Shared c.args.one c.args.other c.in-Some.lbn c.count_of-count.result) c.in_ok-push.ensures (omega arith) (omega arith)

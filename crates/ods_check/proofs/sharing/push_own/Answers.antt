@@ -1,6 +1,8 @@
 use Rattle.std.proofs.Common.{arith}
 use Rattle.ods_check.proofs.Holding.{stamped_more}
 use Rattle.ods_check.proofs.Pairs.{none_twice, shared_of_own}
+use Rattle.ods_check.specs.Turns.{turn_of}
+use Rattle.ods_check.proofs.Turning.{turn_none}
 use Rattle.ods_check.proofs.sharing.push_own.Goals as goal
 
 pub returns-then-is_new-clause-told : goal.returns-then-is_new-clause-told
@@ -22,3 +24,6 @@ push_common-requires-clause-stamps c i = let low = c.requires.stamps.low i in om
 
 pub returns-then-is_new-clause-stamps : goal.returns-then-is_new-clause-stamps
 returns-then-is_new-clause-stamps c = stamped_more _ _ _ _ c.requires.stamps (omega arith)
+
+pub returns-then-is_new-clause-once : goal.returns-then-is_new-clause-once
+returns-then-is_new-clause-once c = turn_none turn_of _ _ c.args.faults.now

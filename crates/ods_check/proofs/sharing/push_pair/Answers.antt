@@ -3,6 +3,8 @@ use Rattle.ods_space.specs.declared.fault.ChainFault.TheVariants.{BadChain, Outs
 use Rattle.ods_space.specs.Files.{HasBlocks}
 use Rattle.ods_mount.proofs.Holders.{not_held}
 use Rattle.ods_check.proofs.Pairs.{no_pair, shared_of_pair}
+use Rattle.ods_check.specs.Turns.{turn_of}
+use Rattle.ods_check.proofs.Turning.{turn_none}
 use Rattle.ods_check.proofs.sharing.push_pair.Goals as goal
 
 pub push_common-requires-clause-whole : goal.push_common-requires-clause-whole
@@ -34,3 +36,9 @@ returns-in-Err-OutsideVolume-clause-told c =
     no_pair c.args.disk.now.image.now c.args.disk.now.layout.now c.args.faults.now.0 c.args.one c.args.other
     (λ b h. not_held c.args.disk.now.image.now c.args.disk.now.layout.now c.args.one b c.in-Err-OutsideVolume.field-0 c.in-Err-OutsideVolume.ensures.err
     (λ e. let clash : OutsideVolume c.in-Err-OutsideVolume.field-0-0 ≡ NoMemory = sym c.in-Err-OutsideVolume.field-0-is ∙ e in absurd cc) h.0 h.1)
+
+pub returns-in-Err-BadChain-clause-once : goal.returns-in-Err-BadChain-clause-once
+returns-in-Err-BadChain-clause-once c = turn_none turn_of _ _ c.args.faults.now
+
+pub returns-in-Err-OutsideVolume-clause-once : goal.returns-in-Err-OutsideVolume-clause-once
+returns-in-Err-OutsideVolume-clause-once c = turn_none turn_of _ _ c.args.faults.now

@@ -8,6 +8,8 @@ use Rattle.ods_check.proofs.Holding.{stamped_more, stamps_back}
 use Rattle.ods_check.proofs.Pairs.{blocks_set, none_before}
 use Rattle.ods_check.proofs.Telling.{true_holds}
 use Rattle.ods_check.proofs.Others.{shares_first}
+use Rattle.ods_check.specs.Turns.{turn_of}
+use Rattle.ods_check.proofs.Turning.{turn_none}
 use Rattle.ods_check.proofs.sharing.push_pairs.Goals as goal
 
 pub returns-in_default-clause-told : goal.returns-in_default-clause-told
@@ -60,3 +62,9 @@ returns-in_default-clause-stamps c = stamped_more _ _ _ _ c.requires.before.stam
 
 pub returns-then-is_full-clause-stamps : goal.returns-then-is_full-clause-stamps
 returns-then-is_full-clause-stamps c = stamped_more _ _ _ _ c.requires.before.stamps (omega arith)
+
+pub returns-in_default-clause-once : goal.returns-in_default-clause-once
+returns-in_default-clause-once c = turn_none turn_of _ _ c.args.faults.now
+
+pub returns-then-is_full-clause-once : goal.returns-then-is_full-clause-once
+returns-then-is_full-clause-once c = turn_none turn_of _ _ c.args.faults.now

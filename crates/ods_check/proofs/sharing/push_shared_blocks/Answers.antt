@@ -12,6 +12,8 @@ use Rattle.ods_check.specs.Lines.{IsLineOf}
 use Rattle.ods_check.proofs.Adding.{adds_more}
 use Rattle.ods_check.proofs.Noting.{files_more}
 use Rattle.ods_check.proofs.Pairs.{blocks_more, told_pair_still}
+use Rattle.ods_check.specs.Turns.{turn_of, pair_turn}
+use Rattle.ods_check.proofs.Turning.{turn_within, turn_more}
 use Rattle.ods_check.proofs.sharing.push_shared_blocks.Goals as goal
 
 pub returns-in_ok-note_holder-clause-adds : goal.returns-in_ok-note_holder-clause-adds
@@ -100,3 +102,21 @@ returns-else-not-is_full-clause-before c =
       lists = ap (λ v. length v.items) c.push_pairs.ensures.holders ∙ c.requires.before.lists;
       stamps = stamped_more I _ _ _ (stamps_back I c.push_own.new.stamps _ _ _ own_stamps stamp_count) (omega arith);
     }
+
+pub returns-in_ok-note_holder-clause-once : goal.returns-in_ok-note_holder-clause-once
+returns-in_ok-note_holder-clause-once c =
+    let n = c.args.number in
+    let few = c.ranges.number.fits in
+    let mid = c.push_pairs.new.faults in
+    let new = c.push_own.new.faults in
+    turn_more turn_of (pair_turn 0 n) (pair_turn n n) (pair_turn 0 (n + 1)) c.args.faults.now mid new (omega arith) (omega arith) c.in_ok-push_pairs.ensures.once
+    (turn_within turn_of (pair_turn n n) (pair_turn n n + 1) (pair_turn n n) (pair_turn 0 (n + 1)) mid new (omega arith) (omega arith) c.in_ok-push_own.ensures.once)
+
+pub returns-else-not-is_full-clause-once : goal.returns-else-not-is_full-clause-once
+returns-else-not-is_full-clause-once c =
+    let n = c.args.number in
+    let few = c.ranges.number.fits in
+    let mid = c.push_pairs.new.faults in
+    let new = c.push_own.new.faults in
+    turn_more turn_of (pair_turn 0 n) (pair_turn n n) (pair_turn 0 (n + 1)) c.args.faults.now mid new (omega arith) (omega arith) c.in_ok-push_pairs.ensures.once
+    (turn_within turn_of (pair_turn n n) (pair_turn n n + 1) (pair_turn n n) (pair_turn 0 (n + 1)) mid new (omega arith) (omega arith) c.in_ok-push_own.ensures.once)

@@ -9,6 +9,8 @@ use Rattle.ods_check.specs.Lines.{IsLineOf}
 use Rattle.ods_mount.proofs.Headers.{number_small, number_in_bitmap}
 use Rattle.ods_check.proofs.Adding.{adds_none, adds_if, adds_more, told_if, told_still}
 use Rattle.ods_check.proofs.Telling.{true_holds, holds_true}
+use Rattle.ods_check.specs.Turns.{turn_of, volume_turn, file_turn}
+use Rattle.ods_check.proofs.Turning.{turn_none, turn_if, turn_within, turn_more}
 use Rattle.ods_check.proofs.system.push_formats.Goals as goal
 
 pub loop-k-init : goal.loop-k-init
@@ -18,6 +20,8 @@ loop-k-init c = record {
       let e : n ≡ 0 = omega arith in
       let none : false ≡ true = subst (λ x. is_in_use c.args.disk.now.image.now c.args.disk.now.layout.now.home x ≡ true) e t.0 in
       absurd (cc);
+  once = turn_none turn_of _ _ c.args.faults.now;
+  few = omega arith;
 }
 
 pub loop-k-preserved : goal.loop-k-preserved
@@ -29,6 +33,12 @@ loop-k-preserved c =
     let added = adds_if P c.loop-k.faults c.push_if.new.list x left c.in_ok-push_if.ensures (true_holds left (T (c.loop-k.k + 1)) c.is_left_aside-is_left.ensures) in
     record {
       adds = adds_more P c.args.faults.now c.loop-k.faults c.push_if.new.list c.loop-k.invariant.adds added;
+      once =
+          let k = c.loop-k.k in
+          let v = volume_turn in
+          turn_more turn_of (v + 2) (v + 3 + k) (v + 3 + (k + 1)) c.args.faults.now c.loop-k.faults c.push_if.new.list (omega arith) (omega arith) c.loop-k.invariant.once
+          (turn_if turn_of (v + 3 + k) (v + 3 + (k + 1)) c.loop-k.faults c.push_if.new.list x left c.in_ok-push_if.ensures (omega arith) (omega arith));
+      few = (let last = c.min-last.ensures in omega arith);
       all = λ n low t. elim (cases_lt n (c.loop-k.k + 1)) [
         | inl less ↦ told_still P c.loop-k.faults c.push_if.new.list (Plain (UnsupportedMap n)) added (c.loop-k.invariant.all n (omega arith) t)
         | inr more ↦
@@ -52,3 +62,10 @@ returns-clause-all c n t =
     let last = c.min-last.ensures in
     let end = c.loop-k-test.false in
     c.loop-k.invariant.all n (omega arith) t
+
+pub returns-clause-once : goal.returns-clause-once
+returns-clause-once c =
+    let k = c.loop-k.k in
+    let v = volume_turn in
+    let few = c.loop-k.invariant.few in
+    turn_within turn_of (v + 2) (v + 3 + k) (v + 2) (file_turn 0) c.args.faults.now c.loop-k.faults (omega arith) (omega arith) c.loop-k.invariant.once
