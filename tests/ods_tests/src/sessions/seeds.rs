@@ -14,8 +14,8 @@ use std::sync::Wait;
 use std::test::Fail;
 use std::thread::Threads;
 
-/// How many runs there are.
-const RUNS: u64 = 20;
+/// How many runs a test has: the first seeds are of one test, and as many later ones of another, so that both run side by side.
+const RUNS: u64 = 10;
 
 /// 500 commands in each script, and no views.
 const MIX: Mix = Mix {
@@ -126,14 +126,15 @@ fn is_replayed(rt: &impl Abort, alloc: Global, volume: &Volume) -> Result<(), Fa
     Ok(())
 }
 
-/// Each run of a mix settles, and is replayed. Returns in how many INDEXF.SYS grew.
-fn settle_all<R: Abort + Threads + Wait + Sync>(
+/// Each run of a mix settles, and is replayed, from a seed on. Returns in how many INDEXF.SYS grew.
+fn settle_from<R: Abort + Threads + Wait + Sync>(
     rt: &R,
     alloc: Global,
+    first: u64,
     mix: Mix,
 ) -> Result<u32, Fail> {
     let mut growths = 0u32;
-    for seed in 0..RUNS {
+    for seed in first..first.wrapping_add(RUNS) {
         let RanBySeed { ran, .. } = run_by_seed(rt, alloc, seed, mix)?;
         for outcome in &ran.outcomes {
             replies_are_answers(rt, outcome);
@@ -145,15 +146,35 @@ fn settle_all<R: Abort + Threads + Wait + Sync>(
     Ok(growths)
 }
 
+/// INDEXF.SYS grows in each run from a seed on.
+fn all_grow<R: Abort + Threads + Wait + Sync>(
+    rt: &R,
+    alloc: Global,
+    first: u64,
+) -> Result<(), Fail> {
+    let growths = settle_from(rt, alloc, first, Mix { grows: true, ..MIX })?;
+    assert!(rt; growths == RUNS as u32, "INDEXF.SYS grew in {growths} runs");
+    Ok(())
+}
+
 #[test]
 fn eight_sessions_settle(rt: HostRuntime) -> Result<(), Fail> {
-    settle_all(&rt, rt.alloc(), MIX)?;
+    settle_from(&rt, rt.alloc(), 0, MIX)?;
+    Ok(())
+}
+
+#[test]
+fn eight_sessions_of_later_seeds_settle(rt: HostRuntime) -> Result<(), Fail> {
+    settle_from(&rt, rt.alloc(), RUNS, MIX)?;
     Ok(())
 }
 
 #[test]
 fn eight_sessions_settle_where_the_index_grows(rt: HostRuntime) -> Result<(), Fail> {
-    let growths = settle_all(&rt, rt.alloc(), Mix { grows: true, ..MIX })?;
-    assert!(&rt; growths == RUNS as u32, "INDEXF.SYS grew in {growths} runs");
-    Ok(())
+    all_grow(&rt, rt.alloc(), 0)
+}
+
+#[test]
+fn eight_sessions_of_later_seeds_settle_where_the_index_grows(rt: HostRuntime) -> Result<(), Fail> {
+    all_grow(&rt, rt.alloc(), RUNS)
 }
