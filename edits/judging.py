@@ -4,8 +4,6 @@ import re
 # An error that says only that a name is missing or was not admitted: what an edit took away, or what depends on another error.
 MISSING = re.compile(r"has no field|is not in scope|has no `|was not admitted|was rejected, (?:was|were) not checked")
 GOAL = re.compile(r"note: (src/\S+?):(\d+):\d+: it is not proved that .* \(`([^`]+)`\)")
-# A function that is proved, as far as what it calls is: `--allow-holes` says so of one that has no open goal itself.
-HELD = re.compile(r"proved|no holes|depends on a hole in ")
 OPEN = re.compile(r"fn \w+::(\S+): (?!proved).*did not prove (`[^;]*)")
 WRONG = re.compile(r"\S*?\bproofs/(\S+)/\w+\.antt(?::\d+:\d+)?: error: `([^`]+)`: ")
 DECLARED = re.compile(r"^ *(?:pub |abbrev |unfoldable )*([^\s:(){}]+) :(?= |$)", re.M)
@@ -62,8 +60,8 @@ class Said:
         self.folder = folder
         self.lines = [it for it in text.split("\n") if it and not it.startswith(" ")]
         self.functions = dict(it.groups() for it in re.finditer(rf"^fn {crate}::(\S+): (.*)$", text, re.M))
-        self.unproved = {name: rest for name, rest in self.functions.items() if not HELD.match(rest)}
-        self.verdict = next((it for it in self.lines if it.startswith(("logic=", "only=", "holes="))), "")
+        self.unproved = {name: rest for name, rest in self.functions.items() if not rest.startswith("proved")}
+        self.verdict = next((it for it in self.lines if it.startswith(("logic=", "only="))), "")
         self.reached_all = bool(self.functions and self.verdict)
 
     def goals(self, edit):
@@ -106,8 +104,7 @@ class Said:
         found, more = set(), {it for it in self.unproved if is_of(it, edit)}
         while more:
             rest = " ".join(self.unproved.get(it, "").partition("it calls ")[2] for it in more)
-            # (what stands there with a hole is not proved either, and keeps no goal from being tried)
-            more = {it.partition("::")[2] for it in re.findall(r"`(\S+?)`", rest)} & self.unproved.keys() - found
+            more = {it.partition("::")[2] for it in re.findall(r"`(\S+?)`", rest)} - found
             found |= more
         return {it for it in found if not is_of(it, edit)}
 
@@ -122,3 +119,12 @@ class Said:
         name = edit.clause.partition(" ")[0]
         found = [f"{it}: {rest}" for it, rest in self.unproved.items() if it.rpartition("::")[2] == name]
         return bool(found), (found or [f"LET THROUGH: {name} is proved"])[0]
+
+    def strays(self, edits):
+        """Returns what is not proved though it is neither edited nor, by its line, calls what is."""
+        known = {name for name in self.unproved if any(is_of(name, it) for it in edits)}
+        calls = {name: rest.partition("it calls ")[2] for name, rest in self.unproved.items() if "did not prove" not in rest}
+        calls = {name: {it.partition("::")[2] for it in re.findall(r"`(\S+?)`", rest)} for name, rest in calls.items()}
+        while more := {name for name in calls if calls[name] & known} - known:
+            known |= more
+        return [f"{name}: {rest}" for name, rest in self.unproved.items() if name not in known]
