@@ -27,7 +27,8 @@ extension_of first file segment next runs = record {
   pointers = record { items = runs };
 }
 
--- b has the form that this software gives to a header: the ident at word 23, the map at word 46, room for 204 words of pointers, and zeros behind the pointers; and a next one is on this volume
+-- b has the form that this software gives to a header. The ident is at word 23, the map at word 46, and there is room for 204 words of pointers.
+-- A next header is on this volume. The bytes behind the pointers are zeros.
 pub record IsMadeHeader (b : List ℕ) : Type 0 where
   pub ident : ident_word b ≡ 23
   pub map : map_word b ≡ 46

@@ -25,7 +25,8 @@ behind_pointers b = 2 * map_word b + 10 + 2 * used_words_of b
 abbrev pub link_bytes : ℕ → ℕ → List ℕ
 link_bytes number sequence = 0 ∷ (number % 256) ∷ (number / 256) ∷ (sequence % 256) ∷ (sequence / 256) ∷ []
 
--- c keeps of header b what stands where no pointer does: the bytes behind the pointers, up to the sum, and M.EFSQ where no header is next. It has no fewer pointers, and a next header where b has one.
+-- c keeps the bytes that stand behind the pointers of header b, up to the sum. Its pointers end no earlier than those of b.
+-- Where c names no next header, b names none, and M.EFSQ stays.
 pub record KeepsRest (b c : List ℕ) : Type 0 where
   pub further : behind_pointers b ≤ behind_pointers c
   pub behind : (i : ℕ) → behind_pointers c ≤ i → i < 510 → byte c i ≡ byte b i
