@@ -1,10 +1,10 @@
 //! A sound image with its layout.
 ghost use Rattle.std.specs.Prelude.{◌≡◌, IfOk, IfErr};
-ghost use Rattle.ods_space.specs.Disks.{on};
+ghost use Rattle.ods_space.specs.{Disks.on, Draft.applied, Layout.with_places};
 ghost use Rattle.ods_mount.specs.Sound.{IsSoundBy};
 
 use ods_base::{FixedImage, Image};
-use ods_space::{Disk, Layout};
+use ods_space::{Disk, Draft, Layout};
 use std::alloc::AllocError;
 use std::marker::Model;
 
@@ -81,6 +81,15 @@ impl Mounted {
             image: &self.image,
             layout: &self.layout,
         }
+    }
+
+    /// Writes the blocks of a draft, and INDEXF.SYS gets these places behind its own, where a sound volume comes of it. It takes no memory.
+    pub fn apply(&mut self, draft: Draft, places: &[u32])
+        requires sound { IsSoundBy (applied self.old.image draft) (with_places self.old.layout places.now) }
+        ensures changed { self.new ≡ record { image = applied self.old.image draft; layout = with_places self.old.layout places.now } }
+    {
+        draft.apply(&mut self.image);
+        self.layout.grow(places);
     }
 
     /// The image and its layout.
