@@ -5,9 +5,11 @@ use Rattle.std.proofs.KnownBytes.{Keeps-refl}
 use Rattle.ods_space.specs.Free.{free_blocks, free_numbers}
 use Rattle.ods_space.specs.Layout.{VolumeLayout}
 use Rattle.ods_mount.specs.Sound.{IsSoundBy}
+use Rattle.ods_request.specs.declared.answers.Entry.{Entry}
 use Rattle.ods_state.specs.Version.{State, IsLawful}
 use Rattle.ods_state.proofs.Opening.{new_is_lawful}
 use Rattle.ods_share.specs.Keeping.{EachEnded}
+use Rattle.ods_share.specs.Scripts.{all_saw}
 use Rattle.ods_share.specs.Settles.{Calls, IsSettled, AreLengths}
 use Rattle.ods_share.specs.declared.keeping.Ended.{Ended}
 use Rattle.ods_share.specs.declared.script.Script.{Script}
@@ -28,14 +30,22 @@ pub untouched : {W : Type 0} (contents : W → Option (List ℕ)) (o : Option W)
 untouched contents None = tt
 untouched contents (Some w) = Keeps-refl (contents w)
 
+-- what came of sessions at a desk of the new volume v, said by the image and the limit of the volume that came back
+pub of_desk : (stamp : List ℕ) (scripts : List Script) (v w : State) (es : List (Ended Printed)) → v.entries ≡ [] → w.mounted ≡ v.mounted → w.limit ≡ v.limit →
+    EachEnded ArePrinted v.mounted stamp (all_saw v.entries) (length w.entries ≡ v.limit) scripts es → EachEnded ArePrinted w.mounted stamp (all_saw []) (length w.entries ≡ w.limit) scripts es
+of_desk stamp scripts v w es none mounted limit each =
+    let one = subst (λ (E : List Entry). EachEnded ArePrinted v.mounted stamp (all_saw E) (length w.entries ≡ v.limit) scripts es) none each in
+    let two = subst (λ (n : ℕ). EachEnded ArePrinted v.mounted stamp (all_saw []) (length w.entries ≡ n) scripts es) (sym limit) one in
+    subst (λ (M : List (List ℕ)). EachEnded ArePrinted M stamp (all_saw []) (length w.entries ≡ w.limit) scripts es) (sym mounted) two
+
 -- a volume whose list is settled was served so
 pub served_to : (stamp : List ℕ) (scripts : List Script) (v : State) (es : List (Ended Printed)) (lists : List Calls) (printed : List Printed) (r : Report) (text : List ℕ) →
-    IsLawful v → 1 ≤ length scripts → length es ≡ length scripts → EachEnded ArePrinted v.mounted stamp scripts es → lists ≡ calls_kept es → printed ≡ printed_of es →
+    IsLawful v → 1 ≤ length scripts → length es ≡ length scripts → EachEnded ArePrinted v.mounted stamp (all_saw []) (length v.entries ≡ v.limit) scripts es → lists ≡ calls_kept es → printed ≡ printed_of es →
     IsSettled v.mounted v lists × AreLengths v.entries lists r →
     text ≡ printed_text 1 printed ++ totals_text (length v.entries) (length (free_blocks v.image v.layout)) (length (free_numbers v.image v.layout)) →
-    IsServedTo stamp scripts v.mounted v.image r text
+    IsServedTo stamp scripts v.limit v.mounted v.image r text
 served_to stamp scripts v es lists printed r text lawful some count each same alike settled lines =
-    let b : Behind v.mounted stamp scripts es = behind v.mounted stamp scripts es count each in record {
+    let b : Behind v.mounted (length v.entries ≡ v.limit) stamp scripts es = behind v.mounted (length v.entries ≡ v.limit) stamp scripts es count each in record {
       entries = v.entries;
       layout = v.layout;
       version = lawful.version;
@@ -49,25 +59,26 @@ served_to stamp scripts v es lists printed r text lawful some count each same al
     }
 
 -- a volume whose list is not said is why the run is not served to the end
-pub not_said : (stamp : List ℕ) (scripts : List Script) (v : State) (es : List (Ended Printed)) (lists : List Calls) (limit : ℕ) (f : ServeFault) →
-    IsLawful v → length es ≡ length scripts → EachEnded ArePrinted v.mounted stamp scripts es → lists ≡ calls_kept es →
-    IsReportFault v lists limit f → IsServingFault stamp scripts v.mounted limit f
-not_said stamp scripts v es lists limit fault.NoMemory lawful count each same why = tt
-not_said stamp scripts v es lists limit fault.Unmatched lawful count each same why =
-    let b : Behind v.mounted stamp scripts es = behind v.mounted stamp scripts es count each in record {
+pub not_said : (stamp : List ℕ) (scripts : List Script) (v : State) (es : List (Ended Printed)) (lists : List Calls) (f : ServeFault) →
+    IsLawful v → length es ≡ length scripts → EachEnded ArePrinted v.mounted stamp (all_saw []) (length v.entries ≡ v.limit) scripts es → lists ≡ calls_kept es →
+    IsReportFault v lists f → IsServingFault stamp scripts v.mounted v.limit f
+not_said stamp scripts v es lists fault.NoMemory lawful count each same why = tt
+not_said stamp scripts v es lists fault.Unmatched lawful count each same why =
+    let b : Behind v.mounted (length v.entries ≡ v.limit) stamp scripts es = behind v.mounted (length v.entries ≡ v.limit) stamp scripts es count each in record {
       volume = v;
       mounted = refl;
+      limited = refl;
       lawful = lawful;
       outcomes = b.outcomes;
       count = b.count;
       each = b.each;
-      wrong = subst (λ (cs : List Calls). IsReportFault v cs limit fault.Unmatched) (same ∙ b.calls) why;
+      wrong = subst (λ (cs : List Calls). IsReportFault v cs fault.Unmatched) (same ∙ b.calls) why;
     }
-not_said stamp scripts v es lists limit fault.NoThread lawful count each same why = absurd why
-not_said stamp scripts v es lists limit fault.Read lawful count each same why = absurd why
-not_said stamp scripts v es lists limit fault.Write lawful count each same why = absurd why
-not_said stamp scripts v es lists limit (fault.WriteOut part) lawful count each same why = absurd why
-not_said stamp scripts v es lists limit (fault.Refused number) lawful count each same why = absurd why
+not_said stamp scripts v es lists fault.NoThread lawful count each same why = absurd why
+not_said stamp scripts v es lists fault.Read lawful count each same why = absurd why
+not_said stamp scripts v es lists fault.Write lawful count each same why = absurd why
+not_said stamp scripts v es lists (fault.WriteOut part) lawful count each same why = absurd why
+not_said stamp scripts v es lists (fault.Refused number) lawful count each same why = absurd why
 
 -- what `no script` means
 none_of : (ss : List Script) → length ss ≡ 0 → ss ≡ []
@@ -75,11 +86,11 @@ none_of [] e = refl
 none_of (s ∷ ss) e = absurd (omega (arith, e))
 
 -- a sound image on which no script is served stays as it is
-pub unserved_to : (stamp : List ℕ) (scripts : List Script) (I : List (List ℕ)) (L : VolumeLayout) (r : Report) (text : List ℕ) →
+pub unserved_to : (stamp : List ℕ) (scripts : List Script) (limit : ℕ) (I : List (List ℕ)) (L : VolumeLayout) (r : Report) (text : List ℕ) →
     length scripts ≡ 0 → IsSoundBy I L → r.entries ≡ 0 → r.of_session.items ≡ [] →
-    text ≡ totals_text 0 (length (free_blocks I L)) (length (free_numbers I L)) → IsServedTo stamp scripts I I r text
-unserved_to stamp scripts I L r text none sound entries of_session lines =
-    subst (λ (ss : List Script). IsServedTo stamp ss I I r text) (sym (none_of scripts none)) (record {
+    text ≡ totals_text 0 (length (free_blocks I L)) (length (free_numbers I L)) → IsServedTo stamp scripts limit I I r text
+unserved_to stamp scripts limit I L r text none sound entries of_session lines =
+    subst (λ (ss : List Script). IsServedTo stamp ss limit I I r text) (sym (none_of scripts none)) (record {
       entries = [];
       layout = L;
       version = (new_is_lawful I L sound 1).version;
@@ -128,9 +139,9 @@ failed stamp scripts limit bytes rest old out I (fault.Refused number) sound why
 -- a run that was served ends as its writing does
 pub delivered : (stamp : List ℕ) (scripts : List Script) (limit : ℕ) (bytes : List ℕ) (rest : Option (List ℕ)) (replies : Wrote) (out : Option Wrote)
     (I J : List (List ℕ)) (report : Report) (text : List ℕ) (r : Result Report ServeFault) →
-    AreSound bytes rest I → IsServedTo stamp scripts I J report text → EndsWriting report text J replies out r → EndsServe stamp scripts limit bytes rest replies out r
+    AreSound bytes rest I → IsServedTo stamp scripts limit I J report text → EndsWriting report text J replies out r → EndsServe stamp scripts limit bytes rest replies out r
 delivered stamp scripts limit bytes rest replies out I J report text (Ok r) sound served wrote =
-    let P : Report → Type 0 = λ x. IsServedTo stamp scripts I J x text in
+    let P : Report → Type 0 = λ x. IsServedTo stamp scripts limit I J x text in
     (J, text, record { image = I; sound = sound; served = subst P (sym wrote.0) served }, wrote.1, wrote.2)
 delivered stamp scripts limit bytes rest replies out I J report text (Err fault.Write) sound served wrote =
     (text, wrote.0.0, inl (J, report, record { image = I; sound = sound; served = served }), wrote.0.1, wrote.1)

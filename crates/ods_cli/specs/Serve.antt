@@ -1,5 +1,5 @@
 -- How a run that serves scripts ends: what was read, what went out, and which list of requests stands behind it.
-use Rattle.std.specs.Prelude.{◌≡◌, ℕ, ◌<◌, ◌⊎◌, List, ◌∷◌, ◌++◌, length, map, codes, Option, None, Some, Result, Ok, Err}
+use Rattle.std.specs.Prelude.{◌≡◌, ℕ, ◌⊎◌, List, [], ◌∷◌, ◌++◌, length, map, codes, Option, None, Some, Result, Ok, Err}
 use Rattle.std.specs.Fmt.{decimal}
 use Rattle.std.specs.Io.KnownBytes.{Appends, Keeps}
 use Rattle.ods_base.specs.Image.{TookBytes, image_bytes}
@@ -14,7 +14,7 @@ use Rattle.ods_state.specs.Version.{State, IsLawful, IsVersionBy}
 use Rattle.ods_share.specs.declared.script.Script.{Script}
 use Rattle.ods_share.specs.declared.outcome.Outcome.{Outcome}
 use Rattle.ods_share.specs.declared.settlement.Report.{Report}
-use Rattle.ods_share.specs.Scripts.{EachOutcome}
+use Rattle.ods_share.specs.Scripts.{EachOutcome, all_saw}
 use Rattle.ods_share.specs.Settles.{Calls, AreCalls, AreLengths, IsSettled}
 use Rattle.ods_script.specs.Texts.{sessions_text}
 use Rattle.ods_cli.specs.Reply.{AreImageBytes, AreNoImage, IsReplyFault}
@@ -31,15 +31,16 @@ abbrev pub totals_text : ℕ → ℕ → ℕ → List ℕ
 totals_text entries blocks numbers = codes "list " ++ decimal entries ++ 10 ∷ count_lines blocks numbers
 
 -- The image I was served: there is a list of accepted requests that leads from it to the image J. Its entries are just the calls of the
--- scripts, each session's in the order of its script, with the answers that were replied. The report has its numbers, and the text has
--- the replies and the totals. With no script J is I.
-pub record IsServedTo (stamp : List ℕ) (scripts : List Script) (I J : List (List ℕ)) (r : Report) (text : List ℕ) : Type 0 where
+-- scripts, each session's in the order of its script, with the answers that were replied. Each session began with a viewer that had seen
+-- nothing, and each refusal is one of a volume over I. A reply says that the list is full only where the list has as many entries as the limit. The
+-- report has the list's numbers, and the text has the replies and the totals. With no script J is I.
+pub record IsServedTo (stamp : List ℕ) (scripts : List Script) (limit : ℕ) (I J : List (List ℕ)) (r : Report) (text : List ℕ) : Type 0 where
   pub entries : List Entry
   pub layout : VolumeLayout
   pub version : IsVersionBy I entries J layout
   pub outcomes : List Outcome
   pub count : length outcomes ≡ length scripts
-  pub each : EachOutcome I stamp scripts outcomes
+  pub each : EachOutcome I stamp (all_saw []) (length entries ≡ limit) scripts outcomes
   pub calls : AreCalls entries (calls_in outcomes)
   pub report : AreLengths entries (calls_in outcomes) r
   pub lines : text ≡ sessions_text 1 scripts outcomes ++ totals_text (length entries) (length (free_blocks J layout)) (length (free_numbers J layout))
@@ -55,10 +56,10 @@ pub record AreSound (bytes : List ℕ) (rest : Option (List ℕ)) (I : List (Lis
   pub sound : IsSoundImage I
 
 -- the bytes spell a sound image, which was served
-pub record IsRun (stamp : List ℕ) (scripts : List Script) (bytes : List ℕ) (rest : Option (List ℕ)) (J : List (List ℕ)) (r : Report) (text : List ℕ) : Type 0 where
+pub record IsRun (stamp : List ℕ) (scripts : List Script) (limit : ℕ) (bytes : List ℕ) (rest : Option (List ℕ)) (J : List (List ℕ)) (r : Report) (text : List ℕ) : Type 0 where
   pub image : List (List ℕ)
   pub sound : AreSound bytes rest image
-  pub served : IsServedTo stamp scripts image J r text
+  pub served : IsServedTo stamp scripts limit image J r text
 
 -- a fault is true of the image, and this is its number, with its line
 pub record IsFaultOf (I : List (List ℕ)) (number : ℕ) (line : List ℕ) : Type 0 where
@@ -90,25 +91,26 @@ IsRefusedWith number line replies NoMemory = ⊥
 IsRefusedWith number line replies NoThread = ⊥
 IsRefusedWith number line replies Unmatched = ⊥
 
--- why a volume's list is not said, where these are the calls: it is not settled by them, or longer than the limit
-abbrev pub IsReportFault : State → List Calls → ℕ → ServeFault → Type 0
-IsReportFault v lists limit Unmatched = IsSettled v.mounted v lists → limit < length v.entries
-IsReportFault v lists limit NoMemory = Unit {0}
-IsReportFault v lists limit NoThread = ⊥
-IsReportFault v lists limit (Refused number) = ⊥
-IsReportFault v lists limit Read = ⊥
-IsReportFault v lists limit Write = ⊥
-IsReportFault v lists limit (WriteOut fault) = ⊥
+-- why a volume's list is not said, where these are the calls: it is not settled by them
+abbrev pub IsReportFault : State → List Calls → ServeFault → Type 0
+IsReportFault v lists Unmatched = ¬ IsSettled v.mounted v lists
+IsReportFault v lists NoMemory = Unit {0}
+IsReportFault v lists NoThread = ⊥
+IsReportFault v lists (Refused number) = ⊥
+IsReportFault v lists Read = ⊥
+IsReportFault v lists Write = ⊥
+IsReportFault v lists (WriteOut fault) = ⊥
 
--- The scripts ran on the image I, and the list of the volume that came back is not settled by their calls, or is longer than the limit.
+-- The scripts ran on the image I, and the list of the volume that came back is not settled by their calls.
 pub record IsUnmatched (stamp : List ℕ) (scripts : List Script) (I : List (List ℕ)) (limit : ℕ) : Type 0 where
   pub volume : State
   pub mounted : volume.mounted ≡ I
+  pub limited : volume.limit ≡ limit
   pub lawful : IsLawful volume
   pub outcomes : List Outcome
   pub count : length outcomes ≡ length scripts
-  pub each : EachOutcome I stamp scripts outcomes
-  pub wrong : IsReportFault volume (calls_in outcomes) limit Unmatched
+  pub each : EachOutcome I stamp (all_saw []) (length volume.entries ≡ limit) scripts outcomes
+  pub wrong : IsReportFault volume (calls_in outcomes) Unmatched
 
 -- why the sound image I is not served to the end: memory, threads, or a list that is not the sessions'
 abbrev pub IsServingFault : List ℕ → List Script → List (List ℕ) → ℕ → ServeFault → Type 0
@@ -158,7 +160,7 @@ EndsWriting report text J replies out (Err Unmatched) = ⊥
 abbrev pub EndsServe : List ℕ → List Script → ℕ → List ℕ → Option (List ℕ) → Wrote → Option Wrote → Result Report ServeFault → Type 0
 -- all is written
 EndsServe stamp scripts limit bytes rest replies out (Ok r) =
-    (J : List (List ℕ)) × (text : List ℕ) × IsRun stamp scripts bytes rest J r text × Appends replies.old replies.new text × GotAll out (image_bytes J)
+    (J : List (List ℕ)) × (text : List ℕ) × IsRun stamp scripts limit bytes rest J r text × Appends replies.old replies.new text × GotAll out (image_bytes J)
 -- the line of a refusal is written
 EndsServe stamp scripts limit bytes rest replies out (Err (Refused number)) =
     (line : List ℕ) × AreRefused bytes rest number line × Appends replies.old replies.new line × IsUntouched out
@@ -171,9 +173,9 @@ EndsServe stamp scripts limit bytes rest replies out (Err Unmatched) =
 -- a first part of the replies is written, or of the line of a refusal, and no image
 EndsServe stamp scripts limit bytes rest replies out (Err Write) =
     (text : List ℕ) × (count : ℕ)
-    × (((J : List (List ℕ)) × (r : Report) × IsRun stamp scripts bytes rest J r text) ⊎ ((number : ℕ) × AreRefused bytes rest number text))
+    × (((J : List (List ℕ)) × (r : Report) × IsRun stamp scripts limit bytes rest J r text) ⊎ ((number : ℕ) × AreRefused bytes rest number text))
     × TookBytes replies.old replies.new text count × IsUntouched out
 -- the replies are written, and just so many bytes of the image
 EndsServe stamp scripts limit bytes rest replies out (Err (WriteOut fault)) =
-    (J : List (List ℕ)) × (r : Report) × (text : List ℕ) × IsRun stamp scripts bytes rest J r text
+    (J : List (List ℕ)) × (r : Report) × (text : List ℕ) × IsRun stamp scripts limit bytes rest J r text
     × Appends replies.old replies.new text × GotPart out (image_bytes J) fault.written

@@ -1,8 +1,8 @@
 //! The sessions of a run on a sound image: what they make of it, and what is said of that.
-ghost use Rattle.std.specs.Prelude.{◌≡◌, ◌≤◌, ℕ, List, All, length, vec_len, IfOk, IfErr};
+ghost use Rattle.std.specs.Prelude.{◌≡◌, ◌≤◌, ℕ, List, [], All, length, vec_len, IfOk, IfErr};
 ghost use Rattle.std.specs.String.{string_bytes};
 ghost use Rattle.ods_space.specs.Free.{free_blocks, free_numbers};
-ghost use Rattle.ods_share.specs.{Keeping.EachEnded, Scripts.CanBeRun, Settles.AreLengths, Settles.IsSettled};
+ghost use Rattle.ods_share.specs.{Keeping.EachEnded, Scripts.CanBeRun, Scripts.all_saw, Settles.AreLengths, Settles.IsSettled};
 ghost use Rattle.ods_script.specs.Printing.{ArePrinted};
 ghost use Rattle.ods_cli.specs.Serve.{IsServedTo, IsServingFault, IsReportFault, totals_text};
 ghost use Rattle.ods_cli.specs.Printed.{calls_kept, printed_of, said_text};
@@ -46,7 +46,7 @@ pub(crate) fn unserved(
 ) -> Result<Said, AllocError>
     requires { length scripts.now ≡ 0 }
     ensures none { IfOk result (λ s. s.report.entries ≡ 0) }
-    ensures served { (stamp : List ℕ) → IfOk result (λ s. IsServedTo stamp scripts.now mounted.now.image mounted.now.image s.report (said_text s)) }
+    ensures served { (stamp : List ℕ) (limit : ℕ) → IfOk result (λ s. IsServedTo stamp scripts.now limit mounted.now.image mounted.now.image s.report (said_text s)) }
     ensures few { IfOk result (λ s. length s.printed.items ≤ 8) }
 {
     let disk = mounted.disk();
@@ -79,7 +79,7 @@ pub(crate) fn serve_all<G: Gate + Sync, R: Threads + Wait + Sync>(
     requires some { 1 ≤ length scripts.now }
     requires few { length scripts.now ≤ 8 }
     requires can { All (λ s. CanBeRun s.commands.items) scripts.now }
-    ensures ok { IfOk result (λ s. IsServedTo options.stamp scripts.now mounted.image s.volume.image s.said.report (said_text s.said)) }
+    ensures ok { IfOk result (λ s. IsServedTo options.stamp scripts.now options.limit mounted.image s.volume.image s.said.report (said_text s.said)) }
     ensures few { IfOk result (λ s. length s.said.printed.items ≤ 8) }
     ensures limit { IfOk result (λ s. s.said.report.entries ≤ options.limit) }
     ensures err { IfErr result (IsServingFault options.stamp scripts.now mounted.image options.limit) }
@@ -88,7 +88,7 @@ pub(crate) fn serve_all<G: Gate + Sync, R: Threads + Wait + Sync>(
         return Err(ServeFault::NoMemory);
     };
     match run_keeping::<Printed, G, R>(rt, alloc, volume, scripts, options.stamp, gate) {
-        Ok((volume, ended)) => settled(alloc, volume, scripts, ended, options.limit),
+        Ok((volume, ended)) => settled(alloc, volume, scripts, ended),
         Err(RunFault::NoMemory) => Err(ServeFault::NoMemory),
         Err(RunFault::NoThread) => Err(ServeFault::NoThread),
     }
@@ -100,21 +100,20 @@ fn settled(
     volume: Volume,
     scripts: &[Script],
     ended: Vec<Ended<Printed>>,
-    limit: u32,
 ) -> Result<Served, ServeFault>
     requires some { 1 ≤ length scripts.now }
     requires few { length scripts.now ≤ 8 }
     requires count { vec_len ended ≡ length scripts.now }
-    ensures ok { (stamp : List ℕ) → EachEnded ArePrinted volume.mounted stamp scripts.now ended.items →
-        IfOk result (λ s. IsServedTo stamp scripts.now volume.mounted s.volume.image s.said.report (said_text s.said)) }
+    ensures ok { (stamp : List ℕ) → EachEnded ArePrinted volume.mounted stamp (all_saw []) (length volume.entries ≡ volume.limit) scripts.now ended.items →
+        IfOk result (λ s. IsServedTo stamp scripts.now volume.limit volume.mounted s.volume.image s.said.report (said_text s.said)) }
     ensures few { IfOk result (λ s. length s.said.printed.items ≤ 8) }
-    ensures limit { IfOk result (λ s. s.said.report.entries ≤ limit) }
-    ensures err { (stamp : List ℕ) → EachEnded ArePrinted volume.mounted stamp scripts.now ended.items →
-        IfErr result (IsServingFault stamp scripts.now volume.mounted limit) }
+    ensures limit { IfOk result (λ s. s.said.report.entries ≤ volume.limit) }
+    ensures err { (stamp : List ℕ) → EachEnded ArePrinted volume.mounted stamp (all_saw []) (length volume.entries ≡ volume.limit) scripts.now ended.items →
+        IfErr result (IsServingFault stamp scripts.now volume.mounted volume.limit) }
 {
     volume.is_lawful();
     let (calls, printed) = parted(alloc, ended)?;
-    let report = report_of(alloc, &volume, calls, limit)?;
+    let report = report_of(alloc, &volume, calls)?;
     let totals = print_totals(
         alloc,
         volume.entries().len(),
@@ -129,25 +128,13 @@ fn settled(
     Ok(Served { volume, said })
 }
 
-/// The report, where the volume's list is these calls, and no longer than the limit, which no promise of a run says. The calls are let go
-/// then: nothing that is written stands on them.
-fn report_of(
-    alloc: Global,
-    volume: &Volume,
-    calls: Vec<Vec<Call>>,
-    limit: u32,
-) -> Result<Report, ServeFault>
+/// The report, where the volume's list is these calls. The calls are let go then: nothing that is written stands on them.
+fn report_of(alloc: Global, volume: &Volume, calls: Vec<Vec<Call>>) -> Result<Report, ServeFault>
     ensures ok { IfOk result (λ r. IsSettled volume.now.mounted volume.now calls.items × AreLengths volume.now.entries calls.items r) }
-    ensures limit { IfOk result (λ r. r.entries ≤ limit) }
-    ensures err { IfErr result (IsReportFault volume.now calls.items limit) }
+    ensures err { IfErr result (IsReportFault volume.now calls.items) }
 {
     match settle_mounted(alloc, volume, calls.as_slice()) {
-        Ok(report) => {
-            if report.entries > limit {
-                return Err(ServeFault::Unmatched);
-            }
-            Ok(report)
-        }
+        Ok(report) => Ok(report),
         Err(SettleFault::Unmatched) => Err(ServeFault::Unmatched),
         Err(SettleFault::NoMemory) => Err(ServeFault::NoMemory),
     }

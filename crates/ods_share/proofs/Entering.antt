@@ -1,5 +1,5 @@
 -- The entries of a session, from a place of the list on.
-use Rattle.std.proofs.Common.{◌≡◌, ◌≢◌, refl, ◌↔◌, ℕ, ◌+◌, ◌<◌, ◌≤◌, List, [], ◌∷◌, ◌∙◌, ap, sym, IsTrue, false, true, All, drop, length, slice_index_or, arith}
+use Rattle.std.proofs.Common.{◌≡◌, ◌≢◌, refl, ◌↔◌, ℕ, ◌+◌, ◌<◌, ◌≤◌, List, [], ◌∷◌, ◌∙◌, ap, sym, IsTrue, false, drop, length, slice_index_or, arith}
 use Rattle.std.proofs.lemmas.List.{drop_more}
 use Rattle.ods_request.specs.declared.answers.Entry.{Entry}
 use Rattle.ods_share.specs.declared.outcome.Call.{Call}

@@ -1,5 +1,6 @@
 pub mod Carried
 pub mod Desks
+pub mod Fulls
 pub mod Handles
 pub mod Refusals
 pub mod Rooms

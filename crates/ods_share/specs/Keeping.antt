@@ -9,7 +9,8 @@ use Rattle.ods_share.specs.declared.script.Script.{Script}
 use Rattle.ods_share.specs.declared.outcome.Reply.{Reply}
 use Rattle.ods_share.specs.declared.outcome.Outcome.{Outcome}
 use Rattle.ods_share.specs.declared.keeping.Ended.{Ended}
-use Rattle.ods_share.specs.Scripts.{Sitting, Runs, start}
+use Rattle.ods_share.specs.declared.session.Sat.{Sat}
+use Rattle.ods_share.specs.Scripts.{Sitting, Runs, start, fulls_of}
 use Rattle.ods_share.specs.Sittings.{Standing, TellsContext}
 
 -- the replies themselves are kept
@@ -25,23 +26,28 @@ abbrev pub TellsOn : {K : Type 0} → (List Command → List Reply → K → Typ
 TellsOn keeps mounted stamp c s was t now =
     (r : Reply) × TellsContext mounted stamp c s was.calls.items r t now.calls.items × KeepsOn keeps c r was.kept now.kept
 
--- what came of a script: there is one reply for each command, of which this is kept, and just the accepted calls
-pub record IsEnded {K : Type 0} (keeps : List Command → List Reply → K → Type 0) (M : List (List ℕ)) (stamp : List ℕ) (cs : List Command) (e : Ended K) : Type 0 where
+-- What came of a script, where its viewer had seen this list: there is one reply for each command, of which this is kept, and just the
+-- accepted calls. A reply says that the list is full only where the list was filled.
+pub record IsEnded {K : Type 0} (keeps : List Command → List Reply → K → Type 0) (M : List (List ℕ)) (stamp : List ℕ) (seen : List Entry) (filled : Type 0) (cs : List Command) (e : Ended K) : Type 0 where
   pub replies : List Reply
-  pub seen : List Entry
   pub last : Sitting
   pub runs : Runs M stamp (start seen) cs replies last
   pub calls : e.calls.items ≡ last.calls
   pub kept : keeps cs replies e.kept
+  pub full : 0 < fulls_of replies → filled
 
--- what came of session k is of script k
-abbrev pub EachEnded : {K : Type 0} → (List Command → List Reply → K → Type 0) → List (List ℕ) → List ℕ → List Script → List (Ended K) → Type 0
-EachEnded {K} keeps M stamp ss es = (k : ℕ) (s : Script) (e : Ended K) → k < length ss → IsEnded keeps M stamp (slice_index_or ss k s).commands.items (slice_index_or es k e)
+-- what came of session k is of script k, whose viewer had seen the list `seen k`
+abbrev pub EachEnded : {K : Type 0} → (List Command → List Reply → K → Type 0) → List (List ℕ) → List ℕ → (ℕ → List Entry) → Type 0 → List Script → List (Ended K) → Type 0
+EachEnded {K} keeps M stamp seen filled ss es = (k : ℕ) (s : Script) (e : Ended K) → k < length ss → IsEnded keeps M stamp (seen k) filled (slice_index_or ss k s).commands.items (slice_index_or es k e)
 
--- the same so far as the sessions came to their ends
-abbrev pub EachIfOk : {K : Type 0} → (List Command → List Reply → K → Type 0) → List (List ℕ) → List ℕ → List Script → List (Result (Ended K) AllocError) → Type 0
-EachIfOk {K} keeps M stamp ss rs =
-    (k : ℕ) (s : Script) (r : Result (Ended K) AllocError) → k < length ss → IfOk (slice_index_or rs k r) (λ e. IsEnded keeps M stamp (slice_index_or ss k s).commands.items e)
+-- what a session gives back at its end is that; that the list is full was said only where its share says so
+abbrev pub IsSat : {K L : Type 0} → (List Command → List Reply → K → Type 0) → List (List ℕ) → List ℕ → List Entry → List Command → Sat K L → Type 0
+IsSat keeps M stamp seen cs sat = IsEnded keeps M stamp seen (0 < sat.fulls.amount) cs sat.ended
+
+-- the same of each session so far as they came to their ends
+abbrev pub EachIfOk : {K L : Type 0} → (List Command → List Reply → K → Type 0) → List (List ℕ) → List ℕ → (ℕ → List Entry) → List Script → List (Result (Sat K L) AllocError) → Type 0
+EachIfOk {K} {L} keeps M stamp seen ss rs =
+    (k : ℕ) (s : Script) (r : Result (Sat K L) AllocError) → k < length ss → IfOk (slice_index_or rs k r) (IsSat keeps M stamp (seen k) (slice_index_or ss k s).commands.items)
 
 -- the outcome, where the replies themselves were kept
 abbrev pub outcome_of : Ended (Vec Reply Global) → Outcome

@@ -1,6 +1,7 @@
 -- What a script means: which requests its commands make, and which replies and calls come of it.
 use Rattle.std.specs.Prelude.{◌≡◌, ℕ, ◌<◌, List, [], ◌∷◌, ◌++◌, length, Option, Some, None, All, slice_index_or, Result, Ok, Err, MatchOption}
 use Rattle.std.specs.Option.{option_map, option_and_then}
+use Rattle.std.specs.List.{sum_by}
 use Rattle.ods_base.specs.declared.file_id.Uic.{Uic}
 use Rattle.ods_base.specs.declared.file_id.FileId.{FileId}
 use Rattle.ods_request.specs.declared.requests.Request.{Request}
@@ -11,11 +12,12 @@ use Rattle.ods_request.specs.declared.answers.Answer.{Answer}
 use Rattle.ods_request.specs.declared.answers.Answer.TheVariants as answer
 use Rattle.ods_request.specs.declared.answers.Entry.{Entry}
 use Rattle.ods_request.specs.declared.refusals.Refusal.{Refusal}
+use Rattle.ods_request.specs.declared.refusals.Refusal.TheVariants as refusal
 use Rattle.ods_request.specs.Lists.{Begins}
 use Rattle.ods_state.specs.Outcome.{CanBeAsked}
 use Rattle.ods_state.specs.Version.{State, IsLawful}
 use Rattle.ods_views.specs.Versions.{AnswersBy}
-use Rattle.ods_views.specs.Viewers.{LeadsOn}
+use Rattle.ods_views.specs.Viewers.{LeadsOn, Viewed, newly}
 use Rattle.ods_share.specs.Desks.{IsDeskReason}
 use Rattle.ods_share.specs.declared.script.Id.{Id}
 use Rattle.ods_share.specs.declared.script.Id.TheVariants.{Given, Last}
@@ -83,7 +85,7 @@ pub record Sitting : Type 0 where
 abbrev pub call_of : ℕ → Uic → Request → Answer → Call
 call_of nth who r a = record { nth = nth; who = who; request = r; answer = a }
 
--- Why a request of this user is refused: a lawful volume over the mounted image M has the reason.
+-- why a request of this user is refused: a lawful volume over the mounted image M has the reason
 pub record IsRefused (M : List (List ℕ)) (who : Uic) (q : Request) (f : Refusal) : Type 0 where
   pub volume : State
   pub mounted : volume.mounted ≡ M
@@ -133,16 +135,34 @@ Runs M stamp s (c ∷ cs) (r ∷ rs) t = (u : Sitting) × Tells M stamp s c.nth 
 abbrev pub start : List Entry → Sitting
 start seen = record { who = record { group = 1; member = 1 }; last = None; calls = []; seen = seen }
 
--- what comes of a script: one reply for each command, and just the accepted calls
-pub record IsOutcome (M : List (List ℕ)) (stamp : List ℕ) (cs : List Command) (o : Outcome) : Type 0 where
-  pub seen : List Entry
+-- how often a reply says that the list is full
+abbrev pub fulls_in : Reply → ℕ
+fulls_in (reply.No refusal.ListFull) = 1
+fulls_in r = 0
+
+-- and replies
+abbrev pub fulls_of : List Reply → ℕ
+fulls_of rs = sum_by fulls_in rs
+
+-- What comes of a script, where its viewer had seen this list: one reply for each command, and just the accepted calls. A reply says that the
+-- list is full only where the list was filled.
+pub record IsOutcome (M : List (List ℕ)) (stamp : List ℕ) (seen : List Entry) (filled : Type 0) (cs : List Command) (o : Outcome) : Type 0 where
   pub last : Sitting
   pub runs : Runs M stamp (start seen) cs o.replies.items last
   pub calls : o.calls.items ≡ last.calls
+  pub full : 0 < fulls_of o.replies.items → filled
 
--- outcome k is that of script k
-abbrev pub EachOutcome : List (List ℕ) → List ℕ → List Script → List Outcome → Type 0
-EachOutcome M stamp ss os = (k : ℕ) (s : Script) (o : Outcome) → k < length ss → IsOutcome M stamp (slice_index_or ss k s).commands.items (slice_index_or os k o)
+-- what the viewer of script k has seen, of as many viewers as scripts
+abbrev pub seen_first : List Viewed → ℕ → List Entry
+seen_first viewers k = (slice_index_or viewers k (newly [])).seen
+
+-- each viewer has seen this list
+abbrev pub all_saw : List Entry → ℕ → List Entry
+all_saw seen k = seen
+
+-- outcome k is that of script k, whose viewer had seen the list `seen k`
+abbrev pub EachOutcome : List (List ℕ) → List ℕ → (ℕ → List Entry) → Type 0 → List Script → List Outcome → Type 0
+EachOutcome M stamp seen filled ss os = (k : ℕ) (s : Script) (o : Outcome) → k < length ss → IsOutcome M stamp (seen k) filled (slice_index_or ss k s).commands.items (slice_index_or os k o)
 
 -- whatever `$` stands for, what the command asks for may be made
 abbrev pub CanBeObeyed : Action → Type 0

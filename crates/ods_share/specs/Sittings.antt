@@ -1,5 +1,5 @@
 -- A session as its code keeps it: its context, and the room for what comes of its script.
-use Rattle.std.specs.Prelude.{◌≡◌, ◌+◌, ◌++◌, ◌∷◌, [], ℕ, List, Ok, Err}
+use Rattle.std.specs.Prelude.{◌≡◌, ◌≤◌, ◌+◌, ◌++◌, ◌∷◌, [], ℕ, List, Ok, Err}
 use Rattle.std.specs.List.{sum_by}
 use Rattle.ods_base.specs.declared.file_id.Uic.{Uic}
 use Rattle.ods_request.specs.declared.requests.Request.{Request}
@@ -12,7 +12,8 @@ use Rattle.ods_share.specs.declared.outcome.Call.{Call}
 use Rattle.ods_share.specs.declared.outcome.Reply.{Reply}
 use Rattle.ods_share.specs.declared.outcome.Reply.TheVariants as reply
 use Rattle.ods_share.specs.declared.session.Context.{Context}
-use Rattle.ods_share.specs.Scripts.{Sitting, Tells, IsRefused, IsSeen, call_of}
+use Rattle.ods_share.specs.Scripts.{Sitting, Tells, IsRefused, IsSeen, call_of, fulls_in}
+use Rattle.ods_views.specs.Viewers.{Viewed}
 
 -- a context with the calls so far, and what the viewer has seen
 abbrev pub sitting : Context → List Call → List Entry → Sitting
@@ -34,17 +35,19 @@ IsView mounted before after who q reply.Closed = after ≡ before
 IsView mounted before after who q reply.User = ⊥
 IsView mounted before after who q reply.Bad = ⊥
 
--- what a command finds and leaves, beside the outcome: the context, and what the viewer has seen
+-- what a command finds and leaves, beside the outcome: the context, what the viewer has seen, and how often the list was said to be full
 pub record Standing : Type 0 where
   pub context : Context
   pub seen : List Entry
+  pub fulls : ℕ
 
-abbrev pub stands : Context → List Entry → Standing
-stands context seen = record { context = context; seen = seen }
+abbrev pub stands : Context → Viewed → ℕ → Standing
+stands context viewed fulls = record { context = context; seen = viewed.seen; fulls = fulls }
 
--- One command from context to context, and from calls to calls, with this reply.
+-- One command from context to context, and from calls to calls, with this reply, which is counted where it says that the list is full.
 abbrev pub TellsContext : List (List ℕ) → List ℕ → Command → Standing → List Call → Reply → Standing → List Call → Type 0
-TellsContext mounted stamp c s was r t now = Tells mounted stamp (sitting s.context was s.seen) c.nth c.action r (sitting t.context now t.seen)
+TellsContext mounted stamp c s was r t now =
+    Tells mounted stamp (sitting s.context was s.seen) c.nth c.action r (sitting t.context now t.seen) × (s.fulls + fulls_in r ≤ t.fulls)
 
 -- how many calls may come of a command: one of a request
 abbrev pub room_of : Action → ℕ

@@ -1,5 +1,5 @@
-//! The desk: a volume for a lock, and the writer that shows its versions. Its type names the image and the list that it
-//! began with, so contracts know them under the lock.
+//! The desk: a volume for a lock, and the writer that shows its versions. Its type names the image, the list that it
+//! began with and the limit of that list, so contracts know them under the lock.
 ghost use Rattle.std.specs.Prelude.{◌≡◌, ◌<◌, ◌≤◌, All, length, vec_len, IfOk, IfErr, IsErr, OnErr, Err, Some, None};
 ghost use Rattle.ods_request.specs.{declared.refusals.Refusal.Refusal, Catalogue.Catalogue, Faults.fault_of, Lists.Begins};
 ghost use Rattle.ods_state.specs.{Version.IsPresent, Version.IsLawful, Wants.Lacks, Outcome.Accepts, Outcome.CanBeAsked, Outcome.IsLawfulPlan, Outcome.entry_of};
@@ -21,8 +21,8 @@ use std::snapshot::Snapshot;
 use std::sync::Wait;
 
 /// A volume for several sessions, which is to lie under a lock, with the writer that shows its versions to viewers beside the lock.
-/// Contracts see the volume, which is lawful whenever the lock is free. Wherever the desk lies, its mounted image is that of its name, its
-/// list begins with the entries of its name, and what is shown is the volume's list and blocks. It is ended by [`Desk::close`], and cannot
+/// Contracts see the volume, which is lawful whenever the lock is free. Wherever the desk lies, its mounted image and its limit are
+/// those of its name, its list begins with the entries of its name, and what is shown is the volume's list and blocks. It is ended by [`Desk::close`], and cannot
 /// fall. While the lock is free no change is pending.
 pub struct Desk<J: Naming> {
     volume: Volume,
@@ -30,7 +30,7 @@ pub struct Desk<J: Naming> {
 }
 
 impl<J: Naming> Model for Desk<J> {
-    ghost use Rattle.std.specs.Prelude.{drop, MatchOption};
+    ghost use Rattle.std.specs.Prelude.{◌≡◌, drop, MatchOption};
     ghost use Rattle.ods_state.specs.Version.{State};
     ghost use Rattle.ods_views.specs.Viewers.{IsOpened, IsTied};
 
@@ -38,7 +38,7 @@ impl<J: Naming> Model for Desk<J> {
 
     ghost view = { λ d. d.volume };
 
-    ghost invariant = { λ d. IsOpened J.mounted J.opening d.volume × MatchOption d.writer ⊥ (λ w. IsTied w.desk.place w.desk.shown.value (drop w.behind w.log.items) d.volume) };
+    ghost invariant = { λ d. IsOpened J.mounted J.opening d.volume × (d.volume.limit ≡ J.limit) × MatchOption d.writer ⊥ (λ w. IsTied w.desk.place w.desk.shown.value (drop w.behind w.log.items) d.volume) };
 }
 
 impl<J: Naming> Desk<J> {
@@ -54,6 +54,7 @@ impl<J: Naming> Desk<J> {
         requires high { places ≤ 8 }
         requires mounted { volume.mounted ≡ J.mounted }
         requires opening { volume.entries ≡ J.opening }
+        requires limit { volume.limit ≡ J.limit }
         ensures ok { IfOk result (λ p. p.0 ≡ volume) }
         ensures viewers { IfOk result (λ p. (vec_len p.1 ≡ places) × All (λ v. v ≡ newly volume.entries) p.1.items) }
         ensures err { IfErr result (λ e. e.0 ≡ volume) }
@@ -84,9 +85,10 @@ impl<J: Naming> Desk<J> {
         &self.volume
     }
 
-    /// What is true of each desk: its volume is lawful, over the image of its name.
+    /// What is true of each desk: its volume is lawful, over the image of its name and with the limit of its name.
     pub(crate) fn is_of_its_name(&self)
         ensures mounted { self.now.mounted ≡ J.mounted }
+        ensures limit { self.now.limit ≡ J.limit }
         ensures lawful { IsLawful self.now }
     {
         self.volume.is_lawful();
@@ -195,12 +197,13 @@ impl<J: Naming> Desk<J> {
         Told::of(&self.volume)
     }
 
-    /// Gives the volume back, and shows nothing from now on. It is lawful, over the image that was mounted, and its list begins as it was
-    /// at [`Desk::new`].
+    /// Gives the volume back, and shows nothing from now on. It is lawful, over the image that was mounted, with the limit that it had, and
+    /// its list begins as it was at [`Desk::new`].
     pub fn close<R: Wait>(self, rt: &R) -> Volume
         ensures volume { result ≡ self }
         ensures mounted { result.mounted ≡ J.mounted }
         ensures opening { Begins J.opening result.entries }
+        ensures limit { result.limit ≡ J.limit }
         ensures lawful { IsLawful result }
     {
         let Desk { volume, writer } = self;

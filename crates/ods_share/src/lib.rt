@@ -2,6 +2,7 @@
 #![tactic(auto)]
 
 mod asking;
+mod counter;
 mod desk;
 mod faults;
 mod gate;

@@ -1,37 +1,106 @@
 //! All sessions: they run at one desk, and the volume comes back from it.
 ghost use Rattle.std.specs.Prelude.{◌≡◌, ◌≤◌, All, length, map, Ok, vec_len, IfOk};
 ghost use Rattle.ods_request.specs.Lists.{Begins};
-ghost use Rattle.ods_share.specs.{Keeping.EachEnded, Scripts.CanBeRun, Scripts.EachOutcome};
+ghost use Rattle.ods_share.specs.{Keeping.EachEnded, Scripts.CanBeRun, Scripts.EachOutcome, Scripts.all_saw, Scripts.seen_first};
 
+use crate::counter::Counter;
 use crate::desk::Desk;
 use crate::faults::RunFault;
 use crate::gate::Gate;
 use crate::keeping::{Ended, Keep, outcomes};
 use crate::outcome::{Outcome, Reply};
 use crate::script::Script;
+use crate::session::Sat;
 use crate::threads::run_all;
 use ods_request::Stamp;
 use ods_views::{Naming, Viewer};
 use ods_volume::Volume;
 use std::alloc::{AllocError, Global};
 use std::marker::Brand;
+use std::sync::ledger::{Blank, Book, Ledger};
 use std::sync::{Mutex, Wait};
 use std::thread::Threads;
 
 /// What came of all sessions, if each came to its end.
-fn unpack<K: Keep>(
+fn unpack<K: Keep, L: Ledger>(
     alloc: Global,
-    done: Vec<Result<Ended<K>, AllocError>>,
-) -> Result<Vec<Ended<K>>, AllocError>
+    done: Vec<Result<Sat<K, L>, AllocError>>,
+) -> Result<Vec<Sat<K, L>>, AllocError>
     ensures { IfOk result (λ v. done.items ≡ map Ok v.items) }
 {
-    let mut ended = Vec::with_capacity(alloc, done.len())?;
+    let mut all = Vec::with_capacity(alloc, done.len())?;
     for one in done {
-        if ended.push(one?).is_err() {
+        if all.push(one?).is_err() {
+            return Err(AllocError);
+        }
+    }
+    Ok(all)
+}
+
+/// What each session keeps. No share has counted more than all of them together.
+fn audited<K: Keep, L: Ledger>(
+    alloc: Global,
+    all: Vec<Sat<K, L>>,
+    fulls: Book<L>,
+) -> Result<Vec<Ended<K>>, AllocError>
+    ensures ended { IfOk result (λ v. v.items ≡ map (λ s. s.ended) all.items) }
+    ensures bound { IfOk result (λ _. All (λ s. s.fulls.amount ≤ fulls.total) all.items) }
+{
+    let mut ended = Vec::with_capacity(alloc, all.len())?;
+    let mut fulls = fulls;
+    for one in all {
+        let mut share = one.fulls;
+        fulls.audit(&mut share);
+        if ended.push(one.ended).is_err() {
             return Err(AllocError);
         }
     }
     Ok(ended)
+}
+
+/// Runs the scripts at a desk as [`run_desk`] does, with a new ledger of this name.
+fn run_counted<
+    K: Keep + Send,
+    J: Naming + Send + Sync,
+    L: Ledger + Send + Sync,
+    G: Gate + Sync,
+    R: Threads + Wait + Sync,
+>(
+    rt: &R,
+    alloc: Global,
+    desk: Desk<J>,
+    viewers: Vec<Viewer<J>>,
+    blank: Blank,
+    scripts: &[Script],
+    stamp: Stamp,
+    gate: &G,
+) -> Result<(Volume, Vec<Ended<K>>), RunFault>
+    requires name { blank.name ≡ L.name }
+    requires parts { blank.parts ≡ L.parts }
+    requires eight { 8 ≤ L.parts }
+    requires few { length scripts.now ≤ 8 }
+    requires enough { length scripts.now ≤ vec_len viewers }
+    requires can { All (λ s. CanBeRun s.commands.items) scripts.now }
+    ensures mounted { IfOk result (λ p. p.0.mounted ≡ J.mounted) }
+    ensures opening { IfOk result (λ p. Begins J.opening p.0.entries) }
+    ensures limit { IfOk result (λ p. p.0.limit ≡ J.limit) }
+    ensures ended { IfOk result (λ p. (vec_len p.1 ≡ length scripts.now) × EachEnded K.keeps J.mounted stamp (seen_first viewers.items) (length p.0.entries ≡ J.limit) scripts.now p.1.items) }
+{
+    let (book, share) = blank.open::<L>();
+    let lock = Mutex::new(Counter::new(desk, book));
+    let done = run_all::<K, J, L, G, R>(rt, alloc, &lock, gate, viewers, share, scripts, &stamp);
+    let (volume, fulls) = lock.into_inner().close(rt);
+    let done = match done {
+        Ok(done) => done,
+        Err(fault) => return Err(fault),
+    };
+    let Ok(all) = unpack(alloc, done) else {
+        return Err(RunFault::NoMemory);
+    };
+    let Ok(ended) = audited(alloc, all, fulls) else {
+        return Err(RunFault::NoMemory);
+    };
+    Ok((volume, ended))
 }
 
 /// Runs the scripts at a desk as [`run_sessions`] does, and gives the volume back with what each session kept.
@@ -49,26 +118,21 @@ fn run_desk<K: Keep + Send, J: Naming + Send + Sync, G: Gate + Sync, R: Threads 
     requires can { All (λ s. CanBeRun s.commands.items) scripts.now }
     ensures mounted { IfOk result (λ p. p.0.mounted ≡ J.mounted) }
     ensures opening { IfOk result (λ p. Begins J.opening p.0.entries) }
-    ensures ended { IfOk result (λ p. (vec_len p.1 ≡ length scripts.now) × EachEnded K.keeps J.mounted stamp scripts.now p.1.items) }
+    ensures limit { IfOk result (λ p. p.0.limit ≡ J.limit) }
+    ensures ended { IfOk result (λ p. (vec_len p.1 ≡ length scripts.now) × EachEnded K.keeps J.mounted stamp (seen_first viewers.items) (length p.0.entries ≡ J.limit) scripts.now p.1.items) }
 {
-    let lock = Mutex::new(desk);
-    let done = run_all::<K, J, G, R>(rt, alloc, &lock, gate, viewers, scripts, &stamp);
-    let volume = lock.into_inner().close(rt);
-    match done {
-        Ok(done) => match unpack(alloc, done) {
-            Ok(ended) => Ok((volume, ended)),
-            Err(_) => Err(RunFault::NoMemory),
-        },
-        Err(fault) => Err(fault),
-    }
+    let blank = Blank::new(8);
+    run_counted::<K, J, Brand, G, R>(rt, alloc, desk, viewers, blank, scripts, stamp, gate)
 }
 
 /// Runs each of at most 8 scripts as a session in a thread of its own, the first as session 1 and with the first viewer, waits for all,
 /// and gives the volume back with what came of each script, in their order. Files are made with this stamp. After a fault, of memory or of
 /// threads, all threads have ended too, and the volume is given up. An outcome has one reply for each command, in
-/// order. Its calls are just the requests that were answered, each once and in order. BAD is the reply just to a line
-/// that is no command, and where `$` stands for no file. A query beside the lock is no call. The volume that comes back
-/// is over the same mounted image, and its list begins as it was.
+/// order. Its calls are just the requests that were answered, each once and in order. That the list is full is the reply only
+/// where the list that comes back has as many entries as its limit. BAD is the reply just to a line
+/// that is no command, and where `$` stands for no file. A query beside the lock is no call. The first VIEW of a session shows a
+/// list that begins with what its viewer had seen. The volume that comes back is over the same mounted image, has the same
+/// limit, and its list begins as it was.
 pub fn run_sessions<J: Naming + Send + Sync, G: Gate + Sync, R: Threads + Wait + Sync>(
     rt: &R,
     alloc: Global,
@@ -83,7 +147,8 @@ pub fn run_sessions<J: Naming + Send + Sync, G: Gate + Sync, R: Threads + Wait +
     requires can { All (λ s. CanBeRun s.commands.items) scripts.now }
     ensures mounted { IfOk result (λ p. p.0.mounted ≡ J.mounted) }
     ensures opening { IfOk result (λ p. Begins J.opening p.0.entries) }
-    ensures outcomes { IfOk result (λ p. (vec_len p.1 ≡ length scripts.now) × EachOutcome J.mounted stamp scripts.now p.1.items) }
+    ensures limit { IfOk result (λ p. p.0.limit ≡ J.limit) }
+    ensures outcomes { IfOk result (λ p. (vec_len p.1 ≡ length scripts.now) × EachOutcome J.mounted stamp (seen_first viewers.items) (length p.0.entries ≡ J.limit) scripts.now p.1.items) }
 {
     match run_desk::<Vec<Reply>, J, G, R>(rt, alloc, desk, viewers, scripts, stamp, gate) {
         Ok((volume, ended)) => match outcomes(alloc, ended) {
@@ -115,11 +180,13 @@ fn run_named<K: Keep + Send, J: Naming + Send + Sync, G: Gate + Sync, R: Threads
 ) -> Result<(Volume, Vec<Ended<K>>), RunFault>
     requires mounted { volume.mounted ≡ J.mounted }
     requires opening { volume.entries ≡ J.opening }
+    requires limit { volume.limit ≡ J.limit }
     requires few { length scripts.now ≤ 8 }
     requires can { All (λ s. CanBeRun s.commands.items) scripts.now }
     ensures mounted { IfOk result (λ p. p.0.mounted ≡ volume.mounted) }
     ensures opening { IfOk result (λ p. Begins volume.entries p.0.entries) }
-    ensures ended { IfOk result (λ p. (vec_len p.1 ≡ length scripts.now) × EachEnded K.keeps volume.mounted stamp scripts.now p.1.items) }
+    ensures limit { IfOk result (λ p. p.0.limit ≡ volume.limit) }
+    ensures ended { IfOk result (λ p. (vec_len p.1 ≡ length scripts.now) × EachEnded K.keeps volume.mounted stamp (all_saw volume.entries) (length p.0.entries ≡ volume.limit) scripts.now p.1.items) }
 {
     match Desk::<J>::new(rt, alloc, volume, places_for(scripts.len())) {
         Ok((desk, viewers)) => {
@@ -144,7 +211,8 @@ pub fn run_keeping<K: Keep + Send, G: Gate + Sync, R: Threads + Wait + Sync>(
     requires can { All (λ s. CanBeRun s.commands.items) scripts.now }
     ensures mounted { IfOk result (λ p. p.0.mounted ≡ volume.mounted) }
     ensures opening { IfOk result (λ p. Begins volume.entries p.0.entries) }
-    ensures ended { IfOk result (λ p. (vec_len p.1 ≡ length scripts.now) × EachEnded K.keeps volume.mounted stamp scripts.now p.1.items) }
+    ensures limit { IfOk result (λ p. p.0.limit ≡ volume.limit) }
+    ensures ended { IfOk result (λ p. (vec_len p.1 ≡ length scripts.now) × EachEnded K.keeps volume.mounted stamp (all_saw volume.entries) (length p.0.entries ≡ volume.limit) scripts.now p.1.items) }
 {
     run_named::<K, Brand, G, R>(rt, alloc, volume, scripts, stamp, gate)
 }
@@ -162,7 +230,8 @@ pub fn run_scripts<G: Gate + Sync, R: Threads + Wait + Sync>(
     requires can { All (λ s. CanBeRun s.commands.items) scripts.now }
     ensures mounted { IfOk result (λ p. p.0.mounted ≡ volume.mounted) }
     ensures opening { IfOk result (λ p. Begins volume.entries p.0.entries) }
-    ensures outcomes { IfOk result (λ p. (vec_len p.1 ≡ length scripts.now) × EachOutcome volume.mounted stamp scripts.now p.1.items) }
+    ensures limit { IfOk result (λ p. p.0.limit ≡ volume.limit) }
+    ensures outcomes { IfOk result (λ p. (vec_len p.1 ≡ length scripts.now) × EachOutcome volume.mounted stamp (all_saw volume.entries) (length p.0.entries ≡ volume.limit) scripts.now p.1.items) }
 {
     match run_keeping::<Vec<Reply>, G, R>(rt, alloc, volume, scripts, stamp, gate) {
         Ok((volume, ended)) => match outcomes(alloc, ended) {

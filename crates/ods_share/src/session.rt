@@ -2,10 +2,10 @@
 ghost use Rattle.std.specs.Prelude.{◌≡◌, ◌+◌, ◌<◌, ◌≤◌, IfOk, length};
 ghost use Rattle.std.specs.Vec.{vec_capacity};
 ghost use Rattle.ods_state.specs.Outcome.{CanBeAsked};
-ghost use Rattle.ods_share.specs.{Scripts.CanBeObeyed, Scripts.CanBeRun, Keeping.IsEnded, Keeping.TellsOn, Sittings.room_of, Sittings.IsReply, Sittings.IsView, Sittings.stands, Sittings.TellsContext};
+ghost use Rattle.ods_share.specs.{Scripts.CanBeObeyed, Scripts.CanBeRun, Scripts.fulls_in, Keeping.IsSat, Keeping.TellsOn, Sittings.room_of, Sittings.IsReply, Sittings.IsView, Sittings.stands, Sittings.TellsContext};
 
 use crate::asking::{last_from, query_for, request_for};
-use crate::desk::Desk;
+use crate::counter::Counter;
 use crate::gate::Gate;
 use crate::keeping::{Ended, Keep, reserve};
 use crate::outcome::{Call, Reply};
@@ -15,6 +15,7 @@ use ods_request::{CompactAnswer, CompactRequest, Query, Stamp};
 use ods_views::{Naming, ViewFault, Viewer};
 use std::alloc::{AllocError, Global};
 use std::hint::spin_loop;
+use std::sync::ledger::{Ledger, Share};
 use std::sync::{Mutex, MutexGuard, Wait};
 
 /// How often a desk that is in use is tried before its lock is waited for, which is a sleep as soon as another session sleeps.
@@ -23,9 +24,9 @@ const TRIES: u32 = 50;
 /// A session with its number, from 1, at a desk: what it waits by, the gate, the allocator of what comes of it, and the stamp of the files
 /// that it makes.
 #[derive(Drop)]
-pub(crate) struct Session<'a, J: Naming, G: Gate, R: Wait> {
+pub(crate) struct Session<'a, J: Naming, L: Ledger, G: Gate, R: Wait> {
     pub(crate) rt: &'a R,
-    pub(crate) desk: &'a Mutex<Desk<J>>,
+    pub(crate) desk: &'a Mutex<Counter<J, L>>,
     pub(crate) gate: &'a G,
     pub(crate) alloc: Global,
     pub(crate) number: u16,
@@ -39,7 +40,21 @@ pub(crate) struct Context {
     pub(crate) last: Option<FileId>,
 }
 
-impl<J: Naming, G: Gate, R: Wait> Session<'_, J, G, R> {
+/// Where a session sits: it has a viewer, and a share in the count of how often the list is said to be full.
+#[derive(Drop)]
+pub(crate) struct Seat<J: Naming, L: Ledger> {
+    pub(crate) viewer: Viewer<J>,
+    pub(crate) fulls: Share<L>,
+}
+
+/// What comes of a session, and its share in that count.
+#[derive(Drop)]
+pub(crate) struct Sat<K, L: Ledger> {
+    pub(crate) ended: Ended<K>,
+    pub(crate) fulls: Share<L>,
+}
+
+impl<J: Naming, L: Ledger, G: Gate, R: Wait> Session<'_, J, L, G, R> {
     /// Makes a request of the desk, and puts it behind the calls where it is accepted. Nothing else is done under the lock.
     fn submit(
         &self,
@@ -47,17 +62,20 @@ impl<J: Naming, G: Gate, R: Wait> Session<'_, J, G, R> {
         who: Uic,
         request: CompactRequest,
         calls: &mut Vec<Call>,
+        fulls: &mut Share<L>,
     ) -> Result<Reply, AllocError>
         requires can { CanBeAsked request }
+        requires part { 0 < fulls.old.parts }
         requires room { length calls.old.items < vec_capacity calls.old }
         ensures tells { IfOk result (λ r. IsReply J.mounted nth who request r calls.old.items calls.new.items) }
+        ensures counted { IfOk result (λ r. fulls.new.amount ≡ fulls.old.amount + fulls_in r) }
+        ensures part { fulls.new.parts ≡ fulls.old.parts }
         ensures few { IfOk result (λ _. length calls.new.items ≤ length calls.old.items + 1) }
         ensures capacity { vec_capacity calls.new ≡ vec_capacity calls.old }
     {
         let mut guard = take(self.rt, self.desk);
         self.gate.held(self.number, nth);
-        guard.is_of_its_name();
-        let (result, _told) = guard.submit_shared(self.rt, self.number, nth, who, &request);
+        let result = guard.submit(self.rt, self.number, nth, who, &request, fulls);
         MutexGuard::unlock(guard);
         match result {
             Ok(answer) => {
@@ -79,14 +97,16 @@ impl<J: Naming, G: Gate, R: Wait> Session<'_, J, G, R> {
     /// Obeys one command, and puts its call, if it is one, behind the others.
     fn obey(
         &self,
-        viewer: &mut Viewer<J>,
+        seat: &mut Seat<J, L>,
         context: &mut Context,
         calls: &mut Vec<Call>,
         command: &Command,
     ) -> Result<Reply, AllocError>
         requires can { CanBeObeyed command.now.action }
+        requires part { 0 < seat.old.fulls.parts }
         requires room { length calls.old.items + room_of command.now.action ≤ vec_capacity calls.old }
-        ensures tells { IfOk result (λ r. TellsContext J.mounted self.now.stamp command.now (stands context.old viewer.old.seen) calls.old.items r (stands context.new viewer.new.seen) calls.new.items) }
+        ensures tells { IfOk result (λ r. TellsContext J.mounted self.now.stamp command.now (stands context.old seat.old.viewer seat.old.fulls.amount) calls.old.items r (stands context.new seat.new.viewer seat.new.fulls.amount) calls.new.items) }
+        ensures part { seat.new.fulls.parts ≡ seat.old.fulls.parts }
         ensures few { IfOk result (λ _. length calls.new.items ≤ length calls.old.items + room_of command.now.action) }
         ensures capacity { vec_capacity calls.new ≡ vec_capacity calls.old }
     {
@@ -100,7 +120,7 @@ impl<J: Naming, G: Gate, R: Wait> Session<'_, J, G, R> {
                     return Ok(Reply::Bad);
                 };
                 let request = meant?;
-                let reply = self.submit(command.nth, context.who, request, calls)?;
+                let reply = self.submit(command.nth, context.who, request, calls, &mut seat.fulls)?;
                 if let Reply::Got(answer) = &reply {
                     context.last = last_from(context.last, answer);
                 }
@@ -110,7 +130,7 @@ impl<J: Naming, G: Gate, R: Wait> Session<'_, J, G, R> {
                 let Some(query) = query_for(context.last, look) else {
                     return Ok(Reply::Bad);
                 };
-                let reply = reply_to_view(self.alloc, viewer, context.who, query)?;
+                let reply = reply_to_view(self.alloc, &mut seat.viewer, context.who, query)?;
                 if let Reply::Got(answer) = &reply {
                     context.last = last_from(context.last, answer);
                 }
@@ -123,36 +143,39 @@ impl<J: Naming, G: Gate, R: Wait> Session<'_, J, G, R> {
     /// One command, between the gate's calls. There is room for its call, which takes no memory where it is put.
     fn take_turn<K: Keep>(
         &self,
-        viewer: &mut Viewer<J>,
+        seat: &mut Seat<J, L>,
         context: &mut Context,
         ended: &mut Ended<K>,
         command: &Command,
     ) -> Result<(), AllocError>
         requires can { CanBeObeyed command.now.action }
+        requires part { 0 < seat.old.fulls.parts }
         requires room { length ended.old.calls.items + room_of command.now.action ≤ vec_capacity ended.old.calls }
         ensures room { IfOk result (λ _. vec_capacity ended.new.calls ≡ vec_capacity ended.old.calls) }
         ensures calls { IfOk result (λ _. length ended.new.calls.items ≤ length ended.old.calls.items + room_of command.now.action) }
-        ensures tells { IfOk result (λ _. TellsOn K.keeps J.mounted self.now.stamp command.now (stands context.old viewer.old.seen) ended.old (stands context.new viewer.new.seen) ended.new) }
+        ensures tells { IfOk result (λ _. TellsOn K.keeps J.mounted self.now.stamp command.now (stands context.old seat.old.viewer seat.old.fulls.amount) ended.old (stands context.new seat.new.viewer seat.new.fulls.amount) ended.new) }
+        ensures part { seat.new.fulls.parts ≡ seat.old.fulls.parts }
     {
         self.gate.before(self.number, command.nth);
-        let reply = self.obey(viewer, context, &mut ended.calls, command)?;
+        let reply = self.obey(seat, context, &mut ended.calls, command)?;
         self.gate.after(self.number, command.nth);
         ended.kept.keep(command, reply)?;
         Ok(())
     }
 
-    /// Obeys a script, from its first command on, as user [1,1], with a viewer of its own. The list of
+    /// Obeys a script, from its first command on, as user [1,1], at a seat of its own. The list of
     /// calls gets all its room before; what may want memory afterwards is what the desk takes, the copy
     /// of a directory's names, the boxes of long answers, and what is kept of the replies.
     pub(crate) fn sit<K: Keep>(
         &self,
-        viewer: Viewer<J>,
+        seat: Seat<J, L>,
         script: &[Command],
-    ) -> Result<Ended<K>, AllocError>
-        requires { CanBeRun script.now }
-        ensures { IfOk result (λ e. IsEnded K.keeps J.mounted self.now.stamp script.now e) }
+    ) -> Result<Sat<K, L>, AllocError>
+        requires can { CanBeRun script.now }
+        requires part { 0 < seat.fulls.parts }
+        ensures { IfOk result (IsSat K.keeps J.mounted self.now.stamp seat.viewer.seen script.now) }
     {
-        let mut viewer = viewer;
+        let mut seat = seat;
         let mut ended = reserve::<K>(self.alloc, script)?;
         let mut context = Context {
             who: Uic {
@@ -162,14 +185,20 @@ impl<J: Naming, G: Gate, R: Wait> Session<'_, J, G, R> {
             last: None,
         };
         for command in script {
-            self.take_turn(&mut viewer, &mut context, &mut ended, command)?;
+            self.take_turn(&mut seat, &mut context, &mut ended, command)?;
         }
-        Ok(ended)
+        Ok(Sat {
+            ended,
+            fulls: seat.fulls,
+        })
     }
 }
 
 /// The desk, once no other session is at it. Before it waits it tries so long as about one request takes: a sleep and a wake cost more.
-fn take<'a, J: Naming, R: Wait>(rt: &R, desk: &'a Mutex<Desk<J>>) -> MutexGuard<'a, Desk<J>> {
+fn take<'a, J: Naming, L: Ledger, R: Wait>(
+    rt: &R,
+    desk: &'a Mutex<Counter<J, L>>,
+) -> MutexGuard<'a, Counter<J, L>> {
     for _ in 0..TRIES {
         if let Some(guard) = desk.try_lock() {
             return guard;
@@ -186,7 +215,8 @@ fn reply_to_view<J: Naming>(
     who: Uic,
     query: Query,
 ) -> Result<Reply, AllocError>
-    ensures { IfOk result (λ r. IsView J.mounted viewer.old.seen viewer.new.seen who query r) }
+    ensures view { IfOk result (λ r. IsView J.mounted viewer.old.seen viewer.new.seen who query r) }
+    ensures never_full { IfOk result (λ r. fulls_in r ≡ 0) }
 {
     match viewer.ask(who, query) {
         Ok(answer) => {

@@ -1,53 +1,56 @@
 //! The threads of a run: one for each script, with a viewer, all joined.
-ghost use Rattle.std.specs.Prelude.{◌≡◌, ◌+◌, ◌≤◌, ◌++◌, ◌∷◌, [], All, length, vec_len, IfOk};
-ghost use Rattle.ods_share.specs.{Scripts.CanBeRun, Keeping.IsEnded, Keeping.EachIfOk};
+ghost use Rattle.std.specs.Prelude.{◌≡◌, ◌+◌, ◌<◌, ◌≤◌, All, length, vec_len, IfOk, IfErr};
+ghost use Rattle.ods_share.specs.declared.faults.RunFault.TheVariants.{NoThread};
+ghost use Rattle.ods_share.specs.{Scripts.CanBeRun, Scripts.seen_first, Keeping.IsSat, Keeping.EachIfOk};
 
-use crate::desk::Desk;
+use crate::counter::Counter;
 use crate::faults::RunFault;
 use crate::gate::Gate;
-use crate::keeping::{Ended, Keep};
+use crate::keeping::Keep;
 use crate::script::Script;
-use crate::session::Session;
+use crate::session::{Sat, Seat, Session};
 use ods_request::Stamp;
 use ods_views::{Naming, Viewer};
 use std::alloc::{AllocError, Global};
 use std::marker::PhantomData;
 use std::snapshot::Snapshot;
+use std::sync::ledger::{Ledger, Share};
 use std::sync::{Mutex, Wait};
 use std::thread;
 use std::thread::{Promise, PromisedHandle, Scope, Threads};
 
-/// That what a thread gives is what comes of this script, at a desk of this name.
+/// That what a thread gives is what comes of this script, at a desk of this name, with a viewer that had seen what this one has.
 #[derive(Drop)]
-pub(crate) struct OfScript<J, K> {
+pub(crate) struct OfScript<J: Naming, K> {
+    viewer: Snapshot<Viewer<J>>,
     script: Snapshot<Script>,
     stamp: Snapshot<Stamp>,
-    of: PhantomData<J>,
     kept: PhantomData<K>,
 }
 
-impl<J: Naming, K: Keep> Promise<Result<Ended<K>, AllocError>> for OfScript<J, K> {
+impl<J: Naming, K: Keep, L: Ledger> Promise<Result<Sat<K, L>, AllocError>> for OfScript<J, K> {
     ghost use Rattle.std.specs.Prelude.{IfOk};
-    ghost use Rattle.ods_share.specs.Keeping.{IsEnded};
+    ghost use Rattle.ods_share.specs.Keeping.{IsSat};
 
-    ghost kept_by = { λ p r. IfOk r (λ e. IsEnded K.keeps J.mounted p.stamp.value p.script.value.commands.items e) };
+    ghost kept_by = { λ p r. IfOk r (IsSat K.keeps J.mounted p.stamp.value p.viewer.value.seen p.script.value.commands.items) };
 }
 
-type Handle<J, K> = PromisedHandle<Result<Ended<K>, AllocError>, OfScript<J, K>>;
+type Handle<J, K, L> = PromisedHandle<Result<Sat<K, L>, AllocError>, OfScript<J, K>>;
 
-/// Obeys a script as the session with this number and viewer.
-fn run_session<K: Keep, J: Naming, G: Gate, R: Wait>(
+/// Obeys a script as the session with this number, at this seat.
+fn run_session<K: Keep, J: Naming, L: Ledger, G: Gate, R: Wait>(
     rt: &R,
     alloc: Global,
-    desk: &Mutex<Desk<J>>,
+    desk: &Mutex<Counter<J, L>>,
     gate: &G,
     number: u16,
-    viewer: Viewer<J>,
+    seat: Seat<J, L>,
     stamp: &Stamp,
     script: &Script,
-) -> Result<Ended<K>, AllocError>
-    requires { CanBeRun script.now.commands.items }
-    ensures { IfOk result (λ e. IsEnded K.keeps J.mounted stamp.now script.now.commands.items e) }
+) -> Result<Sat<K, L>, AllocError>
+    requires can { CanBeRun script.now.commands.items }
+    requires part { 0 < seat.fulls.parts }
+    ensures { IfOk result (IsSat K.keeps J.mounted stamp.now seat.viewer.seen script.now.commands.items) }
 {
     let session = Session {
         rt,
@@ -57,39 +60,43 @@ fn run_session<K: Keep, J: Naming, G: Gate, R: Wait>(
         number,
         stamp: *stamp,
     };
-    session.sit(viewer, script.commands.as_slice())
+    session.sit(seat, script.commands.as_slice())
 }
 
-/// Starts the thread of one script.
+/// Starts the thread of one script. The error is that of a thread: the toolchain starts none for want of memory too.
 fn begin_thread<
     's,
     E,
     K: Keep + Send + 's,
     J: Naming + Send + Sync + 's,
+    L: Ledger + Send + Sync + 's,
     G: Gate + Sync,
     R: Threads + Wait + Sync,
 >(
     scope: &Scope<'s, E>,
     rt: &'s R,
     alloc: Global,
-    desk: &'s Mutex<Desk<J>>,
+    desk: &'s Mutex<Counter<J, L>>,
     gate: &'s G,
     number: u16,
-    viewer: Viewer<J>,
+    seat: Seat<J, L>,
     stamp: &'s Stamp,
     script: &'s Script,
-) -> Result<Handle<J, K>, RunFault>
-    requires { CanBeRun script.now.commands.items }
-    ensures { IfOk result (λ h. (h.promise.script.value ≡ script.entry.now) × (h.promise.stamp.value ≡ stamp.entry.now)) }
+) -> Result<Handle<J, K, L>, RunFault>
+    requires can { CanBeRun script.now.commands.items }
+    requires part { 0 < seat.fulls.parts }
+    ensures ok { IfOk result (λ h. (h.promise.script.value ≡ script.entry.now) × (h.promise.stamp.value ≡ stamp.entry.now) × (h.promise.viewer.value ≡ seat.viewer)) }
+    ensures err { IfErr result (λ f. f ≡ NoThread) }
 {
-    let work = move || -> Result<Ended<K>, AllocError>
-        requires { CanBeRun script.now.commands.items }
-        ensures { IfOk result (λ e. IsEnded K.keeps J.mounted stamp.entry.now script.entry.now.commands.items e) }
-    { run_session(rt, alloc, desk, gate, number, viewer, stamp, script) };
+    let seen = Snapshot::of(&seat.viewer);
+    let work = move || -> Result<Sat<K, L>, AllocError>
+        requires { CanBeRun script.now.commands.items × (0 < seat.fulls.parts) }
+        ensures { IfOk result (IsSat K.keeps J.mounted stamp.entry.now seat.viewer.seen script.entry.now.commands.items) }
+    { run_session(rt, alloc, desk, gate, number, seat, stamp, script) };
     let promise = OfScript {
+        viewer: seen,
         script: Snapshot::of(script),
         stamp: Snapshot::of(stamp),
-        of: PhantomData,
         kept: PhantomData,
     };
     match scope.spawn_with(promise, work) {
@@ -98,51 +105,47 @@ fn begin_thread<
     }
 }
 
-/// Puts the handle of a thread behind the others.
-fn hold<J: Naming, K: Keep>(
-    handles: &mut Vec<Handle<J, K>>,
-    handle: Handle<J, K>,
-) -> Result<(), RunFault>
-    ensures items { IfOk result (λ _. handles.new.items ≡ handles.old.items ++ handle ∷ []) }
-    ensures len { IfOk result (λ _. vec_len handles.new ≡ vec_len handles.old + 1) }
-{
-    match handles.push(handle) {
-        Ok(()) => Ok(()),
-        Err(_) => Err(RunFault::NoMemory),
-    }
-}
-
-/// Starts a thread for each script, with the next viewer, and waits for all.
+/// Starts a thread for each script, with the next viewer and a part of this share, and waits for all.
 fn begin_all<
     's,
     E,
     K: Keep + Send + 's,
     J: Naming + Send + Sync + 's,
+    L: Ledger + Send + Sync + 's,
     G: Gate + Sync,
     R: Threads + Wait + Sync,
 >(
     scope: &Scope<'s, E>,
     rt: &'s R,
     alloc: Global,
-    desk: &'s Mutex<Desk<J>>,
+    desk: &'s Mutex<Counter<J, L>>,
     gate: &'s G,
     viewers: Vec<Viewer<J>>,
+    fulls: Share<L>,
     scripts: &'s [Script],
     stamp: &'s Stamp,
-) -> Result<Vec<Result<Ended<K>, AllocError>>, RunFault>
+) -> Result<Vec<Result<Sat<K, L>, AllocError>>, RunFault>
     requires few { length scripts.now ≤ 8 }
     requires enough { length scripts.now ≤ vec_len viewers }
+    requires parts { length scripts.now ≤ fulls.parts }
+    requires none { fulls.amount ≡ 0 }
     requires can { All (λ s. CanBeRun s.commands.items) scripts.now }
-    ensures { IfOk result (λ v. (vec_len v ≡ length scripts.entry.now) × EachIfOk K.keeps J.mounted stamp.entry.now scripts.entry.now v.items) }
+    ensures { IfOk result (λ v. (vec_len v ≡ length scripts.entry.now) × EachIfOk K.keeps J.mounted stamp.entry.now (seen_first viewers.items) scripts.entry.now v.items) }
 {
-    let mut handles = Vec::new(alloc);
+    let Ok(mut handles) = Vec::with_capacity(alloc, scripts.len()) else {
+        return Err(RunFault::NoMemory);
+    };
     let mut number = 0u16;
     let mut viewers = viewers.into_iter();
+    let mut fulls = fulls;
     for script in scripts {
         number += 1;
-        let viewer = viewers.next().unwrap();
-        let handle = begin_thread(scope, rt, alloc, desk, gate, number, viewer, stamp, script)?;
-        hold(&mut handles, handle)?;
+        let seat = Seat {
+            viewer: viewers.next().unwrap(),
+            fulls: fulls.split_off(1, 0),
+        };
+        let handle = begin_thread(scope, rt, alloc, desk, gate, number, seat, stamp, script)?;
+        handles.push_reserved(handle);
     }
     match thread::join_promised(rt, handles) {
         Ok(done) => Ok(done),
@@ -155,28 +158,32 @@ fn begin_all<
 pub(crate) fn run_all<
     K: Keep + Send,
     J: Naming + Send + Sync,
+    L: Ledger + Send + Sync,
     G: Gate + Sync,
     R: Threads + Wait + Sync,
 >(
     rt: &R,
     alloc: Global,
-    desk: &Mutex<Desk<J>>,
+    desk: &Mutex<Counter<J, L>>,
     gate: &G,
     viewers: Vec<Viewer<J>>,
+    fulls: Share<L>,
     scripts: &[Script],
     stamp: &Stamp,
-) -> Result<Vec<Result<Ended<K>, AllocError>>, RunFault>
+) -> Result<Vec<Result<Sat<K, L>, AllocError>>, RunFault>
     requires few { length scripts.now ≤ 8 }
     requires enough { length scripts.now ≤ vec_len viewers }
+    requires parts { length scripts.now ≤ fulls.parts }
+    requires none { fulls.amount ≡ 0 }
     requires can { All (λ s. CanBeRun s.commands.items) scripts.now }
-    ensures { IfOk result (λ v. (vec_len v ≡ length scripts.now) × EachIfOk K.keeps J.mounted stamp.now scripts.now v.items) }
+    ensures { IfOk result (λ v. (vec_len v ≡ length scripts.now) × EachIfOk K.keeps J.mounted stamp.now (seen_first viewers.items) scripts.now v.items) }
 {
     thread::scope(
         thread::scope_env(),
         rt,
-        |scope| -> Result<Vec<Result<Ended<K>, AllocError>>, RunFault>
-            requires { (length scripts.now ≤ 8) × (length scripts.now ≤ vec_len viewers) × All (λ s. CanBeRun s.commands.items) scripts.now }
-            ensures { IfOk result (λ v. (vec_len v ≡ length scripts.entry.now) × EachIfOk K.keeps J.mounted stamp.entry.now scripts.entry.now v.items) }
-        { begin_all(scope, rt, alloc, desk, gate, viewers, scripts, stamp) },
+        |scope| -> Result<Vec<Result<Sat<K, L>, AllocError>>, RunFault>
+            requires { (length scripts.now ≤ 8) × (length scripts.now ≤ vec_len viewers) × (length scripts.now ≤ fulls.parts) × (fulls.amount ≡ 0) × All (λ s. CanBeRun s.commands.items) scripts.now }
+            ensures { IfOk result (λ v. (vec_len v ≡ length scripts.entry.now) × EachIfOk K.keeps J.mounted stamp.entry.now (seen_first viewers.items) scripts.entry.now v.items) }
+        { begin_all(scope, rt, alloc, desk, gate, viewers, fulls, scripts, stamp) },
     )
 }

@@ -6,6 +6,7 @@ mod growing;
 mod index_growth;
 mod long_names;
 mod naming;
+mod noted_end;
 mod plain_reader;
 mod random;
 mod random_cuts;

@@ -14,6 +14,7 @@ mod scripts;
 mod seeds;
 mod served;
 mod settlements;
+mod shared_blocks;
 mod timed_views;
 mod views;
 mod views_by_seeds;

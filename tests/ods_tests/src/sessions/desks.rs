@@ -50,6 +50,7 @@ fn asks<J: Naming, R: Abort + Wait>(
 fn tells<J: Naming, R: Abort + Wait>(rt: &R, alloc: Global, volume: Volume) -> Result<Volume, Fail>
     requires mounted { volume.mounted ≡ J.mounted }
     requires opening { volume.entries ≡ J.opening }
+    requires limit { volume.limit ≡ J.limit }
 {
     match Desk::<J>::new(rt, alloc, volume, 1) {
         Ok((mut desk, viewers)) => {
@@ -80,6 +81,7 @@ fn desk_tells_how_long_its_list_is(rt: HostRuntime) -> Result<(), Fail> {
 fn shares<J: Naming, R: Abort + Wait>(rt: &R, alloc: Global, volume: Volume) -> Result<Volume, Fail>
     requires mounted { volume.mounted ≡ J.mounted }
     requires opening { volume.entries ≡ J.opening }
+    requires limit { volume.limit ≡ J.limit }
 {
     let written = CompactRequest::of(alloc, &block_written(1))?;
     let read = CompactRequest::of(alloc, &first_block(FIRST))?;
@@ -149,8 +151,10 @@ fn swapped<J: Naming, R: Abort + Wait>(
 ) -> Result<(Volume, Vec<Vec<Call>>), Fail>
     requires mounted { volume.mounted ≡ J.mounted }
     requires opening { volume.entries ≡ J.opening }
+    requires limit { volume.limit ≡ J.limit }
     requires other_mounted { other.mounted ≡ J.mounted }
     requires other_opening { other.entries ≡ J.opening }
+    requires other_limit { other.limit ≡ J.limit }
 {
     let Ok((desk, _)) = Desk::<J>::new(rt, alloc, volume, 2) else {
         return Err("memory for a desk".into());
@@ -189,6 +193,7 @@ fn swapped_volume_is_unmatched(rt: HostRuntime) -> Result<(), Fail> {
 fn fills<J: Naming, R: Abort + Wait>(rt: &R, alloc: Global, volume: Volume) -> Result<Volume, Fail>
     requires mounted { volume.mounted ≡ J.mounted }
     requires opening { volume.entries ≡ J.opening }
+    requires limit { volume.limit ≡ J.limit }
 {
     let Ok((mut desk, mut viewers)) = Desk::<J>::new(rt, alloc, volume, 1) else {
         return Err("memory for a desk".into());

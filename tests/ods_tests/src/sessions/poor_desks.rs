@@ -150,6 +150,7 @@ fn opened<J: Naming, R: Abort + Wait>(
 ) -> Result<Volume, Fail>
     requires mounted { volume.mounted ≡ J.mounted }
     requires opening { volume.entries ≡ J.opening }
+    requires limit { volume.limit ≡ J.limit }
 {
     let noted = as_it_is(alloc, &volume)?;
     let (mut desk, mut viewers) = match Desk::<J>::new(rt, alloc, volume, 2) {

@@ -70,7 +70,7 @@ fn two_files_below(
 
 /// The volume of this image, whose list has room for this many requests.
 pub fn volume_of(rt: &impl Abort, alloc: Global, image: Image, limit: u32) -> Result<Volume, Fail>
-    ensures { IfOk result (λ v. (v.mounted ≡ image) × (v.entries ≡ [])) }
+    ensures { IfOk result (λ v. (v.mounted ≡ image) × (v.entries ≡ []) × (v.limit ≡ limit)) }
 {
     assert!(rt; 1 <= limit && limit <= 65_536);
     let Ok(mounted) = mount(alloc, image) else {

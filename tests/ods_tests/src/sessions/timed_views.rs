@@ -80,6 +80,7 @@ fn beside_a_writer<J: Naming + Send + Sync, R: Clock + Threads + Wait + Sync>(
     requires high { viewers ≤ 8 }
     requires mounted { volume.mounted ≡ J.mounted }
     requires opening { volume.entries ≡ J.opening }
+    requires limit { volume.limit ≡ J.limit }
 {
     let begun = Instant::now(rt)?;
     let Ok((mut desk, viewers)) = Desk::<J>::new(rt, alloc, volume, viewers) else {
@@ -144,6 +145,7 @@ fn views_beside_a_writer(rt: HostRuntime) -> Result<(), Fail> {
 fn alone<J: Naming, R: Wait>(rt: &R, alloc: Global, volume: Volume, count: u32) -> Result<u32, Fail>
     requires mounted { volume.mounted ≡ J.mounted }
     requires opening { volume.entries ≡ J.opening }
+    requires limit { volume.limit ≡ J.limit }
 {
     let Ok((desk, mut viewers)) = Desk::<J>::new(rt, alloc, volume, 1) else {
         return Err("memory for a desk".into());

@@ -124,6 +124,7 @@ fn in_hand<J: Naming + Send + Sync, R: Abort + Threads + Wait + Sync>(
 ) -> Result<Volume, Fail>
     requires mounted { volume.mounted ≡ J.mounted }
     requires opening { volume.entries ≡ J.opening }
+    requires limit { volume.limit ≡ J.limit }
 {
     match Desk::<J>::new(rt, alloc, volume, 2) {
         Ok((mut desk, mut viewers)) => {

@@ -25,7 +25,7 @@ returns-then-is_empty-clause-ends g c =
       told.1,
       delivered c.args.options.stamp c.args.scripts.now c.args.options.limit told.0 (g.I.Read.remaining c.sound_image.new.reader)
           (record { old = g.W.Write.contents c.args.replies.now; new = g.W.Write.contents c.deliver.new.replies }) (wrote g.O.Write.contents c.args.out.now c.deliver.new.out)
-          c.in-Ok.mounted.image c.in-Ok.mounted.image said.report (said_text said) c.deliver.result told.2 (c.in_ok-said-in-Ok.ensures.served c.args.options.stamp)
+          c.in-Ok.mounted.image c.in-Ok.mounted.image said.report (said_text said) c.deliver.result told.2 (c.in_ok-said-in-Ok.ensures.served c.args.options.stamp c.args.options.limit)
           (rw c.image.ensures.value at c.deliver.ensures.ends),
     )
 

@@ -20,6 +20,10 @@ returns-clause-ok c = λ stamp each.
     c.is_lawful.ensures c.requires.some (sym c.args.ended.ok.0 ∙ c.requires.count) each c.in_ok-calls.ensures.calls c.in_ok-calls.ensures.printed c.in_ok-report.ensures.ok
     (ap (λ (t : List ℕ). printed_text 1 printed ++ t) lines)
 
+-- the list is no longer than the limit of its volume
+pub returns-clause-limit : goal.returns-clause-limit
+returns-clause-limit c = omega (arith, c.in_ok-report.ensures.ok.1.all, c.is_lawful.ensures.room)
+
 pub returns-clause-few : goal.returns-clause-few
 returns-clause-few c =
     let same = ap length c.in_ok-calls.ensures.printed ∙ length-map c.args.ended.items (λ (e : Ended Printed). e.kept) in
@@ -34,7 +38,7 @@ pub returns-in_err-report-clause-err : goal.returns-in_err-report-clause-err
 returns-in_err-report-clause-err c = λ stamp each.
     let p = err_from_is_err_and c.from_residual-in_err-report.result c.from_residual-in_err-report.ensures.1 in
     rw (p.1, p.2)
-    (not_said stamp c.args.scripts.now c.args.volume c.args.ended.items c.in_ok-calls.calls.items c.args.limit c.in_err-report.field-0.0
+    (not_said stamp c.args.scripts.now c.args.volume c.args.ended.items c.in_ok-calls.calls.items c.in_err-report.field-0.0
     c.is_lawful.ensures (sym c.args.ended.ok.0 ∙ c.requires.count) each c.in_ok-calls.ensures.calls c.in_err-report.ensures.err)
 
 pub returns-in_err-totals-clause-err : goal.returns-in_err-totals-clause-err

@@ -1,4 +1,5 @@
 use Rattle.std.proofs.Common.{arith}
+use Rattle.ods_share.specs.Scripts.{seen_first}
 use Rattle.ods_share.proofs.Runs.{outcomes, outcomes_len}
 use Rattle.ods_share.proofs.run.run_sessions.Goals as goal
 
@@ -7,4 +8,4 @@ returns-in-Ok-outcomes-clause-outcomes g c =
     let is = c.in-Ok-outcomes.ensures in
     let told = c.in-Ok.ensures.ended in
     let n = outcomes_len _ _ is in
-    (omega (arith, n, told.0, c.in-Ok-outcomes.outcomes.ok.0, c.in-Ok.ended.ok.0), outcomes g.J.Naming.mounted c.args.stamp _ _ _ is told.1)
+    (omega (arith, n, told.0, c.in-Ok-outcomes.outcomes.ok.0, c.in-Ok.ended.ok.0), outcomes g.J.Naming.mounted c.args.stamp (seen_first c.args.viewers.items) _ _ _ _ is told.1)

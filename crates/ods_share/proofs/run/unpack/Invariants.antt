@@ -2,4 +2,4 @@ use Rattle.std.proofs.Common.{◌≡◌, map, Ok}
 use Rattle.ods_share.proofs.run.unpack.Given as goal
 
 abbrev pub invariant-loop-one : goal.invariant-loop-one
-invariant-loop-one g l = l.yielded ≡ map Ok l.ended.items
+invariant-loop-one g l = l.yielded ≡ map Ok l.all.items

@@ -1,0 +1,85 @@
+//! The note of where a chain ends spares an Extend the walk along the headers: behind an Extend of the same file it takes less than behind one
+//! of another file, which puts its own note in place of it.
+use super::rows::extend;
+use crate::persons::{FIRST, SECOND, USER, a_txt, b_txt, indexf};
+use crate::volumes::{FileHeader, Variant, added, reserved, run, sample_of};
+use ods_base::{FileId, Image};
+use ods_mount::mount;
+use ods_request::Answer;
+use ods_volume::Volume;
+use std::alloc::Global;
+use std::process::Abort;
+use std::test::Fail;
+use std::time::{Clock, Duration, Instant};
+
+/// How many headers the long file has behind its first.
+const HEADERS: u16 = 200;
+
+/// How many Extends are timed in a round, and how many rounds there are.
+const EXTENDS: u32 = 10;
+
+const ROUNDS: u32 = 8;
+
+/// The volume of 4,200 blocks with A.TXT, file 6,1, of 201 headers with a block each, and B.TXT, file 7,1, of one header. The headers behind the
+/// first are those of the files 17 to 216, from LBN 512 on.
+fn long_and_short(alloc: Global) -> Result<Image, Fail> {
+    let mut headers = Vec::new(alloc);
+    let index = reserved(1, indexf()).mapping(&[run(0, 19), run(512, HEADERS)]);
+    headers.push((3, index))?;
+    headers.push((8, added(6, a_txt()).before(17).mapping(&[run(1_000, 1)])))?;
+    headers.push((9, added(7, b_txt()).mapping(&[run(3_000, 1)])))?;
+    for k in 0..HEADERS {
+        let header = FileHeader {
+            segment: (k + 1) as u8,
+            next: if k + 1 < HEADERS { 18 + k } else { 0 },
+            ..added(17 + k, a_txt())
+        };
+        let place = k as u32;
+        headers.push((512 + place, header.mapping(&[run(1_002 + 2 * place, 1)])))?;
+    }
+    Variant {
+        most_files: 400,
+        headers: headers.as_slice(),
+        ..sample_of(4_200)
+    }
+    .image(alloc)
+}
+
+/// Extends a file by a block.
+fn grow(rt: &impl Abort, volume: &mut Volume, file: FileId) {
+    let answer = volume.request(1, 1, USER, extend(file, 1));
+    assert!(rt; matches!(answer, Ok(Answer::Extended(_))), "{answer:?}");
+}
+
+/// How long an Extend of the long file takes at least, behind one of this file.
+fn least(rt: &(impl Abort + Clock), volume: &mut Volume, before: FileId) -> Result<Duration, Fail> {
+    let mut least = Duration::from_secs(900);
+    for _k in 0..EXTENDS {
+        grow(rt, volume, before);
+        let begun = Instant::now(rt)?;
+        grow(rt, volume, FIRST);
+        least = least.min(begun.elapsed(rt)?);
+    }
+    Ok(least)
+}
+
+/// Without the note both walk along 201 headers. The least of many times is that of an Extend beside which the machine had no other work.
+#[test]
+fn noted_extend_walks_along_nothing(rt: HostRuntime) -> Result<(), Fail> {
+    let alloc = rt.alloc();
+    let Ok(mounted) = mount(alloc, long_and_short(alloc)?) else {
+        return Err("a sound image, and memory".into());
+    };
+    let Ok(mut volume) = Volume::new(alloc, mounted, 65_536) else {
+        return Err("memory for a volume".into());
+    };
+    let mut noted = Duration::from_secs(900);
+    let mut walked = Duration::from_secs(900);
+    for _round in 0..ROUNDS {
+        noted = noted.min(least(&rt, &mut volume, FIRST)?);
+        walked = walked.min(least(&rt, &mut volume, SECOND)?);
+    }
+    let (noted, walked) = (noted.as_micros(), walked.as_micros());
+    assert!(rt; 3 * noted < 2 * walked, "{noted} and {walked} microseconds");
+    Ok(())
+}
