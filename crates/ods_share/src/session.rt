@@ -42,7 +42,7 @@ pub(crate) struct Context {
 
 /// Where a session sits: it has a viewer, and a share in the count of how often the list is said to be full.
 #[derive(Drop)]
-pub(crate) struct Seat<J: Naming, L: Ledger> {
+pub(crate) struct Chair<J: Naming, L: Ledger> {
     pub(crate) viewer: Viewer<J>,
     pub(crate) fulls: Share<L>,
 }
@@ -97,16 +97,16 @@ impl<J: Naming, L: Ledger, G: Gate, R: Wait> Session<'_, J, L, G, R> {
     /// Obeys one command, and puts its call, if it is one, behind the others.
     fn obey(
         &self,
-        seat: &mut Seat<J, L>,
+        chair: &mut Chair<J, L>,
         context: &mut Context,
         calls: &mut Vec<Call>,
         command: &Command,
     ) -> Result<Reply, AllocError>
         requires can { CanBeObeyed command.now.action }
-        requires part { 0 < seat.old.fulls.parts }
+        requires part { 0 < chair.old.fulls.parts }
         requires room { length calls.old.items + room_of command.now.action ≤ vec_capacity calls.old }
-        ensures tells { IfOk result (λ r. TellsContext J.mounted self.now.stamp command.now (stands context.old seat.old.viewer seat.old.fulls.amount) calls.old.items r (stands context.new seat.new.viewer seat.new.fulls.amount) calls.new.items) }
-        ensures part { seat.new.fulls.parts ≡ seat.old.fulls.parts }
+        ensures tells { IfOk result (λ r. TellsContext J.mounted self.now.stamp command.now (stands context.old chair.old.viewer chair.old.fulls.amount) calls.old.items r (stands context.new chair.new.viewer chair.new.fulls.amount) calls.new.items) }
+        ensures part { chair.new.fulls.parts ≡ chair.old.fulls.parts }
         ensures few { IfOk result (λ _. length calls.new.items ≤ length calls.old.items + room_of command.now.action) }
         ensures capacity { vec_capacity calls.new ≡ vec_capacity calls.old }
     {
@@ -120,7 +120,13 @@ impl<J: Naming, L: Ledger, G: Gate, R: Wait> Session<'_, J, L, G, R> {
                     return Ok(Reply::Bad);
                 };
                 let request = meant?;
-                let reply = self.submit(command.nth, context.who, request, calls, &mut seat.fulls)?;
+                let reply = self.submit(
+                    command.nth,
+                    context.who,
+                    request,
+                    calls,
+                    &mut chair.fulls,
+                )?;
                 if let Reply::Got(answer) = &reply {
                     context.last = last_from(context.last, answer);
                 }
@@ -130,7 +136,7 @@ impl<J: Naming, L: Ledger, G: Gate, R: Wait> Session<'_, J, L, G, R> {
                 let Some(query) = query_for(context.last, look) else {
                     return Ok(Reply::Bad);
                 };
-                let reply = reply_to_view(self.alloc, &mut seat.viewer, context.who, query)?;
+                let reply = reply_to_view(self.alloc, &mut chair.viewer, context.who, query)?;
                 if let Reply::Got(answer) = &reply {
                     context.last = last_from(context.last, answer);
                 }
@@ -143,39 +149,39 @@ impl<J: Naming, L: Ledger, G: Gate, R: Wait> Session<'_, J, L, G, R> {
     /// One command, between the gate's calls. There is room for its call, which takes no memory where it is put.
     fn take_turn<K: Keep>(
         &self,
-        seat: &mut Seat<J, L>,
+        chair: &mut Chair<J, L>,
         context: &mut Context,
         ended: &mut Ended<K>,
         command: &Command,
     ) -> Result<(), AllocError>
         requires can { CanBeObeyed command.now.action }
-        requires part { 0 < seat.old.fulls.parts }
+        requires part { 0 < chair.old.fulls.parts }
         requires room { length ended.old.calls.items + room_of command.now.action ≤ vec_capacity ended.old.calls }
         ensures room { IfOk result (λ _. vec_capacity ended.new.calls ≡ vec_capacity ended.old.calls) }
         ensures calls { IfOk result (λ _. length ended.new.calls.items ≤ length ended.old.calls.items + room_of command.now.action) }
-        ensures tells { IfOk result (λ _. TellsOn K.keeps J.mounted self.now.stamp command.now (stands context.old seat.old.viewer seat.old.fulls.amount) ended.old (stands context.new seat.new.viewer seat.new.fulls.amount) ended.new) }
-        ensures part { seat.new.fulls.parts ≡ seat.old.fulls.parts }
+        ensures tells { IfOk result (λ _. TellsOn K.keeps J.mounted self.now.stamp command.now (stands context.old chair.old.viewer chair.old.fulls.amount) ended.old (stands context.new chair.new.viewer chair.new.fulls.amount) ended.new) }
+        ensures part { chair.new.fulls.parts ≡ chair.old.fulls.parts }
     {
         self.gate.before(self.number, command.nth);
-        let reply = self.obey(seat, context, &mut ended.calls, command)?;
+        let reply = self.obey(chair, context, &mut ended.calls, command)?;
         self.gate.after(self.number, command.nth);
         ended.kept.keep(command, reply)?;
         Ok(())
     }
 
-    /// Obeys a script, from its first command on, as user [1,1], at a seat of its own. The list of
+    /// Obeys a script, from its first command on, as user [1,1], at a chair of its own. The list of
     /// calls gets all its room before; what may want memory afterwards is what the desk takes, the copy
     /// of a directory's names, the boxes of long answers, and what is kept of the replies.
     pub(crate) fn sit<K: Keep>(
         &self,
-        seat: Seat<J, L>,
+        chair: Chair<J, L>,
         script: &[Command],
     ) -> Result<Sat<K, L>, AllocError>
         requires can { CanBeRun script.now }
-        requires part { 0 < seat.fulls.parts }
-        ensures { IfOk result (IsSat K.keeps J.mounted self.now.stamp seat.viewer.seen script.now) }
+        requires part { 0 < chair.fulls.parts }
+        ensures { IfOk result (IsSat K.keeps J.mounted self.now.stamp chair.viewer.seen script.now) }
     {
-        let mut seat = seat;
+        let mut chair = chair;
         let mut ended = reserve::<K>(self.alloc, script)?;
         let mut context = Context {
             who: Uic {
@@ -185,11 +191,11 @@ impl<J: Naming, L: Ledger, G: Gate, R: Wait> Session<'_, J, L, G, R> {
             last: None,
         };
         for command in script {
-            self.take_turn(&mut seat, &mut context, &mut ended, command)?;
+            self.take_turn(&mut chair, &mut context, &mut ended, command)?;
         }
         Ok(Sat {
             ended,
-            fulls: seat.fulls,
+            fulls: chair.fulls,
         })
     }
 }

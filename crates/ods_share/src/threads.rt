@@ -8,7 +8,7 @@ use crate::faults::RunFault;
 use crate::gate::Gate;
 use crate::keeping::Keep;
 use crate::script::Script;
-use crate::session::{Sat, Seat, Session};
+use crate::session::{Chair, Sat, Session};
 use ods_request::Stamp;
 use ods_views::{Naming, Viewer};
 use std::alloc::{AllocError, Global};
@@ -37,20 +37,20 @@ impl<J: Naming, K: Keep, L: Ledger> Promise<Result<Sat<K, L>, AllocError>> for O
 
 type Handle<J, K, L> = PromisedHandle<Result<Sat<K, L>, AllocError>, OfScript<J, K>>;
 
-/// Obeys a script as the session with this number, at this seat.
+/// Obeys a script as the session with this number, at this chair.
 fn run_session<K: Keep, J: Naming, L: Ledger, G: Gate, R: Wait>(
     rt: &R,
     alloc: Global,
     desk: &Mutex<Counter<J, L>>,
     gate: &G,
     number: u16,
-    seat: Seat<J, L>,
+    chair: Chair<J, L>,
     stamp: &Stamp,
     script: &Script,
 ) -> Result<Sat<K, L>, AllocError>
     requires can { CanBeRun script.now.commands.items }
-    requires part { 0 < seat.fulls.parts }
-    ensures { IfOk result (IsSat K.keeps J.mounted stamp.now seat.viewer.seen script.now.commands.items) }
+    requires part { 0 < chair.fulls.parts }
+    ensures { IfOk result (IsSat K.keeps J.mounted stamp.now chair.viewer.seen script.now.commands.items) }
 {
     let session = Session {
         rt,
@@ -60,7 +60,7 @@ fn run_session<K: Keep, J: Naming, L: Ledger, G: Gate, R: Wait>(
         number,
         stamp: *stamp,
     };
-    session.sit(seat, script.commands.as_slice())
+    session.sit(chair, script.commands.as_slice())
 }
 
 /// Starts the thread of one script. The error is that of a thread: the toolchain starts none for want of memory too.
@@ -79,20 +79,20 @@ fn begin_thread<
     desk: &'s Mutex<Counter<J, L>>,
     gate: &'s G,
     number: u16,
-    seat: Seat<J, L>,
+    chair: Chair<J, L>,
     stamp: &'s Stamp,
     script: &'s Script,
 ) -> Result<Handle<J, K, L>, RunFault>
     requires can { CanBeRun script.now.commands.items }
-    requires part { 0 < seat.fulls.parts }
-    ensures ok { IfOk result (λ h. (h.promise.script.value ≡ script.entry.now) × (h.promise.stamp.value ≡ stamp.entry.now) × (h.promise.viewer.value ≡ seat.viewer)) }
+    requires part { 0 < chair.fulls.parts }
+    ensures ok { IfOk result (λ h. (h.promise.script.value ≡ script.entry.now) × (h.promise.stamp.value ≡ stamp.entry.now) × (h.promise.viewer.value ≡ chair.viewer)) }
     ensures err { IfErr result (λ f. f ≡ NoThread) }
 {
-    let seen = Snapshot::of(&seat.viewer);
+    let seen = Snapshot::of(&chair.viewer);
     let work = move || -> Result<Sat<K, L>, AllocError>
-        requires { CanBeRun script.now.commands.items × (0 < seat.fulls.parts) }
-        ensures { IfOk result (IsSat K.keeps J.mounted stamp.entry.now seat.viewer.seen script.entry.now.commands.items) }
-    { run_session(rt, alloc, desk, gate, number, seat, stamp, script) };
+        requires { CanBeRun script.now.commands.items × (0 < chair.fulls.parts) }
+        ensures { IfOk result (IsSat K.keeps J.mounted stamp.entry.now chair.viewer.seen script.entry.now.commands.items) }
+    { run_session(rt, alloc, desk, gate, number, chair, stamp, script) };
     let promise = OfScript {
         viewer: seen,
         script: Snapshot::of(script),
@@ -140,11 +140,11 @@ fn begin_all<
     let mut fulls = fulls;
     for script in scripts {
         number += 1;
-        let seat = Seat {
+        let chair = Chair {
             viewer: viewers.next().unwrap(),
             fulls: fulls.split_off(1, 0),
         };
-        let handle = begin_thread(scope, rt, alloc, desk, gate, number, seat, stamp, script)?;
+        let handle = begin_thread(scope, rt, alloc, desk, gate, number, chair, stamp, script)?;
         handles.push_reserved(handle);
     }
     match thread::join_promised(rt, handles) {

@@ -8,6 +8,6 @@ use Rattle.ods_share.proofs.session.Session.sit.Given as goal
 abbrev pub invariant-loop-command : goal.invariant-loop-command
 invariant-loop-command g l =
     (length l.ended.calls.items + room_for (drop l.command-index l.script) ≤ vec_capacity l.ended.calls)
-    × (0 < l.seat.fulls.parts)
-    × ((rs : List Reply) × Runs g.J.Naming.mounted l.self.stamp (start l.fn.seat.viewer.seen) (take l.command-index l.script) rs (sitting l.context l.ended.calls.items l.seat.viewer.seen)
-    × g.K.Keep.keeps (take l.command-index l.script) rs l.ended.kept × (fulls_of rs ≤ l.seat.fulls.amount))
+    × (0 < l.chair.fulls.parts)
+    × ((rs : List Reply) × Runs g.J.Naming.mounted l.self.stamp (start l.fn.chair.viewer.seen) (take l.command-index l.script) rs (sitting l.context l.ended.calls.items l.chair.viewer.seen)
+    × g.K.Keep.keeps (take l.command-index l.script) rs l.ended.kept × (fulls_of rs ≤ l.chair.fulls.amount))
