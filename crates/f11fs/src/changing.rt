@@ -6,12 +6,15 @@ use fs_host::{Locked, SaveFault, Shown, Unfinished, stamp_of_now, write_new};
 use fs_reads::{Stop, say_extent, send, volume_of};
 use fs_words::{Change, Saving, Words};
 use ods_base::Uic;
+use ods_filing::Filing;
 use ods_mount::Mounted;
+use ods_request::Stamp;
 use ods_shell::Status;
 use ods_upkeep::{
-    Asked, Failure, Removal, copy_files, is_below_another, make_directories, move_names,
+    Failure, Removal, copy_files, is_below_another, make_directories, move_names,
     remove_directories, remove_files, truncate_file,
 };
+use std::alloc::AllocError;
 use std::fs::File;
 use std::io::Input;
 use std::rt::{Clock, Env, Files};
@@ -46,18 +49,21 @@ pub fn change_image<'a, R: Host>(
 ) -> Result<Status, Stop<'a>> {
     let mut early = Early::of(rt, words.image);
     early.read_words(rt, words)?;
-    let (mut locked, volume) = locked_volume(rt, words)?;
+    let (mut locked, volume) = locked_volume(rt, words, false)?;
     let asked = asked(rt, words)?;
-    let changed = changed(rt, volume, &asked, words, change, &mut early)?;
-    match finish(rt, words, &mut locked, &changed)? {
+    let before = kept_before(words, &volume)?;
+    let mut filing = Filing::new(rt.alloc(), volume, asked.user)?;
+    change_volume(rt, &mut filing, asked.stamp, words, change, &mut early)?;
+    match finish(rt, words, &mut locked, &before, filing.mounted())? {
         Finished::Told(status) | Finished::Saved(status) => Ok(status),
     }
 }
 
-/// The volume of the image, which is locked.
+/// The volume of the image, which is locked. Where it is to be copied, it shares its blocks with its copies.
 pub fn locked_volume<'a, R: Host>(
     rt: &R,
     words: &Words<'a>,
+    is_copied: bool,
 ) -> Result<(Locked, Mounted), Stop<'a>> {
     let writes = words.saving.out.is_none() && !words.saving.only_tells;
     let mut locked = match Locked::of(rt, words.image, writes, words.force) {
@@ -67,7 +73,27 @@ pub fn locked_volume<'a, R: Host>(
     let image = locked.read(rt.alloc(), words.blocks);
     say_extent(rt, words.image, locked.extent(), false);
     let volume = volume_of(rt, words.image, image)?;
+    if is_copied || words.saving.only_tells {
+        return Ok((locked, sharing(volume)?));
+    }
     Ok((locked, volume))
+}
+
+/// The volume over blocks that its copies share: each of them holds only what it changes.
+fn sharing<'a>(volume: Mounted) -> Result<Mounted, Stop<'a>> {
+    match volume.split() {
+        Ok((_, image, layout)) => Ok(Mounted::of(image, layout)),
+        Err(_) => Err(Stop::from(AllocError)),
+    }
+}
+
+/// The volume as it is before a change, where it is told what would change.
+pub fn kept_before<'a>(words: &Words<'_>, volume: &Mounted) -> Result<Option<Mounted>, Stop<'a>> {
+    if words.saving.only_tells {
+        Ok(Some(volume.copy()?))
+    } else {
+        Ok(None)
+    }
 }
 
 /// The line of an image that is not locked or saved.
@@ -86,14 +112,21 @@ pub enum Finished {
     Saved(Status),
 }
 
+/// Who asks, and the time that new files get.
+#[derive(Clone, Copy)]
+pub struct Asker {
+    pub user: Uic,
+    pub stamp: Stamp,
+}
+
 /// Who asks for changes, and the time that new files get.
-pub fn asked<'a, R: Host>(rt: &R, words: &Words<'a>) -> Result<Asked, Stop<'a>> {
+pub fn asked<'a, R: Host>(rt: &R, words: &Words<'a>) -> Result<Asker, Stop<'a>> {
     let stamp = match words.stamp {
         Some(stamp) => Some(stamp),
         None => stamp_of_now(rt),
     };
     match stamp {
-        Some(stamp) => Ok(Asked {
+        Some(stamp) => Ok(Asker {
             user: words.user.unwrap_or(KEEPER),
             stamp,
         }),
@@ -104,17 +137,18 @@ pub fn asked<'a, R: Host>(rt: &R, words: &Words<'a>) -> Result<Asked, Stop<'a>> 
     }
 }
 
-/// Saves the changed image where the words say; one that is as it was is left alone.
+/// Tells what would change, where the volume before is given. Else saves the changed image where the words say; one that is as it was is left
+/// alone.
 pub fn finish<'a, R: Host>(
     rt: &R,
     words: &Words<'a>,
     locked: &mut Locked,
+    before: &Option<Mounted>,
     volume: &Mounted,
 ) -> Result<Finished, Stop<'a>> {
     let image = volume.image();
-    if words.saving.only_tells {
-        let before = volume_of(rt, words.image, locked.read_again(rt.alloc(), words.blocks))?;
-        let text = told(rt, &before, volume, words.json)?;
+    if let Some(before) = before {
+        let text = told(rt, before, volume, words.json)?;
         return Ok(Finished::Told(send(rt, text.as_str())?));
     }
     if let Some(out) = words.saving.out {
@@ -156,25 +190,25 @@ pub fn saved<R: Eprint>(rt: &R, path: &str, wanting: Option<Unfinished>) -> Stat
     }
 }
 
-/// The volume with the change that the words ask for.
-pub fn changed<'a, R: Files<File = File> + AllocGlobal + Eprint>(
+/// Makes the change that the words ask for. Refused, it may be made in part.
+pub fn change_volume<'a, R: Files<File = File> + AllocGlobal + Eprint>(
     rt: &R,
-    volume: Mounted,
-    asked: &Asked,
+    filing: &mut Filing,
+    stamp: Stamp,
     words: &Words<'a>,
     change: Change<'a>,
     early: &mut Early,
-) -> Result<Mounted, Stop<'a>> {
+) -> Result<(), Stop<'a>> {
     let alloc = rt.alloc();
     let paths = words.paths.as_slice();
     let done = match change {
-        Change::Put(how) => return put(rt, volume, asked, words, how, early),
+        Change::Put(how) => return put(rt, filing, stamp, words, how, early),
         Change::Cp => match paths.split_last() {
-            Some((to, paths)) => copy_files(alloc, volume, asked, paths, *to),
+            Some((to, paths)) => copy_files(alloc, filing, stamp, paths, *to),
             None => return Err(Stop::Said(Status::Words)),
         },
         Change::Mv => match paths.split_last() {
-            Some((to, paths)) => move_names(alloc, volume, asked, paths, *to),
+            Some((to, paths)) => move_names(alloc, filing, paths, *to),
             None => return Err(Stop::Said(Status::Words)),
         },
         Change::Rm {
@@ -185,23 +219,23 @@ pub fn changed<'a, R: Files<File = File> + AllocGlobal + Eprint>(
                 entry_alone,
                 newest,
             };
-            remove_files(alloc, volume, asked, paths, removal)
+            remove_files(alloc, filing, paths, removal)
         }
         Change::Mkdir { names, owner } => {
-            make_directories(alloc, volume, asked, paths, names.unwrap_or(0), owner)
+            make_directories(alloc, filing, stamp, paths, names.unwrap_or(0), owner)
         }
-        Change::Rmdir => remove_directories(alloc, volume, asked, paths),
+        Change::Rmdir => remove_directories(alloc, filing, paths),
         Change::Truncate { bytes } => match paths.first() {
-            Some(path) => truncate_file(alloc, volume, asked, *path, bytes),
+            Some(path) => truncate_file(alloc, filing, *path, bytes),
             None => return Err(Stop::Said(Status::Words)),
         },
     };
     match done {
-        Ok(changed) => {
+        Ok(()) => {
             if matches!(change, Change::Mkdir { .. }) {
                 say_nested(rt, words);
             }
-            Ok(changed)
+            Ok(())
         }
         Err(failure) => Err(failed(rt, &failure)),
     }

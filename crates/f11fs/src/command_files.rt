@@ -1,14 +1,16 @@
 //! Commands in a file of the host, one a line: obeyed one after another on the volume in memory; then the image is saved, once.
-use crate::changing::{Finished, Host, asked, changed, finish, locked_volume};
+use crate::changing::{
+    Asker, Finished, Host, asked, change_volume, finish, kept_before, locked_volume,
+};
 use crate::early::Early;
 use crate::lines::{Line, no_memory, words_of, wrong};
 use fs_host::{Collecting, HostFault, Noting, Shown, read_host, read_some};
 use fs_reads::{Progress, Stop, check_image, ended, obey};
 use fs_words::{Action, Change, Words, WordsFault, parse_line};
 use ods_base::write_bytes;
-use ods_mount::Mounted;
+use ods_filing::Filing;
+use ods_request::Stamp;
 use ods_shell::Status;
-use ods_upkeep::Asked;
 use std::cell::RefCell;
 use std::fs::File;
 use std::io;
@@ -34,8 +36,10 @@ pub fn obey_file<'a, R: Host>(
     let text = text.strip_prefix('\u{feff}').unwrap_or(text);
     let mut early = Early::of(rt, words.image);
     read_early(rt, words, text, &mut early)?;
-    let (mut locked, volume) = locked_volume(rt, words)?;
+    let (mut locked, volume) = locked_volume(rt, words, keep_going)?;
     let asked = asked(rt, words)?;
+    let before = kept_before(words, &volume)?;
+    let mut filing = Filing::new(rt.alloc(), volume, asked.user)?;
     let printed = RefCell::new(Vec::new(rt.alloc()));
     let run = Run {
         asked,
@@ -43,9 +47,9 @@ pub fn obey_file<'a, R: Host>(
         file,
         keep_going,
     };
-    let obeyed = obey_lines(rt, &run, &printed, volume, text, &mut early);
+    let obeyed = obey_lines(rt, &run, &printed, &mut filing, text, &mut early);
     let done = match obeyed {
-        Ok((volume, status)) => match finish(rt, words, &mut locked, &volume) {
+        Ok(status) => match finish(rt, words, &mut locked, &before, filing.mounted()) {
             Ok(Finished::Told(told)) => Ok((status.or(told), false)),
             Ok(Finished::Saved(saved)) => Ok((status.or(saved), true)),
             Err(stop) => Err(stop),
@@ -68,7 +72,7 @@ pub fn obey_file<'a, R: Host>(
 #[derive(Clone, Copy)]
 struct Run<'r, 'a> {
     /// Who asks, and the time of new files, where a line says none.
-    asked: Asked,
+    asked: Asker,
     /// The words of the run.
     outer: &'r Words<'a>,
     file: &'a str,
@@ -128,16 +132,15 @@ fn read_line_early<'a, R: Host>(
     }
 }
 
-/// Obeys the lines: the volume afterwards, and how they ended.
+/// Obeys the lines, and gives how they ended. Where the run goes on after a refusal, the refused line has done nothing.
 fn obey_lines<'a, R: Host>(
     rt: &R,
     run: &Run<'_, '_>,
     printed: &RefCell<Vec<u8>>,
-    volume: Mounted,
+    filing: &mut Filing,
     text: &str,
     early: &mut Early,
-) -> Result<(Mounted, Status), Stop<'a>> {
-    let mut volume = volume;
+) -> Result<Status, Stop<'a>> {
     let mut status = Status::Done;
     let mut number = 0usize;
     for line in text.lines() {
@@ -148,21 +151,14 @@ fn obey_lines<'a, R: Host>(
             file: run.file,
             line: number,
         };
-        let kept = if run.keep_going {
-            Some(volume.copy()?)
-        } else {
-            None
-        };
-        let (next, done) = obey_line(&one, volume, run, line, early);
+        let (done, stands) = obey_line(&one, filing, run, line, early);
         status = status.or(done);
-        volume = match (next, kept) {
-            (Some(next), None) if done == Status::Done || done == Status::Found => next,
-            (Some(next), Some(_)) => next,
-            (None, Some(kept)) => kept,
-            _ => return Err(Stop::Said(done)),
-        };
+        let is_refused = done != Status::Done && done != Status::Found;
+        if !stands || (is_refused && !run.keep_going) {
+            return Err(Stop::Said(done));
+        }
     }
-    Ok((volume, status))
+    Ok(status)
 }
 
 /// Writes what the commands printed.
@@ -175,31 +171,31 @@ fn write_printed<R: Print>(rt: &R, printed: &[u8]) -> Result<(), HostFault> {
     }
 }
 
-/// Obeys the command in a line: the volume afterwards, unless a change of it was refused, and how it ended.
+/// Obeys the command in a line, and gives how it ended, and whether the volume stands: it does not where a change was made in part.
 fn obey_line<R: Files<File = File> + Clock + Input + AllocGlobal + Print + Eprint>(
     rt: &R,
-    volume: Mounted,
+    filing: &mut Filing,
     run: &Run<'_, '_>,
     line: &str,
     early: &mut Early,
-) -> (Option<Mounted>, Status) {
+) -> (Status, bool) {
     let words = match words_of(rt.alloc(), line) {
         Line::Words(words) => words,
-        Line::Open => return (Some(volume), wrong(rt, "error: a quote is not closed")),
-        Line::NoMemory => return (Some(volume), no_memory(rt)),
+        Line::Open => return (wrong(rt, "error: a quote is not closed"), true),
+        Line::NoMemory => return (no_memory(rt), true),
     };
     match parse_line(rt.alloc(), run.outer.image, words.as_slice()) {
-        Ok(Some(own)) => obey_words(rt, volume, run, own, early),
-        Ok(None) => (Some(volume), Status::Done),
+        Ok(Some(own)) => obey_words(rt, filing, run, own, early),
+        Ok(None) => (Status::Done, true),
         Err(WordsFault::Help(text)) => {
             let status = match print!(rt; "{text}") {
                 Ok(()) => Status::Done,
                 Err(_) => Status::Host,
             };
-            (Some(volume), status)
+            (status, true)
         }
-        Err(WordsFault::Wrong(text)) => (Some(volume), wrong(rt, text.as_str())),
-        Err(WordsFault::NoMemory) => (Some(volume), no_memory(rt)),
+        Err(WordsFault::Wrong(text)) => (wrong(rt, text.as_str()), true),
+        Err(WordsFault::NoMemory) => (no_memory(rt), true),
     }
 }
 
@@ -212,20 +208,18 @@ fn reads_input(outer: &Words<'_>, own: &Words<'_>) -> bool {
 /// Obeys a command. What its line does not say of users, stamps and forms is as in the words of the run.
 fn obey_words<R: Files<File = File> + Clock + Input + AllocGlobal + Print + Eprint>(
     rt: &R,
-    volume: Mounted,
+    filing: &mut Filing,
     run: &Run<'_, '_>,
     own: Words<'_>,
     early: &mut Early,
-) -> (Option<Mounted>, Status) {
+) -> (Status, bool) {
     let mut own = own;
     if !own.saving.says_nothing() {
         let text = "error: how the image is saved is said before IMAGE";
-        return (Some(volume), wrong(rt, text));
+        return (wrong(rt, text), true);
     }
-    let asked = Asked {
-        user: own.user.unwrap_or(run.asked.user),
-        stamp: own.stamp.unwrap_or(run.asked.stamp),
-    };
+    filing.set_user(own.user.unwrap_or(run.asked.user));
+    let stamp = own.stamp.unwrap_or(run.asked.stamp);
     let outer = run.outer;
     own.user = own.user.or(outer.user);
     own.force = own.force || outer.force;
@@ -234,28 +228,53 @@ fn obey_words<R: Files<File = File> + Clock + Input + AllocGlobal + Print + Epri
     own.saving.only_tells = outer.saving.only_tells;
     match own.action {
         Action::Change(Change::Put(_)) if reads_input(outer, &own) => {
-            (
-                Some(volume),
-                wrong(rt, "error: standard input has the commands"),
-            )
+            (wrong(rt, "error: standard input has the commands"), true)
         }
-        Action::Change(change) => match changed(rt, volume, &asked, &own, change, early) {
-            Ok(volume) => (Some(volume), Status::Done),
-            Err(stop) => (None, ended(rt, Err(stop))),
+        Action::Change(change) if run.keep_going => {
+            change_or_keep(rt, filing, stamp, &own, change, early)
+        }
+        Action::Change(change) => match change_volume(rt, filing, stamp, &own, change, early) {
+            Ok(()) => (Status::Done, true),
+            Err(stop) => (ended(rt, Err(stop)), false),
         },
         Action::Check { all } => {
-            let done = check_image(rt, volume.image(), all, own.json);
-            (Some(volume), ended(rt, done))
+            let done = check_image(rt, filing.mounted().image(), all, own.json);
+            (ended(rt, done), true)
         }
         Action::Commands { .. } | Action::Init { .. } | Action::Rescue { .. } => {
-            (
-                Some(volume),
-                wrong(rt, "error: no command for a file of commands"),
-            )
+            (wrong(rt, "error: no command for a file of commands"), true)
         }
         _ => {
-            let done = obey(rt, &volume, &own, &mut Progress::none());
-            (Some(volume), ended(rt, done))
+            let done = obey(rt, filing.mounted(), &own, &mut Progress::none());
+            (ended(rt, done), true)
+        }
+    }
+}
+
+/// Makes a change; refused, it has done nothing. The copy of the volume that is kept for that shares its blocks.
+fn change_or_keep<'a, R: Files<File = File> + AllocGlobal + Eprint>(
+    rt: &R,
+    filing: &mut Filing,
+    stamp: Stamp,
+    words: &Words<'a>,
+    change: Change<'a>,
+    early: &mut Early,
+) -> (Status, bool) {
+    let Ok(kept) = filing.mounted().copy() else {
+        return (no_memory(rt), true);
+    };
+    let user = filing.user();
+    match change_volume(rt, filing, stamp, words, change, early) {
+        Ok(()) => (Status::Done, true),
+        Err(stop) => {
+            let status = ended(rt, Err(stop));
+            match Filing::new(rt.alloc(), kept, user) {
+                Ok(before) => {
+                    *filing = before;
+                    (status, true)
+                }
+                Err(_) => (no_memory(rt), false),
+            }
         }
     }
 }

@@ -4,9 +4,10 @@ use crate::early::{Early, hosts};
 use fs_host::{HostFault, Shown, read_host};
 use fs_reads::Stop;
 use fs_words::{PutWords, Words};
-use ods_mount::Mounted;
+use ods_filing::Filing;
+use ods_request::Stamp;
 use ods_shell::{Status, space_of};
-use ods_upkeep::{Asked, HostFile, PutForm, Putting};
+use ods_upkeep::{HostFile, PutForm, Putting};
 use std::fs;
 use std::fs::File;
 use std::rt::Files;
@@ -14,12 +15,12 @@ use std::rt::Files;
 /// `put`: with two words or more the last is the path on the volume.
 pub fn put<'a, R: Files<File = File> + AllocGlobal + Eprint>(
     rt: &R,
-    volume: Mounted,
-    asked: &Asked,
+    filing: &mut Filing,
+    stamp: Stamp,
     words: &Words<'a>,
     how: PutWords<'a>,
     early: &mut Early,
-) -> Result<Mounted, Stop<'a>> {
+) -> Result<(), Stop<'a>> {
     let hosts = hosts(words.paths.as_slice());
     let to = match words.paths.last() {
         Some(last) if hosts.len() < words.paths.len() => Some(*last),
@@ -29,11 +30,11 @@ pub fn put<'a, R: Files<File = File> + AllocGlobal + Eprint>(
         let _ = eprintln!(rt; "f11fs: -: standard input wants a PATH");
         return Err(Stop::Said(Status::Words));
     }
-    let room = u64::from(space_of(&volume).free).saturating_mul(512);
+    let room = u64::from(space_of(filing.mounted()).free).saturating_mul(512);
     let begun = Putting::begin(
         rt.alloc(),
-        volume,
-        asked,
+        filing.mounted(),
+        stamp,
         to,
         hosts.len() > 1,
         form_of(&how),
@@ -47,9 +48,16 @@ pub fn put<'a, R: Files<File = File> + AllocGlobal + Eprint>(
     };
     for host in hosts {
         let bytes = host_bytes(rt, *host, room, early)?;
-        putting = put_one(rt, putting, *host, bytes.as_slice(), words.quiet)?;
+        put_one(
+            rt,
+            &mut putting,
+            filing,
+            *host,
+            bytes.as_slice(),
+            words.quiet,
+        )?;
     }
-    Ok(putting.end())
+    Ok(())
 }
 
 /// The form that the words say.
@@ -66,26 +74,27 @@ fn form_of(how: &PutWords<'_>) -> PutForm {
 }
 
 /// Puts the bytes of a host file; what is to be remarked is said.
-fn put_one<'a, R: Eprint>(
+fn put_one<'a, R: AllocGlobal + Eprint>(
     rt: &R,
-    putting: Putting,
+    putting: &mut Putting,
+    filing: &mut Filing,
     host: &'a str,
     bytes: &[u8],
     quiet: bool,
-) -> Result<Putting, Stop<'a>> {
+) -> Result<(), Stop<'a>> {
     let file = HostFile {
         name: last_part(host),
         bytes,
     };
-    match putting.put(&file) {
-        Ok((next, remark)) => {
+    match putting.put(rt.alloc(), filing, &file) {
+        Ok(remark) => {
             if let Some(remark) = remark {
                 if !quiet {
                     let host = Shown(host);
                     let _ = eprintln!(rt; "f11fs: {host}: {}", remark.as_str());
                 }
             }
-            Ok(next)
+            Ok(())
         }
         Err(failure) => Err(failed(rt, &failure)),
     }

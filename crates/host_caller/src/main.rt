@@ -79,14 +79,13 @@ fn put(alloc: Global, volume: Mounted, name: &str, stamp: Stamp) -> anyhow::Resu
         attributes: text_attributes(records.longest, length),
         bytes: records.bytes.as_slice(),
     };
-    let (filing, made) = put_file(Filing::new(alloc, volume, USER)?, &file);
-    let file = made?;
-    let (filing, entered) = filing.request(Request::Enter {
+    let mut filing = Filing::new(alloc, volume, USER)?;
+    let file = put_file(&mut filing, &file)?;
+    filing.request(&Request::Enter {
         dir: MASTER,
         name,
         version: None,
         file,
-    });
-    entered?;
+    })?;
     Ok(filing.into_mounted())
 }

@@ -1,5 +1,5 @@
 -- What is got out of a file that was put.
-use Rattle.std.proofs.Common.{◌≡◌, ℕ, ◌+◌, ◌-◌, ◌*◌, ◌/◌, ◌%◌, ◌<◌, refl, ap, sym, ◌∙◌, subst, Bool, true, false, cond, List, [], ◌∷◌, get_or, length, take, drop, Some, None, arith}
+use Rattle.std.proofs.Common.{◌≡◌, ℕ, ◌+◌, ◌-◌, ◌*◌, ◌/◌, ◌%◌, ◌<◌, refl, ap, sym, ◌∙◌, subst, Bool, true, false, cond, List, [], ◌∷◌, get_or, length, take, Some, None, arith}
 use Rattle.std.specs.Prelude.{◌==◌, nat_le}
 use Rattle.std.specs.List.{concat}
 use Rattle.std.specs.Option.{option_map}
@@ -22,7 +22,6 @@ use Rattle.ods_files.specs.declared.form.Form.TheVariants.{Binary}
 use Rattle.ods_records.specs.Attributes.{attributes, ending_at}
 use Rattle.ods_records.specs.Records.{Spells, text_of}
 use Rattle.ods_records.specs.declared.kind.RecordKind.TheVariants.{Variable}
-use Rattle.ods_records.specs.Survey.{come_as_lines}
 use Rattle.ods_records.proofs.LinesBack.{chosen_back}
 use Rattle.ods_records.proofs.PlainTexts.{lines_text}
 use Rattle.ods_records.proofs.WrittenStands.{spells_written}

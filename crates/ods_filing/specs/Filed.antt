@@ -1,5 +1,5 @@
 -- A mounted volume that requests change one after another, and what one of them does to it.
-use Rattle.std.specs.Prelude.{◌≡◌, ◌⊎◌, ℕ, true, false, List, Some}
+use Rattle.std.specs.Prelude.{◌≡◌, ℕ, true, false, List, Some}
 use Rattle.std.specs.FinSet as set
 use Rattle.ods_base.specs.declared.file_id.FileId.{FileId}
 use Rattle.ods_base.specs.declared.file_id.Uic.{Uic}
@@ -7,35 +7,18 @@ use Rattle.ods_space.specs.Layout.{Disk, VolumeLayout}
 use Rattle.ods_request.specs.declared.requests.Request.{Request}
 use Rattle.ods_request.specs.declared.answers.Answer.{Answer}
 use Rattle.ods_request.specs.declared.refusals.Refusal.{Refusal}
-use Rattle.ods_request.specs.declared.refusals.Refusal.TheVariants as refusal
 use Rattle.ods_request.specs.Catalogue.{Catalogue}
 use Rattle.ods_request.specs.Steps.{step, created_id}
 use Rattle.ods_request.specs.Table.{creates}
 use Rattle.ods_state.specs.Contents.{ShowsBy, IsCatalogueOf}
 use Rattle.ods_state.specs.Moves.{Moves, ChangesOnlyTouched}
-use Rattle.ods_state.specs.Outcome.{disk_of}
 use Rattle.ods_state.specs.Served.{IsRefusalOf}
-use Rattle.ods_state.specs.Version.{State}
-use Rattle.ods_filing.specs.declared.seat.Seat.{Seat}
-use Rattle.ods_filing.specs.declared.seat.Seat.TheVariants.{Listed, Unlisted}
 
--- what contracts see of it: the image now with its layout, and the user that asks; the list is not seen
+-- what contracts see of it: the image now with its layout, and the user that asks
 pub record Filed : Type 0 where
   pub image : List (List ℕ)
   pub layout : VolumeLayout
   pub user : Uic
-
--- the blocks with their layout
-abbrev pub disk_in : Seat → Disk
-disk_in (Listed volume) = disk_of volume
-disk_in (Unlisted mounted) = mounted
-
-abbrev pub filed_in : Seat → Uic → Filed
-filed_in seat user = record { image = (disk_in seat).image; layout = (disk_in seat).layout; user = user }
-
--- a volume, for a user
-abbrev pub filed_by : State → Uic → Filed
-filed_by v user = record { image = v.image; layout = v.layout; user = user }
 
 -- the volume, for another user
 abbrev pub for_another : Filed → Uic → Filed
@@ -60,9 +43,9 @@ pub record IsDone (old : Filed) (r : Request) (a : Answer) (new : Filed) : Type 
   pub elsewhere : ChangesOnlyTouched (disk_at old) r (disk_at new)
   pub user : new.user ≡ old.user
 
--- why a request is refused: want of memory, perhaps for a new list; or its first fault, or what the volume lacks
+-- why a request is refused: its first fault, or what the volume lacks, or want of memory
 abbrev pub IsRefusedFor : Filed → Request → Refusal → Type 0
-IsRefusedFor f r reason = (reason ≡ refusal.NoMemory) ⊎ IsRefusalOf f.image f.layout f.user r reason
+IsRefusedFor f r reason = IsRefusalOf f.image f.layout f.user r reason
 
 -- it is the refusal of a request on the volume as it is
 abbrev pub IsRefusedNow : Filed → Refusal → Type 0

@@ -4,7 +4,6 @@
 mod filing;
 mod laws;
 mod put;
-mod seat;
 mod slices;
 
 pub use filing::Filing;

@@ -1,25 +1,16 @@
 -- Lists of requests that commands make.
-use Rattle.std.proofs.Common.{◌≡◌, ℕ, sym, subst, Bool, true, Result, Ok, Err}
-use Rattle.std.specs.Prelude.{IfOk}
+use Rattle.std.proofs.Common.{◌≡◌, ℕ, Bool, true, Result, Ok, Err}
+use Rattle.std.specs.Prelude.{OnOk}
 use Rattle.ods_base.specs.declared.file_id.FileId.{FileId}
-use Rattle.ods_base.specs.declared.file_id.Uic.{Uic}
 use Rattle.ods_base.specs.declared.name.Pick.{Pick}
 use Rattle.ods_base.specs.declared.name.Pick.TheVariants.{Exact}
 use Rattle.ods_base.specs.Name.{RadName}
-use Rattle.ods_space.specs.Layout.{Disk}
 use Rattle.ods_request.specs.declared.requests.Request.{Request}
 use Rattle.ods_request.specs.declared.requests.Request.TheVariants.{Create, Extend, Truncate, Delete, Enter, LookUp, Remove, Read, Write, List as Lines, Stat, SetUser}
 use Rattle.ods_filing.specs.Filed.{Filed}
 use Rattle.ods_filing.specs.Led.{IsAsked, IsLed, IsObeyed, Fills}
-use Rattle.ods_filing.proofs.Led.{asked, same_user, then_led, then_obeyed}
+use Rattle.ods_filing.proofs.Led.{asked, then_led, then_obeyed}
 use Rattle.ods_upkeep.specs.Kinds.{Copies, Puts, Removes}
-use Rattle.ods_upkeep.specs.Left.{filed_for, IsLeft}
-
--- the volume that comes back has the blocks and the layout of the last request
-pub comes_back : {Allows : Request → Type 0} (user : Uic) (old new : Disk) (f : Filed) → IsLed Allows (filed_for old user) f → (new.image ≡ f.image) × (new.layout ≡ f.layout) → IsLeft Allows user old new
-comes_back {Allows = Allows} user old new f led same =
-    let who = same_user led in
-    subst (λ g. IsLed Allows (filed_for old user) g) (λ i. record { image = sym same.0 i; layout = sym same.1 i; user = who i }) led
 
 -- what fills a file is asked for by cp
 pub fills_copies : (r : Request) → Fills r → Copies r
@@ -66,22 +57,10 @@ removes_more entry_alone (Lines dir) h = absurd h
 removes_more entry_alone (Stat file) h = absurd h
 removes_more entry_alone (SetUser file attributes) h = absurd h
 
--- a call that makes one request more, where it succeeds
-pub ok_then : {E : Type 0} {Allows : Request → Type 0} (old mid : Filed) (r : Request) (result : Result Filed E) → Allows r → IsLed Allows old mid → IfOk result (λ new. IsObeyed mid r new)
-    → IfOk result (λ new. IsLed Allows old new)
-ok_then old mid r (Ok new) fits led done = then_obeyed r fits led done
-ok_then old mid r (Err why) fits led done = tt
-
--- a call that makes more requests, where it succeeds
-pub ok_more : {E : Type 0} {Allows : Request → Type 0} (old mid : Filed) (result : Result Filed E) → IsLed Allows old mid → IfOk result (λ new. IsLed Allows mid new)
-    → IfOk result (λ new. IsLed Allows old new)
-ok_more old mid (Ok new) led done = then_led led done
-ok_more old mid (Err why) led done = tt
-
--- the volume that comes back of a list that began with the given one
-pub left_from : {Allows : Request → Type 0} (user : Uic) (old new : Disk) (first f : Filed) → first ≡ filed_for old user → IsLed Allows first f → (new.image ≡ f.image) × (new.layout ≡ f.layout)
-    → IsLeft Allows user old new
-left_from {Allows = Allows} user old new first f begun led same = comes_back user old new f (subst (λ g. IsLed Allows g f) begun led) same
+-- what follows from the promise of a call, where it succeeds
+pub if_done : {A E P Q : Type 0} (result : Result A E) → (P → Q) → OnOk result P → OnOk result Q
+if_done (Ok a) so done = so done
+if_done (Err e) so done = tt
 
 -- a file that is to be replaced is looked up and looked at, and its name goes
 pub room_made : (replaces : Bool) → replaces ≡ true → (old seen known new : Filed) (dir : FileId) (name : RadName) (pick : Pick) (file : FileId) (version : ℕ)

@@ -3,13 +3,11 @@ use Rattle.std.specs.Prelude.{◌≡◌, ℕ, zero, suc, List, ◌⊎◌, Option
 use Rattle.ods_base.specs.Name.{RadName, title}
 use Rattle.ods_base.specs.declared.file_id.FileId.{FileId}
 use Rattle.ods_base.specs.declared.file_id.Uic.{Uic}
-use Rattle.ods_space.specs.Layout.{Disk}
 use Rattle.ods_request.specs.declared.answers.Answer.TheVariants.{Created}
 use Rattle.ods_request.specs.declared.requests.Request.TheVariants.{Create, Enter}
 use Rattle.ods_paths.specs.Numbers.{IsNumberedName}
-use Rattle.ods_filing.specs.Filed.{IsDone}
+use Rattle.ods_filing.specs.Filed.{Filed, for_another, IsDone}
 use Rattle.ods_filing.specs.Led.{IsObeyed}
-use Rattle.ods_upkeep.specs.Left.{filed_for}
 
 -- in the master directory, file 4, the name is the six octal digits of a group and a member
 abbrev pub IsNumbered : FileId → RadName → ℕ → ℕ → Type 0
@@ -22,24 +20,24 @@ IsOwner None user dir name owner =
     IsNumbered dir name owner.group owner.member
     ⊎ (((group member : ℕ) → ¬ IsNumbered dir name group member) × (owner ≡ user))
 
--- a file was made that its owner asked for
-pub record IsCreated (old : Disk) (owner : Uic) (name : RadName) (stamp : List ℕ) (file : FileId) (new : Disk) : Type 0 where
+-- a file was made that the user asked for
+pub record IsCreated (old : Filed) (name : RadName) (stamp : List ℕ) (file : FileId) (new : Filed) : Type 0 where
   pub blocks : ℕ
-  pub done : IsDone (filed_for old owner) (Create name 1 blocks stamp) (Created file) (filed_for new owner)
+  pub done : IsDone old (Create name 1 blocks stamp) (Created file) new
 
 -- a directory was made: its owner asked for the new file, and then the user entered it under version 1
-pub record IsMade (said : Option Uic) (user : Uic) (stamp : List ℕ) (old new : Disk) : Type 0 where
+pub record IsMade (said : Option Uic) (stamp : List ℕ) (old new : Filed) : Type 0 where
   pub dir : FileId
   pub name : RadName
   pub file : FileId
   pub owner : Uic
-  pub owns : IsOwner said user dir name owner
+  pub owns : IsOwner said old.user dir name owner
   -- the volume between the two requests
-  pub mid : Disk
-  pub created : IsCreated old owner name stamp file mid
-  pub entered : IsObeyed (filed_for mid user) (Enter dir name (Some 1) file) (filed_for new user)
+  pub mid : Filed
+  pub created : IsCreated (for_another old owner) name stamp file mid
+  pub entered : IsObeyed (for_another mid old.user) (Enter dir name (Some 1) file) new
 
 -- so many directories were made, one after another
-abbrev pub AreMade : Option Uic → Uic → List ℕ → Disk → ℕ → Disk → Type 0
-AreMade said user stamp old zero new = new ≡ old
-AreMade said user stamp old (suc count) new = (mid : Disk) × AreMade said user stamp old count mid × IsMade said user stamp mid new
+abbrev pub AreMade : Option Uic → List ℕ → Filed → ℕ → Filed → Type 0
+AreMade said stamp old zero new = new ≡ old
+AreMade said stamp old (suc count) new = (mid : Filed) × AreMade said stamp old count mid × IsMade said stamp mid new

@@ -1,14 +1,4 @@
-//! What a command is asked to do, and for whom.
-use ods_base::Uic;
-use ods_request::Stamp;
-
-/// Who asks, and the time that new files get.
-#[derive(Clone, Copy)]
-pub struct Asked {
-    pub user: Uic,
-    pub stamp: Stamp,
-}
-
+//! What a command is asked to do.
 /// In which form the bytes of a host file are put.
 #[derive(Clone, Copy, Debug, PartialEq, Eq)]
 pub enum PutForm {

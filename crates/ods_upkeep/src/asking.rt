@@ -1,5 +1,5 @@
 //! Requests of a command: the first one that is refused ends it.
-ghost use Rattle.std.specs.Prelude.{◌≡◌, ℕ, IfOk};
+ghost use Rattle.std.specs.Prelude.{◌≡◌, ℕ, IfOk, OnOk, Some};
 ghost use Rattle.ods_state.specs.Outcome.{CanBeAsked};
 ghost use Rattle.ods_filing.specs.Filed.{IsDone};
 ghost use Rattle.ods_filing.specs.Led.{IsAsked, IsLed, IsObeyed};
@@ -10,60 +10,49 @@ use ods_base::{DIRECTORY_TYPE, FileId, Name, Pick};
 use ods_filing::{Filing, NewFile, put_file};
 use ods_request::{Answer, Refusal, Request};
 
-/// Makes a request. Where it is refused, the volume is let go.
-pub(crate) fn make(filing: Filing, request: Request) -> Result<(Filing, Answer), Why>
+/// Makes a request.
+pub(crate) fn make(filing: &mut Filing, request: Request) -> Result<Answer, Why>
     requires { CanBeAsked request }
-    ensures { IfOk result (λ made. IsDone filing request made.1 made.0) }
+    ensures { IfOk result (λ a. IsDone filing.old request a filing.new) }
 {
-    let (filing, answer) = filing.request(request);
-    match answer {
-        Ok(answer) => Ok((filing, answer)),
+    match filing.request(&request) {
+        Ok(answer) => Ok(answer),
         Err(refusal) => Err(Why::Request(refusal)),
     }
 }
 
 /// Enters a file in a directory. A version that is given is 1 to 32,767, or the request is refused.
 pub(crate) fn enter(
-    filing: Filing,
+    filing: &mut Filing,
     dir: FileId,
     name: Name,
     version: Option<u16>,
     file: FileId,
-) -> Result<Filing, Why>
-    ensures { IfOk result (λ new. IsObeyed filing (Request.Enter dir name version file) new) }
+) -> Result<(), Why>
+    ensures { OnOk result (IsObeyed filing.old (Request.Enter dir name version file) filing.new) }
 {
     if let Some(version) = version {
         if version == 0 || version > 32_767 {
             return Err(Why::Request(Refusal::VersionsFull));
         }
-        let (filing, _) = make(
-            filing,
-            Request::Enter {
-                dir,
-                name,
-                version: Some(version),
-                file,
-            },
-        )?;
-        return Ok(filing);
     }
-    let (filing, _) = make(
+    let _entered = make(
         filing,
         Request::Enter {
             dir,
             name,
-            version: None,
+            version,
             file,
         },
     )?;
-    Ok(filing)
+    Ok(())
 }
 
 /// Removes this very entry.
-pub(crate) fn remove(filing: Filing, dir: FileId, name: Name, version: u16) -> Result<Filing, Why>
-    ensures { IfOk result (λ new. IsObeyed filing (Request.Remove dir name (Pick.Exact version)) new) }
+pub(crate) fn remove(filing: &mut Filing, dir: FileId, name: Name, version: u16) -> Result<(), Why>
+    ensures { OnOk result (IsObeyed filing.old (Request.Remove dir name (Pick.Exact version)) filing.new) }
 {
-    let (filing, _) = make(
+    let _removed = make(
         filing,
         Request::Remove {
             dir,
@@ -71,41 +60,40 @@ pub(crate) fn remove(filing: Filing, dir: FileId, name: Name, version: u16) -> R
             pick: Pick::Exact(version),
         },
     )?;
-    Ok(filing)
+    Ok(())
 }
 
 /// Deletes a file.
-pub(crate) fn delete(filing: Filing, file: FileId) -> Result<Filing, Why>
-    ensures { IfOk result (λ new. IsObeyed filing (Request.Delete file) new) }
+pub(crate) fn delete(filing: &mut Filing, file: FileId) -> Result<(), Why>
+    ensures { OnOk result (IsObeyed filing.old (Request.Delete file) filing.new) }
 {
-    let (filing, _) = make(filing, Request::Delete { file })?;
-    Ok(filing)
+    let _deleted = make(filing, Request::Delete { file })?;
+    Ok(())
 }
 
 /// The file and the version that stand under a name, where the user may see it.
 pub(crate) fn look_up(
-    filing: Filing,
+    filing: &mut Filing,
     dir: FileId,
     name: Name,
     pick: Pick,
-) -> (Filing, Option<(FileId, u16)>)
-    ensures { IsAsked filing (Request.LookUp dir name pick) result.0 }
+) -> Option<(FileId, u16)>
+    ensures { IsAsked filing.old (Request.LookUp dir name pick) filing.new }
 {
-    let (filing, answer) = filing.request(Request::LookUp { dir, name, pick });
-    match answer {
-        Ok(Answer::Found(file, version)) => (filing, Some((file, version))),
-        _ => (filing, None),
+    match filing.request(&Request::LookUp { dir, name, pick }) {
+        Ok(Answer::Found(file, version)) => Some((file, version)),
+        _ => None,
     }
 }
 
 /// Puts a new file, and enters it: under this version, or the next one. Its ident has the version too.
 pub(crate) fn put_new(
-    filing: Filing,
+    filing: &mut Filing,
     dir: FileId,
     version: Option<u16>,
     file: &NewFile<'_>,
-) -> Result<(Filing, FileId), Why>
-    ensures { IfOk result (λ made. IsLed Copies filing made.0) }
+) -> Result<FileId, Why>
+    ensures { OnOk result (IsLed Copies filing.old filing.new) }
 {
     if file.name.ext() == DIRECTORY_TYPE {
         return Err(Why::DirectoryType);
@@ -113,11 +101,10 @@ pub(crate) fn put_new(
     if file.version == 0 || file.version > 32_767 {
         return Err(Why::Request(Refusal::VersionsFull));
     }
-    let (filing, made) = put_file(filing, file);
-    match made {
+    match put_file(filing, file) {
         Ok(id) => {
-            let filing = enter(filing, dir, file.name, version, id)?;
-            Ok((filing, id))
+            enter(filing, dir, file.name, version, id)?;
+            Ok(id)
         }
         Err(refusal) => Err(Why::Request(refusal)),
     }
@@ -125,20 +112,19 @@ pub(crate) fn put_new(
 
 /// The version under which a name is entered next, where the user may see the directory; else 1.
 pub(crate) fn next_version(
-    filing: Filing,
+    filing: &mut Filing,
     dir: FileId,
     name: Name,
     version: Option<u16>,
-) -> (Filing, u16)
-    ensures looked { IsAsked filing (Request.LookUp dir name Pick.Highest) result.0 }
-    ensures said { (said : ℕ) → version ≡ Some said → result.1 ≡ said }
+) -> u16
+    ensures looked { IsAsked filing.old (Request.LookUp dir name Pick.Highest) filing.new }
+    ensures said { (said : ℕ) → version ≡ Some said → result ≡ said }
 {
     if let Some(version) = version {
-        return (filing, version);
+        return version;
     }
-    let (filing, found) = look_up(filing, dir, name, Pick::Highest);
-    match found {
-        Some((_, highest)) => (filing, highest.saturating_add(1)),
-        None => (filing, 1),
+    match look_up(filing, dir, name, Pick::Highest) {
+        Some((_, highest)) => highest.saturating_add(1),
+        None => 1,
     }
 }

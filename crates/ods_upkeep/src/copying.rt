@@ -1,9 +1,8 @@
 //! `cp`: files are made that have the blocks and the attributes of others.
-ghost use Rattle.std.specs.Prelude.{◌≡◌, IfOk};
+ghost use Rattle.std.specs.Prelude.{OnOk};
 ghost use Rattle.ods_filing.specs.Led.{IsLed};
-ghost use Rattle.ods_upkeep.specs.{Kinds.Copies, Left.IsLeft, Left.filed_for};
+ghost use Rattle.ods_upkeep.specs.Kinds.{Copies};
 
-use crate::Asked;
 use crate::asking::{next_version, put_new};
 use crate::attributes::true_for;
 use crate::failure::{Failure, Why, of_path};
@@ -25,29 +24,27 @@ use std::alloc::Global;
 /// next version where none is said.
 pub fn copy_files(
     alloc: Global,
-    volume: Mounted,
-    asked: &Asked,
+    filing: &mut Filing,
+    stamp: Stamp,
     paths: &[&str],
     to: &str,
-) -> Result<Mounted, Failure>
+) -> Result<(), Failure>
     // It is what LookUp, Create, Extend, Write, SetUser and Enter leave.
-    ensures { IfOk result (λ new. IsLeft Copies asked.now.user volume new) }
+    ensures { OnOk result (IsLed Copies filing.old filing.new) }
 {
-    let all = sources(alloc, &volume, paths, Some(Versions::Highest))?;
-    let target = target_of(alloc, &volume, all.len(), to)?;
+    let all = sources(alloc, filing.mounted(), paths, Some(Versions::Highest))?;
+    let target = target_of(alloc, filing.mounted(), all.len(), to)?;
     for found in &all {
-        if let Err(why) = check(found, &target, asked.user) {
+        if let Err(why) = check(found, &target, filing.user()) {
             return Err(of_path(alloc, &found.path, why));
         }
     }
-    let mut filing = begin(alloc, volume, asked.user)?;
     for found in &all {
-        filing = match copy(alloc, filing, found, &target, asked.stamp) {
-            Ok(filing) => filing,
-            Err(why) => return Err(of_path(alloc, &found.path, why)),
-        };
+        if let Err(why) = copy(alloc, filing, found, &target, stamp) {
+            return Err(of_path(alloc, &found.path, why));
+        }
     }
-    Ok(filing.into_mounted())
+    Ok(())
 }
 
 /// The target of so many files: a name is that of one.
@@ -65,16 +62,6 @@ pub(crate) fn target_of(
             Ok(target)
         }
         Err(why) => Err(of_path(alloc, to, why)),
-    }
-}
-
-/// The volume, for requests of this user.
-pub(crate) fn begin(alloc: Global, volume: Mounted, user: Uic) -> Result<Filing, Failure>
-    ensures { IfOk result (λ filing. filing ≡ filed_for volume user) }
-{
-    match Filing::new(alloc, volume, user) {
-        Ok(filing) => Ok(filing),
-        Err(error) => Err(of_path(alloc, "", error.into())),
     }
 }
 
@@ -124,18 +111,18 @@ fn without_version(text: &str) -> &str {
 /// Copies a file.
 fn copy(
     alloc: Global,
-    filing: Filing,
+    filing: &mut Filing,
     found: &Found,
     target: &Target,
     stamp: Stamp,
-) -> Result<Filing, Why>
-    ensures { IfOk result (λ new. IsLed Copies filing new) }
+) -> Result<(), Why>
+    ensures { OnOk result (IsLed Copies filing.old filing.new) }
 {
     let facts = check(found, target, filing.user())?;
     let name = new_name(found, target, &facts)?;
-    let bytes = all_bytes(alloc, &filing, facts.file)?;
+    let bytes = all_bytes(alloc, filing, facts.file)?;
     let attributes = true_for(facts.attributes, facts.blocks)?;
-    let (filing, version) = next_version(filing, target.directory, name, target.version);
+    let version = next_version(filing, target.directory, name, target.version);
     let file = NewFile {
         name,
         version,
@@ -143,8 +130,8 @@ fn copy(
         attributes,
         bytes: &bytes,
     };
-    let (filing, _) = put_new(filing, target.directory, target.version, &file)?;
-    Ok(filing)
+    let _copy = put_new(filing, target.directory, target.version, &file)?;
+    Ok(())
 }
 
 /// The bytes of all blocks of a file.

@@ -1,9 +1,10 @@
 //! `mkdir` and `rmdir`: directories are made and removed.
-ghost use Rattle.std.specs.Prelude.{◌≡◌, false, length, IfOk};
-ghost use Rattle.ods_upkeep.specs.{Kinds.MakesDirectories, Kinds.Removes, Hidden.HidesEntries, Left.IsLeft, Made.AreMade, Made.IsCreated, Made.IsMade};
+ghost use Rattle.std.specs.Prelude.{◌≡◌, false, length, Some, IfOk, OnOk};
+ghost use Rattle.ods_filing.specs.Led.{IsLed};
+ghost use Rattle.ods_upkeep.specs.{Kinds.MakesDirectories, Kinds.Removes, Hidden.HidesEntries, Made.AreMade, Made.IsCreated, Made.IsMade};
 
+use crate::Removal;
 use crate::asking::{enter, make};
-use crate::copying::begin;
 use crate::failure::{Failure, Why, of_path};
 use crate::found::{Found, LAST_OWN, MASTER, by_names};
 use crate::hidden::hides_entries;
@@ -12,7 +13,6 @@ use crate::names::{Names, is_directory_file};
 use crate::owners::owner_of;
 use crate::removing::remove_one;
 use crate::target::{name_of, the_directory};
-use crate::{Asked, Removal};
 use ods_base::{FileId, Name, Uic};
 use ods_filing::Filing;
 use ods_mount::Mounted;
@@ -26,70 +26,59 @@ use std::alloc::Global;
 /// below an earlier one. Each is its owner's, who is said, or whose numbers its name has, and else the user's; the user enters it.
 pub fn make_directories(
     alloc: Global,
-    volume: Mounted,
-    asked: &Asked,
+    filing: &mut Filing,
+    stamp: Stamp,
     paths: &[&str],
     names: u32,
     owner: Option<Uic>,
-) -> Result<Mounted, Failure>
+) -> Result<(), Failure>
     // Each is made by Create of its owner and Enter of the user.
-    ensures made { IfOk result (λ new. AreMade owner asked.now.user asked.now.stamp volume (length paths.now) new) }
+    ensures made { OnOk result (AreMade owner stamp filing.old (length paths.now) filing.new) }
     // Where the user himself is said, it is what his Create and Enter leave.
-    ensures own { owner ≡ Some asked.now.user → IfOk result (λ new. IsLeft MakesDirectories asked.now.user volume new) }
+    ensures own { owner ≡ Some filing.old.user → OnOk result (IsLed MakesDirectories filing.old filing.new) }
 {
-    let mut volume = volume;
     for path in paths {
-        volume = match make_directory(alloc, volume, asked, path, names, owner) {
-            Ok(volume) => volume,
-            Err(why) => return Err(of_path(alloc, path, why)),
-        };
+        if let Err(why) = make_directory(alloc, filing, stamp, path, names, owner) {
+            return Err(of_path(alloc, path, why));
+        }
     }
-    Ok(volume)
+    Ok(())
 }
 
 /// Makes a directory.
 fn make_directory(
     alloc: Global,
-    volume: Mounted,
-    asked: &Asked,
+    filing: &mut Filing,
+    stamp: Stamp,
     path: &str,
     names: u32,
     owner: Option<Uic>,
-) -> Result<Mounted, Why>
-    ensures { IfOk result (λ new. IsMade owner asked.now.user asked.now.stamp volume new) }
+) -> Result<(), Why>
+    ensures { OnOk result (IsMade owner stamp filing.old filing.new) }
 {
-    let (dir, name) = new_place(alloc, &volume, path)?;
-    let owner = owner_of(owner, asked.user, dir, &name);
-    let (volume, file) = create(alloc, volume, owner, name, names, asked.stamp)?;
-    let filing = Filing::new(alloc, volume, asked.user)?;
-    let filing = enter(filing, dir, name, Some(1), file)?;
-    Ok(filing.into_mounted())
+    let (dir, name) = new_place(alloc, filing.mounted(), path)?;
+    let user = filing.user();
+    filing.set_user(owner_of(owner, user, dir, &name));
+    let made = create(filing, name, names, stamp);
+    filing.set_user(user);
+    enter(filing, dir, name, Some(1), made?)
 }
 
-/// Makes the file of a directory with room for so many names, or one block, as its owner.
-fn create(
-    alloc: Global,
-    volume: Mounted,
-    owner: Uic,
-    name: Name,
-    names: u32,
-    stamp: Stamp,
-) -> Result<(Mounted, FileId), Why>
-    ensures { IfOk result (λ made. IsCreated volume owner name stamp made.1 made.0) }
+/// Makes the file of a directory with room for so many names, or one block.
+fn create(filing: &mut Filing, name: Name, names: u32, stamp: Stamp) -> Result<FileId, Why>
+    ensures { IfOk result (λ file. IsCreated filing.old name stamp file filing.new) }
 {
-    let filing = Filing::new(alloc, volume, owner)?;
-    let blocks = names.div_ceil(32).max(1);
-    let (filing, answer) = make(
+    let made = make(
         filing,
         Request::Create {
             name,
             version: 1,
-            blocks,
+            blocks: names.div_ceil(32).max(1),
             stamp,
         },
     )?;
-    match answer {
-        Answer::Created(file) => Ok((filing.into_mounted(), file)),
+    match made {
+        Answer::Created(file) => Ok(file),
         // Create is answered by the new file.
         _ => Err(Why::Path(PathFault::NoSuchFile)),
     }
@@ -148,41 +137,30 @@ fn found(
 }
 
 /// Removes empty directories, one after another: a later one may have held an earlier one.
-pub fn remove_directories(
-    alloc: Global,
-    volume: Mounted,
-    asked: &Asked,
-    paths: &[&str],
-) -> Result<Mounted, Failure>
+pub fn remove_directories(alloc: Global, filing: &mut Filing, paths: &[&str]) -> Result<(), Failure>
     // It is what Remove and Delete leave.
-    ensures { IfOk result (λ new. IsLeft (Removes false) asked.now.user volume new) }
+    ensures { OnOk result (IsLed (Removes false) filing.old filing.new) }
 {
-    let mut volume = volume;
     for path in paths {
-        volume = remove_path(alloc, volume, asked, path)?;
+        remove_path(alloc, filing, path)?;
     }
-    Ok(volume)
+    Ok(())
 }
 
 /// Removes the directories of a path.
-fn remove_path(
-    alloc: Global,
-    volume: Mounted,
-    asked: &Asked,
-    path: &str,
-) -> Result<Mounted, Failure>
-    ensures { IfOk result (λ new. IsLeft (Removes false) asked.now.user volume new) }
+fn remove_path(alloc: Global, filing: &mut Filing, path: &str) -> Result<(), Failure>
+    ensures { OnOk result (IsLed (Removes false) filing.old filing.new) }
 {
-    let all = match removed(alloc, &volume, path) {
+    let all = match removed(alloc, filing.mounted(), path) {
         Ok(all) => all,
         Err(why) => return Err(of_path(alloc, path, why)),
     };
-    let mut names = match Names::of(alloc, &volume) {
+    let mut names = match Names::of(alloc, filing.mounted()) {
         Ok(names) => names,
         Err(error) => return Err(of_path(alloc, path, error.into())),
     };
     for found in &all {
-        if let Err(why) = check_empty(alloc, &volume, found) {
+        if let Err(why) = check_empty(alloc, filing.mounted(), found) {
             return Err(of_path(alloc, &found.path, why));
         }
     }
@@ -190,14 +168,12 @@ fn remove_path(
         entry_alone: false,
         newest: false,
     };
-    let mut filing = begin(alloc, volume, asked.user)?;
     for found in &all {
-        filing = match remove_one(filing, found, &mut names, removal) {
-            Ok(filing) => filing,
-            Err(why) => return Err(of_path(alloc, &found.path, why)),
-        };
+        if let Err(why) = remove_one(filing, found, &mut names, removal) {
+            return Err(of_path(alloc, &found.path, why));
+        }
     }
-    Ok(filing.into_mounted())
+    Ok(())
 }
 
 /// The entries that a path of `rmdir` means.

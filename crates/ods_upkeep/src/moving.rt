@@ -1,11 +1,10 @@
 //! `mv` moves names to other directories, or gives files other names.
-ghost use Rattle.std.specs.Prelude.{IfOk};
+ghost use Rattle.std.specs.Prelude.{OnOk};
 ghost use Rattle.ods_filing.specs.Led.{IsLed};
-ghost use Rattle.ods_upkeep.specs.{Kinds.Renames, Left.IsLeft};
+ghost use Rattle.ods_upkeep.specs.Kinds.{Renames};
 
-use crate::Asked;
 use crate::asking::{enter, look_up, remove};
-use crate::copying::{begin, target_of};
+use crate::copying::target_of;
 use crate::failure::{Failure, Why, of_path};
 use crate::found::Found;
 use crate::names::is_directory_file;
@@ -25,29 +24,26 @@ use std::alloc::Global;
 /// None of its requests changes the bytes of a plain file.
 pub fn move_names(
     alloc: Global,
-    volume: Mounted,
-    asked: &Asked,
+    filing: &mut Filing,
     paths: &[&str],
     to: &str,
-) -> Result<Mounted, Failure>
+) -> Result<(), Failure>
     // It is what LookUp, Enter and Remove leave.
-    ensures { IfOk result (λ new. IsLeft Renames asked.now.user volume new) }
+    ensures { OnOk result (IsLed Renames filing.old filing.new) }
 {
-    let all = sources(alloc, &volume, paths, Some(Versions::Highest))?;
-    let target = target_of(alloc, &volume, all.len(), to)?;
+    let all = sources(alloc, filing.mounted(), paths, Some(Versions::Highest))?;
+    let target = target_of(alloc, filing.mounted(), all.len(), to)?;
     for found in &all {
-        if let Err(why) = check(alloc, &volume, found, &target) {
+        if let Err(why) = check(alloc, filing.mounted(), found, &target) {
             return Err(of_path(alloc, &found.path, why));
         }
     }
-    let mut filing = begin(alloc, volume, asked.user)?;
     for found in &all {
-        filing = match rename(filing, found, &target) {
-            Ok(filing) => filing,
-            Err(why) => return Err(of_path(alloc, &found.path, why)),
-        };
+        if let Err(why) = rename(filing, found, &target) {
+            return Err(of_path(alloc, &found.path, why));
+        }
     }
-    Ok(filing.into_mounted())
+    Ok(())
 }
 
 /// Why a name does not go to this target: it is one that stays, its type would become DIR, or DIR would become another, or a directory would go into
@@ -118,38 +114,37 @@ fn leads_to(alloc: Global, volume: &Mounted, from: u16, to: u16) -> Result<bool,
 }
 
 /// Moves one name.
-fn rename(filing: Filing, found: &Found, target: &Target) -> Result<Filing, Why>
-    ensures { IfOk result (λ new. IsLed Renames filing new) }
+fn rename(filing: &mut Filing, found: &Found, target: &Target) -> Result<(), Why>
+    ensures { OnOk result (IsLed Renames filing.old filing.new) }
 {
     let Some(place) = found.place() else {
         return Err(Why::IsId);
     };
     let entry = place.entry;
     let name = target.name.unwrap_or(entry.name);
-    let (filing, version) = version_for(filing, target, name.ext() == DIRECTORY_TYPE, found)?;
-    let filing = enter(filing, target.directory, name, version, entry.file)?;
+    let version = version_for(filing, target, name.ext() == DIRECTORY_TYPE, found)?;
+    enter(filing, target.directory, name, version, entry.file)?;
     remove(filing, place.directory, entry.name, entry.version)
 }
 
 /// The version under which a name is entered: the one that is said; of a directory 1, where no version is there.
 fn version_for(
-    filing: Filing,
+    filing: &mut Filing,
     target: &Target,
     is_directory: bool,
     found: &Found,
-) -> Result<(Filing, Option<u16>), Why>
-    ensures { IfOk result (λ new. IsLed Renames filing new.0) }
+) -> Result<Option<u16>, Why>
+    ensures { OnOk result (IsLed Renames filing.old filing.new) }
 {
     let Some(place) = found.place() else {
         return Err(Why::IsId);
     };
     if target.version.is_some() || !is_directory {
-        return Ok((filing, target.version));
+        return Ok(target.version);
     }
     let name = target.name.unwrap_or(place.entry.name);
-    let (filing, there) = look_up(filing, target.directory, name, Pick::Highest);
-    match there {
+    match look_up(filing, target.directory, name, Pick::Highest) {
         Some(_) => Err(Why::Request(Refusal::NameTaken)),
-        None => Ok((filing, Some(1))),
+        None => Ok(Some(1)),
     }
 }

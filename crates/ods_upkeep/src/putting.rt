@@ -1,11 +1,11 @@
 //! `put`: files of the host are put one by one.
-ghost use Rattle.std.specs.Prelude.{◌≡◌, is_some, Some, None, IfOk};
+ghost use Rattle.std.specs.Prelude.{◌≡◌, is_some, Some, None, IfOk, OnOk};
 ghost use Rattle.ods_base.specs.declared.file_id.Uic.{Uic as Id};
 ghost use Rattle.ods_filing.specs.Led.{IsAsked, IsLed};
-ghost use Rattle.ods_upkeep.specs.{Kinds.Copies, Kinds.Puts, Left.filed_for, PutFor.IsPut, PutFor.IsMadeFor};
+ghost use Rattle.ods_upkeep.specs.{Kinds.Copies, Kinds.Puts, PutFor.IsPut, PutFor.IsMadeFor};
 
 use crate::asking::{delete, enter, look_up, next_version, put_new, remove};
-use crate::copying::{begin, target_of};
+use crate::copying::target_of;
 use crate::failure::{Failure, Why, of_path};
 use crate::found::find;
 use crate::names::Names;
@@ -13,7 +13,7 @@ use crate::put_fault::PutFault;
 use crate::target::{Target, name_of};
 use crate::versions::Highest;
 use crate::written::{Written, write_host};
-use crate::{Asked, HostFile, PutForm};
+use crate::{HostFile, PutForm};
 use ods_base::{DIRECTORY_TYPE, FileId, Name, Pick, Uic};
 use ods_filing::{Filing, NewFile, put_file};
 use ods_mount::Mounted;
@@ -24,11 +24,9 @@ use ods_shell::{Kind, PathFault};
 use std::alloc::Global;
 use std::marker::Model;
 
-/// Files are put one by one; the target and the file like which they are made were looked up before the first.
+/// How files are put one by one. The target and the file like which they are made are looked up before the first.
 #[derive(Drop)]
 pub struct Putting {
-    alloc: Global,
-    filing: Filing,
     target: Target,
     stamp: Stamp,
     form: PutForm,
@@ -47,7 +45,7 @@ impl Model for Putting {
 
     ghost Value = { InPut };
 
-    ghost view = { λ p. record { volume = p.filing; replaces = is_some p.names; owner = p.owner } };
+    ghost view = { λ p. record { replaces = is_some p.names; owner = p.owner } };
 }
 
 impl Putting {
@@ -56,8 +54,8 @@ impl Putting {
     /// is said, or the highest, makes room for the new one. With `owner` the new files are that user's, and he makes them; who asks enters them.
     pub fn begin(
         alloc: Global,
-        volume: Mounted,
-        asked: &Asked,
+        volume: &Mounted,
+        stamp: Stamp,
         to: Option<&str>,
         several: bool,
         form: PutForm,
@@ -65,20 +63,16 @@ impl Putting {
         replace: bool,
         owner: Option<Uic>,
     ) -> Result<Putting, Failure>
-        // No request is made yet.
-        ensures { IfOk result (λ begun. begun ≡ record { volume = filed_for volume asked.now.user; replaces = replace; owner = owner }) }
+        ensures { IfOk result (λ begun. begun ≡ record { replaces = replace; owner = owner }) }
     {
         let count = if several { 2 } else { 1 };
-        let target = target_of(alloc, &volume, count, to.unwrap_or("[0,0]"))?;
-        let like = like_attributes(alloc, &volume, like)?;
-        let names = counted(alloc, &volume, replace)?;
-        let highest = known(alloc, &volume, target.directory, several && !replace)?;
-        let filing = begin(alloc, volume, asked.user)?;
+        let target = target_of(alloc, volume, count, to.unwrap_or("[0,0]"))?;
+        let like = like_attributes(alloc, volume, like)?;
+        let names = counted(alloc, volume, replace)?;
+        let highest = known(alloc, volume, target.directory, several && !replace)?;
         Ok(Putting {
-            alloc,
-            filing,
             target,
-            stamp: asked.stamp,
+            stamp,
             form,
             like,
             owner,
@@ -88,26 +82,32 @@ impl Putting {
     }
 
     /// Puts one; gives what is to be remarked, if anything.
-    pub fn put(self, host: &HostFile<'_>) -> Result<(Putting, Option<String>), Failure>
+    pub fn put(
+        &mut self,
+        alloc: Global,
+        filing: &mut Filing,
+        host: &HostFile<'_>,
+    ) -> Result<Option<String>, Failure>
         // It is what LookUp, Create, Extend, Write, SetUser and Enter leave, and where files are replaced, Stat, Remove and Delete besides.
-        ensures volume { IfOk result (λ done. IsPut (Puts self.replaces) self.owner self.volume done.0.volume) }
-        ensures replaces { IfOk result (λ done. done.0.replaces ≡ self.replaces) }
-        ensures owner { IfOk result (λ done. done.0.owner ≡ self.owner) }
+        ensures volume { OnOk result (IsPut (Puts self.old.replaces) self.old.owner filing.old filing.new) }
+        ensures same { self.new ≡ self.old }
     {
-        let alloc = self.alloc;
-        match self.put_one(host) {
-            Ok(done) => Ok(done),
+        match self.put_one(alloc, filing, host) {
+            Ok(remark) => Ok(remark),
             Err(why) => Err(of_path(alloc, host.name, why)),
         }
     }
 
     /// Puts one.
-    fn put_one(self, host: &HostFile<'_>) -> Result<(Putting, Option<String>), Why>
-        ensures volume { IfOk result (λ done. IsPut (Puts self.replaces) self.owner self.volume done.0.volume) }
-        ensures replaces { IfOk result (λ done. done.0.replaces ≡ self.replaces) }
-        ensures owner { IfOk result (λ done. done.0.owner ≡ self.owner) }
+    fn put_one(
+        &mut self,
+        alloc: Global,
+        filing: &mut Filing,
+        host: &HostFile<'_>,
+    ) -> Result<Option<String>, Why>
+        ensures volume { OnOk result (IsPut (Puts self.old.replaces) self.old.owner filing.old filing.new) }
+        ensures same { self.new ≡ self.old }
     {
-        let alloc = self.alloc;
         let name = match self.target.name {
             Some(name) => name,
             None => host_name(alloc, host.name)?,
@@ -117,48 +117,42 @@ impl Putting {
         }
         let written = write_host(alloc, self.form, &self.like, host.bytes)?;
         let remark = remark(alloc, &written)?;
-        let putting = self.put_written(name, &written)?;
-        Ok((putting, remark))
+        self.put_written(filing, name, &written)?;
+        Ok(remark)
     }
 
     /// Puts what was written under this name.
-    fn put_written(self, name: Name, written: &Written<'_>) -> Result<Putting, Why>
-        ensures volume { IfOk result (λ done. IsPut (Puts self.replaces) self.owner self.volume done.volume) }
-        ensures replaces { IfOk result (λ done. done.replaces ≡ self.replaces) }
-        ensures owner { IfOk result (λ done. done.owner ≡ self.owner) }
+    fn put_written(
+        &mut self,
+        filing: &mut Filing,
+        name: Name,
+        written: &Written<'_>,
+    ) -> Result<(), Why>
+        ensures volume { OnOk result (IsPut (Puts self.old.replaces) self.old.owner filing.old filing.new) }
+        ensures same { self.new ≡ self.old }
     {
-        let mut putting = self;
-        let dir = putting.target.directory;
-        let said = putting.target.version;
-        let (filing, freed) = make_room(putting.filing, dir, name, said, &mut putting.names)?;
-        let said = match freed {
+        let dir = self.target.directory;
+        let said = self.target.version;
+        let said = match make_room(filing, dir, name, said, &mut self.names)? {
             Some(version) => Some(version),
             None => said,
         };
-        let (filing, version) = version_of(filing, dir, name, said, &putting.highest);
+        let version = version_of(filing, dir, name, said, &self.highest);
         let file = NewFile {
             name,
             version,
-            stamp: putting.stamp,
+            stamp: self.stamp,
             attributes: written.attributes,
             bytes: written.bytes(),
         };
-        let (filing, id) = put_for(filing, putting.owner, dir, said, &file)?;
-        if let Some(names) = &mut putting.names {
+        let id = put_for(filing, self.owner, dir, said, &file)?;
+        if let Some(names) = &mut self.names {
             names.add(id);
         }
-        if let Some(highest) = &mut putting.highest {
+        if let Some(highest) = &mut self.highest {
             highest.note(&name, version)?;
         }
-        putting.filing = filing;
-        Ok(putting)
-    }
-
-    /// The volume with all that was put.
-    pub fn end(self) -> Mounted
-        ensures { (result.image ≡ self.volume.image) × (result.layout ≡ self.volume.layout) }
-    {
-        self.filing.into_mounted()
+        Ok(())
     }
 }
 
@@ -223,18 +217,17 @@ fn known(
 /// The version under which a name is entered next: the one that is said, the one behind the highest that is known, or behind the one that is
 /// looked up.
 fn version_of(
-    filing: Filing,
+    filing: &mut Filing,
     dir: FileId,
     name: Name,
     said: Option<u16>,
     highest: &Option<Highest>,
-) -> (Filing, u16)
-    ensures looked { IsAsked filing (Request.LookUp dir name Pick.Highest) result.0 }
+) -> u16
+    ensures looked { IsAsked filing.old (Request.LookUp dir name Pick.Highest) filing.new }
 {
     if said.is_none() {
         if let Some(highest) = highest {
-            let version = highest.next(&name);
-            return (filing, version);
+            return highest.next(&name);
         }
     }
     next_version(filing, dir, name, said)
@@ -242,13 +235,13 @@ fn version_of(
 
 /// Puts a new file, and enters it. Where another owner is said, he makes it, and the user who asks enters it.
 fn put_for(
-    filing: Filing,
+    filing: &mut Filing,
     owner: Option<Uic>,
     dir: FileId,
     version: Option<u16>,
     file: &NewFile<'_>,
-) -> Result<(Filing, FileId), Why>
-    ensures { IfOk result (λ made. (owner ≡ None → IsLed Copies filing made.0) × ((id : Id) → owner ≡ Some id → IsMadeFor id filing made.0)) }
+) -> Result<FileId, Why>
+    ensures { OnOk result ((owner ≡ None → IsLed Copies filing.old filing.new) × ((id : Id) → owner ≡ Some id → IsMadeFor id filing.old filing.new)) }
 {
     match owner {
         Some(owner) => put_owned(filing, owner, dir, version, file),
@@ -258,13 +251,13 @@ fn put_for(
 
 /// Puts a new file of this owner, who makes it; the user who asks enters it.
 fn put_owned(
-    filing: Filing,
+    filing: &mut Filing,
     owner: Uic,
     dir: FileId,
     version: Option<u16>,
     file: &NewFile<'_>,
-) -> Result<(Filing, FileId), Why>
-    ensures { IfOk result (λ made. IsMadeFor owner filing made.0) }
+) -> Result<FileId, Why>
+    ensures { OnOk result (IsMadeFor owner filing.old filing.new) }
 {
     if file.name.ext() == DIRECTORY_TYPE {
         return Err(Why::DirectoryType);
@@ -273,12 +266,13 @@ fn put_owned(
         return Err(Why::Request(Refusal::VersionsFull));
     }
     let user = filing.user();
-    let (filing, made) = put_file(filing.for_user(owner), file);
+    filing.set_user(owner);
+    let made = put_file(filing, file);
+    filing.set_user(user);
     match made {
         Ok(id) => {
-            let filing = filing.for_user(user);
-            let filing = enter(filing, dir, file.name, version, id)?;
-            Ok((filing, id))
+            enter(filing, dir, file.name, version, id)?;
+            Ok(id)
         }
         Err(refusal) => Err(Why::Request(refusal)),
     }
@@ -319,52 +313,50 @@ fn remark(alloc: Global, written: &Written<'_>) -> Result<Option<String>, Why> {
 
 /// Where files are replaced and one has the name: its entry goes, and the file where no other entry names it. Gives the version that is free then.
 fn make_room(
-    filing: Filing,
+    filing: &mut Filing,
     dir: FileId,
     name: Name,
     version: Option<u16>,
     names: &mut Option<Names>,
-) -> Result<(Filing, Option<u16>), Why>
-    ensures volume { IfOk result (λ made. IsLed (Puts (is_some names.old)) filing made.0) }
+) -> Result<Option<u16>, Why>
+    ensures volume { OnOk result (IsLed (Puts (is_some names.old)) filing.old filing.new) }
     ensures replaces { is_some names.new ≡ is_some names.old }
 {
     let Some(names) = names else {
-        return Ok((filing, None));
+        return Ok(None);
     };
     let pick = match version {
         Some(version) => Pick::Exact(version),
         None => Pick::Highest,
     };
-    let (filing, found) = look_up(filing, dir, name, pick);
-    let Some((file, version)) = found else {
-        return Ok((filing, None));
+    let Some((file, version)) = look_up(filing, dir, name, pick) else {
+        return Ok(None);
     };
-    let (filing, is_there) = is_plain(filing, file)?;
-    let filing = remove(filing, dir, name, version)?;
+    let is_there = is_plain(filing, file)?;
+    remove(filing, dir, name, version)?;
     if !is_there {
-        return Ok((filing, Some(version)));
+        return Ok(Some(version));
     }
     names.take(file);
     if names.count(file) > 0 {
-        return Ok((filing, Some(version)));
+        return Ok(Some(version));
     }
-    let filing = delete(filing, file)?;
-    Ok((filing, Some(version)))
+    delete(filing, file)?;
+    Ok(Some(version))
 }
 
 /// Whether there is a file with this ID. A directory is not replaced, nor is a file of the system.
-fn is_plain(filing: Filing, file: FileId) -> Result<(Filing, bool), Why>
-    ensures { IfOk result (λ seen. IsAsked filing (Request.Stat file) seen.0) }
+fn is_plain(filing: &mut Filing, file: FileId) -> Result<bool, Why>
+    ensures { OnOk result (IsAsked filing.old (Request.Stat file) filing.new) }
 {
-    let (filing, answer) = filing.request(Request::Stat { file });
-    match answer {
+    match filing.request(&Request::Stat { file }) {
         Ok(Answer::Info(stat)) => match stat.kind {
-            Shown::Plain { .. } => Ok((filing, true)),
+            Shown::Plain { .. } => Ok(true),
             Shown::Directory { .. } => Err(Why::IsDirectory),
             Shown::System => Err(Why::Request(Refusal::Reserved)),
         },
-        Ok(_) => Ok((filing, false)),
-        Err(Refusal::NoSuchFile) => Ok((filing, false)),
+        Ok(_) => Ok(false),
+        Err(Refusal::NoSuchFile) => Ok(false),
         Err(refusal) => Err(Why::Request(refusal)),
     }
 }

@@ -1,19 +1,17 @@
 //! `rm` removes names, and deletes the files that have no name left.
-ghost use Rattle.std.specs.Prelude.{true, IfOk};
+ghost use Rattle.std.specs.Prelude.{true, OnOk};
 ghost use Rattle.ods_filing.specs.Led.{IsLed, IsObeyed};
 ghost use Rattle.ods_base.specs.declared.name.Pick.{Pick};
 ghost use Rattle.ods_request.specs.declared.requests.Request.{Request};
-ghost use Rattle.ods_upkeep.specs.{Kinds.Removes, Left.IsLeft};
+ghost use Rattle.ods_upkeep.specs.Kinds.{Removes};
 
+use crate::Removal;
 use crate::asking::{delete, remove};
-use crate::copying::begin;
 use crate::failure::{Failure, Why, of_path};
 use crate::found::{Found, Place};
 use crate::names::Names;
 use crate::sources::sources;
-use crate::{Asked, Removal};
 use ods_filing::Filing;
-use ods_mount::Mounted;
 use ods_paths::Versions;
 use ods_request::Refusal;
 use ods_shell::Kind;
@@ -24,21 +22,20 @@ use std::alloc::Global;
 /// None of its requests writes a block of a plain file.
 pub fn remove_files(
     alloc: Global,
-    volume: Mounted,
-    asked: &Asked,
+    filing: &mut Filing,
     paths: &[&str],
     removal: Removal,
-) -> Result<Mounted, Failure>
+) -> Result<(), Failure>
     // It is what Remove and Delete leave, and where the entries alone go, Remove.
-    ensures { IfOk result (λ new. IsLeft (Removes removal.entry_alone) asked.now.user volume new) }
+    ensures { OnOk result (IsLed (Removes removal.entry_alone) filing.old filing.new) }
 {
     let unsaid = if removal.newest {
         Some(Versions::Highest)
     } else {
         None
     };
-    let all = sources(alloc, &volume, paths, unsaid)?;
-    let mut names = match Names::of(alloc, &volume) {
+    let all = sources(alloc, filing.mounted(), paths, unsaid)?;
+    let mut names = match Names::of(alloc, filing.mounted()) {
         Ok(names) => names,
         Err(error) => return Err(of_path(alloc, "", error.into())),
     };
@@ -47,14 +44,12 @@ pub fn remove_files(
             return Err(of_path(alloc, &found.path, why));
         }
     }
-    let mut filing = begin(alloc, volume, asked.user)?;
     for found in &all {
-        filing = match remove_one(filing, found, &mut names, removal) {
-            Ok(filing) => filing,
-            Err(why) => return Err(of_path(alloc, &found.path, why)),
-        };
+        if let Err(why) = remove_one(filing, found, &mut names, removal) {
+            return Err(of_path(alloc, &found.path, why));
+        }
     }
-    Ok(filing.into_mounted())
+    Ok(())
 }
 
 /// Why this is not removed, as far as it can be seen before.
@@ -82,39 +77,39 @@ fn check(found: &Found, names: &Names, removal: Removal) -> Result<(), Why> {
 
 /// Removes an entry, and deletes its file where none is left; or a file by its ID.
 pub(crate) fn remove_one(
-    filing: Filing,
+    filing: &mut Filing,
     found: &Found,
     names: &mut Names,
     removal: Removal,
-) -> Result<Filing, Why>
-    ensures { IfOk result (λ new. IsLed (Removes removal.entry_alone) filing new) }
+) -> Result<(), Why>
+    ensures { OnOk result (IsLed (Removes removal.entry_alone) filing.old filing.new) }
 {
-    let filing = remove_place(filing, found.place())?;
+    remove_place(filing, found.place())?;
     let Some(facts) = found.facts() else {
-        return Ok(filing);
+        return Ok(());
     };
     if found.place().is_some() {
         names.take(facts.file);
     }
     if removal.entry_alone || names.count(facts.file) > 0 {
-        return Ok(filing);
+        return Ok(());
     }
     delete(filing, facts.file)
 }
 
 /// Removes an entry, where there is one.
-fn remove_place(filing: Filing, place: Option<Place>) -> Result<Filing, Why>
-    ensures { IfOk result (λ new. IsLed (Removes true) filing new) }
+fn remove_place(filing: &mut Filing, place: Option<Place>) -> Result<(), Why>
+    ensures { OnOk result (IsLed (Removes true) filing.old filing.new) }
 {
     match place {
         Some(place) => remove_at(filing, &place),
-        None => Ok(filing),
+        None => Ok(()),
     }
 }
 
 /// Removes the entry at this place.
-pub(crate) fn remove_at(filing: Filing, place: &Place) -> Result<Filing, Why>
-    ensures { IfOk result (λ new. IsObeyed filing (Request.Remove place.now.directory place.now.entry.name (Pick.Exact place.now.entry.version)) new) }
+pub(crate) fn remove_at(filing: &mut Filing, place: &Place) -> Result<(), Why>
+    ensures { OnOk result (IsObeyed filing.old (Request.Remove place.now.directory place.now.entry.name (Pick.Exact place.now.entry.version)) filing.new) }
 {
     let entry = place.entry;
     remove(filing, place.directory, entry.name, entry.version)

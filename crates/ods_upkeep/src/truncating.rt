@@ -1,12 +1,10 @@
 //! `truncate` cuts a file to fewer bytes.
-ghost use Rattle.std.specs.Prelude.{IfOk};
-ghost use Rattle.ods_filing.specs.Led.{IsLed, IsObeyed};
-ghost use Rattle.ods_upkeep.specs.{Kinds.Cuts, Left.IsLeft};
+ghost use Rattle.std.specs.Prelude.{OnOk};
+ghost use Rattle.ods_filing.specs.Led.{IsLed};
+ghost use Rattle.ods_upkeep.specs.Kinds.{Cuts};
 
-use crate::Asked;
 use crate::asking::make;
 use crate::attributes::ending_at;
-use crate::copying::begin;
 use crate::failure::{Failure, Why, of_path};
 use crate::found::find;
 use ods_filing::Filing;
@@ -22,21 +20,19 @@ const MOST_BLOCKS: u64 = 1_048_576;
 /// Cuts a file to so many bytes: the blocks behind them go, and F.EFBK, F.FFBY and F.HIBK say so. It never grows.
 pub fn truncate_file(
     alloc: Global,
-    volume: Mounted,
-    asked: &Asked,
+    filing: &mut Filing,
     path: &str,
     bytes: u64,
-) -> Result<Mounted, Failure>
+) -> Result<(), Failure>
     // It is what Truncate and SetUser leave.
-    ensures { IfOk result (λ new. IsLeft Cuts asked.now.user volume new) }
+    ensures { OnOk result (IsLed Cuts filing.old filing.new) }
 {
-    let facts = match the_file(alloc, &volume, path, bytes) {
+    let facts = match the_file(alloc, filing.mounted(), path, bytes) {
         Ok(facts) => facts,
         Err(why) => return Err(of_path(alloc, path, why)),
     };
-    let filing = begin(alloc, volume, asked.user)?;
     match cut(filing, &facts, bytes) {
-        Ok(filing) => Ok(filing.into_mounted()),
+        Ok(()) => Ok(()),
         Err(why) => Err(of_path(alloc, path, why)),
     }
 }
@@ -63,45 +59,38 @@ fn the_file(alloc: Global, volume: &Mounted, path: &str, bytes: u64) -> Result<F
 }
 
 /// Cuts the file.
-fn cut(filing: Filing, facts: &Facts, bytes: u64) -> Result<Filing, Why>
-    ensures { IfOk result (λ new. IsLed Cuts filing new) }
+fn cut(filing: &mut Filing, facts: &Facts, bytes: u64) -> Result<(), Why>
+    ensures { OnOk result (IsLed Cuts filing.old filing.new) }
 {
     let attributes = ending_at(facts.attributes, bytes)?;
     let blocks = bytes.div_ceil(512).min(MOST_BLOCKS) as u32;
-    let filing = at_most(filing, facts, blocks)?;
+    at_most(filing, facts, blocks)?;
     if attributes == facts.attributes {
-        return Ok(filing);
+        return Ok(());
     }
-    let (filing, _) = make(
+    let _set = make(
         filing,
         Request::SetUser {
             file: facts.file,
             attributes,
         },
     )?;
-    Ok(filing)
+    Ok(())
 }
 
 /// Keeps the first blocks, where there are more.
-fn at_most(filing: Filing, facts: &Facts, blocks: u32) -> Result<Filing, Why>
-    ensures { IfOk result (λ new. IsLed Cuts filing new) }
+fn at_most(filing: &mut Filing, facts: &Facts, blocks: u32) -> Result<(), Why>
+    ensures { OnOk result (IsLed Cuts filing.old filing.new) }
 {
     if blocks >= facts.blocks {
-        return Ok(filing);
+        return Ok(());
     }
-    shorten(filing, facts, blocks)
-}
-
-/// Keeps the first blocks.
-fn shorten(filing: Filing, facts: &Facts, blocks: u32) -> Result<Filing, Why>
-    ensures { IfOk result (λ new. IsObeyed filing (Request.Truncate facts.now.file blocks) new) }
-{
-    let (filing, _) = make(
+    let _cut = make(
         filing,
         Request::Truncate {
             file: facts.file,
             blocks,
         },
     )?;
-    Ok(filing)
+    Ok(())
 }

@@ -1,9 +1,8 @@
 -- The counts of the bitmaps that a volume keeps.
-use Rattle.std.proofs.Common.{◌≡◌, ◌≢◌, ℕ, refl, sym, ◌∙◌, subst, true, List, [], Option, Some, None}
+use Rattle.std.proofs.Common.{◌≡◌, ◌≢◌, ℕ, refl, sym, ◌∙◌, true, List, [], Option, Some, None}
 use Rattle.std.specs.Prelude.{Result, Ok, Err, OnErr, unwrap_or}
 use Rattle.std.proofs.lemmas.List.{ext_get_or}
 use Rattle.ods_space.specs.Layout.{Disk, VolumeLayout}
-use Rattle.ods_space.specs.Draft.{applied}
 use Rattle.ods_alloc.specs.Counts.{AreCountsAfter, Counts, counts_of}
 use Rattle.ods_request.specs.declared.requests.Query.{Query}
 use Rattle.ods_request.specs.declared.requests.Query.TheVariants as query
@@ -12,8 +11,6 @@ use Rattle.ods_request.specs.declared.requests.Request.TheVariants.{Create, Exte
 use Rattle.ods_request.specs.Queries.{request_of}
 use Rattle.ods_request.specs.Table.{takes_memory}
 use Rattle.ods_state.specs.Moves.{ChangesOnlyTouched, Touches}
-use Rattle.ods_state.specs.Version.{State}
-use Rattle.ods_state.specs.Outcome.{Plan}
 
 -- a query touches no block
 untouched : (D E : Disk) (q : Query) (x : ℕ) → ¬ Touches D (request_of q) E x
@@ -39,12 +36,6 @@ other_takes_memory (Remove dir name pick) queries = refl
 other_takes_memory (Write file vbn block) queries = refl
 other_takes_memory (Lines dir) queries = refl
 other_takes_memory (SetUser file attributes) queries = refl
-
--- counts after a plan, of the same volume and the same plan by other words
-pub after_of : (v w : State) (p q : Plan) → v ≡ w → p ≡ q → AreCountsAfter w.image (applied w.image q.changes) w.layout q.counts → AreCountsAfter v.image (applied v.image p.changes) v.layout p.counts
-after_of v w p q volume plan after =
-    subst (λ (x : State). AreCountsAfter x.image (applied x.image p.changes) x.layout p.counts) (sym volume)
-    (subst (λ (y : Plan). AreCountsAfter w.image (applied w.image y.changes) w.layout y.counts) (sym plan) after)
 
 -- the counts that are put in place are those of the image as it is then
 pub put_in_place : (I J : List (List ℕ)) (L : VolumeLayout) (old : Counts) (new : Option Counts) → old ≡ counts_of I L → AreCountsAfter I J L new → unwrap_or new old ≡ counts_of J L

@@ -1,7 +1,10 @@
 pub mod Looks
+pub mod OtherPast
+pub mod Stepped
 pub mod Lawful
 pub mod Reasons
 pub mod Carried
 pub mod Arms
 pub mod Counted
+pub mod Changed
 pub mod Pools

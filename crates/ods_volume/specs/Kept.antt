@@ -1,29 +1,22 @@
--- The parts of a volume, and what it keeps beside what contracts see: reserved memory for its list, counts of what the
--- bitmaps have left, and the noted end of a file's chain, if there is one.
+-- The parts of a volume, and what it keeps beside what contracts see: reserved memory for its list.
 use Rattle.std.specs.Prelude.{◌≡◌, ℕ, ◌≤◌, List, Option, MatchOption}
-use Rattle.ods_alloc.specs.Counts.{Counts, counts_of}
 use Rattle.ods_base.specs.declared.listed.Listed.{Listed}
 use Rattle.ods_request.specs.declared.answers.Answer.{Answer}
 use Rattle.ods_request.specs.declared.answers.Answer.TheVariants.{Names}
 use Rattle.ods_request.specs.Lines.{HasLines}
-use Rattle.ods_state.specs.declared.known_end.KnownEnd.{KnownEnd}
-use Rattle.ods_state.specs.Ends.{IsKnownIn}
 use Rattle.ods_state.specs.Version.{State, IsLawful}
 use Rattle.ods_volume.specs.declared.volume.Volume.TheInside.{Inside}
 
 -- what contracts see of a volume with these fields
 abbrev pub state_of : Inside → State
-state_of v = record { mounted = v.mounted; entries = v.entries.items; image = v.image; layout = v.layout; limit = v.limit }
+state_of v = record { mounted = v.mounted; entries = v.entries.items; image = v.sound.image; layout = v.sound.layout; limit = v.limit }
 
--- a volume is lawful, its limit is 1 to 65,536, its list has memory for as many entries as the limit, its counts are those made anew of its blocks,
--- and what is noted of where a file's chain ends is true of them
-pub record IsKept (v : State) (room : ℕ) (counts : Counts) (end : Option KnownEnd) : Type 0 where
+-- a volume is lawful, its limit is 1 to 65,536, and its list has memory for as many entries as the limit
+pub record IsKept (v : State) (room : ℕ) : Type 0 where
   pub lawful : IsLawful v
   pub low : 1 ≤ v.limit
   pub high : v.limit ≤ 65536
   pub reserved : v.limit ≤ room
-  pub counted : counts ≡ counts_of v.image v.layout
-  pub known : IsKnownIn v.image v.layout end
 
 -- the lines of an answer, where it has lines
 abbrev pub AreLinesOf : Answer → Option (List Listed) → Type 0

@@ -1,3 +1,4 @@
+pub mod Changing
 pub mod Entries
 pub mod Kept
 pub mod Made

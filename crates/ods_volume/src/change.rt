@@ -1,25 +1,97 @@
 //! Requests that are accepted: their change, and their entry in the list.
-ghost use Rattle.std.specs.Prelude.{◌≡◌, ◌≢◌, ◌<◌, false, length, IfOk, IfErr, IsErr, OnErr, Some, unwrap_or};
+ghost use Rattle.std.specs.Prelude.{◌≡◌, ◌≢◌, ◌<◌, false, length, IfOk, IfErr, IfSome, IsErr, OnErr, Some};
 ghost use Rattle.ods_request.specs.{declared.refusals.Refusal.Refusal, Catalogue.Catalogue, Faults.fault_of, Table.takes_memory};
 ghost use Rattle.ods_state.specs.{Version.IsPresent, Wants.Lacks, Outcome.Accepts, Outcome.CanBeAsked, Outcome.IsReason, Outcome.IsLawfulPlan, Outcome.carried_out, Outcome.entry_of};
-ghost use Rattle.ods_volume.specs.Kept.{AreLinesOf};
+ghost use Rattle.ods_volume.specs.{Kept.AreLinesOf, Preparing.IsPrepared};
 
-use crate::planned::Prepared;
+use crate::planned::{Prepared, kept, lines_of};
 use crate::volume::Volume;
-use ods_alloc::FreeCounts;
 use ods_base::Uic;
-use ods_request::{Answer, Listing, Refusal, Request};
-
-/// The new counts take the place of those that are kept; where there are none, those stay.
-fn put_counts(kept: &mut FreeCounts, new: Option<FreeCounts>)
-    ensures { kept.new ≡ unwrap_or new kept.old }
-{
-    if let Some(counts) = new {
-        *kept = counts;
-    }
-}
+use ods_request::{Answer, CompactRequest, Entry, Listing, Refusal, Request};
 
 impl Volume {
+    /// What a request would do, with all the memory that it takes: where it is given, the change itself takes none. The
+    /// volume does not change.
+    pub fn prepare(
+        &self,
+        session: u16,
+        nth: u32,
+        who: Uic,
+        request: Request,
+    ) -> Result<Prepared, Refusal>
+        // A version that is given is 1 to 32,767.
+        requires { CanBeAsked request }
+        // At the limit nothing else is looked at.
+        ensures full { length self.now.entries ≡ self.now.limit → result ≡ Err Refusal.ListFull }
+        // Below it the first fault that holds of the present catalogue is the answer.
+        ensures refused { (C : Catalogue) (f : Refusal) → length self.now.entries < self.now.limit → IsPresent self.now C
+            → fault_of C who request ≡ Some f → result ≡ Err f }
+        ensures plan { IfOk result (λ p. IsLawfulPlan self.now p × (p.entry ≡ entry_of session nth who request p.entry.answer)) }
+        // What the volume lacks is never given.
+        ensures lacking { (f : Refusal) → Lacks self.now.image self.now.layout request f → IsErr result }
+        ensures reason { IfErr result (λ f. IsReason self.now who request f) }
+        // LookUp, Read and Stat are never refused for want of memory.
+        ensures memory { takes_memory request ≡ false → result ≢ Err Refusal.NoMemory }
+    {
+        self.plan(session, nth, who, &request, None)
+    }
+
+    /// What a request would do, as [`Volume::prepare`] says. The list is to share a Write's block with
+    /// the request that is given.
+    pub fn prepare_shared(
+        &self,
+        session: u16,
+        nth: u32,
+        who: Uic,
+        request: &CompactRequest,
+    ) -> Result<Prepared, Refusal>
+        // A version that is given is 1 to 32,767.
+        requires { CanBeAsked request.now }
+        ensures { IsPrepared self.now session nth who request.now result }
+    {
+        self.plan(session, nth, who, &request.get(), Some(request))
+    }
+
+    /// What a request would do. The list is to get a share of its other form, where that is given.
+    fn plan(
+        &self,
+        session: u16,
+        nth: u32,
+        who: Uic,
+        request: &Request,
+        shared: Option<&CompactRequest>,
+    ) -> Result<Prepared, Refusal>
+        requires asked { CanBeAsked request.now }
+        requires same { IfSome shared (λ s. s.now ≡ request.now) }
+        ensures { IsPrepared self.now session nth who request.now result }
+    {
+        if self.entries.len() >= self.limit as usize {
+            return Err(Refusal::ListFull);
+        }
+        let mut answer = Answer::Done;
+        let change = match self.sound.prepare(who, request, &mut answer) {
+            Ok(change) => change,
+            Err(refusal) => return Err(refusal),
+        };
+        let Ok(lines) = lines_of(&answer) else {
+            return Err(Refusal::NoMemory);
+        };
+        let Ok(kept) = kept(self.entries.allocator(), request, shared) else {
+            return Err(Refusal::NoMemory);
+        };
+        Ok(Prepared {
+            entry: Entry {
+                session,
+                nth,
+                who,
+                request: kept,
+                answer,
+            },
+            lines,
+            change,
+        })
+    }
+
     /// Makes a change that was prepared for this volume as it is, puts its entry into the list and gives its answer. It takes
     /// no memory and never fails. The answer is read from the list last, so that it is made in one place.
     pub fn apply(&mut self, prepared: Prepared) -> Answer
@@ -41,10 +113,7 @@ impl Volume {
         ensures lines { AreLinesOf prepared.entry.answer result }
     {
         self.entries.push_reserved(prepared.entry);
-        prepared.draft.apply(&mut self.image);
-        self.layout.grow(&prepared.places);
-        put_counts(&mut self.counts, prepared.counts);
-        self.end = prepared.end;
+        self.sound.apply(prepared.change);
         prepared.lines
     }
 

@@ -5,9 +5,11 @@ mod change;
 mod entries;
 mod planned;
 mod prepare;
+mod sound;
 mod volume;
 
 pub use entries::Entries;
 pub use ods_look::look;
 pub use planned::Prepared;
+pub use sound::{Change, Sound};
 pub use volume::Volume;

@@ -3,25 +3,19 @@ ghost use Rattle.std.specs.Prelude.{◌≡◌, IfSome, IfOk, OnErr, true};
 ghost use Rattle.ods_request.specs.{Lines.HasLines, Table.takes_memory};
 ghost use Rattle.ods_volume.specs.Kept.{AreLinesOf};
 
-use ods_alloc::FreeCounts;
+use crate::sound::Change;
 use ods_request::{Answer, CompactRequest, Entry, Listing, Request};
 use ods_space::Draft;
-use ods_state::KnownEnd;
 use std::alloc::{AllocError, Global};
 use std::marker::Model;
 
-/// A request that is accepted, with its answer, the blocks that it changes, and those that INDEXF.SYS gets. It has the
-/// counts of the bitmaps afterwards, where they are made anew, and what is noted then of where a file's chain ends. The
-/// lines of a directory are there twice, once for the list and once for the caller, so that making the change takes no
-/// memory.
+/// A request that is accepted, with its answer and with what it changes. The lines of a directory are there twice, once for the list
+/// and once for the caller, so that making the change takes no memory.
 #[derive(Drop)]
 pub struct Prepared {
     pub(crate) entry: Entry,
     pub(crate) lines: Option<Listing>,
-    pub(crate) draft: Draft,
-    pub(crate) places: Vec<u32>,
-    pub(crate) counts: Option<FreeCounts>,
-    pub(crate) end: Option<KnownEnd>,
+    pub(crate) change: Change,
 }
 
 impl Model for Prepared {
@@ -30,7 +24,7 @@ impl Model for Prepared {
 
     ghost Value = { Plan };
 
-    ghost view = { λ p. record { entry = p.entry; changes = p.draft; places = p.places.items; counts = p.counts; end = p.end } };
+    ghost view = { λ p. record { entry = p.entry; changes = p.change.changes; places = p.change.places; counts = p.change.counts; end = p.change.end } };
 
     ghost use Rattle.ods_volume.specs.Kept.{AreLinesOf};
 
@@ -73,20 +67,20 @@ impl Prepared {
     pub fn changes(&self) -> &Draft
         ensures { result.now ≡ self.now.changes }
     {
-        &self.draft
+        &self.change.draft
     }
 
     /// The blocks that INDEXF.SYS gets behind its own.
     pub fn places(&self) -> &[u32]
         ensures { result.now ≡ self.now.places }
     {
-        self.places.as_slice()
+        self.change.places.as_slice()
     }
 
     /// These blocks once more, in memory of their own.
     pub fn copy_places(&self) -> Result<Vec<u32>, AllocError>
         ensures { IfOk result (λ places. places.items ≡ self.now.places) }
     {
-        Vec::from_slice(*self.places.allocator(), &self.places)
+        Vec::from_slice(*self.change.places.allocator(), &self.change.places)
     }
 }

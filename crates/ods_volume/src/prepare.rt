@@ -1,22 +1,20 @@
-//! What a request would do, with all the memory that it takes. This file alone calls what answers a request or drafts
+//! What a request is answered, and what it makes of the volume. This file alone calls what answers a request or drafts
 //! its change in the layers below.
-ghost use Rattle.std.specs.Prelude.{◌≡◌, ◌≢◌, ◌<◌, false, true, length, MatchResult, IfOk, IfErr, IfSome, OnErr, IsErr, Some};
+ghost use Rattle.std.specs.Prelude.{◌≡◌, false, true, MatchResult, IfOk, OnErr};
 ghost use Rattle.ods_alloc.specs.Counts.{AreCountsAfter, counts_of};
 ghost use Rattle.ods_space.specs.{Draft.applied, Layout.VolumeLayout};
 ghost use Rattle.ods_mount.specs.Sound.{IsSoundBy};
-ghost use Rattle.ods_request.specs.{declared.refusals.Refusal.Refusal, declared.requests.Request.TheVariants.List as Lines, Catalogue.Catalogue, Faults.fault_of, Queries.request_of, Table.only_looks, Table.takes_memory};
-ghost use Rattle.ods_state.specs.{Version.IsPresent, Wants.Lacks, Served.IsStepOf, Served.IsRefusalOf, Ends.IsKnownIn, Outcome.CanBeAsked, Outcome.IsReason, Outcome.IsLawfulPlan, Outcome.entry_of};
+ghost use Rattle.ods_request.specs.{declared.requests.Request.TheVariants.List as Lines, Queries.request_of, Table.only_looks, Table.takes_memory};
+ghost use Rattle.ods_state.specs.{Served.IsStepOf, Served.IsRefusalOf, Ends.IsKnownIn, Outcome.CanBeAsked};
 ghost use Rattle.ods_change.specs.Steps.{IsDraftFor, IsKnownThen};
-ghost use Rattle.ods_volume.specs.{Made.answer_of, Made.end_of, Preparing.IsPrepared};
+ghost use Rattle.ods_volume.specs.{Made.answer_of, Made.end_of};
 ghost use Rattle.ods_space.specs.Disks.{on, seen};
 
-use crate::planned::{Prepared, kept, lines_of};
-use crate::volume::Volume;
 use ods_alloc::FreeCounts;
 use ods_base::{FileId, Uic};
 use ods_change::{Drafted, create, delete, enter, extend, remove, set_user, truncate, write};
 use ods_look::{list, look_into};
-use ods_request::{Answer, CompactRequest, Entry, Query, Refusal, Request};
+use ods_request::{Answer, Query, Refusal, Request};
 use ods_space::{Disk, Draft};
 use ods_state::KnownEnd;
 use std::alloc::{AllocError, Global};
@@ -187,7 +185,7 @@ fn change(
 }
 
 /// Writes what a request is answered into this place, and gives what it makes of the volume, with what is noted then.
-fn carry_out(
+pub(crate) fn carry_out(
     alloc: Global,
     disk: &Disk<'_>,
     counts: &FreeCounts,
@@ -221,7 +219,7 @@ fn carry_out(
 }
 
 /// The counts of the bitmaps once the draft of a request is applied; none where they stay. No memory is taken for a query.
-fn counts_after(
+pub(crate) fn counts_after(
     counts: &FreeCounts,
     disk: &Disk<'_>,
     request: &Request,
@@ -237,107 +235,4 @@ fn counts_after(
         return Ok(None);
     }
     counts.after(disk, draft)
-}
-
-impl Volume {
-    /// What a request would do, with all the memory that it takes: where it is given, the change itself takes none. The
-    /// volume does not change.
-    pub fn prepare(
-        &self,
-        session: u16,
-        nth: u32,
-        who: Uic,
-        request: Request,
-    ) -> Result<Prepared, Refusal>
-        // A version that is given is 1 to 32,767.
-        requires { CanBeAsked request }
-        // At the limit nothing else is looked at.
-        ensures full { length self.now.entries ≡ self.now.limit → result ≡ Err Refusal.ListFull }
-        // Below it the first fault that holds of the present catalogue is the answer.
-        ensures refused { (C : Catalogue) (f : Refusal) → length self.now.entries < self.now.limit → IsPresent self.now C
-            → fault_of C who request ≡ Some f → result ≡ Err f }
-        ensures plan { IfOk result (λ p. IsLawfulPlan self.now p × (p.entry ≡ entry_of session nth who request p.entry.answer)) }
-        // What the volume lacks is never given.
-        ensures lacking { (f : Refusal) → Lacks self.now.image self.now.layout request f → IsErr result }
-        ensures reason { IfErr result (λ f. IsReason self.now who request f) }
-        // LookUp, Read and Stat are never refused for want of memory.
-        ensures memory { takes_memory request ≡ false → result ≢ Err Refusal.NoMemory }
-    {
-        self.plan(session, nth, who, &request, None)
-    }
-
-    /// What a request would do, as [`Volume::prepare`] says. The list is to share a Write's block with
-    /// the request that is given.
-    pub fn prepare_shared(
-        &self,
-        session: u16,
-        nth: u32,
-        who: Uic,
-        request: &CompactRequest,
-    ) -> Result<Prepared, Refusal>
-        // A version that is given is 1 to 32,767.
-        requires { CanBeAsked request.now }
-        ensures { IsPrepared self.now session nth who request.now result }
-    {
-        self.plan(session, nth, who, &request.get(), Some(request))
-    }
-
-    /// What a request would do. The list is to get a share of its other form, where that is given.
-    fn plan(
-        &self,
-        session: u16,
-        nth: u32,
-        who: Uic,
-        request: &Request,
-        shared: Option<&CompactRequest>,
-    ) -> Result<Prepared, Refusal>
-        requires asked { CanBeAsked request.now }
-        requires same { IfSome shared (λ s. s.now ≡ request.now) }
-        ensures { IsPrepared self.now session nth who request.now result }
-    {
-        if self.entries.len() >= self.limit as usize {
-            return Err(Refusal::ListFull);
-        }
-        let alloc = self.entries.allocator();
-        let disk = Disk {
-            image: &self.image,
-            layout: &self.layout,
-        };
-        let mut answer = Answer::Done;
-        let (drafted, end) = match carry_out(
-            alloc,
-            &disk,
-            &self.counts,
-            who,
-            request,
-            &self.end,
-            &mut answer,
-        ) {
-            Ok(carried) => carried,
-            Err(refusal) => return Err(refusal),
-        };
-        let Ok(counts) = counts_after(&self.counts, &disk, request, &drafted.draft) else {
-            return Err(Refusal::NoMemory);
-        };
-        let Ok(lines) = lines_of(&answer) else {
-            return Err(Refusal::NoMemory);
-        };
-        let Ok(kept) = kept(alloc, request, shared) else {
-            return Err(Refusal::NoMemory);
-        };
-        Ok(Prepared {
-            entry: Entry {
-                session,
-                nth,
-                who,
-                request: kept,
-                answer,
-            },
-            lines,
-            draft: drafted.draft,
-            places: drafted.places,
-            counts,
-            end,
-        })
-    }
 }

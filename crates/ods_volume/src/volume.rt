@@ -7,28 +7,22 @@ ghost use Rattle.ods_request.specs.Catalogue.{Catalogue};
 ghost use Rattle.ods_state.specs.Version.{IsVersionBy, IsPresent, IsLawful};
 
 use crate::entries::Entries;
-use ods_alloc::FreeCounts;
+use crate::sound::Sound;
 use ods_base::{FixedImage, Image, NoMemory};
 use ods_mount::Mounted;
 use ods_space::{Disk, Layout};
-use ods_state::KnownEnd;
 use std::alloc::Global;
 use std::marker::Model;
 
-/// A mounted image that changes by requests, and the list of those that were accepted. What is free is counted for
-/// each block of the bitmaps, so that a request reads none of which nothing is left. Where the chain of the file ends that was
-/// extended last is noted, so that its next Extend does not walk along it. The image is always sound. It shows what the
-/// entries, one after another, make of the catalogue of the mounted image. The list stays within its limit. No new
+/// A sound volume that changes by requests, the image as it was mounted, and the list of the requests that were accepted. The image
+/// shows what the entries, one after another, make of the catalogue of the mounted image. The list stays within its limit. No new
 /// file gets an ID of the catalogue's past.
 #[derive(Drop)]
 pub struct Volume {
     pub(crate) mounted: FixedImage,
-    pub(crate) image: Image,
-    pub(crate) layout: Layout,
+    pub(crate) sound: Sound,
     pub(crate) entries: Entries,
     pub(crate) limit: u32,
-    pub(crate) counts: FreeCounts,
-    pub(crate) end: Option<KnownEnd>,
 }
 
 impl Model for Volume {
@@ -40,7 +34,7 @@ impl Model for Volume {
 
     ghost view = { state_of };
 
-    ghost invariant = { λ v. IsKept (state_of v) v.entries.room v.counts v.end };
+    ghost invariant = { λ v. IsKept (state_of v) v.entries.room };
 }
 
 impl Volume {
@@ -57,29 +51,27 @@ impl Volume {
             Ok(entries) => entries,
             Err(_) => return Err((mounted, NoMemory)),
         };
-        let counts = match FreeCounts::of(alloc, &mounted.disk()) {
-            Ok(counts) => counts,
-            Err(_) => return Err((mounted, NoMemory)),
+        let (fixed, image, layout) = match mounted.split() {
+            Ok(parts) => parts,
+            Err(mounted) => return Err((mounted, NoMemory)),
         };
-        match mounted.split() {
-            Ok((mounted, image, layout)) => Ok(Volume {
-                mounted,
-                image,
-                layout,
-                entries,
-                limit,
-                counts,
-                end: None,
-            }),
-            Err(mounted) => Err((mounted, NoMemory)),
-        }
+        let sound = match Sound::new(alloc, Mounted::of(image, layout)) {
+            Ok(sound) => sound,
+            Err(error) => return Err(error),
+        };
+        Ok(Volume {
+            mounted: fixed,
+            sound,
+            entries,
+            limit,
+        })
     }
 
     /// The volume as it is now; its list is let go. It takes no memory.
     pub fn into_mounted(self) -> Mounted
         ensures { (result.image ≡ self.image) × (result.layout ≡ self.layout) }
     {
-        Mounted::of(self.image, self.layout)
+        self.sound.into_mounted()
     }
 
     /// Each volume has a catalogue now.
@@ -109,14 +101,14 @@ impl Volume {
         ensures no_fault { IsSound self.now.image }
         ensures version { IsVersionBy self.now.mounted self.now.entries self.now.image self.now.layout }
     {
-        &self.image
+        self.sound.mounted().image()
     }
 
     /// Where the image's structures lie.
     pub fn layout(&self) -> &Layout
         ensures { result.now ≡ self.now.layout }
     {
-        &self.layout
+        self.sound.mounted().layout()
     }
 
     /// The image with its layout, as they are now.
@@ -125,10 +117,7 @@ impl Volume {
         ensures layout { result.layout.now ≡ self.now.layout }
         ensures sound { on IsSoundBy result }
     {
-        Disk {
-            image: &self.image,
-            layout: &self.layout,
-        }
+        self.sound.disk()
     }
 
     /// The image as it was mounted.
@@ -151,7 +140,7 @@ impl Volume {
     pub fn free_count(&self) -> u32
         ensures { result ≡ length (free_blocks self.now.image self.now.layout) }
     {
-        self.counts.total()
+        self.sound.free_count()
     }
 
     /// How many free blocks each block of the storage bitmap covers, in order; the storage control block is not counted. The counts
@@ -159,13 +148,13 @@ impl Volume {
     pub fn counts(&self) -> &[u32]
         ensures { result.now ≡ free_counts self.now.image self.now.layout }
     {
-        self.counts.as_slice()
+        self.sound.counts()
     }
 
     /// How many file numbers are free.
     pub fn number_count(&self) -> u32
         ensures { result ≡ length (free_numbers self.now.image self.now.layout) }
     {
-        ods_alloc::number_count(&self.disk())
+        self.sound.number_count()
     }
 }

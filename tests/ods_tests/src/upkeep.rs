@@ -9,22 +9,30 @@ mod removals;
 use crate::persons::USER;
 use ods_base::{Image, Uic};
 use ods_cli::sample;
+use ods_filing::Filing;
 use ods_mount::{Mounted, check_image, mount};
 use ods_request::Stamp;
 use ods_shell::{Target, Wanted, open_contents, targets};
-use ods_upkeep::{Asked, Failure, HostFile, PutForm, Putting, Why};
+use ods_upkeep::{Failure, HostFile, PutForm, Putting, Removal, Why};
 use std::alloc::Global;
 use std::process::Abort;
 use std::test::Fail;
 
 /// Who asks, and when.
-fn asked_by(user: Uic) -> Result<Asked, Fail> {
+#[derive(Clone, Copy)]
+struct Asker {
+    user: Uic,
+    stamp: Stamp,
+}
+
+/// This user.
+fn asked_by(user: Uic) -> Result<Asker, Fail> {
     let stamp = Stamp::parse(b"01JAN80103000").ok_or("a stamp")?;
-    Ok(Asked { user, stamp })
+    Ok(Asker { user, stamp })
 }
 
 /// As the owner of the sample's files.
-fn asked() -> Result<Asked, Fail> {
+fn asked() -> Result<Asker, Fail> {
     asked_by(USER)
 }
 
@@ -46,7 +54,7 @@ fn done(alloc: Global, outcome: Result<Mounted, Failure>) -> Result<Mounted, Fai
 }
 
 /// Whether the command was refused so, for this path.
-fn is_refused(outcome: Result<Mounted, Failure>, path: &str, why: Why) -> bool {
+fn is_refused<T: Drop>(outcome: Result<T, Failure>, path: &str, why: Why) -> bool {
     match outcome {
         Ok(_) => false,
         Err(failure) => failure.path.as_str() == path && failure.why == why,
@@ -91,9 +99,106 @@ fn try_put(
         Ok(asked) => asked,
         Err(_) => unreachable!(),
     };
-    let putting = Putting::begin(alloc, volume, &asked, to, false, form, like, replace, None)?;
-    let (putting, _) = putting.put(&HostFile { name, bytes })?;
-    Ok(putting.end())
+    let mut filing = filing_for(alloc, volume, asked.user);
+    let mut putting = Putting::begin(
+        alloc,
+        filing.mounted(),
+        asked.stamp,
+        to,
+        false,
+        form,
+        like,
+        replace,
+        None,
+    )?;
+    putting.put(alloc, &mut filing, &HostFile { name, bytes })?;
+    Ok(filing.into_mounted())
+}
+
+/// The volume, for requests of this user.
+fn filing_for(alloc: Global, volume: Mounted, user: Uic) -> Filing {
+    match Filing::new(alloc, volume, user) {
+        Ok(filing) => filing,
+        Err(_) => unreachable!(),
+    }
+}
+
+/// What `cp` makes of the volume.
+fn copy_files(
+    alloc: Global,
+    volume: Mounted,
+    asked: &Asker,
+    paths: &[&str],
+    to: &str,
+) -> Result<Mounted, Failure> {
+    let mut filing = filing_for(alloc, volume, asked.user);
+    ods_upkeep::copy_files(alloc, &mut filing, asked.stamp, paths, to)?;
+    Ok(filing.into_mounted())
+}
+
+/// What `mv` makes of the volume.
+fn move_names(
+    alloc: Global,
+    volume: Mounted,
+    asked: &Asker,
+    paths: &[&str],
+    to: &str,
+) -> Result<Mounted, Failure> {
+    let mut filing = filing_for(alloc, volume, asked.user);
+    ods_upkeep::move_names(alloc, &mut filing, paths, to)?;
+    Ok(filing.into_mounted())
+}
+
+/// What `rm` makes of the volume.
+fn remove_files(
+    alloc: Global,
+    volume: Mounted,
+    asked: &Asker,
+    paths: &[&str],
+    removal: Removal,
+) -> Result<Mounted, Failure> {
+    let mut filing = filing_for(alloc, volume, asked.user);
+    ods_upkeep::remove_files(alloc, &mut filing, paths, removal)?;
+    Ok(filing.into_mounted())
+}
+
+/// What `mkdir` makes of the volume.
+fn make_directories(
+    alloc: Global,
+    volume: Mounted,
+    asked: &Asker,
+    paths: &[&str],
+    names: u32,
+    owner: Option<Uic>,
+) -> Result<Mounted, Failure> {
+    let mut filing = filing_for(alloc, volume, asked.user);
+    ods_upkeep::make_directories(alloc, &mut filing, asked.stamp, paths, names, owner)?;
+    Ok(filing.into_mounted())
+}
+
+/// What `rmdir` makes of the volume.
+fn remove_directories(
+    alloc: Global,
+    volume: Mounted,
+    asked: &Asker,
+    paths: &[&str],
+) -> Result<Mounted, Failure> {
+    let mut filing = filing_for(alloc, volume, asked.user);
+    ods_upkeep::remove_directories(alloc, &mut filing, paths)?;
+    Ok(filing.into_mounted())
+}
+
+/// What `truncate` makes of the volume.
+fn truncate_file(
+    alloc: Global,
+    volume: Mounted,
+    asked: &Asker,
+    path: &str,
+    bytes: u64,
+) -> Result<Mounted, Failure> {
+    let mut filing = filing_for(alloc, volume, asked.user);
+    ods_upkeep::truncate_file(alloc, &mut filing, path, bytes)?;
+    Ok(filing.into_mounted())
 }
 
 /// The paths that a path finds, with a space behind each; nothing where it finds none.

@@ -1,4 +1,4 @@
-//! Files that are put into the sample volume with their bytes, seen by what the changed volume answers; and a list that begins anew.
+//! Files that are put into the sample volume with their bytes, seen by what the changed volume answers; and requests without a limit.
 use super::changes::mounted;
 use crate::persons::{FIRST, USER, a_txt, reserved_id};
 use crate::same::same_block;
@@ -42,9 +42,9 @@ fn file_of(bytes: &[u8]) -> Result<NewFile<'_>, Fail> {
 fn bytes_stand_in_blocks_with_zeros_behind(rt: HostRuntime) -> Result<(), Fail> {
     let bytes = some_bytes();
     let file = file_of(&bytes)?;
-    let (after, put) = put_file(filing(rt.alloc())?, &file);
-    assert!(rt; put? == FIRST);
-    let after = after.into_mounted();
+    let mut filing = filing(rt.alloc())?;
+    assert!(rt; put_file(&mut filing, &file)? == FIRST);
+    let after = filing.into_mounted();
     let disk = after.disk();
     let shown = stat(&disk, FIRST)?;
     let kind = Kind::Plain {
@@ -64,9 +64,9 @@ fn bytes_stand_in_blocks_with_zeros_behind(rt: HostRuntime) -> Result<(), Fail> 
 
 #[test]
 fn no_bytes_take_no_block(rt: HostRuntime) -> Result<(), Fail> {
-    let (after, put) = put_file(filing(rt.alloc())?, &file_of(&[])?);
-    assert!(rt; put? == FIRST);
-    let after = after.into_mounted();
+    let mut filing = filing(rt.alloc())?;
+    assert!(rt; put_file(&mut filing, &file_of(&[])?)? == FIRST);
+    let after = filing.into_mounted();
     let disk = after.disk();
     assert!(rt; read(&disk, USER, FIRST, 1) == Err(Refusal::NoSuchBlock));
     Ok(())
@@ -76,27 +76,24 @@ fn no_bytes_take_no_block(rt: HostRuntime) -> Result<(), Fail> {
 fn what_has_no_room_is_refused(rt: HostRuntime) -> Result<(), Fail> {
     // 18 blocks are free.
     let bytes = [1; 512 * 18 + 1];
-    let (_, put) = put_file(filing(rt.alloc())?, &file_of(&bytes)?);
+    let put = put_file(&mut filing(rt.alloc())?, &file_of(&bytes)?);
     assert!(rt; put == Err(Refusal::VolumeFull));
     Ok(())
 }
 
 #[test]
-fn a_list_that_is_full_begins_anew(rt: HostRuntime) -> Result<(), Fail> {
+fn no_request_is_one_too_many(rt: HostRuntime) -> Result<(), Fail> {
     let mut filing = filing(rt.alloc())?;
     for _ in 0..65_537 {
-        let (next, answer) = filing.request(Request::Stat { file: FIRST });
-        filing = next;
+        let answer = filing.request(&Request::Stat { file: FIRST });
         assert!(rt; answer == Err(Refusal::NoSuchFile));
     }
     for _ in 0..65_537 {
-        let (next, answer) = filing.request(Request::Stat {
+        let answer = filing.request(&Request::Stat {
             file: reserved_id(1),
         });
-        filing = next;
         assert!(rt; answer.is_ok());
     }
-    let (_, put) = put_file(filing, &file_of(&some_bytes())?);
-    assert!(rt; put? == FIRST);
+    assert!(rt; put_file(&mut filing, &file_of(&some_bytes())?)? == FIRST);
     Ok(())
 }

@@ -1,9 +1,12 @@
 //! `cp`: blocks and attributes of files once more.
-use super::{asked, asked_by, done, has, is_refused, paths, put, the, volume_of};
+use super::{
+    asked, asked_by, copy_files, done, has, is_refused, make_directories, paths, put, the,
+    truncate_file, volume_of,
+};
 use crate::persons::STRANGER;
 use ods_request::Refusal;
 use ods_shell::PathFault;
-use ods_upkeep::{Why, copy_files, make_directories, truncate_file};
+use ods_upkeep::Why;
 use std::process::Abort;
 use std::test::Fail;
 

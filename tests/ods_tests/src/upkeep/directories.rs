@@ -1,8 +1,10 @@
 //! `mkdir` and `rmdir`.
-use super::{asked, done, is_refused, paths, put, the, volume_of};
+use super::{
+    asked, done, is_refused, make_directories, paths, put, remove_directories, the, volume_of,
+};
 use ods_request::Refusal;
 use ods_shell::PathFault;
-use ods_upkeep::{Why, make_directories, remove_directories};
+use ods_upkeep::Why;
 use std::process::Abort;
 use std::test::Fail;
 

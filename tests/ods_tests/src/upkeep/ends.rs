@@ -1,8 +1,8 @@
 //! `truncate`.
-use super::{asked, bytes_of, done, is_refused, put, the, volume_of};
+use super::{asked, bytes_of, done, is_refused, put, the, truncate_file, volume_of};
 use ods_request::Refusal;
 use ods_shell::Wanted;
-use ods_upkeep::{Why, truncate_file};
+use ods_upkeep::Why;
 use std::process::Abort;
 use std::test::Fail;
 

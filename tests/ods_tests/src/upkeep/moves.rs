@@ -1,7 +1,9 @@
 //! `mv`: names go elsewhere, or become others.
-use super::{asked, done, has, is_refused, paths, put, the, volume_of};
+use super::{
+    asked, done, has, is_refused, make_directories, move_names, paths, put, the, volume_of,
+};
 use ods_request::Refusal;
-use ods_upkeep::{Why, make_directories, move_names};
+use ods_upkeep::Why;
 use std::process::Abort;
 use std::test::Fail;
 

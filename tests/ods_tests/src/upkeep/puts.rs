@@ -1,5 +1,7 @@
 //! `put`: targets, versions, forms, `--form`, `--like`, `--replace` and `--owner`.
-use super::{asked, bytes_of, done, has, is_refused, paths, put, the, try_put, volume_of};
+use super::{
+    asked, bytes_of, done, filing_for, has, is_refused, paths, put, the, try_put, volume_of,
+};
 use ods_base::Uic;
 use ods_records::RecordFault;
 use ods_request::Refusal;
@@ -65,11 +67,11 @@ fn a_name_gets_its_next_version(rt: HostRuntime) -> Result<(), Fail> {
 fn several_files_go_into_a_directory(rt: HostRuntime) -> Result<(), Fail> {
     let alloc = rt.alloc();
     let asked = asked()?;
-    let volume = volume_of(alloc, 40)?;
+    let mut filing = filing_for(alloc, volume_of(alloc, 40)?, asked.user);
     let begun = Putting::begin(
         alloc,
-        volume,
-        &asked,
+        filing.mounted(),
+        asked.stamp,
         None,
         true,
         PutForm::ByContents,
@@ -77,31 +79,27 @@ fn several_files_go_into_a_directory(rt: HostRuntime) -> Result<(), Fail> {
         false,
         None,
     );
-    let putting = begun.ok().ok_or("begun")?;
-    let (putting, remark) = putting
-        .put(&HostFile {
-            name: "a.txt",
-            bytes: b"1\n",
-        })
-        .ok()
-        .ok_or("a")?;
+    let mut putting = begun.ok().ok_or("begun")?;
+    let a = HostFile {
+        name: "a.txt",
+        bytes: b"1\n",
+    };
+    let remark = putting.put(alloc, &mut filing, &a).ok().ok_or("a")?;
     assert!(rt; remark.is_none());
-    let (putting, remark) = putting
-        .put(&HostFile {
-            name: "b",
-            bytes: b"2",
-        })
-        .ok()
-        .ok_or("b")?;
+    let b = HostFile {
+        name: "b",
+        bytes: b"2",
+    };
+    let remark = putting.put(alloc, &mut filing, &b).ok().ok_or("b")?;
     let said = "put as bytes, since the last line has no LF; -t makes records";
     let remark = remark.ok_or("a remark")?;
     assert!(rt; remark.as_str() == said);
-    let volume = done(alloc, Ok(putting.end()))?;
+    let volume = done(alloc, Ok(filing.into_mounted()))?;
     assert!(rt; paths(alloc, &volume, "?.*")?.as_str() == "[0,0]A.TXT;1 [0,0]B.;1 ");
     let several = Putting::begin(
         alloc,
-        volume,
-        &asked,
+        &volume,
+        asked.stamp,
         Some("C.TXT"),
         true,
         PutForm::Text,
@@ -109,18 +107,19 @@ fn several_files_go_into_a_directory(rt: HostRuntime) -> Result<(), Fail> {
         false,
         None,
     );
-    assert!(rt; is_refused(several.map(|p| p.end()), "C.TXT", Why::Several));
+    assert!(rt; is_refused(several, "C.TXT", Why::Several));
     Ok(())
 }
 
 #[test]
 fn a_last_line_is_remarked(rt: HostRuntime) -> Result<(), Fail> {
     let alloc = rt.alloc();
-    let volume = volume_of(alloc, 40)?;
+    let asked = asked()?;
+    let mut filing = filing_for(alloc, volume_of(alloc, 40)?, asked.user);
     let begun = Putting::begin(
         alloc,
-        volume,
-        &asked()?,
+        filing.mounted(),
+        asked.stamp,
         None,
         false,
         PutForm::Text,
@@ -128,14 +127,14 @@ fn a_last_line_is_remarked(rt: HostRuntime) -> Result<(), Fail> {
         false,
         None,
     );
-    let putting = begun.ok().ok_or("begun")?;
-    let put = putting.put(&HostFile {
+    let mut putting = begun.ok().ok_or("begun")?;
+    let host = HostFile {
         name: "a.txt",
         bytes: b"1\r\n2",
-    });
-    let (putting, remark) = put.ok().ok_or("put")?;
+    };
+    let remark = putting.put(alloc, &mut filing, &host).ok().ok_or("put")?;
     assert!(rt; remark.is_some());
-    let volume = done(alloc, Ok(putting.end()))?;
+    let volume = done(alloc, Ok(filing.into_mounted()))?;
     assert!(rt; has(alloc, &volume, "A.TXT", b"1\n2\n")?);
     Ok(())
 }
@@ -241,10 +240,12 @@ fn a_file_is_made_for_its_owner(rt: HostRuntime) -> Result<(), Fail> {
         group: 7,
         member: 8,
     };
+    let asked = asked()?;
+    let mut filing = filing_for(alloc, volume_of(alloc, 40)?, asked.user);
     let begun = Putting::begin(
         alloc,
-        volume_of(alloc, 40)?,
-        &asked()?,
+        filing.mounted(),
+        asked.stamp,
         Some("A.TXT"),
         false,
         PutForm::ByContents,
@@ -252,13 +253,13 @@ fn a_file_is_made_for_its_owner(rt: HostRuntime) -> Result<(), Fail> {
         false,
         Some(owner),
     );
-    let putting = begun.ok().ok_or("begun")?;
-    let put = putting.put(&HostFile {
+    let mut putting = begun.ok().ok_or("begun")?;
+    let host = HostFile {
         name: "x",
         bytes: b"1\n",
-    });
-    let (putting, _) = put.ok().ok_or("put")?;
-    let volume = done(alloc, Ok(putting.end()))?;
+    };
+    putting.put(alloc, &mut filing, &host).ok().ok_or("put")?;
+    let volume = done(alloc, Ok(filing.into_mounted()))?;
     let facts = the(alloc, &volume, "A.TXT")?.facts.ok_or("a file")?;
     assert!(rt; facts.owner == owner);
     assert!(rt; has(alloc, &volume, "A.TXT", b"1\n")?);

@@ -1,12 +1,13 @@
 //! `rm`: names go, and files for which no name is left.
-use super::{asked, done, is_refused, paths, put, the, volume_of};
-use crate::persons::MASTER;
+use super::{
+    asked, done, filing_for, is_refused, make_directories, paths, put, remove_files, the, volume_of,
+};
+use crate::persons::{MASTER, USER};
 use ods_base::{FileId, parse_name};
-use ods_filing::Filing;
 use ods_mount::Mounted;
 use ods_request::{Refusal, Request};
 use ods_shell::PathFault;
-use ods_upkeep::{Removal, Why, make_directories, remove_files};
+use ods_upkeep::{Removal, Why};
 use std::alloc::Global;
 use std::process::Abort;
 use std::test::Fail;
@@ -19,14 +20,13 @@ const PLAIN: Removal = Removal {
 /// Another name in the master directory.
 fn with_name(alloc: Global, volume: Mounted, name: &[u8], file: FileId) -> Result<Mounted, Fail> {
     let (name, _) = parse_name(name).ok().ok_or("a name")?;
-    let filing = Filing::new(alloc, volume, crate::persons::USER)?;
-    let (filing, answer) = filing.request(Request::Enter {
+    let mut filing = filing_for(alloc, volume, USER);
+    filing.request(&Request::Enter {
         dir: MASTER,
         name,
         version: None,
         file,
-    });
-    answer.ok().ok_or("entered")?;
+    })?;
     Ok(filing.into_mounted())
 }
 
@@ -82,8 +82,8 @@ fn an_entry_of_no_file_goes(rt: HostRuntime) -> Result<(), Fail> {
     let alloc = rt.alloc();
     let volume = put(alloc, volume_of(alloc, 40)?, "A.TXT", "x", b"1\n")?;
     let file = the(alloc, &volume, "A.TXT")?.facts.ok_or("a file")?.file;
-    let filing = Filing::new(alloc, volume, crate::persons::USER)?;
-    let (filing, _) = filing.request(Request::Delete { file });
+    let mut filing = filing_for(alloc, volume, USER);
+    filing.request(&Request::Delete { file })?;
     let volume = filing.into_mounted();
     let volume = done(
         alloc,

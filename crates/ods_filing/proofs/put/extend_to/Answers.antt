@@ -1,12 +1,9 @@
 use Rattle.std.proofs.Common.{◌≡◌, subst, arith, replicate}
-use Rattle.std.specs.Prelude.{OnOk}
 use Rattle.std.proofs.lemmas.List.{replicate-append-replicate}
 use Rattle.ods_base.specs.Block.{zeros}
-use Rattle.ods_request.specs.declared.answers.Answer.{Answer}
 use Rattle.ods_request.specs.declared.requests.Request.TheVariants.{Extend}
 use Rattle.ods_request.specs.Catalogue.{Plain}
 use Rattle.ods_request.specs.Steps.{zero_blocks}
-use Rattle.ods_filing.specs.Filed.{IsDone}
 use Rattle.ods_filing.specs.Put.{IsAdded}
 use Rattle.ods_filing.proofs.Added.{extended}
 use Rattle.ods_filing.proofs.Led.{then_obeyed}
@@ -14,9 +11,9 @@ use Rattle.ods_filing.proofs.put.extend_to.Goals as goal
 
 pub loop-have-preserved : goal.loop-have-preserved
 loop-have-preserved c =
-    let next = c.obey-next.result.0 in
+    let next = c.obey.new.filing in
     let more = c.min-more.result in
-    let done = subst (λ x. OnOk x ((a : Answer) × IsDone c.loop-have.filing (Extend c.args.id more) a next)) c.in_default.is c.obey-next.ensures.ok in (
+    let done = c.in_ok-obey.ensures.ok in (
       omega (arith, c.min-more.ensures, c.loop-have-test.true),
       λ old heading start.
           subst (λ bs. IsAdded old heading c.args.id (Plain (replicate 32 0) bs) next) (replicate-append-replicate c.loop-have.have more zeros)

@@ -1,9 +1,7 @@
 use Rattle.std.proofs.Common.{◌≡◌, ◌+◌, ◌-◌, ◌<◌, ap, ◌∙◌, subst, arith, replicate}
-use Rattle.std.specs.Prelude.{OnOk, slice_set}
-use Rattle.ods_request.specs.declared.answers.Answer.{Answer}
+use Rattle.std.specs.Prelude.{slice_set}
 use Rattle.ods_request.specs.declared.requests.Request.TheVariants.{Write}
 use Rattle.ods_request.specs.Catalogue.{Plain}
-use Rattle.ods_filing.specs.Filed.{IsDone}
 use Rattle.ods_filing.specs.Put.{IsAdded, block_count}
 use Rattle.ods_filing.proofs.Added.{wrote}
 use Rattle.ods_filing.proofs.Blocks.{so_far, one_more, all_so_far}
@@ -12,12 +10,12 @@ use Rattle.ods_filing.proofs.put.fill.Goals as goal
 
 pub loop-k-preserved : goal.loop-k-preserved
 loop-k-preserved c =
-    let next = c.obey-next.result.0 in
+    let next = c.obey.new.filing in
     let bytes = c.args.bytes.now in
     let k = c.loop-k.k in
     let block = c.block_of.result in
     let before = so_far bytes (block_count bytes) k in
-    let done = subst (λ x. OnOk x ((a : Answer) × IsDone c.loop-k.filing (Write c.args.id (k + 1) block) a next)) c.in_default.is c.obey-next.ensures.ok in
+    let done = c.in_ok-obey.ensures.ok in
     let under : k < block_count bytes = omega (arith, c.loop-k-test.true, c.blocks_for-k-end.ensures) in
     let at : k + 1 - 1 ≡ k = omega arith in
     let filled : slice_set before (k + 1 - 1) block ≡ so_far bytes (block_count bytes) (k + 1) =

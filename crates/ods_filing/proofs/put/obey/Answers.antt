@@ -1,14 +1,11 @@
-use Rattle.std.proofs.Common.{◌≡◌, sym, subst}
-use Rattle.std.specs.Prelude.{IfOk, IfErr, OnErr}
-use Rattle.ods_filing.specs.Filed.{Filed, IsDone, IsRefusedFor}
+use Rattle.std.proofs.lemmas.Result.{err_from_is_err_and}
+use Rattle.ods_filing.proofs.Done.{refused_now}
 use Rattle.ods_filing.proofs.put.obey.Goals as goal
 
-pub returns-in-Err-clause-err : goal.returns-in-Err-clause-err
-returns-in-Err-clause-err c =
-    let same = subst (λ x. OnErr x (c.request-next.result.0 ≡ c.args.filing)) c.in-Err.is c.request-next.ensures.unchanged in
-    let reason = subst (λ x. IfErr x (IsRefusedFor c.args.filing c.args.request)) c.in-Err.is c.request-next.ensures.refused in
-    (c.args.request, subst (λ (f : Filed). IsRefusedFor f c.args.request c.in-Err.refusal) (sym same) reason)
+pub returns-in_err-_made-clause-err : goal.returns-in_err-_made-clause-err
+returns-in_err-_made-clause-err c =
+    let p = err_from_is_err_and c.from_residual.result c.from_residual.ensures.1 in
+    rw (p.1, p.2) (refused_now _ c.args.filing.now c.request.new.self c.args.request c.in_err-_made.ensures.unchanged c.in_err-_made.ensures.refused)
 
 pub returns-clause-ok : goal.returns-clause-ok
-returns-clause-ok c =
-    (c.in-Ok.made, subst (λ x. IfOk x (λ a. IsDone c.args.filing c.args.request a c.request-next.result.0)) c.in-Ok.is c.request-next.ensures.accepted)
+returns-clause-ok c = (c.in_ok-_made._made, c.in_ok-_made.ensures.accepted)

@@ -5,4 +5,4 @@ use Rattle.ods_upkeep.proofs.copying.copy.Goals as goal
 
 pub returns : goal.returns
 returns c =
-    then_led {mid = c.next_version-filing.result.0} (asked (LookUp c.args.target.now.directory c.in_ok-name.name Highest) tt c.next_version-filing.ensures.looked) c.in_ok-filing.ensures
+    then_led (asked (LookUp c.args.target.now.directory c.in_ok-name.name Highest) tt c.next_version-version.ensures.looked) c.in_ok-_copy.ensures

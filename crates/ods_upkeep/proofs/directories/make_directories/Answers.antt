@@ -1,4 +1,4 @@
-use Rattle.std.proofs.Common.{◌≡◌, ◌≤◌, arith, refl, subst, ℕ, length}
+use Rattle.std.proofs.Common.{◌≡◌, arith, refl, subst, length}
 use Rattle.ods_upkeep.specs.Made.{AreMade}
 use Rattle.ods_upkeep.proofs.Made.{own_left, one_more}
 use Rattle.ods_upkeep.proofs.directories.make_directories.Goals as goal
@@ -7,13 +7,15 @@ pub loop-path-init : goal.loop-path-init
 loop-path-init c = (omega arith, refl)
 
 pub loop-path-preserved : goal.loop-path-preserved
-loop-path-preserved c = (omega (arith, c.loop-path-test.true), one_more c.args.owner c.args.asked.now.user c.args.asked.now.stamp c.args.volume c.loop-path.volume c.in-Ok.volume c.loop-path.path-index c.loop-path.invariant.1 c.in-Ok.ensures)
+loop-path-preserved c = (omega (arith, c.loop-path-test.true), one_more c.args.owner c.args.stamp c.args.filing.now c.loop-path.filing c.make_directory.new.filing c.loop-path.path-index c.loop-path.invariant.1 c.in_default.ensures)
+
+all : (c : goal.After-loop-path) → AreMade c.args.owner c.args.stamp c.args.filing.now (length c.args.paths.now) c.loop-path.filing
+all c =
+    let end : c.loop-path.path-index ≡ length c.args.paths.now = omega (arith, c.loop-path.invariant.0, c.loop-path-test.false) in
+    subst (λ n. AreMade c.args.owner c.args.stamp c.args.filing.now n c.loop-path.filing) end c.loop-path.invariant.1
 
 pub returns-clause-made : goal.returns-clause-made
-returns-clause-made c =
-    let all : c.loop-path.path-index ≡ length c.args.paths.now = omega (arith, c.loop-path.invariant.0, c.loop-path-test.false) in
-    subst (λ n. AreMade c.args.owner c.args.asked.now.user c.args.asked.now.stamp c.args.volume n c.loop-path.volume) all c.loop-path.invariant.1
+returns-clause-made c = all c
 
 pub returns-clause-own : goal.returns-clause-own
-returns-clause-own c =
-    λ own. own_left c.args.owner c.args.asked.now.user c.args.asked.now.stamp c.args.volume c.loop-path.path-index c.loop-path.volume c.loop-path.invariant.1 own
+returns-clause-own c = λ own. own_left c.args.owner c.args.stamp c.args.filing.now (length c.args.paths.now) c.loop-path.filing (all c) own

@@ -1,8 +1,7 @@
 use Rattle.std.specs.Prelude.{false}
 use Rattle.ods_filing.specs.Led.{IsLed}
 use Rattle.ods_upkeep.specs.Kinds.{Removes}
-use Rattle.ods_upkeep.specs.Left.{filed_for}
 use Rattle.ods_upkeep.proofs.directories.remove_path.Given as goal
 
 abbrev pub invariant-loop-found-2 : goal.invariant-loop-found-2
-invariant-loop-found-2 l = IsLed (Removes false) (filed_for l.fn.volume l.fn.asked.user) l.filing
+invariant-loop-found-2 l = IsLed (Removes false) l.initial.filing l.filing

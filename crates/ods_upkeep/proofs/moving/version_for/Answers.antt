@@ -4,4 +4,4 @@ use Rattle.ods_filing.proofs.Led.{asked}
 use Rattle.ods_upkeep.proofs.moving.version_for.Goals as goal
 
 pub returns-in-None : goal.returns-in-None
-returns-in-None c = asked (LookUp c.args.target.now.directory c.unwrap_or-name.result Highest) tt c.look_up-filing.ensures
+returns-in-None c = asked (LookUp c.args.target.now.directory c.unwrap_or-name.result Highest) tt c.look_up.ensures

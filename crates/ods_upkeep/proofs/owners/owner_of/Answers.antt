@@ -1,4 +1,4 @@
-use Rattle.std.proofs.Common.{◌≡◌, refl, sym, ◌∙◌, subst, inl, inr}
+use Rattle.std.proofs.Common.{refl, sym, ◌∙◌, subst, inr}
 use Rattle.ods_paths.specs.Numbers.{IsNumberedName}
 use Rattle.ods_upkeep.specs.Made.{IsOwner}
 use Rattle.ods_upkeep.proofs.owners.owner_of.Goals as goal

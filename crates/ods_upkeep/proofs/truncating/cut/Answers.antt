@@ -4,4 +4,4 @@ use Rattle.ods_upkeep.proofs.truncating.cut.Goals as goal
 
 pub returns : goal.returns
 returns c =
-    then_obeyed (SetUser c.args.facts.now.file c.in_ok-attributes.attributes) tt c.in_ok-filing.ensures (c.in_ok-filing-2.field-0-1, c.in_ok-filing-2.ensures)
+    then_obeyed (SetUser c.args.facts.now.file c.in_ok-attributes.attributes) tt c.in_ok-at_most.ensures (c.in_ok-_set._set, c.in_ok-_set.ensures)

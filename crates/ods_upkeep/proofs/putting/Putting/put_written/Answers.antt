@@ -11,7 +11,7 @@ use Rattle.ods_upkeep.proofs.putting.Putting.put_written.Goals as goal
 
 pub returns-clause-volume : goal.returns-clause-volume
 returns-clause-volume c =
-    let replaces = is_some c.putting.inside.names in
-    let looked : IsLed (Puts replaces) c.in_ok-filing.filing c.version_of-filing.result.0 = asked (LookUp c.putting.inside.target.directory c.args.name Highest) tt c.version_of-filing.ensures.looked in
-    subst (λ (p : InPut). IsPut (Puts p.replaces) p.owner p.volume c.in_ok-filing-2.filing) c.putting.view_is
-    (put_done replaces c.putting.inside.owner c.putting.inside.filing c.version_of-filing.result.0 c.in_ok-filing-2.filing (then_led c.in_ok-filing.ensures.volume looked) c.in_ok-filing-2.ensures)
+    let replaces = is_some c.self.inside.names in
+    let looked : IsLed (Puts replaces) c.make_room.new.filing c.version_of-version.new.filing = asked (LookUp c.self.inside.target.directory c.args.name Highest) tt c.version_of-version.ensures.looked in
+    subst (λ (p : InPut). IsPut (Puts p.replaces) p.owner c.args.filing.now c.put_for.new.filing) c.self.view_is
+    (put_done replaces c.self.inside.owner c.args.filing.now c.version_of-version.new.filing c.put_for.new.filing (then_led c.in_ok-version.ensures.volume looked) c.in_ok-id.ensures)

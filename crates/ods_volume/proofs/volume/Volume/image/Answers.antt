@@ -6,4 +6,4 @@ use Rattle.ods_volume.proofs.volume.Volume.image.Goals as goal
 
 pub returns-clause-no_fault : goal.returns-clause-no_fault
 returns-clause-no_fault c =
-    subst (λ (v : State). IsSound v.image) c.self.view_is (IsSound-by c.self.inside.image c.self.inside.layout c.self.invariant.lawful.version.sound)
+    subst (λ (v : State). IsSound v.image) c.self.view_is (IsSound-by c.self.inside.sound.image c.self.inside.sound.layout c.self.invariant.lawful.version.sound)

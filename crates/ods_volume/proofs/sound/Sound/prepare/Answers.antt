@@ -1,0 +1,27 @@
+use Rattle.std.proofs.Common.{◌≡◌, ◌∙◌, subst}
+use Rattle.ods_space.specs.Layout.{Disk}
+use Rattle.ods_state.specs.Served.{IsRefusalOf}
+use Rattle.ods_request.specs.declared.refusals.Refusal.TheVariants as refusal
+use Rattle.ods_volume.specs.Changing.{IsChangeFor, Parts}
+use Rattle.ods_volume.proofs.Stepped.{short_of_memory}
+use Rattle.ods_volume.proofs.sound.Sound.prepare.Goals as goal
+
+pub returns-in-Err : goal.returns-in-Err
+returns-in-Err c =
+    let lent : record { image = c.disk-disk.result.image.now; layout = c.disk-disk.result.layout.now } ≡ c.self.inside.mounted = λ i. record { image = c.disk-disk.ensures.image i; layout = c.disk-disk.ensures.layout i } in
+    subst (λ (d : Disk). IsRefusalOf d.image d.layout c.args.who c.args.request.now c.in-Err.refusal) (lent ∙ c.self.view_is) c.in-Err.ensures.step
+
+pub returns-in_default : goal.returns-in_default
+returns-in_default c =
+    let lent : record { image = c.disk-disk.result.image.now; layout = c.disk-disk.result.layout.now } ≡ c.self.inside.mounted = λ i. record { image = c.disk-disk.ensures.image i; layout = c.disk-disk.ensures.layout i } in
+    subst (λ (d : Disk). IsRefusalOf d.image d.layout c.args.who c.args.request.now refusal.NoMemory) (lent ∙ c.self.view_is)
+    (short_of_memory c.disk-disk.result.image.now c.disk-disk.result.layout.now c.args.who c.args.request.now c.carry_out.new.answer _ _ c.in-Ok.ensures.step c.in_default.ensures.err)
+
+pub returns : goal.returns
+returns c =
+    let lent : record { image = c.disk-disk.result.image.now; layout = c.disk-disk.result.layout.now } ≡ c.self.inside.mounted = λ i. record { image = c.disk-disk.ensures.image i; layout = c.disk-disk.ensures.layout i } in
+    let made : Parts = record { changes = c.in-Ok.carried.0.draft; places = c.in-Ok.carried.0.places.items; counts = c.in-Ok-counts_after.counts; end = c.in-Ok.carried.1 } in
+    subst (λ (d : Disk). IsChangeFor d c.args.who c.args.request.now c.carry_out.new.answer made) (lent ∙ c.self.view_is) (record {
+      step = c.in-Ok.ensures.step;
+      lawful = record { sound = c.in-Ok.ensures.step.sound; counted = c.in-Ok-counts_after.ensures.ok; ended = c.in-Ok.ensures.end };
+    })

@@ -1,0 +1,44 @@
+-- What a request makes of a sound volume that keeps no list.
+use Rattle.std.specs.Prelude.{◌≡◌, ℕ, List, Option}
+use Rattle.ods_base.specs.declared.file_id.Uic.{Uic}
+use Rattle.ods_space.specs.Draft.{Changes, applied}
+use Rattle.ods_space.specs.Layout.{Disk, with_places}
+use Rattle.ods_alloc.specs.Counts.{Counts, AreCountsAfter, counts_of}
+use Rattle.ods_mount.specs.Sound.{IsSoundBy}
+use Rattle.ods_request.specs.declared.requests.Request.{Request}
+use Rattle.ods_request.specs.declared.answers.Answer.{Answer}
+use Rattle.ods_state.specs.declared.known_end.KnownEnd.{KnownEnd}
+use Rattle.ods_state.specs.Ends.{IsKnownIn}
+use Rattle.ods_state.specs.Served.{IsStepOf}
+
+-- the volume is sound, these are its counts, and what is noted of where a file's chain ends is true of it
+pub record IsNoted (D : Disk) (counts : Counts) (end : Option KnownEnd) : Type 0 where
+  pub sound : IsSoundBy D.image D.layout
+  pub counted : counts ≡ counts_of D.image D.layout
+  pub ended : IsKnownIn D.image D.layout end
+
+-- the blocks that a change writes, those that INDEXF.SYS gets, the counts of the bitmaps afterwards, where they are made anew, and what is noted then of where a file's chain ends
+pub record Parts : Type 0 where
+  pub changes : Changes
+  pub places : List ℕ
+  pub counts : Option Counts
+  pub end : Option KnownEnd
+
+-- the volume with the change made
+abbrev pub changed : Disk → Parts → Disk
+changed D p = record { image = applied D.image p.changes; layout = with_places D.layout p.places }
+
+-- E is what a request, answered so, makes of the volume D
+abbrev pub IsStep : Disk → Uic → Request → Answer → Disk → Type 0
+IsStep D who r a E = IsStepOf D.image D.layout who r a E.image E.layout
+
+-- The change leaves a sound volume, and its counts and what it notes are true of what it leaves.
+pub record IsLawfulChange (D : Disk) (p : Parts) : Type 0 where
+  pub sound : IsSoundBy (applied D.image p.changes) (with_places D.layout p.places)
+  pub counted : AreCountsAfter D.image (applied D.image p.changes) D.layout p.counts
+  pub ended : IsKnownIn (applied D.image p.changes) (with_places D.layout p.places) p.end
+
+-- The change is what a request, answered so, makes of the volume.
+pub record IsChangeFor (D : Disk) (who : Uic) (r : Request) (a : Answer) (p : Parts) : Type 0 where
+  pub step : IsStep D who r a (changed D p)
+  pub lawful : IsLawfulChange D p

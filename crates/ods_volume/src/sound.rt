@@ -1,0 +1,197 @@
+//! A sound volume that changes by requests, and keeps no list of them.
+ghost use Rattle.std.specs.Prelude.{◌≡◌, length, unwrap_or, MatchResult, IfOk, IfErr, OnErr};
+ghost use Rattle.ods_alloc.specs.Counts.{free_counts};
+ghost use Rattle.ods_mount.specs.Sound.{IsSoundBy};
+ghost use Rattle.ods_space.specs.{Disks.on, Free.free_blocks, Free.free_numbers};
+ghost use Rattle.ods_state.specs.{Outcome.CanBeAsked, Served.IsRefusalOf};
+ghost use Rattle.ods_volume.specs.Changing.{IsChangeFor, IsLawfulChange, IsStep, changed};
+
+use crate::prepare::{carry_out, counts_after};
+use ods_alloc::FreeCounts;
+use ods_base::{NoMemory, Uic};
+use ods_mount::Mounted;
+use ods_request::{Answer, Refusal, Request};
+use ods_space::{Disk, Draft};
+use ods_state::KnownEnd;
+use std::alloc::Global;
+use std::marker::Model;
+
+/// A sound image with its layout, which changes by requests. What is free is counted for each block of the bitmaps, so that a request
+/// reads none of which nothing is left. Where the chain of the file ends that was extended last is noted, so that its next Extend
+/// does not walk along it. The image is always sound, and the counts are those made anew of it.
+#[derive(Drop)]
+pub struct Sound {
+    alloc: Global,
+    mounted: Mounted,
+    counts: FreeCounts,
+    end: Option<KnownEnd>,
+}
+
+impl Model for Sound {
+    ghost use Rattle.ods_space.specs.Layout.{Disk};
+    ghost use Rattle.ods_volume.specs.Changing.{IsNoted};
+
+    ghost Value = { Disk };
+
+    ghost view = { λ s. s.mounted };
+
+    ghost invariant = { λ s. IsNoted s.mounted s.counts s.end };
+}
+
+/// What an accepted request changes: the blocks, and those that INDEXF.SYS gets. It has the counts of the bitmaps afterwards, where they
+/// are made anew, and what is noted then of where a file's chain ends. All the memory that the change takes is taken.
+#[derive(Drop)]
+pub struct Change {
+    pub(crate) draft: Draft,
+    pub(crate) places: Vec<u32>,
+    counts: Option<FreeCounts>,
+    end: Option<KnownEnd>,
+}
+
+impl Model for Change {
+    ghost use Rattle.ods_volume.specs.Changing.{Parts};
+
+    ghost Value = { Parts };
+
+    ghost view = { λ c. record { changes = c.draft; places = c.places.items; counts = c.counts; end = c.end } };
+}
+
+/// The new counts take the place of those that are kept; where there are none, those stay.
+fn put_counts(kept: &mut FreeCounts, new: Option<FreeCounts>)
+    ensures { kept.new ≡ unwrap_or new kept.old }
+{
+    if let Some(counts) = new {
+        *kept = counts;
+    }
+}
+
+impl Sound {
+    /// The mounted image, with what is free counted. After an error it comes back.
+    pub fn new(alloc: Global, mounted: Mounted) -> Result<Sound, (Mounted, NoMemory)>
+        ensures ok { IfOk result (λ s. s ≡ mounted) }
+        ensures err { IfErr result (λ e. e.0 ≡ mounted) }
+    {
+        let counts = match FreeCounts::of(alloc, &mounted.disk()) {
+            Ok(counts) => counts,
+            Err(_) => return Err((mounted, NoMemory)),
+        };
+        Ok(Sound {
+            alloc,
+            mounted,
+            counts,
+            end: None,
+        })
+    }
+
+    /// The volume as it is now. It takes no memory.
+    pub fn into_mounted(self) -> Mounted
+        ensures { result ≡ self }
+    {
+        self.mounted
+    }
+
+    /// The volume as it is now, which is mounted and sound.
+    pub fn mounted(&self) -> &Mounted
+        ensures { result.now ≡ self.now }
+    {
+        &self.mounted
+    }
+
+    /// The image with its layout, as they are now.
+    pub fn disk(&self) -> Disk<'_>
+        ensures image { result.image.now ≡ self.now.image }
+        ensures layout { result.layout.now ≡ self.now.layout }
+        ensures sound { on IsSoundBy result }
+    {
+        self.mounted.disk()
+    }
+
+    /// How many blocks are free.
+    pub fn free_count(&self) -> u32
+        ensures { result ≡ length (free_blocks self.now.image self.now.layout) }
+    {
+        self.counts.total()
+    }
+
+    /// How many free blocks each block of the storage bitmap covers, in order; the storage control block is not counted. The counts
+    /// are kept, and equal those that are made anew of the image.
+    pub fn counts(&self) -> &[u32]
+        ensures { result.now ≡ free_counts self.now.image self.now.layout }
+    {
+        self.counts.as_slice()
+    }
+
+    /// How many file numbers are free.
+    pub fn number_count(&self) -> u32
+        ensures { result ≡ length (free_numbers self.now.image self.now.layout) }
+    {
+        ods_alloc::number_count(&self.disk())
+    }
+
+    /// Writes what a request would be answered into this place, and gives what it would change, with all the memory that this takes. The
+    /// volume stays as it is.
+    pub fn prepare(
+        &self,
+        who: Uic,
+        request: &Request,
+        answer: &mut Answer,
+    ) -> Result<Change, Refusal>
+        // A version that is given is 1 to 32,767.
+        requires { CanBeAsked request.now }
+        ensures { MatchResult result (IsChangeFor self.now who request.now answer.new)
+            (IsRefusalOf self.now.image self.now.layout who request.now) }
+    {
+        let disk = self.mounted.disk();
+        let (drafted, end) = match carry_out(
+            self.alloc,
+            &disk,
+            &self.counts,
+            who,
+            request,
+            &self.end,
+            answer,
+        ) {
+            Ok(carried) => carried,
+            Err(refusal) => return Err(refusal),
+        };
+        let Ok(counts) = counts_after(&self.counts, &disk, request, &drafted.draft) else {
+            return Err(Refusal::NoMemory);
+        };
+        Ok(Change {
+            draft: drafted.draft,
+            places: drafted.places,
+            counts,
+            end,
+        })
+    }
+
+    /// Makes a change that was prepared for this volume as it is. It takes no memory and never fails.
+    pub fn apply(&mut self, change: Change)
+        requires { IsLawfulChange self.old change }
+        ensures { self.new ≡ changed self.old change }
+    {
+        self.mounted.apply(change.draft, &change.places);
+        put_counts(&mut self.counts, change.counts);
+        self.end = change.end;
+    }
+
+    /// Prepares a request and makes its change. Refused, it changes nothing.
+    pub fn request(&mut self, who: Uic, request: &Request) -> Result<Answer, Refusal>
+        // A version that is given is 1 to 32,767.
+        requires { CanBeAsked request.now }
+        // Accepted, it is the step of each catalogue that the blocks show.
+        ensures accepted { IfOk result (λ a. IsStep self.old who request.now a self.new) }
+        // Refused, its first fault is the reason, or what the volume lacks, or want of memory.
+        ensures refused { IfErr result (IsRefusalOf self.old.image self.old.layout who request.now) }
+        ensures unchanged { OnErr result (self.new ≡ self.old) }
+    {
+        let mut answer = Answer::Done;
+        match self.prepare(who, request, &mut answer) {
+            Ok(change) => {
+                self.apply(change);
+                Ok(answer)
+            }
+            Err(refusal) => Err(refusal),
+        }
+    }
+}
