@@ -6,7 +6,7 @@ use fs_reads::Stop;
 use fs_words::{PutWords, Words};
 use ods_filing::Filing;
 use ods_request::Stamp;
-use ods_shell::{Status, space_of};
+use ods_shell::Status;
 use ods_upkeep::{HostFile, PutForm, Putting};
 use std::fs;
 use std::fs::File;
@@ -30,7 +30,7 @@ pub fn put<'a, R: Files<File = File> + AllocGlobal + Eprint>(
         let _ = eprintln!(rt; "f11fs: -: standard input wants a PATH");
         return Err(Stop::Said(Status::Words));
     }
-    let room = u64::from(space_of(filing.mounted()).free).saturating_mul(512);
+    let room = u64::from(filing.free_count()).saturating_mul(512);
     let begun = Putting::begin(
         rt.alloc(),
         filing.mounted(),

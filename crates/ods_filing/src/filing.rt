@@ -1,6 +1,6 @@
 //! Requests of a user on a sound volume.
-ghost use Rattle.std.specs.Prelude.{◌≡◌, IfOk, IfErr, OnErr};
-ghost use Rattle.ods_space.specs.Disks.{on};
+ghost use Rattle.std.specs.Prelude.{◌≡◌, length, IfOk, IfErr, OnErr};
+ghost use Rattle.ods_space.specs.{Disks.on, Free.free_blocks};
 ghost use Rattle.ods_mount.specs.Sound.{IsSoundBy};
 ghost use Rattle.ods_state.specs.{Outcome.CanBeAsked, Served.IsRefusalOf};
 ghost use Rattle.ods_filing.specs.Filed.{for_another, IsDone};
@@ -73,6 +73,13 @@ impl Filing {
         ensures sound { on IsSoundBy result }
     {
         self.sound.disk()
+    }
+
+    /// How many blocks are free. They are counted for each block of the bitmap, so the bitmap is not read.
+    pub fn free_count(&self) -> u32
+        ensures { result ≡ length (free_blocks self.now.image self.now.layout) }
+    {
+        self.sound.free_count()
     }
 
     /// The user that asks.
