@@ -1,6 +1,5 @@
 pub mod Replies
 pub mod Serving
-pub mod Sampled
 pub mod Printing
 pub mod Parsing
 pub mod Parts

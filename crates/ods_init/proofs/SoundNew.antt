@@ -20,19 +20,21 @@ use Rattle.ods_space.proofs.Chains.{same_chain}
 use Rattle.ods_space.proofs.Surveyed.{same_blocks}
 use Rattle.ods_directory.specs.Names.{IsDirectory}
 use Rattle.ods_directory.specs.Mark.{mark_in}
-use Rattle.ods_mount.specs.Faults.{IsDirectoryFile, CouldBeWritten, contents_of, mark_at}
+use Rattle.ods_mount.specs.Faults.{IsDirectoryFile, CouldBeWritten, IsSound, contents_of, mark_at}
 use Rattle.ods_mount.specs.Sound.{IsSoundBy}
 use Rattle.ods_mount.proofs.Layouts.{same_place}
 use Rattle.ods_mount.proofs.Soundness.{IsSound-by}
 use Rattle.ods_init.specs.declared.places.Places.{Places}
+use Rattle.ods_init.specs.declared.blueprint.Details.{Details}
+use Rattle.ods_init.specs.declared.blueprint.Blueprint.{Blueprint}
 use Rattle.ods_init.specs.declared.volume.NewVolume.{NewVolume}
 use Rattle.ods_init.specs.Places.{places, first_of, count_of, AreFit}
-use Rattle.ods_init.specs.Blocks.{IsNewBlock, IsReservedHeader, protection, master_attributes, master_block}
-use Rattle.ods_init.specs.New.{IsPossible, NewIsSound}
+use Rattle.ods_init.specs.Blocks.{IsNewBlock, IsReservedHeader, protection, master_attributes, master_block, reserved_attributes}
+use Rattle.ods_init.specs.New.{IsPossible, IsVolumeOf, NewIsSound, blueprint_of}
 use Rattle.ods_init.proofs.MasterNames.{master_is_directory}
 
 -- the places of a volume that there can be
-fit_places : (V : NewVolume) → IsPossible V → AreFit V.blocks (places V.blocks V.files)
+pub fit_places : (V : NewVolume) → IsPossible V → AreFit V.blocks (places V.blocks V.files)
 fit_places V p =
     let least = p.least in
     let most_blocks = p.most in
@@ -62,11 +64,19 @@ range_got a n i b e =
     let within : i < n = omega (arith, slice_get_within (range_with_len a n) i b e, length-range_with_len a n) in
     (within, sym (get_or-range_with_len a n i 0 within) ∙ get_or_from_slice_get (range_with_len a n) i b 0 e)
 
+-- the attributes of the master directory, on a bare volume too
+master_told : (details : Option Details) (n : ℕ) → reserved_attributes details 4 n ≡ master_attributes
+master_told None n = refl
+master_told (Some d) n = refl
+
 one_of : (m x : ℕ) → Contains (m ∷ []) x → m ≡ x
 one_of m x (zero, below, is) = is
 one_of m x (suc i, below, is) = absurd (omega arith)
 
-module _ (V : NewVolume) (P : Places) (I : List (List ℕ)) (f : AreFit V.blocks P) (size : length I ≡ V.blocks) (each : (lbn : ℕ) → lbn < V.blocks → IsNewBlock V P lbn (block_at I lbn)) where
+module _ (W : Blueprint) (I : List (List ℕ)) (f : AreFit W.blocks W.places) (size : length I ≡ W.blocks) (each : (lbn : ℕ) → lbn < W.blocks → IsNewBlock W lbn (block_at I lbn)) where
+  abbrev P : Places
+  P = W.places
+
   abbrev h : Home
   h = record { index_bitmap_size = P.index_bitmap_size; index_bitmap_lbn = 2; max_files = P.most_files; protection = protection }
 
@@ -110,10 +120,10 @@ module _ (V : NewVolume) (P : Places) (I : List (List ℕ)) (f : AreFit V.blocks
       let at : 2 + P.index_bitmap_size + n - 1 ≡ 1 + P.index_bitmap_size + n = omega arith in
       rw (e, g, at) refl
 
-  head : (n : ℕ) → 1 ≤ n → n ≤ 5 → IsReservedHeader V P n (block_at I (1 + P.index_bitmap_size + n))
+  head : (n : ℕ) → 1 ≤ n → n ≤ 5 → IsReservedHeader W n (block_at I (1 + P.index_bitmap_size + n))
   head n first last =
       let at : (1 + P.index_bitmap_size + n) - (1 + P.index_bitmap_size) ≡ n = omega arith in
-      subst (λ k. IsReservedHeader V P k (block_at I (1 + P.index_bitmap_size + n))) at
+      subst (λ k. IsReservedHeader W k (block_at I (1 + P.index_bitmap_size + n))) at
       ((each (1 + P.index_bitmap_size + n) (omega (arith, f.inside, f.master, f.control))).header (omega arith) (omega arith))
 
   segment_at : (index : List ℕ) (n last : ℕ) → 1 ≤ n → n ≤ 5 → 5 ≤ last → IsSegment I h index last n 0
@@ -267,7 +277,7 @@ module _ (V : NewVolume) (P : Places) (I : List (List ℕ)) (f : AreFit V.blocks
   master_file : IsDirectory (contents_of I (own 4)) (mark_at I L 4 (own 4))
   master_file =
       let block : block_at I P.master ≡ master_block = (each P.master f.inside).master refl in
-      let attributes : attributes_of (header_at I L 4) ≡ master_attributes = ap attributes_of (header_is L.index 4 (omega arith) (omega arith)) ∙ ap (λ (x : Header). x.attributes) (head 4 (omega arith) (omega arith)).fields in
+      let attributes : attributes_of (header_at I L 4) ≡ master_attributes = ap attributes_of (header_is L.index 4 (omega arith) (omega arith)) ∙ ap (λ (x : Header). x.attributes) (head 4 (omega arith) (omega arith)).fields ∙ master_told W.details (count_of W.places 4) in
       let mark : mark_at I L 4 (own 4) ≡ 80 = ap (λ (xs : List ℕ). mark_in xs 1) attributes in
       subst (λ (m : ℕ). IsDirectory (block_at I P.master ∷ []) m) (sym mark) (subst (λ (b : List ℕ). IsDirectory (b ∷ []) 80) (sym block) master_is_directory)
 
@@ -296,6 +306,10 @@ module _ (V : NewVolume) (P : Places) (I : List (List ℕ)) (f : AreFit V.blocks
     directories = directories;
   }
 
+-- no fault is true of the volume of a blueprint whose structures fit
+pub volume_is_sound : (W : Blueprint) (I : List (List ℕ)) → AreFit W.blocks W.places → IsVolumeOf W I → IsSound I
+volume_is_sound W I fit new = IsSound-by I _ (sound_by W I fit new.size new.each)
+
 -- no fault is true of a new volume
 pub new_is_sound : NewIsSound
-new_is_sound V I possible new = IsSound-by I _ (sound_by V (places V.blocks V.files) I (fit_places V possible) new.size new.each)
+new_is_sound V I possible new = volume_is_sound (blueprint_of V) I (fit_places V possible) new

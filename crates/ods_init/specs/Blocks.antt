@@ -1,5 +1,5 @@
 -- What stands in the blocks of a new volume.
-use Rattle.std.specs.Prelude.{◌≡◌, ℕ, ◌+◌, ◌-◌, ◌*◌, ◌%◌, ◌<◌, ◌≤◌, ◌⊎◌, ◌&&◌, ◌||◌, ◌==◌, nat_le, nat_lt, min, if◌then◌else◌, List, [], ◌∷◌, ◌++◌, length, replicate, slice_range}
+use Rattle.std.specs.Prelude.{◌≡◌, ℕ, ◌+◌, ◌-◌, ◌*◌, ◌/◌, ◌%◌, ◌<◌, ◌≤◌, ◌⊎◌, ◌&&◌, ◌||◌, ◌==◌, nat_le, nat_lt, min, if◌then◌else◌, List, [], ◌∷◌, ◌++◌, length, replicate, slice_range, Option, None, Some}
 use Rattle.std.specs.List.{flat_map, range_with_len}
 use Rattle.ods_base.specs.Name.{RadName}
 use Rattle.ods_base.specs.Block.{byte, word, has_bit, with_bytes, zeros}
@@ -10,9 +10,9 @@ use Rattle.ods_header.specs.First.{first_header}
 use Rattle.ods_header.specs.Writing.{AreZeros}
 use Rattle.ods_request.specs.Steps.{word_bytes, new_ident}
 use Rattle.ods_init.specs.declared.places.Places.{Places}
-use Rattle.ods_init.specs.declared.volume.NewVolume.{NewVolume}
-use Rattle.ods_init.specs.Label.{zero_padded}
-use Rattle.ods_init.specs.HomeBytes.{front_bytes, middle_bytes, end_bytes}
+use Rattle.ods_init.specs.declared.blueprint.Details.{Details}
+use Rattle.ods_init.specs.declared.blueprint.Blueprint.{Blueprint}
+use Rattle.ods_init.specs.HomeBytes.{front_bytes, home_text}
 use Rattle.ods_init.specs.Places.{first_of, count_of}
 
 -- what new files and the reserved ones deny: the world may only read
@@ -36,56 +36,67 @@ fixed_attributes record_size blocks end_block end_byte = flat_map word_bytes (1 
 abbrev pub master_attributes : List ℕ
 master_attributes = fixed_attributes 16 1 1 80
 
--- the attributes of the reserved file of this number, of so many blocks: of INDEXF.SYS and BITMAP.SYS each block is a record, and all are in use
-abbrev pub reserved_attributes : ℕ → ℕ → List ℕ
-reserved_attributes n blocks =
+-- the attributes of the reserved file of this number, of so many blocks: of INDEXF.SYS and BITMAP.SYS each block is a record, and all are in use; a bare volume does not say so
+abbrev pub reserved_attributes : Option Details → ℕ → ℕ → List ℕ
+reserved_attributes None n blocks = if n == 4 then master_attributes else replicate 32 0
+reserved_attributes (Some d) n blocks =
     if (n == 1) || (n == 2) then fixed_attributes 512 blocks (blocks + 1) 0
     else if n == 4 then master_attributes
     else replicate 32 0
 
--- UC.CON of H.UCHA, 200 octal: the blocks of BITMAP.SYS follow one another
-abbrev pub reserved_characteristics : ℕ → ℕ
-reserved_characteristics n = if n == 2 then 128 else 0
+-- UC.CON of H.UCHA, 200 octal: the blocks of BITMAP.SYS follow one another; a bare volume does not say so
+abbrev pub reserved_characteristics : Option Details → ℕ → ℕ
+reserved_characteristics None n = 0
+reserved_characteristics (Some d) n = if n == 2 then 128 else 0
 
--- the fields of its header, its pointers aside: sequence number n, version 1, the volume's owner and stamp, no next header
-abbrev pub reserved_header : NewVolume → Places → ℕ → Header
-reserved_header V P n =
-    let first = first_header (record { number = n; sequence = n }) V.owner protection (reserved_attributes n (count_of P n)) (new_ident (reserved_name n) 1 V.stamp) in
-    record first { user_char = reserved_characteristics n }
+-- the ident of a file with no dates: its name, its type and version 1
+abbrev pub bare_ident : RadName → List ℕ
+bare_ident name = flat_map word_bytes (name.words ++ name.ext ∷ 1 ∷ []) ++ replicate 36 0
 
--- b is that header: valid, with these fields, and its pointers name the blocks of the file
-pub record IsReservedHeader (V : NewVolume) (P : Places) (n : ℕ) (b : List ℕ) : Type 0 where
+-- the ident of a reserved file: version 1, and its dates, if there are any
+abbrev pub reserved_ident : Option Details → RadName → List ℕ
+reserved_ident None name = bare_ident name
+reserved_ident (Some d) name = new_ident name 1 d.stamp
+
+-- the fields of its header, its pointers aside: sequence number n, version 1, the volume's owner, no next header
+abbrev pub reserved_header : Blueprint → ℕ → Header
+reserved_header W n =
+    let attributes = reserved_attributes W.details n (count_of W.places n) in
+    let first = first_header (record { number = n; sequence = n }) W.owner protection attributes (reserved_ident W.details (reserved_name n)) in
+    record first { user_char = reserved_characteristics W.details n }
+
+-- b is that header: valid, with these fields, and as few pointers as there can be name the blocks of the file
+pub record IsReservedHeader (W : Blueprint) (n : ℕ) (b : List ℕ) : Type 0 where
   pub valid : IsValidHeader b n
-  pub fields : header_of b ≡ record (reserved_header V P n) { pointers = record { items = runs_of b } }
-  pub blocks : blocks_of b ≡ range_with_len (first_of P n) (count_of P n)
+  pub fields : header_of b ≡ record (reserved_header W n) { pointers = record { items = runs_of b } }
+  pub blocks : blocks_of b ≡ range_with_len (first_of W.places n) (count_of W.places n)
+  pub few : length (runs_of b) ≡ (count_of W.places n + 255) / 256
   pub rest : AreZeros b (102 + 4 * length (runs_of b)) 510
 
--- b is the home block, byte by byte: the fields that the volume is read by, and those that its people see
-pub record IsNewHome (V : NewVolume) (P : Places) (b : List ℕ) : Type 0 where
+-- b is the home block, byte by byte: the fields that the volume is read by, and what it says to people and to RSX
+pub record IsNewHome (W : Blueprint) (b : List ℕ) : Type 0 where
   pub home : IsHome b
-  pub fields : home_of b ≡ record { index_bitmap_size = P.index_bitmap_size; index_bitmap_lbn = 2; max_files = P.most_files; protection = protection }
+  pub fields : home_of b ≡ record { index_bitmap_size = W.places.index_bitmap_size; index_bitmap_lbn = 2; max_files = W.places.most_files; protection = protection }
   -- H.VNAM: the label, zero bytes behind it
-  pub label : slice_range b 14 26 ≡ zero_padded V.label
+  pub label : slice_range b 14 26 ≡ (home_text W).name
   -- H.INDN: the label, spaces behind it
-  pub label_again : slice_range b 472 484 ≡ V.label
-  -- H.VOWN: the owner
-  pub owner : word b 15 ≡ V.owner.member + 256 * V.owner.group
+  pub label_again : slice_range b 472 484 ≡ (home_text W).label
   -- what stands before the label, from the owner on, and behind the other label
-  pub front : slice_range b 0 14 ≡ front_bytes P.index_bitmap_size P.most_files
-  pub middle : slice_range b 30 58 ≡ middle_bytes V.owner
-  pub end : slice_range b 484 508 ≡ end_bytes
+  pub front : slice_range b 0 14 ≡ front_bytes W.places.index_bitmap_size W.places.most_files
+  pub middle : slice_range b 30 58 ≡ (home_text W).middle
+  pub end : slice_range b 484 508 ≡ (home_text W).end
   -- all else but the sums is zeros
   pub rest : AreZeros b 26 30 × AreZeros b 73 472 × AreZeros b 508 510
   -- H.VDAT: when it was made
-  pub stamp : slice_range b 60 73 ≡ V.stamp
+  pub stamp : slice_range b 60 73 ≡ (home_text W).stamp
 
 -- of the 4,096 bits of b, those from one on and before the other are set
 abbrev pub HasBits : List ℕ → ℕ → ℕ → Type 0
 HasBits b from end = (i : ℕ) → i < 4096 → has_bit b i ≡ (nat_le from i && nat_lt i end)
 
--- of the 4,096 blocks from this one on so many are free
-abbrev pub free_in : NewVolume → Places → ℕ → ℕ
-free_in V P from = min (V.blocks - from) 4096 - min (P.master + 1 - from) 4096
+-- of so many blocks, and of the 4,096 from this one on, so many are free
+abbrev pub free_in : ℕ → Places → ℕ → ℕ
+free_in total P from = min (total - from) 4096 - min (P.master + 1 - from) 4096
 
 -- the first of them, where there is one, counted from this one
 abbrev pub first_in : Places → ℕ → ℕ
@@ -96,14 +107,19 @@ abbrev pub counted : ℕ → ℕ
 counted map_blocks = if nat_le map_blocks 126 then map_blocks else 0
 
 -- b is the storage control block: how many blocks the bitmap has (the low byte of that count); by each that is counted, how many blocks are free and the first of them; the size of the volume
-pub record IsControlBlock (V : NewVolume) (P : Places) (b : List ℕ) : Type 0 where
+pub record IsControlBlock (total : ℕ) (P : Places) (b : List ℕ) : Type 0 where
   pub count : byte b 3 ≡ P.map_blocks % 256
-  pub free : (k : ℕ) → k < counted P.map_blocks → word b (2 + 2 * k) ≡ free_in V P (4096 * k)
+  pub free : (k : ℕ) → k < counted P.map_blocks → word b (2 + 2 * k) ≡ free_in total P (4096 * k)
   pub first : (k : ℕ) → k < counted P.map_blocks → word b (3 + 2 * k) ≡ first_in P (4096 * k)
-  pub size : 65536 * word b (2 + 2 * counted P.map_blocks) + word b (3 + 2 * counted P.map_blocks) ≡ V.blocks
+  pub size : 65536 * word b (2 + 2 * counted P.map_blocks) + word b (3 + 2 * counted P.map_blocks) ≡ total
   -- all else is zeros
   pub before : AreZeros b 0 3
   pub behind : AreZeros b (8 + 4 * counted P.map_blocks) 512
+
+-- b stands where the storage control block does: on a bare volume it is zeros
+abbrev pub IsControlOf : Option Details → Blueprint → List ℕ → Type 0
+IsControlOf None W b = b ≡ zeros
+IsControlOf (Some d) W b = IsControlBlock W.blocks W.places b
 
 -- the bytes of a block that begins with these, and has zeros behind them
 abbrev pub starting : List ℕ → List ℕ
@@ -117,19 +133,22 @@ reserved_entry n = flat_map word_bytes (n ∷ n ∷ 0 ∷ (reserved_name n).word
 abbrev pub master_block : List ℕ
 master_block = starting (flat_map reserved_entry (range_with_len 1 5))
 
--- What stands at an LBN of a new volume.
-pub record IsNewBlock (V : NewVolume) (P : Places) (lbn : ℕ) (b : List ℕ) : Type 0 where
+-- What stands at an LBN of the volume of a blueprint.
+pub record IsNewBlock (W : Blueprint) (lbn : ℕ) (b : List ℕ) : Type 0 where
   -- the home block
-  pub home : lbn ≡ 1 → IsNewHome V P b
+  pub home : lbn ≡ 1 → IsNewHome W b
   -- the index bitmap: numbers 1 to 5 are in use
-  pub index_bitmap : 2 ≤ lbn → lbn < 2 + P.index_bitmap_size → HasBits b 0 (5 - 4096 * (lbn - 2))
+  pub index_bitmap : 2 ≤ lbn → lbn < 2 + W.places.index_bitmap_size → HasBits b 0 (5 - 4096 * (lbn - 2))
   -- headers 1 to 5
-  pub header : 2 + P.index_bitmap_size ≤ lbn → lbn < 7 + P.index_bitmap_size → IsReservedHeader V P (lbn - (1 + P.index_bitmap_size)) b
+  pub header : 2 + W.places.index_bitmap_size ≤ lbn → lbn < 7 + W.places.index_bitmap_size → IsReservedHeader W (lbn - (1 + W.places.index_bitmap_size)) b
   -- the storage control block
-  pub control : lbn ≡ P.control → IsControlBlock V P b
+  pub control : lbn ≡ W.places.control → IsControlOf W.details W b
   -- the storage bitmap: the blocks behind the master directory are free
-  pub storage_bitmap : P.control < lbn → lbn < P.master → HasBits b (P.master + 1 - 4096 * (lbn - (P.control + 1))) (V.blocks - 4096 * (lbn - (P.control + 1)))
+  pub storage_bitmap : W.places.control < lbn → lbn < W.places.master →
+      HasBits b (W.places.master + 1 - 4096 * (lbn - (W.places.control + 1))) (W.blocks - 4096 * (lbn - (W.places.control + 1)))
   -- the master directory
-  pub master : lbn ≡ P.master → b ≡ master_block
-  -- the boot block, the other headers, and the free blocks: zeros
-  pub empty : (lbn ≡ 0) ⊎ ((7 + P.index_bitmap_size ≤ lbn) × (lbn < P.control)) ⊎ (P.master < lbn) → b ≡ zeros
+  pub master : lbn ≡ W.places.master → b ≡ master_block
+  -- the boot block and the other headers: zeros
+  pub empty : (lbn ≡ 0) ⊎ ((7 + W.places.index_bitmap_size ≤ lbn) × (lbn < W.places.control)) → b ≡ zeros
+  -- the free blocks, each byte of which is that of the blueprint
+  pub free : W.places.master < lbn → b ≡ replicate 512 W.filling

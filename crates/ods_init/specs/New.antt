@@ -1,6 +1,7 @@
 -- What a new volume is.
-use Rattle.std.specs.Prelude.{◌≡◌, ℕ, ◌<◌, ◌≤◌, ◌^◌, List, length}
+use Rattle.std.specs.Prelude.{◌≡◌, ℕ, ◌<◌, ◌≤◌, ◌^◌, List, length, Some}
 use Rattle.ods_base.specs.Image.{IsImage, block_at}
+use Rattle.ods_init.specs.declared.blueprint.Blueprint.{Blueprint}
 use Rattle.ods_init.specs.declared.volume.NewVolume.{NewVolume}
 use Rattle.ods_init.specs.declared.volume.InitFault.{InitFault}
 use Rattle.ods_init.specs.declared.volume.InitFault.TheVariants.{TooSmall, TooLarge, TooManyFiles, NoMemory}
@@ -8,11 +9,19 @@ use Rattle.ods_mount.specs.Faults.{IsSound}
 use Rattle.ods_init.specs.Places.{places, HasRoom}
 use Rattle.ods_init.specs.Blocks.{IsNewBlock}
 
--- the image is that of the new volume: so many blocks, and at each LBN what is to stand there
-pub record IsNewVolume (V : NewVolume) (I : List (List ℕ)) : Type 0 where
+-- the image is that of the blueprint: so many blocks, and at each LBN what is to stand there
+pub record IsVolumeOf (W : Blueprint) (I : List (List ℕ)) : Type 0 where
   pub image : IsImage I
-  pub size : length I ≡ V.blocks
-  pub each : (lbn : ℕ) → lbn < V.blocks → IsNewBlock V (places V.blocks V.files) lbn (block_at I lbn)
+  pub size : length I ≡ W.blocks
+  pub each : (lbn : ℕ) → lbn < W.blocks → IsNewBlock W lbn (block_at I lbn)
+
+-- the blueprint of a new volume: with its label and its stamp, and zeros in its free blocks
+abbrev pub blueprint_of : NewVolume → Blueprint
+blueprint_of V = record { blocks = V.blocks; places = places V.blocks V.files; owner = V.owner; details = Some (record { label = V.label; stamp = V.stamp }); filling = 0 }
+
+-- the image is that of the new volume
+abbrev pub IsNewVolume : NewVolume → List (List ℕ) → Type 0
+IsNewVolume V I = IsVolumeOf (blueprint_of V) I
 
 -- there is a new volume of this kind: its blocks are as many as a volume may have, and the structures fit
 pub record IsPossible (V : NewVolume) : Type 0 where

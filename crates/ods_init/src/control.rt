@@ -2,8 +2,7 @@
 ghost use Rattle.std.specs.Prelude.{◌≡◌, ◌≤◌, ◌<◌, ◌^◌};
 ghost use Rattle.ods_init.specs.Blocks.{IsControlBlock, counted, first_in, free_in};
 
-use crate::NewVolume;
-use crate::places::Places;
+use crate::Places;
 use ods_base::{Block, set_word};
 
 /// The most blocks of a bitmap for which the control block has two words each.
@@ -11,18 +10,18 @@ const MOST_COUNTED: u32 = 126;
 
 /// The storage control block: how many blocks the bitmap has, in a byte the low one of that count, for each the count of free blocks and the first of them, and the size of
 /// the volume, the high word first. Where the bitmap has more than 126 blocks, nothing stands between.
-pub fn control_block(volume: &NewVolume, places: Places) -> Block
+pub fn control_block(blocks: u32, places: Places) -> Block
     requires map { places.map_blocks ≤ 256 }
     requires master { places.master < 2 ^ 20 }
-    requires blocks { volume.now.blocks ≤ 2 ^ 20 }
-    ensures { IsControlBlock volume.now places result }
+    requires size { blocks ≤ 2 ^ 20 }
+    ensures { IsControlBlock blocks places result }
 {
     let count = counted_blocks(places.map_blocks);
     let mut block = Block::zeros();
     set_word(&mut block, 1, 256 * (places.map_blocks % 256) as u16);
     for k in 0..count {
         let first = (places.master + 1).saturating_sub(4_096 * k).min(4_096);
-        let end = volume.blocks.saturating_sub(4_096 * k).min(4_096);
+        let end = blocks.saturating_sub(4_096 * k).min(4_096);
         set_word(
             &mut block,
             2 + 2 * k as usize,
@@ -31,8 +30,8 @@ pub fn control_block(volume: &NewVolume, places: Places) -> Block
         set_word(&mut block, 3 + 2 * k as usize, (first % 4_096) as u16);
     }
     let at = 2 + 2 * count as usize;
-    set_word(&mut block, at, (volume.blocks / 65_536) as u16);
-    set_word(&mut block, at + 1, (volume.blocks % 65_536) as u16);
+    set_word(&mut block, at, (blocks / 65_536) as u16);
+    set_word(&mut block, at + 1, (blocks % 65_536) as u16);
     block
 }
 

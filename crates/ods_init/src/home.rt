@@ -1,33 +1,80 @@
 //! The home block of a new volume.
-ghost use Rattle.std.specs.Prelude.{◌≡◌, ◌<◌, ◌≤◌};
+ghost use Rattle.std.specs.Prelude.{◌≡◌, ◌<◌, ◌≤◌, length};
 ghost use Rattle.ods_init.specs.Blocks.{IsNewHome};
-ghost use Rattle.ods_init.specs.HomeBytes.{front_bytes, middle_bytes, end_bytes};
+ghost use Rattle.ods_init.specs.HomeBytes.{front_bytes, home_text, middle_bytes};
 
-use crate::NewVolume;
-use crate::places::Places;
+use crate::Blueprint;
 use ods_base::{Block, Uic, set_word, sum};
 
+/// What a home block says to people and to RSX.
+#[derive(Clone, Copy)]
+struct HomeText {
+    /// H.VNAM.
+    name: [u8; 12],
+    /// H.VOWN, H.VPRO, H.VCHA, H.DFPR, and what RSX keeps at hand.
+    middle: [u8; 28],
+    /// H.VDAT.
+    stamp: [u8; 13],
+    /// H.INDN.
+    label: [u8; 12],
+    /// H.INDO and H.INDF.
+    end: [u8; 24],
+}
+
 /// The home block: the index bitmap at LBN 2, and what people see of the volume.
-pub fn home_block(volume: &NewVolume, places: Places) -> Block
-    requires size { (1 ≤ places.index_bitmap_size) × (places.index_bitmap_size < 65536) }
-    requires files { (1 ≤ places.most_files) × (places.most_files < 65536) }
-    ensures { IsNewHome volume.now places result }
+pub fn home_block(blueprint: &Blueprint) -> Block
+    requires size { (1 ≤ blueprint.now.places.index_bitmap_size) × (blueprint.now.places.index_bitmap_size < 65536) }
+    requires files { (1 ≤ blueprint.now.places.most_files) × (blueprint.now.places.most_files < 65536) }
+    ensures { IsNewHome blueprint.now result }
 {
+    let places = blueprint.places;
+    let text = home_text(blueprint);
     let mut block = Block::zeros();
     block.set_bytes(
         0,
         &front(places.index_bitmap_size as u16, places.most_files as u16),
     );
-    block.set_bytes(14, &volume.label.zero_padded());
-    block.set_bytes(30, &middle(volume.owner));
+    block.set_bytes(14, &text.name);
+    block.set_bytes(30, &text.middle);
     let first = sum(&block, 29);
     set_word(&mut block, 29, first);
-    block.set_bytes(60, volume.stamp.text());
-    block.set_bytes(472, volume.label.text());
-    block.set_bytes(484, &end());
+    block.set_bytes(60, &text.stamp);
+    block.set_bytes(472, &text.label);
+    block.set_bytes(484, &text.end);
     let second = sum(&block, 255);
     set_word(&mut block, 255, second);
     block
+}
+
+/// What the home block says: label, owner and stamp, or zeros in their place.
+fn home_text(blueprint: &Blueprint) -> HomeText
+    ensures value { result ≡ home_text blueprint.now }
+    ensures name { length result.name ≡ 12 }
+    ensures stamp { length result.stamp ≡ 13 }
+    ensures label { length result.label ≡ 12 }
+{
+    match &blueprint.details {
+        Some(details) => HomeText {
+            name: details.label.zero_padded(),
+            middle: middle(blueprint.owner, [7, 5, 3]),
+            stamp: *details.stamp.text(),
+            label: *details.label.text(),
+            end: *b"            DECFILE11A  ",
+        },
+        None => HomeText {
+            name: [0; 12],
+            middle: middle(
+                Uic {
+                    group: 0,
+                    member: 0,
+                },
+                [0, 0, 0],
+            ),
+            stamp: [0; 13],
+            label: [0; 12],
+            end: *b"\0\0\0\0\0\0\0\0\0\0\0\0DECFILE11A  ",
+        },
+    }
 }
 
 /// Bytes 0 to 13: H.IBSZ, H.IBLB, H.FMAX, H.SBCL, H.DVTY and H.VLEV.
@@ -40,46 +87,15 @@ fn front(size: u16, files: u16) -> [u8; 14]
     ]
 }
 
-/// Bytes 30 to 57: H.VOWN, H.VPRO and H.VCHA, of which nothing is set, H.DFPR, and what RSX keeps at hand unless told otherwise: 7 pointers of
-/// an open file, 5 blocks by which one is extended, 3 directories.
-fn middle(owner: Uic) -> [u8; 28]
-    ensures { result ≡ middle_bytes owner }
+/// Bytes 30 to 57: H.VOWN, H.VPRO and H.VCHA, of which nothing is set, H.DFPR, and what RSX keeps at hand unless told otherwise: pointers of
+/// an open file, blocks by which one is extended, directories.
+fn middle(owner: Uic, kept: [u8; 3]) -> [u8; 28]
+    ensures { result ≡ middle_bytes owner kept }
 {
+    let (member, group) = (owner.member, owner.group);
+    let [pointers, blocks, folders] = kept;
     [
-        owner.member,
-        owner.group,
-        0,
-        0,
-        0,
-        0,
-        0,
-        224,
-        0,
-        0,
-        0,
-        0,
-        0,
-        0,
-        7,
-        5,
-        3,
-        0,
-        0,
-        0,
-        0,
-        0,
-        0,
-        0,
-        0,
-        0,
-        0,
-        0,
+        member, group, 0, 0, 0, 0, 0, 224, 0, 0, 0, 0, 0, 0, pointers, blocks, folders, 0, 0, 0, 0,
+        0, 0, 0, 0, 0, 0, 0,
     ]
-}
-
-/// Bytes 484 to 507: H.INDO, of which nothing is said, and H.INDF.
-fn end() -> [u8; 24]
-    ensures { result ≡ end_bytes }
-{
-    *b"            DECFILE11A  "
 }

@@ -1,19 +1,20 @@
 //! The image of a new volume.
-ghost use Rattle.std.specs.Prelude.{◌≡◌, ◌<◌, IfOk, IfErr};
+ghost use Rattle.std.specs.Prelude.{◌≡◌, ◌≤◌, IfOk, IfErr};
 ghost use Rattle.ods_mount.specs.Faults.{IsSound};
 ghost use Rattle.ods_init.specs.Places.{AreFit};
-ghost use Rattle.ods_init.specs.Blocks.{IsNewBlock};
-ghost use Rattle.ods_init.specs.New.{IsInitFault, IsNewVolume};
+ghost use Rattle.ods_init.specs.Blocks.{IsControlOf, IsNewBlock};
+ghost use Rattle.ods_init.specs.New.{IsInitFault, IsNewVolume, IsVolumeOf};
 
 use crate::bits::bits_between;
 use crate::control::control_block;
+use crate::filling::filled_image;
 use crate::home::home_block;
 use crate::master::master_directory;
-use crate::places::{Places, places_of};
+use crate::places::places_of;
 use crate::reserved::header_block;
-use crate::{InitFault, NewVolume};
+use crate::{Blueprint, Details, InitFault, NewVolume};
 use ods_base::{Block, Image};
-use std::alloc::Global;
+use std::alloc::{AllocError, Global};
 
 /// The fewest blocks of a volume.
 const LEAST_BLOCKS: u32 = 40;
@@ -36,49 +37,74 @@ pub fn init(alloc: Global, volume: &NewVolume) -> Result<Image, InitFault>
     let Some(places) = places_of(volume) else {
         return Err(InitFault::TooManyFiles);
     };
-    let Ok(mut bytes) = Vec::with_capacity(alloc, 512 * volume.blocks as usize) else {
-        return Err(InitFault::NoMemory);
+    let blueprint = Blueprint {
+        blocks: volume.blocks,
+        places,
+        owner: volume.owner,
+        details: Some(Details {
+            label: volume.label,
+            stamp: volume.stamp,
+        }),
+        filling: 0,
     };
-    for lbn in 0..volume.blocks {
-        let block = block_at(volume, places, lbn);
-        let Ok(()) = bytes.extend_from_slice(block.bytes()) else {
-            return Err(InitFault::NoMemory);
-        };
-    }
-    match Image::from_bytes(alloc, &bytes) {
+    match make_volume(alloc, &blueprint) {
         Ok(image) => Ok(image),
         Err(_) => Err(InitFault::NoMemory),
     }
 }
 
-/// The block at an LBN of a new volume.
-fn block_at(volume: &NewVolume, places: Places, lbn: u32) -> Block
-    requires fit { AreFit volume.now.blocks places }
-    requires inside { lbn < volume.now.blocks }
-    ensures { IsNewBlock volume.now places lbn result }
+/// The image of the volume of a blueprint, which is sound. Only memory can be wanting.
+pub fn make_volume(alloc: Global, blueprint: &Blueprint) -> Result<Image, AllocError>
+    requires { AreFit blueprint.now.blocks blueprint.now.places }
+    ensures sound { IfOk result IsSound }
+    ensures new { IfOk result (IsVolumeOf blueprint.now) }
 {
+    let mut image = filled_image(alloc, blueprint.blocks, blueprint.filling)?;
+    for lbn in 0..blueprint.places.master + 1 {
+        image.set_block(lbn, block_at(blueprint, lbn));
+    }
+    let _ = image.len();
+    Ok(image)
+}
+
+/// The block at an LBN up to the master directory.
+fn block_at(blueprint: &Blueprint, lbn: u32) -> Block
+    requires fit { AreFit blueprint.now.blocks blueprint.now.places }
+    requires used { lbn ≤ blueprint.now.places.master }
+    ensures { IsNewBlock blueprint.now lbn result }
+{
+    let places = blueprint.places;
     let headers = 2 + places.index_bitmap_size;
     if lbn == 0 {
         Block::zeros()
     } else if lbn == 1 {
-        home_block(volume, places)
+        home_block(blueprint)
     } else if lbn < headers {
         bits_between(0, 5u32.saturating_sub(4_096 * (lbn - 2)))
     } else if lbn < headers + 5 {
-        header_block(volume, places, (lbn - headers) as u16 + 1)
+        header_block(blueprint, (lbn - headers) as u16 + 1)
     } else if lbn < places.control {
         Block::zeros()
     } else if lbn == places.control {
-        control_block(volume, places)
+        control_of(blueprint)
     } else if lbn < places.master {
         let from = 4_096 * (lbn - places.control - 1);
         bits_between(
             (places.master + 1).saturating_sub(from),
-            volume.blocks.saturating_sub(from),
+            blueprint.blocks.saturating_sub(from),
         )
-    } else if lbn == places.master {
-        master_directory()
     } else {
-        Block::zeros()
+        master_directory()
+    }
+}
+
+/// The storage control block, which says nothing on a bare volume.
+fn control_of(blueprint: &Blueprint) -> Block
+    requires { AreFit blueprint.now.blocks blueprint.now.places }
+    ensures { IsControlOf blueprint.now.details blueprint.now result }
+{
+    match &blueprint.details {
+        Some(_) => control_block(blueprint.blocks, blueprint.places),
+        None => Block::zeros(),
     }
 }

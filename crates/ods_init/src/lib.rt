@@ -2,7 +2,9 @@
 #![tactic(auto)]
 
 mod bits;
+mod blueprint;
 mod control;
+mod filling;
 mod home;
 mod image;
 mod label;
@@ -12,7 +14,9 @@ mod places;
 mod reserved;
 mod volume;
 
-pub use image::init;
+pub use blueprint::{Blueprint, Details};
+pub use image::{init, make_volume};
 pub use label::Label;
 pub use laws::new_volume_is_sound;
+pub use places::Places;
 pub use volume::{InitFault, NewVolume, default_files};
