@@ -4,25 +4,26 @@
 refuses, by an AssertionError, what no sound volume has: blocks held twice or marked free, headers with a wrong sum, names of no file.
 """
 import struct
+from collections.abc import Sequence
 
 BLOCK = 512
 CODES = " ABCDEFGHIJKLMNOPQRSTUVWXYZ$&%0123456789"
 
 
-def words(data, at, count):
+def words(data: bytes, at: int, count: int) -> tuple[int, ...]:
     return struct.unpack_from(f"<{count}H", data, at)
 
 
-def name_text(codes):
+def name_text(codes: Sequence[int]) -> str:
     """NOTES.TXT;2, of three words of a name, one of a type and the version."""
-    letters = "".join(CODES[it // 1600] + CODES[it // 40 % 40] + CODES[it % 40] for it in codes[:4])
+    letters = "".join(CODES[code // 1600] + CODES[code // 40 % 40] + CODES[code % 40] for code in codes[:4])
     return f"{letters[:9].rstrip()}.{letters[9:].rstrip()};{codes[4]}"
 
 
 class File:
     """A file: what its header says, its blocks in order, and its bytes up to the end of file."""
 
-    def __init__(self, volume, number):
+    def __init__(self, volume: "Reader", number: int) -> None:
         header = volume.header(number)
         self.number, self.sequence, _level, self.owner, self.protection, self.flags = words(header, 2, 6)
         assert self.number == number, f"header {number} says {self.number}"
@@ -47,14 +48,14 @@ class File:
             assert words(header, 2, 2) == (following, sequence), f"file {number}: its header {following} is another's"
 
     @property
-    def end(self):
+    def end(self) -> int:
         return 0 if self.end_block == 0 else (self.end_block - 1) * BLOCK + self.rest
 
 
 class Reader:
     """A volume."""
 
-    def __init__(self, image):
+    def __init__(self, image: bytes) -> None:
         assert len(image) % BLOCK == 0
         self.image = image
         home = self.block(1)
@@ -65,24 +66,24 @@ class Reader:
         self.index_blocks = None
         self.index_blocks = File(self, 1).blocks
         inner = range(self.bits, self.bits + self.bit_blocks)
-        bits = b"".join(self.block(it) for it in inner)
-        numbers = [it + 1 for it in range(self.most_files) if bits[it // 8] >> it % 8 & 1]
-        assert all(it + 2 + self.bit_blocks <= len(self.index_blocks) for it in numbers), "a file without a header"
+        bits = b"".join(self.block(lbn) for lbn in inner)
+        numbers = [number + 1 for number in range(self.most_files) if bits[number // 8] >> number % 8 & 1]
+        assert all(number + 2 + self.bit_blocks <= len(self.index_blocks) for number in numbers), "a file without a header"
         later = set()
         for number in numbers:
             if self.header(number)[92] > 0:
                 later.add(number)
-        self.files = {it: File(self, it) for it in numbers if it not in later}
+        self.files = {number: File(self, number) for number in numbers if number not in later}
         self.look_at_blocks()
         self.paths = {}
         self.directories = {}
         self.add_directory("[0,0]", 4)
 
-    def block(self, lbn):
+    def block(self, lbn: int) -> bytes:
         assert (lbn + 1) * BLOCK <= len(self.image), f"block {lbn} is past the end"
         return self.image[lbn * BLOCK : (lbn + 1) * BLOCK]
 
-    def header(self, number):
+    def header(self, number: int) -> bytes:
         """The header with this number, whose sum is right. The first sixteen lie behind the index bitmap."""
         if number <= 16 or self.index_blocks is None:
             block = self.block(self.bits + self.bit_blocks + number - 1)
@@ -91,29 +92,29 @@ class Reader:
         assert sum(words(block, 0, 255)) & 0xFFFF == words(block, 510, 1)[0], f"the sum of header {number}"
         return block
 
-    def look_at_blocks(self):
+    def look_at_blocks(self) -> None:
         """No block is held twice, and the storage bitmap says free of just those that no file holds."""
         held = {}
         for file in self.files.values():
             for lbn in file.blocks:
                 assert lbn not in held, f"block {lbn} is held by {held[lbn]} and {file.number}"
                 held[lbn] = file.number
-        storage = b"".join(self.block(it) for it in self.files[2].blocks[1:])
+        storage = b"".join(self.block(lbn) for lbn in self.files[2].blocks[1:])
         self.free = 0
         for lbn in range(len(self.image) // BLOCK):
             is_free = storage[lbn // 8] >> lbn % 8 & 1
             assert not is_free or lbn not in held, f"block {lbn} is held and free"
             self.free += is_free
 
-    def raw(self, file):
-        return b"".join(self.block(it) for it in file.blocks)
+    def raw(self, file: File) -> bytes:
+        return b"".join(self.block(lbn) for lbn in file.blocks)
 
-    def data(self, path):
+    def data(self, path: str) -> bytes:
         """The bytes of the file at this path, up to its end."""
         file = self.files[self.paths[path]]
         return self.raw(file)[: file.end]
 
-    def records(self, path):
+    def records(self, path: str) -> list[bytes]:
         """The records of the file at this path, where it has variable ones."""
         data, at, all_records = self.data(path), 0, []
         while at < len(data):
@@ -123,7 +124,7 @@ class Reader:
             at += 2 + length + length % 2
         return all_records
 
-    def add_directory(self, folder, number):
+    def add_directory(self, folder: str, number: int) -> None:
         file = self.files[number]
         self.directories[folder] = number
         for at in range(0, file.end, 16):
@@ -142,6 +143,6 @@ class Reader:
                 inner = inner if folder == "[0,0]" else f"{folder[1:-1]}.{inner}"
                 self.add_directory(f"[{inner}]", found.number)
 
-    def contents(self):
+    def contents(self) -> dict[str, bytes]:
         """The bytes of the file at each path, but of the reserved files and directories."""
         return {path: self.data(path) for path, number in self.paths.items() if number > 5 and number not in self.directories.values() and number in self.files}

@@ -1,52 +1,63 @@
-"""The volumes that tests/fs runs the program on, and what is spoiled in some of them."""
-from fs_image import BLOCK, BLOCKS, INDEX_BLOCKS, ZEROS, Volume, attributes, changed, sequenced, variable
+"""The volumes that tests/fs and tests/fs_changes run the program on, what is spoiled in some of them, and bytes that the rows of tests/rows/ name."""
+from collections.abc import Sequence
+from typing import Any
 
-TASK = bytes(i % 251 for i in range(700))
+from fs_image import BLOCK, BLOCKS, INDEX_BLOCKS, MAP_PLACE, ZEROS, Volume, attributes, changed, entries, sequenced, variable
+
+TASK = bytes(place % 251 for place in range(700))
 SPOILT = variable(b"good") + b"\x32\x00short"
 LONG = variable(b"a" * 500) + b"\xff\xff" + b"\x77" * 8 + variable(b"second")
-NAMES = "$.TXT;1 %.TXT;1 &.TXT;1 1.TXT;1 A.;32767 A.;1 A.$;1 A.1;1 A.A;1 A$.TXT;1 A1.TXT;1 AA.TXT;1 A_A.TXT;1 Z.TXT;12 Z.TXT;3"
+# Names in the order in which they are listed.
+NAMES = """
+    $.TXT;1 %.TXT;1 &.TXT;1 1.TXT;1 A.;32767 A.;1 A.$;1 A.1;1 A.A;1 A$.TXT;1 A1.TXT;1 AA.TXT;1 A_A.TXT;1 Z.TXT;12 Z.TXT;3
+"""
+# The names of the reserved files.
+RESERVED = "INDEXF.SYS;1 1,1 BITMAP.SYS;1 2,2 BADBLK.SYS;1 3,3 CORIMG.SYS;1 5,5"
 
 
-def odd_volume():
+def odd_volume() -> Volume:
     """A volume that is served, with much that is out of the ordinary."""
-    it = Volume()
-    it.directory(4, "000000.DIR;1", ("SUB.DIR;1", 7, 1), ("INDEXF.SYS;1", 1, 1), ("LONG.TXT;1", 21, 1), ("000000.DIR;1", 4, 4), ("BITMAP.SYS;1", 2, 2),
-                 None, ("CORIMG.SYS;1", 5, 5), ("001002.DIR;1", 6, 1), ("BADBLK.SYS;1", 3, 3), ("EMPTY.DIR;1", 20, 1))
-    it.directory(6, "001002.DIR;1", ("TASK.TSK;3", 12, 1), ("NOTES.TXT;1", 9, 1), None, ("SHORT.DAT;1", 14, 1), ("NOTES.TXT;2", 10, 1), ("PLAIN.DAT;1", 13, 1),
-                 ("GONE.TXT;1", 30, 1), ("SPOILT.TXT;1", 15, 1), ("NUMBERED.TXT;1", 11, 1), owner=0o402)
-    it.directory(7, "SUB.DIR;1", ("STALE.TXT;1", 17, 9), ("README.;1", 18, 1), ("NOTES.MAC;1", 22, 1), ("LOW.DIR;1", 8, 1), ("EMPTY.TXT;1", 19, 1))
-    it.directory(8, "LOW.DIR;1", ("LOW.DIR;1", 8, 1), ("DEEP.TXT;1", 16, 1))
-    it.directory(20, "EMPTY.DIR;1")
-    it.file(9, "NOTES.TXT;1", variable(b"first", b"", b"third line"), control=2, size=10)
-    it.file(10, "NOTES.TXT;2", variable(b"new", b"two"), control=2, size=3)
-    it.file(11, "NUMBERED.TXT;1", sequenced((10, b"ten"), (20, b"twenty!")), kind=3, control=2, size=9)
-    it.file(13, "PLAIN.DAT;1", b"plain" * 100, attr=ZEROS, dates=bytes(26))
-    it.file(14, "SHORT.DAT;1", b"x" * 512, attr=attributes(1, 0, 512, 1, 600))
-    it.file(15, "SPOILT.TXT;1", SPOILT)
-    it.file(16, "DEEP.TXT;1", variable(b"even", b"odd", pad=False), control=2, size=4)
-    it.file(17, "LOST.TXT;5", variable(b"lost", b"found"), control=2, size=5)
-    it.file(18, "README.;1", variable(b" page", b"1top"), control=1, size=5)
-    it.file(19, "EMPTY.TXT;1", control=2)
-    it.file(21, "LONG.TXT;1", LONG, control=2, size=500, flags=0o200)
-    it.file(22, "NOTES.MAC;1", b"MACRO\r\n", kind=7)
-    it.file(12, "TASK.TSK;3", TASK, places=[70, 72], kind=1, size=512, owner=0o200 << 8 | 0o40, rights=0xFE80)
-    return it
+    volume = Volume()
+    volume.directory(4, "000000.DIR;1", *entries("""
+        SUB.DIR;1 7,1 INDEXF.SYS;1 1,1 LONG.TXT;1 21,1 000000.DIR;1 4,4 BITMAP.SYS;1 2,2 -
+        CORIMG.SYS;1 5,5 001002.DIR;1 6,1 BADBLK.SYS;1 3,3 EMPTY.DIR;1 20,1
+    """))
+    volume.directory(6, "001002.DIR;1", *entries("""
+        TASK.TSK;3 12,1 NOTES.TXT;1 9,1 - SHORT.DAT;1 14,1 NOTES.TXT;2 10,1 PLAIN.DAT;1 13,1
+        GONE.TXT;1 30,1 SPOILT.TXT;1 15,1 NUMBERED.TXT;1 11,1
+    """), owner=0o402)
+    volume.directory(7, "SUB.DIR;1", *entries("STALE.TXT;1 17,9 README.;1 18,1 NOTES.MAC;1 22,1 LOW.DIR;1 8,1 EMPTY.TXT;1 19,1"))
+    volume.directory(8, "LOW.DIR;1", *entries("LOW.DIR;1 8,1 DEEP.TXT;1 16,1"))
+    volume.directory(20, "EMPTY.DIR;1")
+    volume.file(9, "NOTES.TXT;1", variable(b"first", b"", b"third line"), control=2, size=10)
+    volume.file(10, "NOTES.TXT;2", variable(b"new", b"two"), control=2, size=3)
+    volume.file(11, "NUMBERED.TXT;1", sequenced((10, b"ten"), (20, b"twenty!")), kind=3, control=2, size=9)
+    volume.file(13, "PLAIN.DAT;1", b"plain" * 100, attr=ZEROS, dates=bytes(26))
+    volume.file(14, "SHORT.DAT;1", b"x" * 512, attr=attributes(1, 0, 512, 1, 600))
+    volume.file(15, "SPOILT.TXT;1", SPOILT)
+    volume.file(16, "DEEP.TXT;1", variable(b"even", b"odd", pad=False), control=2, size=4)
+    volume.file(17, "LOST.TXT;5", variable(b"lost", b"found"), control=2, size=5)
+    volume.file(18, "README.;1", variable(b" page", b"1top"), control=1, size=5)
+    volume.file(19, "EMPTY.TXT;1", control=2)
+    volume.file(21, "LONG.TXT;1", LONG, control=2, size=500, flags=0o200)
+    volume.file(22, "NOTES.MAC;1", b"MACRO\r\n", kind=7)
+    volume.file(12, "TASK.TSK;3", TASK, places=[70, 72], kind=1, size=512, owner=0o200 << 8 | 0o40, rights=0xFE80)
+    return volume
 
 
-def plain_volume(notes=b"first", numbers=(6, 9), blocks=BLOCKS, **more):
+def plain_volume(notes: bytes = b"first", numbers: tuple[int, int] = (6, 9), blocks: int = BLOCKS, **more: Any) -> Volume:
     """A sound volume: a directory, two text files and a binary one."""
     folder, text = numbers
-    it = Volume(blocks)
-    it.directory(4, "000000.DIR;1", ("000000.DIR;1", 4, 4), ("001002.DIR;1", folder, 1), ("INDEXF.SYS;1", 1, 1), ("BITMAP.SYS;1", 2, 2),
-                 ("BADBLK.SYS;1", 3, 3), ("CORIMG.SYS;1", 5, 5))
-    it.directory(folder, "001002.DIR;1", ("NOTES.TXT;1", text, 1), ("OTHER.TXT;1", 10, 1), ("TASK.TSK;3", 12, 1))
-    it.file(text, "NOTES.TXT;1", variable(notes), **{"control": 2, "size": 5, **more})
-    it.file(10, "OTHER.TXT;1", variable(b"other"), control=2, size=5)
-    it.file(12, "TASK.TSK;3", TASK, kind=1, size=512)
-    return it
+    volume = Volume(blocks)
+    volume.directory(4, "000000.DIR;1", *entries(f"000000.DIR;1 4,4 001002.DIR;1 {folder},1 {RESERVED}"))
+    volume.directory(folder, "001002.DIR;1", *entries(f"NOTES.TXT;1 {text},1 OTHER.TXT;1 10,1 TASK.TSK;3 12,1"))
+    volume.file(text, "NOTES.TXT;1", variable(notes), **{"control": 2, "size": 5, **more})
+    volume.file(10, "OTHER.TXT;1", variable(b"other"), control=2, size=5)
+    volume.file(12, "TASK.TSK;3", TASK, kind=1, size=512)
+    return volume
 
 
-def images():
+def images() -> dict[str, bytes]:
     """The images by name. In the plain ones NOTES.TXT is file 9 in block 47, and header n stands in block n + 2."""
     odd, plain = odd_volume().bytes(), plain_volume().bytes()
     first = plain[BLOCK * 46 + 6 : BLOCK * 46 + 16]  # the name of the first entry of [1,2]
@@ -68,75 +79,77 @@ def images():
     }
 
 
-def shut_volume():
+def shut_volume() -> Volume:
     """A volume with a directory that the world may not read, and one below that which it may."""
-    it, shut = Volume(), {"owner": 0o200 << 8 | 0o40, "rights": 0xFE80}
-    it.directory(4, "000000.DIR;1", ("OPEN.DIR;1", 6, 1), ("SHUT.DIR;1", 7, 1))
-    it.directory(6, "OPEN.DIR;1", ("A.TXT;1", 9, 1))
-    it.directory(7, "SHUT.DIR;1", ("B.TXT;1", 10, 1), ("BELOW.DIR;1", 8, 1), **shut)
-    it.directory(8, "BELOW.DIR;1", ("C.TXT;1", 11, 1))
-    it.file(9, "A.TXT;1", variable(b"a"))
-    it.file(10, "B.TXT;1", variable(b"b"))
-    it.file(11, "C.TXT;1", variable(b"c"))
-    return it
+    volume = Volume()
+    volume.directory(4, "000000.DIR;1", *entries("OPEN.DIR;1 6,1 SHUT.DIR;1 7,1"))
+    volume.directory(6, "OPEN.DIR;1", *entries("A.TXT;1 9,1"))
+    volume.directory(7, "SHUT.DIR;1", *entries("B.TXT;1 10,1 BELOW.DIR;1 8,1"), owner=0o200 << 8 | 0o40, rights=0xFE80)
+    volume.directory(8, "BELOW.DIR;1", *entries("C.TXT;1 11,1"))
+    volume.file(9, "A.TXT;1", variable(b"a"))
+    volume.file(10, "B.TXT;1", variable(b"b"))
+    volume.file(11, "C.TXT;1", variable(b"c"))
+    return volume
 
 
-def names_volume():
+def names_volume() -> Volume:
     """A volume whose names stand in another order than they are listed, in two blocks."""
-    it = Volume()
-    it.directory(4, "000000.DIR;1", *((text, 30, 1) for text in reversed(NAMES.split())), ("000000.DIR;1", 4, 4), *[None] * 20, ("MIDDLE.TXT;1", 30, 1), places=it.take(2))
-    return it
+    volume = Volume()
+    names = [(name, 30, 1) for name in reversed(NAMES.split())]
+    names += [("000000.DIR;1", 4, 4), *[None] * 20, ("MIDDLE.TXT;1", 30, 1)]
+    volume.directory(4, "000000.DIR;1", *names, places=volume.take(2))
+    return volume
 
 
-def ring_volume():
+def ring_volume() -> Volume:
     """A volume with directories that name one another, and with names of type DIR that are none."""
-    it = Volume()
-    it.directory(4, "000000.DIR;1", ("B.DIR;1", 7, 1), ("A.DIR;1", 6, 1), ("FAKE.DIR;1", 9, 1), ("HIDDEN.DAT;1", 7, 1))
-    it.directory(6, "A.DIR;1", ("B.DIR;1", 7, 1), ("ROOT.DIR;1", 4, 4), ("X.TXT;1", 9, 1))
-    it.directory(7, "B.DIR;1", ("A.DIR;1", 6, 1), ("Y.TXT;1", 9, 1))
-    it.file(9, "X.TXT;1", variable(b"x"))
-    return it
+    volume = Volume()
+    volume.directory(4, "000000.DIR;1", *entries("B.DIR;1 7,1 A.DIR;1 6,1 FAKE.DIR;1 9,1 HIDDEN.DAT;1 7,1"))
+    volume.directory(6, "A.DIR;1", *entries("B.DIR;1 7,1 ROOT.DIR;1 4,4 X.TXT;1 9,1"))
+    volume.directory(7, "B.DIR;1", *entries("A.DIR;1 6,1 Y.TXT;1 9,1"))
+    volume.file(9, "X.TXT;1", variable(b"x"))
+    return volume
 
 
-def second_master_volume():
+def second_master_volume() -> Volume:
     """A volume with a directory 000000.DIR that is not the master directory, with one in it."""
-    it = Volume()
-    it.directory(4, "000000.DIR;1", ("000000.DIR;1", 6, 1), ("X.TXT;1", 9, 1))
-    it.directory(6, "000000.DIR;1", ("A.DIR;1", 7, 1), ("Y.TXT;1", 10, 1))
-    it.directory(7, "A.DIR;1", ("Z.TXT;1", 11, 1))
-    it.file(9, "X.TXT;1", variable(b"x"))
-    it.file(10, "Y.TXT;1", variable(b"y"))
-    it.file(11, "Z.TXT;1", variable(b"z"))
-    return it
+    volume = Volume()
+    volume.directory(4, "000000.DIR;1", *entries("000000.DIR;1 6,1 X.TXT;1 9,1"))
+    volume.directory(6, "000000.DIR;1", *entries("A.DIR;1 7,1 Y.TXT;1 10,1"))
+    volume.directory(7, "A.DIR;1", *entries("Z.TXT;1 11,1"))
+    volume.file(9, "X.TXT;1", variable(b"x"))
+    volume.file(10, "Y.TXT;1", variable(b"y"))
+    volume.file(11, "Z.TXT;1", variable(b"z"))
+    return volume
 
 
-def index_volume(places, free=(), blocks=80):
+def index_volume(places: Sequence[int], free: Sequence[int] = (), blocks: int = 80) -> Volume:
     """A volume with these blocks of INDEXF.SYS; `free` are those that are not its own any more."""
-    it = Volume(blocks)
-    it.directory(4, "000000.DIR;1", ("000000.DIR;1", 4, 4), ("NOTES.TXT;1", 9, 1))
-    it.file(9, "NOTES.TXT;1", variable(b"first"), control=2, size=5)
-    it.file(1, "INDEXF.SYS;1", places=places, kind=1, data=None)
+    volume = Volume(blocks)
+    volume.directory(4, "000000.DIR;1", *entries("000000.DIR;1 4,4 NOTES.TXT;1 9,1"))
+    volume.file(9, "NOTES.TXT;1", variable(b"first"), control=2, size=5)
+    volume.file(1, "INDEXF.SYS;1", places=places, kind=1, data=None)
     for lbn in free:
-        it.is_held[lbn] = False
-    return it
+        volume.is_held[lbn] = False
+    return volume
 
 
-def late_volume():
+def late_volume() -> Volume:
     """The same with its home block in block 256, and zeros in block 1, the place below it."""
-    it = index_volume([0, 256, *range(2, INDEX_BLOCKS)], [1], 300)
-    it.put(256, it.image[BLOCK : 2 * BLOCK])
-    it.put(1, bytes(BLOCK))
-    return it
+    volume = index_volume([0, 256, *range(2, INDEX_BLOCKS)], [1], 300)
+    volume.put(256, volume.image[BLOCK : 2 * BLOCK])
+    volume.put(1, bytes(BLOCK))
+    return volume
 
 
-def spoiled_images():
+def spoiled_images() -> dict[str, bytes]:
     """Images whose files share blocks and headers, and whose index is bad."""
-    pairs, twice, shared, answer, held = plain_volume(), plain_volume(), plain_volume(), plain_volume(), late_volume()
+    pairs, twice, shared_headers, answer, held = plain_volume(), plain_volume(), plain_volume(), plain_volume(), late_volume()
     pairs.file(13, "COPY.TSK;1", TASK, kind=1, size=512, places=[50, 49])  # the blocks of TASK.TSK, file 12, turned round
     twice.file(12, "TASK.TSK;3", TASK, kind=1, size=512, places=[49, 49])
     twice.is_held[50] = False
-    shared.file(27, "NOTES.TXT;1")
-    shared = changed(shared.bytes(), 2 + 27, 92, b"\1")
+    shared_headers.file(27, "NOTES.TXT;1")
+    shared = changed(shared_headers.bytes(), 2 + 27, 92, b"\1")
     for number in (9, 10):  # header 27 is the second of both
         shared = changed(shared, 2 + number, 94, b"\x1b\0\1\0")
     answer.file(10, "OTHER.TXT;1", variable(b"other"), places=[47])
@@ -153,31 +166,87 @@ def spoiled_images():
         "pairs": pairs,
         "twice_held": twice,
     }
-    return {**{it: volume.bytes() for it, volume in rest.items()}, "shared": shared, "answer": answer.bytes(free=[50])}
+    return {**{name: volume.bytes() for name, volume in rest.items()}, "shared": shared, "answer": answer.bytes(free=[50])}
 
 
-def more_images():
+def few_volume() -> Volume:
+    """The plain volume with one file less and one more."""
+    volume = Volume()
+    volume.directory(4, "000000.DIR;1", *entries(f"000000.DIR;1 4,4 001002.DIR;1 6,1 {RESERVED} MORE.TXT;1 10,1"))
+    volume.directory(6, "001002.DIR;1", *entries("NOTES.TXT;1 9,1 TASK.TSK;3 12,1"))
+    volume.file(9, "NOTES.TXT;1", variable(b"first"), control=2, size=5)
+    volume.file(10, "MORE.TXT;1", variable(b"more"), control=2, size=4)
+    volume.file(12, "TASK.TSK;3", TASK, kind=1, size=512)
+    return volume
+
+
+def long_image() -> bytes:
+    """The plain volume whose NOTES.TXT has a second block, which stands in another header."""
+    volume = plain_volume(variable(b"x" * 600)[2:], kind=1)
+    volume.file(9, "NOTES.TXT;1", b"1" * 512, places=[70], attr=attributes(1, 0, 512, 2, 700))
+    volume.file(27, "NOTES.TXT;1", b"2" * 512, places=[60])
+    volume.is_held[47] = volume.is_held[48] = False
+    return changed(changed(volume.bytes(), 2 + 9, 94, b"\x1b\0\1\0"), 2 + 27, 92, b"\1")
+
+
+def more_images() -> dict[str, bytes]:
     """Images for cmp and rescue."""
-    few, stale, same, plain = Volume(), plain_volume(), Volume(), plain_volume().bytes()
-    few.directory(4, "000000.DIR;1", ("000000.DIR;1", 4, 4), ("001002.DIR;1", 6, 1), ("INDEXF.SYS;1", 1, 1), ("BITMAP.SYS;1", 2, 2), ("BADBLK.SYS;1", 3, 3), ("CORIMG.SYS;1", 5, 5), ("MORE.TXT;1", 10, 1))
-    few.directory(6, "001002.DIR;1", ("NOTES.TXT;1", 9, 1), ("TASK.TSK;3", 12, 1))
-    few.file(9, "NOTES.TXT;1", variable(b"first"), control=2, size=5)
-    few.file(10, "MORE.TXT;1", variable(b"more"), control=2, size=4)
-    few.file(12, "TASK.TSK;3", TASK, kind=1, size=512)
-    stale = changed(plain, 46, 16 + 2, b"\7", has_sum=False)
-    same.directory(4, "000000.DIR;1")
-    same.file(9, "SAME.TXT;1", b"one", kind=1)
-    same.file(10, "SAME.TXT;1", b"two", kind=1)
+    plain = plain_volume().bytes()
+    same_names = Volume()
+    same_names.directory(4, "000000.DIR;1")
+    same_names.file(9, "SAME.TXT;1", b"one", kind=1)
+    same_names.file(10, "SAME.TXT;1", b"two", kind=1)
     later = plain_volume()
     later.file(26, "LATER.TXT;1")
     doubly = plain_volume()
     doubly.file(10, "OTHER.TXT;1", variable(b"other"), places=[47])
     doubly.is_held[48] = False
-    long = plain_volume(variable(b"x" * 600)[2:], kind=1)  # its second block stands in another header
-    long.file(9, "NOTES.TXT;1", b"1" * 512, places=[70], attr=attributes(1, 0, 512, 2, 700))
-    long.file(27, "NOTES.TXT;1", b"2" * 512, places=[60])
-    long.is_held[47] = long.is_held[48] = False
-    long = changed(changed(long.bytes(), 2 + 9, 94, b"\x1b\0\1\0"), 2 + 27, 92, b"\1")
-    bits = [changed(plain, 2, 0, bytes([plain[2 * BLOCK] & ~(1 << bit)]), has_sum=False) for bit in (0, 1, 3)]
-    rest = {"noindex": bits[0], "nomap": bits[1], "nomaster": bits[2], "badentry": changed(plain, 46, 14, b"\0", has_sum=False), "outside": changed(plain, 2 + 9, 104, b"\xc8\0")}
-    return {**rest, "later": changed(later.bytes(), 2 + 26, 92, b"\1"), "doubly": doubly.bytes(), "long": long, "ring": ring_volume().bytes(), "zeros": second_master_volume().bytes(), "shut": shut_volume().bytes(), "names": names_volume().bytes(), "few": few.bytes(), "stale": stale, "twonames": same.bytes(), "broken": changed(plain, 2 + 9, 94, b"\x1e\0\1\0")}
+    # the plain volume where the index bitmap does not say that INDEXF.SYS, BITMAP.SYS or the master directory is there
+    lacks = [changed(plain, 2, 0, bytes([plain[2 * BLOCK] & ~(1 << bit)]), has_sum=False) for bit in (0, 1, 3)]
+    return {
+        "noindex": lacks[0],
+        "nomap": lacks[1],
+        "nomaster": lacks[2],
+        "badentry": changed(plain, 46, 14, b"\0", has_sum=False),
+        "outside": changed(plain, 2 + 9, 104, b"\xc8\0"),
+        "later": changed(later.bytes(), 2 + 26, 92, b"\1"),
+        "doubly": doubly.bytes(),
+        "long": long_image(),
+        "ring": ring_volume().bytes(),
+        "zeros": second_master_volume().bytes(),
+        "shut": shut_volume().bytes(),
+        "names": names_volume().bytes(),
+        "few": few_volume().bytes(),
+        "stale": changed(plain, 46, 16 + 2, b"\7", has_sum=False),
+        "twonames": same_names.bytes(),
+        "broken": changed(plain, 2 + 9, 94, b"\x1e\0\1\0"),
+    }
+
+
+def blocks_of(image: bytes, lbn: int, size: int) -> bytes:
+    """So many bytes of an image from a block on."""
+    return image[BLOCK * lbn : BLOCK * lbn + size]
+
+
+ODD = odd_volume().bytes()
+# What files have, by the names that the rows call it by.
+CONTENTS = {
+    "odd": ODD,
+    "storage-map": blocks_of(ODD, MAP_PLACE, 2 * BLOCK),
+    "sub-directory": blocks_of(ODD, 47, 80),
+    "low-directory": blocks_of(ODD, 48, 32),
+    "long-text": LONG,
+    "long-lines": b"a" * 500 + b"\nsecond\n",
+    "new-blocks": variable(b"new", b"two").ljust(BLOCK, b"\0"),
+    "plain-block": (b"plain" * 100).ljust(BLOCK, b"\0"),
+    "x-block": b"x" * BLOCK,
+    "spoilt": SPOILT,
+    "task": TASK,
+    "task-blocks": TASK.ljust(2 * BLOCK, b"\0"),
+    "two-headers": b"1" * 512 + b"2" * 188,
+    "cr-lf-and-zeros": b"a\r\nb\r\n" + bytes(600),
+    "long-line": b"x" * 32768 + b"\n",
+    "x-bytes": b"x" * 9000,
+    "z-bytes": b"z" * 5000,
+    "thirty-blocks": bytes(30 * BLOCK),
+}

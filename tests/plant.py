@@ -80,7 +80,7 @@ def changed(part: str, name: str, finds: str, *changes: Change, line: str = "") 
 
 def spoiled(part: str, name: str, line: str, finds: str, *, f11fs: str = "", f11: str = "", loading: bool = False) -> None:
     """Notes a plant in a program, or in what the line makes: `f11fs` and `f11` are scripts for spoiled ones."""
-    PLANTS.append(Plant(part, name, line, finds, spoiled={it: text for it, text in zip(PROGRAMS, (f11fs, f11)) if text}, loading=loading))
+    PLANTS.append(Plant(part, name, line, finds, spoiled={program: text for program, text in zip(PROGRAMS, (f11fs, f11)) if text}, loading=loading))
 
 
 class Workshop:
@@ -103,16 +103,16 @@ class Workshop:
         place = self.copies.get()
         before: dict[pathlib.Path, str | None] = {}
         try:
-            for it in changes:
-                file = place / it.file
+            for change in changes:
+                file = place / change.file
                 text = file.read_text("utf-8") if file.exists() else None
                 before.setdefault(file, text)
-                if it.old is None:
-                    file.write_text(it.new, "utf-8")
+                if change.old is None:
+                    file.write_text(change.new, "utf-8")
                     continue
-                made, count = re.subn(it.old, it.new, text or "", flags=re.M)
+                made, count = re.subn(change.old, change.new, text or "", flags=re.M)
                 if not count:
-                    raise LookupError(f"{it.file} has no text {it.old}")
+                    raise LookupError(f"{change.file} has no text {change.old}")
                 file.write_text(made, "utf-8")
             yield place
         finally:
@@ -139,7 +139,7 @@ class Workshop:
         room = self.folder / f"plant.{number}"
         room.mkdir()
         try:
-            programs = {**self.programs, **{it: self.spoil(room, it, text, plant.loading) for it, text in plant.spoiled.items()}}
+            programs = {**self.programs, **{program: self.spoil(room, program, text, plant.loading) for program, text in plant.spoiled.items()}}
             how = {**os.environ, "F11FS": str(programs["f11fs"]), "F11": str(programs["f11"]), "ROOM": str(room), "PYTHONDONTWRITEBYTECODE": "1"}
             with self.copy_with(plant.changes) if plant.in_copy else contextlib.nullcontext(TOP) as place:
                 how["TOP"] = str(place)

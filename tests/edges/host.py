@@ -10,9 +10,10 @@ import subprocess
 import sys
 import tempfile
 import time
+from collections.abc import Callable
 
-from fs_room import NOBODY, OLD, STAMP, equal, fits
-from fs_rows import row
+from fs_room import NOBODY, OLD, STAMP, Room, equal, fits
+from fs_rows import Judge, row
 
 FILE, OTHER = "[1,2]NOTES.TXT", "[1,2]OTHER.TXT"
 MKDIR = ("--stamp", STAMP, "disk", "mkdir", "NEW")
@@ -32,12 +33,12 @@ COMMANDS = [
 ]
 
 
-def state_of(folder):
+def state_of(folder: pathlib.Path) -> dict[str, bytes | None]:
     """Each path of a folder, with its bytes."""
-    return {str(it.relative_to(folder)): it.read_bytes() if it.is_file() else None for it in sorted(folder.rglob("*"))}
+    return {str(path.relative_to(folder)): path.read_bytes() if path.is_file() else None for path in sorted(folder.rglob("*"))}
 
 
-def laid(room, name):
+def laid(room: Room, name: str) -> pathlib.Path:
     """A folder of its own with the image and files of the host."""
     folder = room.folder / name
     folder.mkdir()
@@ -50,15 +51,15 @@ def laid(room, name):
     return folder
 
 
-def run_closed(program, folder, closed, words):
+def run_closed(program: pathlib.Path, folder: pathlib.Path, closed: str, words: tuple[str, ...]) -> int:
     """Runs the program with these streams closed; returns the status."""
     command = ["sh", "-c", f'exec "$0" "$@" {closed}', str(program), *words]
     return subprocess.run(command, cwd=folder, stdin=subprocess.DEVNULL, capture_output=True, timeout=120).returncode
 
 
-def with_closed(closed):
+def with_closed(closed: str) -> Judge:
     """A row: with these streams closed each command does what it does with none closed, or answers 3."""
-    def judge(room):
+    def judge(room: Room) -> None:
         for number, words in enumerate(COMMANDS):
             open_folder, folder = laid(room, f"open{number}"), laid(room, f"closed{number}")
             ample = run_closed(room.program, open_folder, "", words)
@@ -84,7 +85,7 @@ for each in ("<&-", ">&-", "2>&-", "<&- >&- 2>&-"):
 
 
 @row
-def closed_streams_of_f11(room):
+def closed_streams_of_f11(room: Room) -> None:
     for number, closed in enumerate(("<&-", ">&-", "2>&-", "<&- >&- 2>&-")):
         for words in (("disk",), ("disk", "script", "--out", "new"), ("disk", "none", "--out", "new")):
             folder = room.folder / f"f11.{number}.{len(words)}.{words[-2:][0]}.{words[1:2] or 0}".replace("/", "")
@@ -98,7 +99,7 @@ def closed_streams_of_f11(room):
                 equal(len((folder / "new").read_bytes()) % 512, 0, "bytes of the new image behind its blocks")
 
 
-def preloaded(text):
+def preloaded(text: str) -> dict[str, str]:
     """The environment of a run in which calls of the C library are these."""
     folder = tempfile.mkdtemp(dir=CALLS.name)
     source = pathlib.Path(folder) / "calls.c"
@@ -118,9 +119,10 @@ WAITS = """int fsync(int file) {
 """
 
 
-def waiting(room):
+def waiting(room: Room) -> tuple[subprocess.Popen[bytes], list[int]]:
     """A change that has locked the image and waits before its new file is synced; and the flags of the image's descriptors."""
-    run = subprocess.Popen([room.program, *MKDIR], cwd=room.folder, env=preloaded(WAITS), stdin=subprocess.PIPE, stdout=subprocess.PIPE, stderr=subprocess.PIPE)
+    run = subprocess.Popen([room.program, *MKDIR], cwd=room.folder, env=preloaded(WAITS), stdin=subprocess.PIPE, stdout=subprocess.PIPE,
+            stderr=subprocess.PIPE)
     new = room.folder / ".disk.f11fs-new"
     for _ in range(600):
         if new.exists() and new.stat().st_size == len(room.before):
@@ -130,37 +132,38 @@ def waiting(room):
     raise AssertionError("there is no new file")
 
 
-def flags_of(process, path):
+def flags_of(process: int, path: pathlib.Path) -> list[int]:
     """How a process has a file open: the flags of each of its descriptors."""
     found = []
-    for it in pathlib.Path(f"/proc/{process}/fd").iterdir():
+    for descriptor in pathlib.Path(f"/proc/{process}/fd").iterdir():
         try:
-            if os.path.samefile(it, path):
-                found.append(int(re.search(r"flags:\s*(\d+)", pathlib.Path(f"/proc/{process}/fdinfo/{it.name}").read_text()).group(1), 8))
+            if os.path.samefile(descriptor, path):
+                found.append(int(re.search(r"flags:\s*(\d+)",
+                        pathlib.Path(f"/proc/{process}/fdinfo/{descriptor.name}").read_text()).group(1), 8))
         except OSError:
             pass
     return found
 
 
-def ended(run, given=b"one\n"):
+def ended(run: subprocess.Popen[bytes], given: bytes = b"one\n") -> tuple[int, bytes, bytes]:
     out, err = run.communicate(given, timeout=60)
     return run.returncode, out, err
 
 
 @row
-def locked_image_is_open_for_reading_alone(room):
+def locked_image_is_open_for_reading_alone(room: Room) -> None:
     run, flags = waiting(room)
     done = ended(run)
-    equal([it & os.O_ACCMODE for it in flags], [os.O_RDONLY], "how the image is open")
+    equal([flag & os.O_ACCMODE for flag in flags], [os.O_RDONLY], "how the image is open")
     equal(done, (0, b"", b""), "a change")
 
 
-def busy(process, name=r".+", path="disk"):
+def busy(process: int, name: str = r".+", path: str = "disk") -> re.Pattern[bytes]:
     """The line of an image that a process has open."""
     return re.compile(rf"f11fs: {path}: process {process} \({name}\) has it open; detach it there, or --force goes on\n".encode())
 
 
-def open_elsewhere(room, how):
+def open_elsewhere(room: Room, how: str) -> None:
     with open(room.image, how):
         status, out, err = room.run(*MKDIR)
         equal((status, out), (3, b""), "a change of an image that is open")
@@ -176,17 +179,17 @@ def open_elsewhere(room, how):
 
 
 @row
-def image_that_another_process_writes(room):
+def image_that_another_process_writes(room: Room) -> None:
     open_elsewhere(room, "r+b")
 
 
 @row
-def image_that_another_process_reads(room):
+def image_that_another_process_reads(room: Room) -> None:
     open_elsewhere(room, "rb")
 
 
 @row
-def image_that_is_opened_meanwhile(room):
+def image_that_is_opened_meanwhile(room: Room) -> None:
     run, _ = waiting(room)
     with open(room.image, "r+b"):
         status, out, err = ended(run)
@@ -196,13 +199,14 @@ def image_that_is_opened_meanwhile(room):
     equal(room.names(), ["disk"], "files of the host")
     # One that has it open only for a moment is no hindrance.
     with open(room.image, "r+b"):
-        run = subprocess.Popen([room.program, *MKDIR], cwd=room.folder, stdin=subprocess.PIPE, stdout=subprocess.PIPE, stderr=subprocess.PIPE)
+        run = subprocess.Popen([room.program, *MKDIR], cwd=room.folder, stdin=subprocess.PIPE, stdout=subprocess.PIPE,
+                stderr=subprocess.PIPE)
         time.sleep(0.1)
     equal(ended(run), (0, b"", b""), "a change")
 
 
 @row
-def name_of_the_process_is_shown(room):
+def name_of_the_process_is_shown(room: Room) -> None:
     words = "open('/proc/self/comm', 'wb').write(b'a\\x1b[7mb\\n'); held = open('disk', 'r+b'); print('open', flush=True); input()"
     with subprocess.Popen([sys.executable, "-c", words], cwd=room.folder, stdin=subprocess.PIPE, stdout=subprocess.PIPE) as held:
         held.stdout.readline()
@@ -213,7 +217,7 @@ def name_of_the_process_is_shown(room):
 
 
 @row
-def owner_is_given_by_descriptor(room):
+def owner_is_given_by_descriptor(room: Room) -> None:
     if os.geteuid() != 0:
         return
     os.chown(room.image, NOBODY, NOBODY)
@@ -231,12 +235,13 @@ NO_SYNC = """int fsync(int file) {
 
 
 @row
-def folder_that_is_not_synced(room):
+def folder_that_is_not_synced(room: Room) -> None:
     calls = preloaded(NO_SYNC)
     line = "f11fs: {}: the image is saved, but its folder could not be synced: the device failed\n"
     equal(room.run(*MKDIR, env=calls), (3, b"", line.format("disk").encode()), "a change")
     assert "[NEW]" in room.volume().directories, "the change is not there"
-    equal(room.run("-o", "new", "--stamp", STAMP, "disk", "mkdir", "MORE", env=calls), (3, b"", line.format("new").encode()), "a change elsewhere")
+    equal(room.run("-o", "new", "--stamp", STAMP, "disk", "mkdir", "MORE", env=calls), (3, b"", line.format("new").encode()),
+            "a change elsewhere")
     assert "[MORE]" in room.volume("new").directories, "the change is not there"
     equal(room.run("--stamp", STAMP, "made", "init", "80", env=calls), (3, b"", line.format("made").encode()), "a new volume")
     equal(room.run("made", "check"), (0, b"sound\n", b""), "the new volume")
@@ -245,21 +250,22 @@ def folder_that_is_not_synced(room):
 
 
 @row
-def file_system_without_links(room):
+def file_system_without_links(room: Room) -> None:
     for number, error in enumerate((errno.EPERM, errno.EOPNOTSUPP)):
         calls = preloaded(f"int link(const char *from, const char *to) {{ errno = {error}; return -1; }}\n")
         equal(room.run("-o", f"new{number}", *MKDIR, env=calls), (0, b"", b""), "a change elsewhere")
         assert "[NEW]" in room.volume(f"new{number}").directories, "the change is not there"
-        equal(room.run("-o", f"new{number}", *MKDIR, env=calls), (3, b"", f"f11fs: new{number}: it is there\n".encode()), "a file that is there")
+        equal(room.run("-o", f"new{number}", *MKDIR, env=calls), (3, b"", f"f11fs: new{number}: it is there\n".encode()),
+                "a file that is there")
     equal(room.names(), ["disk", "new0", "new1"], "files of the host")
     room.image.chmod(0o640)
     equal(room.run("-o", "last", *MKDIR, env=calls), (0, b"", b""), "a change elsewhere")
     equal((room.folder / "last").stat().st_mode & 0o777, 0o640, "the mode")
 
 
-def limited(size, handled):
+def limited(size: int, handled: bool) -> Callable[[], None]:
     """A run whose files grow to so many bytes; a longer one ends it, or fails."""
-    def begin():
+    def begin() -> None:
         resource.setrlimit(resource.RLIMIT_FSIZE, (size, size))
         resource.setrlimit(resource.RLIMIT_CORE, (0, 0))
         # Python ignores the signal in what it starts, unless it is asked not to.
@@ -269,7 +275,7 @@ def limited(size, handled):
 
 
 @row
-def run_that_is_ended_leaves_no_part_under_the_name(room):
+def run_that_is_ended_leaves_no_part_under_the_name(room: Room) -> None:
     for words, new in ((("-o", "new", *MKDIR), "new"), (("--stamp", STAMP, "made", "init", "200"), "made")):
         equal(room.run(*words, preexec_fn=limited(8192, False))[0], -signal.SIGXFSZ, "the end")
         assert not (room.folder / new).exists(), f"a part of {new} is there"
@@ -280,24 +286,29 @@ def run_that_is_ended_leaves_no_part_under_the_name(room):
 
 
 @row
-def reasons_of_writing(room):
+def reasons_of_writing(room: Room) -> None:
     equal(room.run(*MKDIR, preexec_fn=limited(8192, True)), (3, b"", b"f11fs: disk: writing failed: it is too large\n"), "a change")
-    equal(room.run("-o", "new", *MKDIR, preexec_fn=limited(8192, True)), (3, b"", b"f11fs: new: writing failed: it is too large\n"), "a change elsewhere")
+    equal(room.run("-o", "new", *MKDIR, preexec_fn=limited(8192, True)), (3, b"", b"f11fs: new: writing failed: it is too large\n"),
+            "a change elsewhere")
     assert room.is_untouched(), "the image was touched"
-    equal(room.run("-o", "none/new", *MKDIR), (3, b"", b"f11fs: none/new: no new file can be made: not there\n"), "a folder that is not there")
-    equal(room.run("-o", "disk/new", *MKDIR), (3, b"", b"f11fs: disk/new: no new file can be made: a part of its path is no folder\n"), "a folder that is a file")
+    equal(room.run("-o", "none/new", *MKDIR), (3, b"", b"f11fs: none/new: no new file can be made: not there\n"),
+            "a folder that is not there")
+    equal(room.run("-o", "disk/new", *MKDIR), (3, b"", b"f11fs: disk/new: no new file can be made: a part of its path is no folder\n"),
+            "a folder that is a file")
     equal(room.names(), ["disk"], "files of the host")
 
 
 @row
-def reasons_of_reading(room):
+def reasons_of_reading(room: Room) -> None:
     equal(room.run("none", "mkdir", "NEW"), (3, b"", b"f11fs: none: reading failed: not there\n"), "no image")
-    equal(room.run("disk/x", "mkdir", "NEW"), (3, b"", b"f11fs: disk/x: reading failed: a part of its path is no folder\n"), "a folder that is a file")
-    equal(room.run("a\x1b[7mb\x7f\x9b", "mkdir", "NEW"), (3, b"", b"f11fs: a\\x1b[7mb\\x7f\\x9b: reading failed: not there\n"), "control characters")
+    equal(room.run("disk/x", "mkdir", "NEW"), (3, b"", b"f11fs: disk/x: reading failed: a part of its path is no folder\n"),
+            "a folder that is a file")
+    equal(room.run("a\x1b[7mb\x7f\x9b", "mkdir", "NEW"), (3, b"", b"f11fs: a\\x1b[7mb\\x7f\\x9b: reading failed: not there\n"),
+            "control characters")
 
 
 @row
-def new_image_has_the_mode_of_the_old(room):
+def new_image_has_the_mode_of_the_old(room: Room) -> None:
     for mode in (0o600, 0o640, 0o444, 0o666):
         room.image.chmod(mode)
         equal(room.run("-o", f"new{mode:o}", *MKDIR), (0, b"", b""), "a change elsewhere")
@@ -307,29 +318,31 @@ def new_image_has_the_mode_of_the_old(room):
 
 
 @row
-def hidden_file_that_another_program_writes(room):
+def hidden_file_that_another_program_writes(room: Room) -> None:
     hidden = room.folder / ".new.f11fs-new"
     hidden.write_bytes(b"a part")
     with open(hidden, "rb") as held:
         fcntl.flock(held, fcntl.LOCK_EX)
-        equal(room.run("-o", "new", *MKDIR), (3, b"", b"f11fs: new: no new file can be made: another program writes it\n"), "a change elsewhere")
+        equal(room.run("-o", "new", *MKDIR), (3, b"", b"f11fs: new: no new file can be made: another program writes it\n"),
+                "a change elsewhere")
     equal((hidden.read_bytes(), room.names()), (b"a part", [".new.f11fs-new", "disk"]), "files of the host")
     equal(room.run("-o", "new", *MKDIR), (0, b"", b""), "a change elsewhere")
     equal(room.names(), ["disk", "new"], "files of the host")
 
 
 @row
-def links_are_not_written_through(room):
+def links_are_not_written_through(room: Room) -> None:
     (room.folder / "new").symlink_to("none")
     equal(room.run("-o", "new", *MKDIR), (3, b"", b"f11fs: new: it is there\n"), "a link that leads to nothing")
     (room.folder / ".other.f11fs-new").symlink_to("disk")
-    equal(room.run("-o", "other", *MKDIR), (3, b"", b"f11fs: other: no new file can be made: it is no plain file\n"), "a link under the hidden name")
+    equal(room.run("-o", "other", *MKDIR), (3, b"", b"f11fs: other: no new file can be made: it is no plain file\n"),
+            "a link under the hidden name")
     assert room.is_untouched(), "the image was touched"
     equal(room.names(), [".other.f11fs-new", "disk", "new"], "files of the host")
 
 
 @row
-def names_that_an_ended_run_left(room):
+def names_that_an_ended_run_left(room: Room) -> None:
     for word in ("old", "new"):
         os.link(room.image, room.folder / f".disk.f11fs-{word}")
     equal(room.run("--backup", *MKDIR), (0, b"", b""), "a change")
@@ -341,14 +354,14 @@ def names_that_an_ended_run_left(room):
     equal((status, err), (3, b"f11fs: disk: it has several names (hard links); --break-links changes this one alone\n"), "another name")
 
 
-def run_in(room, folder, *words):
+def run_in(room: Room, folder: pathlib.Path, *words: str) -> tuple[int, bytes, bytes]:
     """Runs the program in another folder; returns the status, the output and the errors."""
     ran = subprocess.run([room.program, *words], cwd=folder, stdin=subprocess.DEVNULL, capture_output=True, timeout=120)
     return ran.returncode, ran.stdout, ran.stderr
 
 
 @row
-def folder_whose_name_is_no_text(room):
+def folder_whose_name_is_no_text(room: Room) -> None:
     folder = os.path.join(os.fsencode(room.folder), b"caf\xe9")
     os.mkdir(folder)
     os.rename(room.image, os.path.join(folder, b"disk"))
@@ -359,21 +372,21 @@ def folder_whose_name_is_no_text(room):
 
 
 @row
-def names_that_leave_no_room(room):
+def names_that_leave_no_room(room: Room) -> None:
     for name in ("d" * 243, "d" * 254, "é" * 127, "x" + "é" * 126):
         folder = room.folder / name[:3]
         folder.mkdir(exist_ok=True)
         (folder / name).write_bytes(room.before)
         equal(run_in(room, folder, "--stamp", STAMP, name, "mkdir", "NEW"), (0, b"", b""), "a change")
-        equal([it.name for it in folder.iterdir()], [name], "files of the host")
+        equal([path.name for path in folder.iterdir()], [name], "files of the host")
         (folder / name).unlink()
         equal(room.run("--stamp", STAMP, "-o", folder / name, "disk", "mkdir", "NEW"), (0, b"", b""), "a change elsewhere")
-        equal([it.name for it in folder.iterdir()], [name], "files of the host")
+        equal([path.name for path in folder.iterdir()], [name], "files of the host")
         (folder / name).unlink()
 
 
 @row
-def links_in_a_chain_and_in_a_ring(room):
+def links_in_a_chain_and_in_a_ring(room: Room) -> None:
     (room.folder / "inner").mkdir()
     (room.folder / "inner" / "second").symlink_to("../disk")
     (room.folder / "first").symlink_to("inner/second")
@@ -386,7 +399,7 @@ def links_in_a_chain_and_in_a_ring(room):
 
 
 @row
-def block_device(room):
+def block_device(room: Room) -> None:
     if os.geteuid() != 0:
         return
     made = subprocess.run(["losetup", "--find", "--show", room.image], capture_output=True)
@@ -403,7 +416,7 @@ def block_device(room):
 
 
 @row
-def right_to_write_is_asked(room):
+def right_to_write_is_asked(room: Room) -> None:
     if os.geteuid() != 0:
         return
     room.image.chmod(0o444)
@@ -414,5 +427,6 @@ def right_to_write_is_asked(room):
     equal(room.run("-o", "new", *MKDIR, **how), (0, b"", b""), "a change elsewhere")
     room.image.chmod(0o644)
     room.folder.chmod(0o555)
-    equal(room.run(*MKDIR, **how), (3, b"", b"f11fs: disk: no new file can be made: no permission\n"), "a change in a folder that is closed")
+    equal(room.run(*MKDIR, **how), (3, b"", b"f11fs: disk: no new file can be made: no permission\n"),
+            "a change in a folder that is closed")
     equal(room.image.stat().st_mtime, OLD, "when the image was written")

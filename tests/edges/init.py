@@ -3,7 +3,7 @@ import shutil
 import struct
 import subprocess
 
-from fs_room import equal
+from fs_room import Room, equal
 from fs_rows import row
 
 BLOCK = 512
@@ -12,34 +12,34 @@ CONTIGUOUS = 0o200
 RSX_NAMES = {1: "INDEXF.SYS", 2: "BITMAP.SYS", 3: "BADBLK.SYS", 4: "000000.DIR", 5: "CORIMG.SYS"}
 
 
-def no_image():
+def no_image() -> None:
     return None
 
 
 class Made:
     """A new volume, of which a block is read where it is wanted."""
 
-    def __init__(self, room, *words):
+    def __init__(self, room: Room, *words: str) -> None:
         equal(room.run("disk", "init", *words), (0, b"", b""), f"init {words}")
         self.path = room.image
         self.home = self.words(1)
 
-    def block(self, lbn):
+    def block(self, lbn: int) -> bytes:
         with open(self.path, "rb") as image:
             image.seek(BLOCK * lbn)
             return image.read(BLOCK)
 
-    def words(self, lbn):
+    def words(self, lbn: int) -> tuple[int, ...]:
         return struct.unpack("<256H", self.block(lbn))
 
-    def header(self, number):
+    def header(self, number: int) -> bytes:
         """The header of one of the first 16 files, whose sum is right: H.IBLB, H.IBSZ and the number say where it stands."""
         lbn = (self.home[1] << 16 | self.home[2]) + self.home[0] + number - 1
         words = self.words(lbn)
         equal(words[255], sum(words[:255]) % 65536, f"the sum of header {number}")
         return self.block(lbn)
 
-    def places(self, number):
+    def places(self, number: int) -> list[int]:
         """The blocks that the pointers of a header name, in order."""
         head = self.header(number)
         area = 2 * head[1]
@@ -51,40 +51,41 @@ class Made:
         return found
 
 
-def attributes(blocks):
+def attributes(blocks: int) -> bytes:
     """F.RTYP 1, F.RATT 0, F.RSIZ 512, F.HIBK the blocks, F.EFBK one more, F.FFBY 0: words of 32 bits have the high word first."""
     return struct.pack("<BBH5H", 1, 0, 512, blocks >> 16, blocks & 0xFFFF, (blocks + 1) >> 16, (blocks + 1) & 0xFFFF, 0).ljust(32, b"\0")
 
 
-def size_by(control, bitmap_blocks):
+def size_by(control: bytes, bitmap_blocks: int) -> int:
     """The size that the storage control block says, where its byte 3 is the low byte of the count of bitmap blocks."""
     equal(control[3], bitmap_blocks % 256, "byte 3 of the storage control block")
     high, low = struct.unpack_from("<HH", control, 4 + 4 * bitmap_blocks if bitmap_blocks <= 126 else 4)
     return high << 16 | low
 
 
-def reserved_files(room, blocks):
+def reserved_files(room: Room, blocks: int) -> None:
     """A volume of so many blocks."""
     made = Made(room, str(blocks))
     equal(room.image.stat().st_size, BLOCK * blocks, "the length of the image")
     index, bitmap = made.places(1), made.places(2)
     equal(made.header(1)[14:46], attributes(len(index)), "the attributes of INDEXF.SYS")
     equal(made.header(2)[14:46], attributes(len(bitmap)), "the attributes of BITMAP.SYS")
-    equal({n: made.header(n)[12] for n in RSX_NAMES}, {1: 0, 2: CONTIGUOUS, 3: 0, 4: 0, 5: 0}, "the user characteristics")
+    equal({number: made.header(number)[12] for number in RSX_NAMES}, {1: 0, 2: CONTIGUOUS, 3: 0, 4: 0, 5: 0}, "the user characteristics")
     equal(bitmap, list(range(bitmap[0], bitmap[0] + len(bitmap))), "the blocks of BITMAP.SYS, which follow one another")
     equal(len(bitmap), 1 + (blocks + 4095) // 4096, "the blocks of BITMAP.SYS")
     equal(size_by(made.block(bitmap[0]), len(bitmap) - 1), blocks, "the size by the storage control block")
     if blocks < 100_000:
         equal(room.run("disk", "check", "--all"), (0, b"sound\n", b""), "check")
         for number in (1, 2):  # the end lies behind the last block
-            equal(len(room.run("disk", "cat", "-b", f"#{number},{number}")[1]), BLOCK * len(made.places(number)), f"the bytes of {RSX_NAMES[number]}")
+            equal(len(room.run("disk", "cat", "-b", f"#{number},{number}")[1]), BLOCK * len(made.places(number)),
+                    f"the bytes of {RSX_NAMES[number]}")
 
 
 for size in SIZES:
     row(lambda room, size=size: reserved_files(room, size), image=no_image, name=f"reserved files of a volume of {size} blocks")
 
 
-def labelled(room, label):
+def labelled(room: Room, label: str | None) -> None:
     """A volume of this label."""
     made = Made(room, "20480", "--label", label)
     text = label.upper().encode()
@@ -101,7 +102,7 @@ def labelled(room, label):
 
 
 @row(image=no_image)
-def labels(room):
+def labels(room: Room) -> None:
     for label in ("W", "work.1", "TWELVE.OF.12"):
         labelled(room, label)
         room.image.unlink()

@@ -1,58 +1,59 @@
 """Volumes, directories, files and scripts of sizes at which a program could say that memory is wanting, and it is not."""
 import subprocess
 
-from fs_room import equal
+from fs_room import Room, equal
 from fs_rows import row
 
 
-def no_image():
+def no_image() -> None:
     return None
 
 
-def made(room, size, *words):
+def made(room: Room, size: int, *words: str) -> None:
     """Makes a volume of so many blocks with f11fs."""
     equal(room.run("large", "init", *words, str(size))[::2], (0, b""), "init")
 
 
-def served(room, lines, *words):
+def served(room: Room, lines: list[str], *words: str) -> list[str]:
     """What f11 answers to a script on this volume, line by line; the volume that it leaves stands in its place."""
-    (room.folder / "script").write_text("".join(f"{it}\n" for it in lines), "ascii")
-    ran = subprocess.run([room.f11, "large", "script", "--limit", "65536", *words], cwd=room.folder, stdin=subprocess.DEVNULL, capture_output=True, timeout=300)
+    (room.folder / "script").write_text("".join(f"{line}\n" for line in lines), "ascii")
+    ran = subprocess.run([room.f11, "large", "script", "--limit", "65536", *words], cwd=room.folder, stdin=subprocess.DEVNULL,
+            capture_output=True, timeout=300)
     equal((ran.returncode, ran.stderr), (0, b""), "f11")
     return ran.stdout.decode("ascii").splitlines()
 
 
-def accepted(replies):
+def accepted(replies: list[str]) -> int:
     """How many of the replies say that a request was accepted."""
-    return sum(it.startswith("OK") for it in replies)
+    return sum(reply.startswith("OK") for reply in replies)
 
 
 @row(image=no_image)
-def a_file_is_made_on_the_largest_volume(room):
+def a_file_is_made_on_the_largest_volume(room: Room) -> None:
     made(room, 1_048_576)
     equal(accepted(served(room, ["CREATE A.TXT;1 1", "EXTEND $ 65535"])), 2, "CREATE and EXTEND")
 
 
 @row(image=no_image)
-def a_directory_of_4200_names_is_listed(room):
+def a_directory_of_4200_names_is_listed(room: Room) -> None:
     made(room, 16_384, "--files", "4200")
-    lines = [line for n in range(4200) for line in (f"CREATE N{n:05}.TXT;1 0", f"ENTER 4,4 N{n:05}.TXT $")]
+    lines = [line for number in range(4200) for line in (f"CREATE N{number:05}.TXT;1 0", f"ENTER 4,4 N{number:05}.TXT $")]
     replies = served(room, [*lines, "LIST 4,4"])
-    equal((accepted(replies), sum(it.startswith("N0") for it in replies)), (8401, 4200), "the names")
+    equal((accepted(replies), sum(reply.startswith("N0") for reply in replies)), (8401, 4200), "the names")
 
 
 @row(image=no_image)
-def a_script_of_200000_lines_is_answered(room):
+def a_script_of_200000_lines_is_answered(room: Room) -> None:
     made(room, 40)
-    equal(sum(it.startswith("BAD") for it in served(room, ["X"] * 200_000)), 200_000, "BAD")
+    equal(sum(reply.startswith("BAD") for reply in served(room, ["X"] * 200_000)), 200_000, "BAD")
     replies = served(room, ["STAT 4,4"] * 100_000)
-    equal((accepted(replies), sum(it.startswith("NO 48 ") for it in replies)), (65_536, 34_464), "OK, and NO behind the limit")
+    equal((accepted(replies), sum(reply.startswith("NO 48 ") for reply in replies)), (65_536, 34_464), "OK, and NO behind the limit")
 
 
 @row(image=no_image)
-def a_file_grows_by_900_pieces(room):
+def a_file_grows_by_900_pieces(room: Room) -> None:
     made(room, 4096, "--files", "1900")
-    files = [f"CREATE F{n:05}.DAT;1 1" for n in range(6, 1906)]
-    holes = [f"DELETE {n},1" for n in range(7, 1906, 2)]
+    files = [f"CREATE F{number:05}.DAT;1 1" for number in range(6, 1906)]
+    holes = [f"DELETE {number},1" for number in range(7, 1906, 2)]
     replies = served(room, [*files, *holes, "CREATE G.DAT;1 0", "EXTEND $ 900"])
     equal(accepted(replies), len(files) + len(holes) + 2, "the requests")

@@ -7,9 +7,11 @@ import signal
 import stat
 import subprocess
 import threading
+from collections.abc import Callable
+from typing import Any
 
 from fs_image import BLOCK, Volume, changed
-from fs_room import equal, fits
+from fs_room import Room, equal, fits
 from fs_rows import row
 from fs_volumes import plain_volume
 
@@ -18,16 +20,16 @@ PATH = "[1,2]NOTES.TXT;1"
 RESCUED = ("NOTES.TXT;1", "OTHER.TXT;1", "TASK.TSK;3")
 
 
-def limited(**most):
+def limited(**most: int) -> Callable[[], None]:
     """Lets a run have so much of what the host gives, and no more; a file that would grow too large is a failure, and no signal."""
-    def before():
+    def before() -> None:
         signal.signal(signal.SIGXFSZ, signal.SIG_IGN)
         for what, count in most.items():
             resource.setrlimit(getattr(resource, f"RLIMIT_{what}"), (count, count))
     return before
 
 
-def objects(said):
+def objects(said: bytes) -> list[dict[str, Any]]:
     """The objects that were printed, one a line."""
     try:
         return [json.loads(line) for line in said.splitlines()]
@@ -35,26 +37,26 @@ def objects(said):
         raise AssertionError(f"no JSON: {said!r:.300}") from None
 
 
-def nothing():
+def nothing() -> None:
     """No image: the room is empty."""
 
 
-def with_entries(count, number):
+def with_entries(count: int, number: int) -> bytes:
     """The image of a volume whose master directory has so many names of a file of ten blocks, or of none where the number is another."""
-    it = Volume(1000)
-    entries = [(f"F{i:05}.DAT;1", number, 1) for i in range(count)]
-    it.directory(4, "000000.DIR;1", ("000000.DIR;1", 4, 4), *entries, places=it.take((16 * (count + 1) + BLOCK - 1) // BLOCK))
-    it.file(9, "BIG.DAT;1", b"b" * 10 * BLOCK, kind=1, size=512)
-    return it.bytes()
+    volume = Volume(1000)
+    entries = [(f"F{place:05}.DAT;1", number, 1) for place in range(count)]
+    volume.directory(4, "000000.DIR;1", ("000000.DIR;1", 4, 4), *entries, places=volume.take((16 * (count + 1) + BLOCK - 1) // BLOCK))
+    volume.file(9, "BIG.DAT;1", b"b" * 10 * BLOCK, kind=1, size=512)
+    return volume.bytes()
 
 
-def broken_image():
+def broken_image() -> bytes:
     """A volume of which the chain of NOTES.TXT is not whole."""
     return changed(plain_volume().bytes(), 2 + 9, 94, b"\x1b\0\1\0")
 
 
 @row(name="get --force keeps the old file where there is no room", image=lambda: with_entries(1, 9))
-def get_keeps_the_old_file(room):
+def get_keeps_the_old_file(room: Room) -> None:
     (room.folder / "x").write_bytes(b"mine")
     status, out, err = room.run("disk", "get", "--force", "F00000.DAT", "x", preexec_fn=limited(FSIZE=4096))
     equal((status, out), (3, b""), "get")
@@ -64,7 +66,7 @@ def get_keeps_the_old_file(room):
 
 
 @row(name="get leaves no part where there is no room", image=lambda: with_entries(1, 9))
-def get_leaves_no_part(room):
+def get_leaves_no_part(room: Room) -> None:
     status, _, err = room.run("disk", "get", "F00000.DAT", "x", preexec_fn=limited(FSIZE=4096))
     equal(status, 3, "get")
     fits(err, re.compile(rb"f11fs: \[0,0\]F00000\.DAT;1: writing x failed: [^\n]+\n"), "the line")
@@ -72,7 +74,7 @@ def get_leaves_no_part(room):
 
 
 @row(name="get --force replaces the file that a link leads to")
-def get_follows_a_link(room):
+def get_follows_a_link(room: Room) -> None:
     (room.folder / "mine").write_bytes(b"old")
     (room.folder / "mine").chmod(0o640)
     (room.folder / "link").symlink_to("mine")
@@ -86,7 +88,7 @@ def get_follows_a_link(room):
 
 
 @row(name="get --force writes into what is no plain file")
-def get_into_a_fifo(room):
+def get_into_a_fifo(room: Room) -> None:
     fifo, got = room.folder / "fifo", []
     os.mkfifo(fifo)
     reader = threading.Thread(target=lambda: got.append(fifo.read_bytes()), daemon=True)
@@ -102,7 +104,7 @@ def get_into_a_fifo(room):
     equal(((room.folder / "out").read_bytes(), (room.folder / "out").stat().st_ino), (TEXT, node), "standard output that is a file")
 
 
-def seconds_of(room, *words):
+def seconds_of(room: Room, *words: str) -> float:
     """The processor time of a run."""
     with subprocess.Popen([room.program, *words], cwd=room.folder, stdin=subprocess.DEVNULL, stdout=subprocess.DEVNULL, stderr=subprocess.DEVNULL) as ran:
         _, status, used = os.wait4(ran.pid, 0)
@@ -112,7 +114,7 @@ def seconds_of(room, *words):
 
 
 @row(name="get --force of many names takes no more than without", image=lambda: with_entries(16000, 9))
-def get_of_many_names(room):
+def get_of_many_names(room: Room) -> None:
     for folder in ("one", "two"):
         (room.folder / folder).mkdir()
     if seconds_of(room, "disk", "find") > 2:
@@ -123,12 +125,13 @@ def get_of_many_names(room):
 
 
 @row(name="-n get writes nothing")
-def get_only_tells(room):
+def get_only_tells(room: Room) -> None:
     (room.folder / "there").write_bytes(b"mine")
     line = f"get {PATH} to ./notes.txt\n".encode()
     equal(room.run("-n", "disk", "get", NOTE), (0, line, b""), "-n get")
     equal(room.run("disk", "get", "-n", NOTE, "-"), (0, f"get {PATH} to -\n".encode(), b""), "get -n to -")
-    equal(room.run("-n", "disk", "get", NOTE, "there"), (3, b"", f"f11fs: {PATH}: there is there; --force replaces it\n".encode()), "-n get to a file that is there")
+    equal(room.run("-n", "disk", "get", NOTE, "there"), (3, b"", f"f11fs: {PATH}: there is there; --force replaces it\n".encode()),
+            "-n get to a file that is there")
     equal(room.run("-n", "disk", "get", "--force", NOTE, "there"), (0, f"get {PATH} to there\n".encode(), b""), "-n get --force")
     status, out, err = room.run("-n", "--json", "disk", "get", NOTE)
     equal((status, objects(out), err), (0, [{"get": PATH, "to": "./notes.txt"}], b""), "-n --json get")
@@ -136,14 +139,14 @@ def get_only_tells(room):
 
 
 @row(name="-n -f tells what get would write")
-def get_only_tells_in_a_file(room):
+def get_only_tells_in_a_file(room: Room) -> None:
     (room.folder / "todo").write_text(f"get {NOTE} out\n")
     equal(room.run("-n", "-f", "todo", "disk"), (0, f"get {PATH} to out\n".encode(), b""), "-n -f")
     equal(room.names(), ["disk", "todo"], "files of the host")
 
 
 @row(name="rescue leaves an empty folder as it is")
-def rescue_keeps_the_folder(room):
+def rescue_keeps_the_folder(room: Room) -> None:
     out = room.folder / "out"
     out.mkdir()
     out.chmod(0o700)
@@ -155,11 +158,12 @@ def rescue_keeps_the_folder(room):
 
 
 @row(name="rescue takes the working folder, and a link to an empty one")
-def rescue_takes_folders(room):
+def rescue_takes_folders(room: Room) -> None:
     for folder in ("here", "real"):
         (room.folder / folder).mkdir()
     (room.folder / "link").symlink_to("real")
-    ran = subprocess.run([room.program, "../disk", "rescue", "."], cwd=room.folder / "here", stdin=subprocess.DEVNULL, capture_output=True, timeout=60)
+    ran = subprocess.run([room.program, "../disk", "rescue", "."], cwd=room.folder / "here", stdin=subprocess.DEVNULL, capture_output=True,
+            timeout=60)
     equal((ran.returncode, ran.stderr), (0, b""), "rescue into .")
     equal(room.run("disk", "rescue", "link")[0], 0, "rescue into a link")
     for folder in ("here", "real"):
@@ -167,30 +171,37 @@ def rescue_takes_folders(room):
 
 
 @row(name="rescue refuses what is no empty folder")
-def rescue_refuses_folders(room):
+def rescue_refuses_folders(room: Room) -> None:
     (room.folder / "file").write_bytes(b"")
     (room.folder / "full").mkdir()
     (room.folder / "full" / ".hidden").write_bytes(b"")
     for folder in ("file", "full"):
         for words in (["disk"], ["-n", "disk"]):
-            equal(room.run(*words, "rescue", folder), (3, b"", f"f11fs: {folder}: an empty folder, or none, is wanted there\n".encode()), folder)
-    equal(room.run("disk", "rescue", "none/out"), (3, b"", b"f11fs: none/out: the folder cannot be made: not there\n"), "no folder above it")
+            equal(room.run(*words, "rescue", folder), (3, b"", f"f11fs: {folder}: an empty folder, or none, is wanted there\n".encode()),
+                    folder)
+    equal(room.run("disk", "rescue", "none/out"), (3, b"", b"f11fs: none/out: the folder cannot be made: not there\n"),
+            "no folder above it")
     equal(room.names(), ["disk", "file", "full"], "files of the host")
 
 
 @row(name="rescue --json and -n", image=broken_image)
-def rescue_tells(room):
+def rescue_tells(room: Room) -> None:
     status, out, err = room.run("disk", "rescue", "--json", "out")
-    equal((status, objects(out), err), (7, [{"fault": "BadChain 9"}, {"left": "file 9,1", "why": "BadChain"}, {"rescued": "OTHER.TXT;1"}, {"rescued": "TASK.TSK;3"}], b""), "rescue --json")
+    equal((status, objects(out), err),
+            (7, [{"fault": "BadChain 9"}, {"left": "file 9,1", "why": "BadChain"}, {"rescued": "OTHER.TXT;1"}, {"rescued": "TASK.TSK;3"}], b""),
+            "rescue --json")
     status, out, err = room.run("-n", "disk", "rescue", "new")
-    equal((status, out, err), (7, b"disk: BadChain 9\nleft: file 9,1: BadChain\nrescue #10,1 to new/OTHER.TXT;1\nrescue #12,1 to new/TASK.TSK;3\n", b""), "-n rescue")
+    equal((status, out, err),
+            (7, b"disk: BadChain 9\nleft: file 9,1: BadChain\nrescue #10,1 to new/OTHER.TXT;1\nrescue #12,1 to new/TASK.TSK;3\n", b""),
+            "-n rescue")
     status, out, err = room.run("-n", "--json", "disk", "rescue", "new")
-    equal((status, objects(out)[2:], err), (7, [{"rescue": "#10,1", "to": "new/OTHER.TXT;1"}, {"rescue": "#12,1", "to": "new/TASK.TSK;3"}], b""), "-n --json rescue")
+    equal((status, objects(out)[2:], err),
+            (7, [{"rescue": "#10,1", "to": "new/OTHER.TXT;1"}, {"rescue": "#12,1", "to": "new/TASK.TSK;3"}], b""), "-n --json rescue")
     equal(room.names(), ["disk", "out"], "files of the host")
 
 
 @row(name="rescue reads no more than a volume has")
-def rescue_reads_no_more(room):
+def rescue_reads_no_more(room: Room) -> None:
     if room.run("--version", preexec_fn=limited(AS=400 << 20))[0] != 0:
         return  # a program that is built to be looked into wants more than that to begin with
     with open(room.folder / "large", "wb") as large:
@@ -203,14 +214,14 @@ def rescue_reads_no_more(room):
 
 
 @row(name="check keeps ten thousand lines", image=lambda: with_entries(10500, 30))
-def check_of_many_findings(room):
+def check_of_many_findings(room: Room) -> None:
     status, out, err = room.run("disk", "check", "--all")
     lines = out.decode().splitlines()
-    told = [it for it in lines if it.startswith("directory 4 has F")]
+    told = [line for line in lines if line.startswith("directory 4 has F")]
     equal((status, len(told), err), (7, 10000, b""), "check --all")
-    assert any(re.fullmatch(r"and \d+ more findings", it) for it in lines), f"{lines[-3:]}"
+    assert any(re.fullmatch(r"and \d+ more findings", line) for line in lines), f"{lines[-3:]}"
     status, out, err = room.run("disk", "check", "--all", "--json")
-    assert any("more_findings" in it for it in objects(out)), "check --all --json"
+    assert any("more_findings" in found for found in objects(out)), "check --all --json"
     status, out, err = room.run("disk", "check")
     fits(out, re.compile(rb"105\d\d findings that a mount does not refuse; check --all lists them\n"), "check")
 
@@ -231,7 +242,7 @@ LOOKS = {
 
 
 @row(name="what bytes look like that are no volume", image=nothing)
-def looks(room):
+def looks(room: Room) -> None:
     for what, (data, refusal, word) in LOOKS.items():
         (room.folder / "other").write_bytes(data)
         for words in (["ls"], ["rm", "X.X;1"]):
@@ -241,7 +252,7 @@ def looks(room):
 
 
 @row(name="why reading failed", image=nothing)
-def why_reading_failed(room):
+def why_reading_failed(room: Room) -> None:
     (room.folder / "folder").mkdir()
     for words in (["ls"], ["check"], ["rescue", "out"]):
         equal(room.run("none", *words), (3, b"", b"f11fs: none: reading failed: not there\n"), f"{words} of nothing")
@@ -249,7 +260,7 @@ def why_reading_failed(room):
 
 
 @row(name="control characters are shown, and not sent")
-def control_characters(room):
+def control_characters(room: Room) -> None:
     equal(room.run("a\x1b]0;b\x07", "ls"), (3, b"", b"f11fs: a\\x1b]0;b\\x07: reading failed: not there\n"), "an image")
     for words in (["get", NOTE, "no\x1bne/f"], ["rescue", "no\x1bne/out"], ["cat", "N\x1bX.TXT"], ["ls", "N\x1bX.TXT"], ["get", NOTE, NOTE, "f\x1b"]):
         status, out, err = room.run("disk", *words)
@@ -257,7 +268,7 @@ def control_characters(room):
 
 
 @row(name="nothing is printed into the image")
-def own_output(room):
+def own_output(room: Room) -> None:
     for words in (["cat", NOTE], ["ls"], ["check"], ["df"], ["rescue", "out"], ["get", NOTE, "-"]):
         with open(room.image, "ab") as out:
             status, _, err = room.run("disk", *words, capture_output=False, stdout=out, stderr=subprocess.PIPE)
@@ -266,7 +277,7 @@ def own_output(room):
 
 
 @row(name="a reader that goes away is no fault to tell of")
-def reader_goes_away(room):
+def reader_goes_away(room: Room) -> None:
     reader, writer = os.pipe()
     os.close(reader)
     status, _, err = room.run("disk", "cat", NOTE, capture_output=False, stdout=writer, stderr=subprocess.PIPE)

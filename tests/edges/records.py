@@ -1,19 +1,18 @@
 """Files of records: what is got of them, and what is put in their form."""
-import struct
-
 from fs_image import Volume, attributes, sequenced, variable
-from fs_room import equal
-from fs_rows import row
+from fs_reader import File
+from fs_room import Room, equal
+from fs_rows import Judge, row
 from fs_volumes import plain_volume
 
 OBJECT = [b"\x01\x00\x0a\x0d\x00\xff\x07", b"\x03\x00", b""]
-CARDS = b"".join(f"CARD {n}".encode().ljust(80) for n in range(8))
+CARDS = b"".join(f"CARD {number}".encode().ljust(80) for number in range(8))
 IN_BLOCKS = (CARDS[:480] + b"#" * 32 + CARDS[480:])
 
 
-def record_volume():
+def record_volume() -> bytes:
     """A volume with a file of each form in [1,2]."""
-    it = Volume()
+    volume = Volume()
     files = {
         "PROG.OBJ;1": (variable(*OBJECT), {"size": 128}),
         "NOTES.TXT;1": (variable(b"one", b"two"), {"control": 2, "size": 3}),
@@ -31,19 +30,19 @@ def record_volume():
         "HEADED.OBJ;1": (variable(b"abcd\x00", b"efgh\x01"), {"attr": attributes(3, 0, 0, 1, 16)[:15] + b"\4" + bytes(16)}),
         "NOEND.DAT;1": (b"", {"attr": attributes(1, 0, 512, 1, 0)[:8] + bytes(24), "places": [75]}),
     }
-    it.directory(4, "000000.DIR;1", ("000000.DIR;1", 4, 4), ("001002.DIR;1", 6, 1), ("INDEXF.SYS;1", 1, 1), ("BITMAP.SYS;1", 2, 2),
+    volume.directory(4, "000000.DIR;1", ("000000.DIR;1", 4, 4), ("001002.DIR;1", 6, 1), ("INDEXF.SYS;1", 1, 1), ("BITMAP.SYS;1", 2, 2),
                  ("BADBLK.SYS;1", 3, 3), ("CORIMG.SYS;1", 5, 5))
-    it.directory(6, "001002.DIR;1", *((text, 10 + k, 1) for k, text in enumerate(files)))
-    for k, (text, (data, more)) in enumerate(files.items()):
-        it.file(10 + k, text, data, **more)
-    return it.bytes()
+    volume.directory(6, "001002.DIR;1", *((text, 10 + place, 1) for place, text in enumerate(files)))
+    for place, (text, (data, more)) in enumerate(files.items()):
+        volume.file(10 + place, text, data, **more)
+    return volume.bytes()
 
 
-def of_records(function):
+def of_records(function: Judge) -> Judge:
     return row(function, image=record_volume)
 
 
-def got(room, text, *words):
+def got(room: Room, text: str, *words: str) -> tuple[bytes, str]:
     """What `cat` gives of a file, and says of it."""
     status, out, said = room.run("disk", "cat", *words, f"1,2/{text}")
     equal(status, 0, f"cat {text}: {said!r}")
@@ -51,13 +50,15 @@ def got(room, text, *words):
 
 
 @of_records
-def an_object_module_comes_as_its_bytes(room):
-    equal(got(room, "PROG.OBJ"), (variable(*OBJECT), "f11fs: [1,2]PROG.OBJ;1: records that are no text, got as bytes; put -b --form variable,none,128 brings them back\n"), "PROG.OBJ")
-    equal(got(room, "PROG.OBJ", "-t")[0], b"".join(it + b"\n" for it in OBJECT), "with -t")
+def an_object_module_comes_as_its_bytes(room: Room) -> None:
+    equal(got(room, "PROG.OBJ"),
+            (variable(*OBJECT), "f11fs: [1,2]PROG.OBJ;1: records that are no text, got as bytes; put -b --form variable,none,128 brings them back\n"),
+            "PROG.OBJ")
+    equal(got(room, "PROG.OBJ", "-t")[0], b"".join(record + b"\n" for record in OBJECT), "with -t")
 
 
 @of_records
-def a_form_is_said_only_where_it_takes_the_records_back(room):
+def a_form_is_said_only_where_it_takes_the_records_back(room: Room) -> None:
     for text in ("LONG.OBJ", "ORG.OBJ", "HEADED.OBJ"):
         out, said = got(room, text)
         equal(said, f"f11fs: [1,2]{text};1: records that are no text, got as bytes\n", text)
@@ -68,7 +69,7 @@ def a_form_is_said_only_where_it_takes_the_records_back(room):
 
 
 @of_records
-def records_that_are_text_come_as_lines(room):
+def records_that_are_text_come_as_lines(room: Room) -> None:
     equal(got(room, "NOTES.TXT"), (b"one\ntwo\n", ""), "carriage control")
     equal(got(room, "PLAIN.DAT"), (b"one\ntwo\n", ""), "none, but text")
     equal(got(room, "SEQ.TXT"), (b"ten\ntwenty\n", ""), "sequenced")
@@ -77,7 +78,7 @@ def records_that_are_text_come_as_lines(room):
 
 
 @of_records
-def a_record_with_its_own_line_end_comes_as_bytes(room):
+def a_record_with_its_own_line_end_comes_as_bytes(room: Room) -> None:
     out, said = got(room, "SPLIT.LST")
     equal(out, variable(b"a\nb", b"c"), "SPLIT.LST")
     assert "--form variable,cr,3" in said, said
@@ -85,7 +86,7 @@ def a_record_with_its_own_line_end_comes_as_bytes(room):
 
 
 @of_records
-def records_of_one_size_are_lines_with_t(room):
+def records_of_one_size_are_lines_with_t(room: Room) -> None:
     lines = b"".join(CARDS[at : at + 80] + b"\n" for at in range(0, 640, 80))
     equal(got(room, "CARDS.DAT", "-t")[0], lines, "CARDS.DAT")
     equal(got(room, "BLOCKS.DAT", "-t")[0], lines, "BLOCKS.DAT")
@@ -96,14 +97,14 @@ def records_of_one_size_are_lines_with_t(room):
 
 
 @of_records
-def a_stream_loses_cr_before_lf_with_t(room):
+def a_stream_loses_cr_before_lf_with_t(room: Room) -> None:
     equal(got(room, "STREAM.TXT", "-t")[0], b"one\ntwo\n", "with -t")
     equal(got(room, "STREAM.TXT")[0], b"one\ntwo\n", "without a form")
     equal(got(room, "STREAM.TXT", "-b")[0], b"one\r\ntwo\r\n", "with -b")
 
 
 @of_records
-def an_end_of_zero_is_said(room):
+def an_end_of_zero_is_said(room: Room) -> None:
     out, said = got(room, "NOEND.DAT")
     equal(out, b"", "NOEND.DAT")
     assert "ends at 0 and has blocks" in said, said
@@ -111,11 +112,11 @@ def an_end_of_zero_is_said(room):
 
 
 @of_records
-def listings_tell_records_from_text(room):
+def listings_tell_records_from_text(room: Room) -> None:
     status, out, _ = room.run("disk", "ls", "-l", "1,2/*.*")
     equal(status, 0, "ls")
-    kinds = {it.split()[0]: it.split()[4] for it in out.decode().splitlines() if "#" in it}
-    equal([kinds[it] for it in ("PROG.OBJ;1", "NOTES.TXT;1", "PLAIN.DAT;1", "SEQ.TXT;1", "CARDS.DAT;1", "STREAM.TXT;1")],
+    kinds = {line.split()[0]: line.split()[4] for line in out.decode().splitlines() if "#" in line}
+    equal([kinds[name] for name in ("PROG.OBJ;1", "NOTES.TXT;1", "PLAIN.DAT;1", "SEQ.TXT;1", "CARDS.DAT;1", "STREAM.TXT;1")],
           ["records", "text", "records", "text", "binary", "binary"], "kinds")
     _, out, _ = room.run("disk", "stat", "1,2/STREAM.TXT")
     assert b"Records: stream, implied carriage return" in out, out
@@ -123,20 +124,20 @@ def listings_tell_records_from_text(room):
     assert b"Records: variable" in out, out
 
 
-def put(room, name, data, *words):
+def put(room: Room, name: str, data: bytes, *words: str) -> tuple[int, str]:
     """Puts a host file, and gives the status and what is said."""
     (room.folder / name).write_bytes(data)
     status, _, said = room.run("disk", "put", *words)
     return status, said.decode()
 
 
-def file_of(room, path):
+def file_of(room: Room, path: str) -> File:
     volume = room.volume()
     return volume.files[volume.paths[path]]
 
 
 @of_records
-def bytes_come_back_in_the_form_of_another(room):
+def bytes_come_back_in_the_form_of_another(room: Room) -> None:
     data = variable(*OBJECT)
     equal(put(room, "new.obj", data, "-b", "--like", "1,2/PROG.OBJ", "new.obj", "1,2/"), (0, ""), "put")
     one = file_of(room, "[1,2]NEW.OBJ;1")
@@ -146,7 +147,7 @@ def bytes_come_back_in_the_form_of_another(room):
 
 
 @of_records
-def bytes_come_back_in_a_form_in_words(room):
+def bytes_come_back_in_a_form_in_words(room: Room) -> None:
     data = sequenced((1, b"one"), (2, b"three"))
     equal(put(room, "new.seq", data, "-b", "--form", "sequenced,print+blk,80", "new.seq", "1,2/"), (0, ""), "put")
     one = file_of(room, "[1,2]NEW.SEQ;1")
@@ -155,7 +156,7 @@ def bytes_come_back_in_a_form_in_words(room):
 
 
 @of_records
-def bytes_that_are_no_records_of_the_form_are_refused(room):
+def bytes_that_are_no_records_of_the_form_are_refused(room: Room) -> None:
     for data, form, said in ((b"\x05\x00ab", "variable,cr,0", "past the end"), (variable(b"x" * 9), "variable,cr,8", "a record has 9 bytes"), (b"\x01\x00a\x00", "sequenced,none,0", "no number")):
         status, line = put(room, "new.dat", data, "-b", "--form", form, "new.dat", "1,2/")
         equal(status, 5, form)
@@ -164,7 +165,7 @@ def bytes_that_are_no_records_of_the_form_are_refused(room):
 
 
 @of_records
-def like_keeps_the_greater_record_size(room):
+def like_keeps_the_greater_record_size(room: Room) -> None:
     equal(put(room, "long.txt", b"a longer line\n", "--like", "1,2/NOTES.TXT", "long.txt", "1,2/"), (0, ""), "put")
     equal(file_of(room, "[1,2]LONG.TXT;1").size, 13, "the longest record")
     equal(put(room, "short.txt", b"a\n", "--like", "1,2/NOTES.TXT", "short.txt", "1,2/"), (0, ""), "put")
@@ -172,7 +173,7 @@ def like_keeps_the_greater_record_size(room):
 
 
 @row(image=lambda: plain_volume(blocks=200).bytes())
-def what_keeps_bytes_from_being_a_text_is_said(room):
+def what_keeps_bytes_from_being_a_text_is_said(room: Room) -> None:
     for data, why in ((b"a\nb\r\n", "line 2 ends with CR LF; -t makes records"), (b"a\nb", "the last line has no LF; -t makes records"),
                       (b"a\nb\xe9\n", "line 2 has the byte 233; -t makes records"), (b"x" * 32768 + b"\n", "a line has more than 32767 bytes")):
         equal(put(room, "near.txt", data, "near.txt", "1,2/"), (0, f"f11fs: near.txt: put as bytes, since {why}\n"), why)
@@ -181,7 +182,7 @@ def what_keeps_bytes_from_being_a_text_is_said(room):
 
 
 @row
-def a_name_with_a_character_that_stands_for_another_is_refused(room):
+def a_name_with_a_character_that_stands_for_another_is_refused(room: Room) -> None:
     for character in "_%&":
         status, said = put(room, f"a{character}b.txt", b"x\n", f"a{character}b.txt", "1,2/")
         equal(status, 2, character)
@@ -191,6 +192,6 @@ def a_name_with_a_character_that_stands_for_another_is_refused(room):
 
 
 @row
-def a_file_is_put_for_another_owner(room):
+def a_file_is_put_for_another_owner(room: Room) -> None:
     equal(put(room, "new.txt", b"x\n", "--owner", "[7,10]", "new.txt", "1,2/"), (0, ""), "put")
     equal(file_of(room, "[1,2]NEW.TXT;1").owner, 7 << 8 | 8, "owner")

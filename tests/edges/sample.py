@@ -5,7 +5,7 @@ import re
 import shutil
 import subprocess
 
-from fs_room import equal
+from fs_room import Room, equal
 from fs_rows import row
 
 TOP = pathlib.Path(__file__).resolve().parent.parent.parent
@@ -14,46 +14,47 @@ README = (TOP / "README.md").read_text("utf-8")
 FIRST = "./f11fs examples/sample.dsk ls -lR"
 
 
-def no_image():
+def no_image() -> None:
     return None
 
 
-def blocks():
+def blocks() -> list[list[str]]:
     """The indented blocks of README.md, each as its lines."""
     found = re.findall(r"(?:^    .*\n)+", README, re.M)
-    return [[line[4:] for line in it.splitlines()] for it in found]
+    return [[line[4:] for line in block.splitlines()] for block in found]
 
 
 @row(image=no_image)
-def f11fs_alone_makes_the_sample(room):
-    ran = subprocess.run(["sh", TOP / "examples" / "make_sample.sh", "made.dsk"], cwd=room.folder, env={**os.environ, "F11FS": str(room.program)}, capture_output=True, timeout=300)
+def f11fs_alone_makes_the_sample(room: Room) -> None:
+    ran = subprocess.run(["sh", TOP / "examples" / "make_sample.sh", "made.dsk"], cwd=room.folder,
+            env={**os.environ, "F11FS": str(room.program)}, capture_output=True, timeout=300)
     equal((ran.returncode, ran.stderr), (0, b""), "the script")
     assert (room.folder / "made.dsk").read_bytes() == SAMPLE.read_bytes(), "the bytes are not those of examples/sample.dsk"
 
 
 @row(image=no_image)
-def readme_shows_what_the_first_command_prints(room):
+def readme_shows_what_the_first_command_prints(room: Room) -> None:
     (room.folder / "examples").mkdir()
     shutil.copy2(SAMPLE, room.folder / "examples")
     (room.folder / "f11fs").symlink_to(room.program)
     assert [FIRST] in blocks(), "the first command has no block of its own"
     ran = subprocess.run(["sh", "-c", FIRST], cwd=room.folder, capture_output=True, text=True, timeout=120)
     equal((ran.returncode, ran.stderr), (0, ""), "the first command")
-    equal([it.rstrip() for it in ran.stdout.splitlines()], [it.rstrip() for it in listing()], "what it prints")
+    equal([line.rstrip() for line in ran.stdout.splitlines()], [line.rstrip() for line in listing()], "what it prints")
 
 
-def listing():
+def listing() -> list[str]:
     """The lines of the fenced block behind the first command."""
     return re.search(re.escape(FIRST) + r"\n\n```\n(.*?)```\n", README, re.S)[1].splitlines()
 
 
 @row(image=no_image)
-def commands_for_keepers_run(room):
+def commands_for_keepers_run(room: Room) -> None:
     for name in ("disk.dsk", "bad.dsk"):
         shutil.copy2(SAMPLE, room.folder / name)
     (room.folder / "notes.txt").write_bytes(b"one\ntwo\n")
     (room.folder / "f11fs").symlink_to(room.program)
-    lines = [line.split(" # ")[0] for it in blocks() if "disk.dsk" in it[0] for line in it]
+    lines = [line.split(" # ")[0] for block in blocks() if "disk.dsk" in block[0] for line in block]
     assert len(lines) >= 12, f"only {len(lines)} lines of README.md"
     for line in lines:
         ran = subprocess.run(["sh", "-c", line], cwd=room.folder, capture_output=True, timeout=300)

@@ -39,21 +39,28 @@ SPOILED = r"printf '\377' | dd of=dist/f11-x86_64-linux bs=1 seek=5000 conv=notr
 
 changed("tests/ample", "a test that no longer calls what it called", "FAILED ods_filing put_file is called by no test",
         Change("tests/ods_tests/src/mounted/filings.rs", r"\bput_file\(", "filed("))
-changed("tests/ample", "a call that no test makes", "FAILED ods_paths planted is called by no test", Change("crates/ods_paths/src/planted.rt", None, CALL))
+changed("tests/ample", "a call that no test makes", "FAILED ods_paths planted is called by no test",
+        Change("crates/ods_paths/src/planted.rt", None, CALL))
 changed("tests/ample", "a row of what a test calls", "FAILED ods_filing put_file has a row of THROUGH, and is called by a test",
         Change("tests/ample", "^THROUGH = {", 'THROUGH = {\n    "ods_filing put_file": "fs_reads",'))
 
-changed("tests/memory_exits", "an exit for want of memory that no call hands on", r"^ods_paths/src/planted\.rt:\d+: planted says that memory is wanting", Change("crates/ods_paths/src/planted.rt", None, EXIT))
-changed("tests/memory_exits", "a reason for an exit that is gone", r"^ods_check/src/told\.rt: push has no such exit any more", Change("crates/ods_check/src/told.rt", r"return Err\(AllocError\)", "panic!()"))
+changed("tests/memory_exits", "an exit for want of memory that no call hands on",
+        r"^ods_paths/src/planted\.rt:\d+: planted says that memory is wanting", Change("crates/ods_paths/src/planted.rt", None, EXIT))
+changed("tests/memory_exits", "a reason for an exit that is gone", r"^ods_check/src/told\.rt: push has no such exit any more",
+        Change("crates/ods_check/src/told.rt", r"return Err\(AllocError\)", "panic!()"))
 
-changed("edits/try", "a text of an edit that the source no longer has", rf"FAILED {EDIT}: BAD EDIT: a text of 'old:' stands 0 times in src/files\.rt",
+changed("edits/try", "a text of an edit that the source no longer has",
+        rf"FAILED {EDIT}: BAD EDIT: a text of 'old:' stands 0 times in src/files\.rt",
         Change("crates/ods_paths/src/files.rt", r"return Err\(BadPath::Type\);", "return Err(BadPath::Types);"), line=LIST)
 changed("edits/try", "a text of an edit that stands twice", rf"FAILED {EDIT}: BAD EDIT: a text of 'old:' stands 2 times in src/files\.rt",
         Change("crates/ods_paths/src/files.rt", r"^( *return Err\(BadPath::Type\);\n)", r"\1\1"), line=LIST)
-changed("edits/try", "a clause that no function has", rf"FAILED {EDIT}: BAD EDIT: no function read_files has a clause planted", Change(EDIT, "^clause: .*", "clause: read_files planted"), line=LIST)
-changed("edits/try", "an edit without a clause", rf"FAILED {EDIT}: BAD EDIT: it has no line 'clause:'", Change(EDIT, "^clause: .*\n", ""), line=LIST)
-changed("edits/try", "an edit of no change", rf"FAILED {EDIT}: BAD EDIT: it is not made of 'old:' lines", Change(EDIT, "^new: .*\n", ""), line=LIST)
+changed("edits/try", "a clause that no function has", rf"FAILED {EDIT}: BAD EDIT: no function read_files has a clause planted",
+        Change(EDIT, "^clause: .*", "clause: read_files planted"), line=LIST)
+changed("edits/try", "an edit without a clause", rf"FAILED {EDIT}: BAD EDIT: it has no line 'clause:'", Change(EDIT, "^clause: .*\n", ""),
+        line=LIST)
+changed("edits/try", "an edit of no change", rf"FAILED {EDIT}: BAD EDIT: it is not made of 'old:' lines", Change(EDIT, "^new: .*\n", ""),
+        line=LIST)
 
 spoiled("dist/compare", "a byte of a program", DIST + SPOILED + SUMMED + "dist/compare", "dist: f11 is not the one that these sources make")
-spoiled("dist/compare", "a byte of a program, of which the sum says so", DIST + SUMMED + SPOILED + "dist/compare", "dist: f11 is not the one that these sources make")
-spoiled("dist/compare", "a release of other sources", DIST + SUMMED + "sed -i '1s/$/ more/' dist/SOURCES; dist/compare --release", "dist: f11 is not made of these sources")
+spoiled("dist/compare", "a byte of a program, of which the sum says so", DIST + SUMMED + SPOILED + "dist/compare",
+        "dist: f11 is not the one that these sources make")

@@ -272,8 +272,13 @@ fn is_large(rt: &impl Abort, alloc: Global, kept: &Kept) -> Result<(), Fail> {
 
 #[test]
 fn large(rt: HostRuntime) -> Result<(), Fail> {
+    let kept = large_directory(&rt, rt.alloc())?;
+    is_large(&rt, rt.alloc(), &kept)
+}
+
+#[test]
+fn large_with_a_name_twice(rt: HostRuntime) -> Result<(), Fail> {
     let mut kept = large_directory(&rt, rt.alloc())?;
-    is_large(&rt, rt.alloc(), &kept)?;
     put(&rt, &mut kept, 16 * 59_999, &entry_of(1, 0));
     is_judged(&rt, rt.alloc(), &kept, LARGE, Verdict::Twice)
 }

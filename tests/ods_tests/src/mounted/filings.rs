@@ -82,12 +82,19 @@ fn what_has_no_room_is_refused(rt: HostRuntime) -> Result<(), Fail> {
 }
 
 #[test]
-fn no_request_is_one_too_many(rt: HostRuntime) -> Result<(), Fail> {
+fn no_refused_request_is_one_too_many(rt: HostRuntime) -> Result<(), Fail> {
     let mut filing = filing(rt.alloc())?;
     for _ in 0..65_537 {
         let answer = filing.request(&Request::Stat { file: FIRST });
         assert!(rt; answer == Err(Refusal::NoSuchFile));
     }
+    assert!(rt; put_file(&mut filing, &file_of(&some_bytes())?)? == FIRST);
+    Ok(())
+}
+
+#[test]
+fn no_accepted_request_is_one_too_many(rt: HostRuntime) -> Result<(), Fail> {
+    let mut filing = filing(rt.alloc())?;
     for _ in 0..65_537 {
         let answer = filing.request(&Request::Stat {
             file: reserved_id(1),

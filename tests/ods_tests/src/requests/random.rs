@@ -308,7 +308,7 @@ fn try_on(
 
 #[test]
 fn small_volume(rt: HostRuntime) -> Result<(), Fail> {
-    try_on(&rt, rt.alloc(), Ground::Sample(40), 0, 500)
+    try_on(&rt, rt.alloc(), Ground::Sample(40), 0, 350)
 }
 
 #[test]

@@ -14,8 +14,8 @@ use std::sync::Wait;
 use std::test::Fail;
 use std::thread::Threads;
 
-/// How many runs a test has: the first seeds are of one test, and as many later ones of another, so that both run side by side.
-const RUNS: u64 = 10;
+/// How many runs a test has. The next seeds are those of another test, so that tests run side by side.
+const RUNS: u64 = 5;
 
 /// 500 commands in each script, and no views.
 const MIX: Mix = Mix {
@@ -158,23 +158,45 @@ fn all_grow<R: Abort + Threads + Wait + Sync>(
 }
 
 #[test]
-fn eight_sessions_settle(rt: HostRuntime) -> Result<(), Fail> {
+fn eight_sessions_of_seed_0_on_settle(rt: HostRuntime) -> Result<(), Fail> {
     settle_from(&rt, rt.alloc(), 0, MIX)?;
     Ok(())
 }
 
 #[test]
-fn eight_sessions_of_later_seeds_settle(rt: HostRuntime) -> Result<(), Fail> {
-    settle_from(&rt, rt.alloc(), RUNS, MIX)?;
+fn eight_sessions_of_seed_5_on_settle(rt: HostRuntime) -> Result<(), Fail> {
+    settle_from(&rt, rt.alloc(), 5, MIX)?;
     Ok(())
 }
 
 #[test]
-fn eight_sessions_settle_where_the_index_grows(rt: HostRuntime) -> Result<(), Fail> {
+fn eight_sessions_of_seed_10_on_settle(rt: HostRuntime) -> Result<(), Fail> {
+    settle_from(&rt, rt.alloc(), 10, MIX)?;
+    Ok(())
+}
+
+#[test]
+fn eight_sessions_of_seed_15_on_settle(rt: HostRuntime) -> Result<(), Fail> {
+    settle_from(&rt, rt.alloc(), 15, MIX)?;
+    Ok(())
+}
+
+#[test]
+fn eight_sessions_of_seed_0_on_settle_where_the_index_grows(rt: HostRuntime) -> Result<(), Fail> {
     all_grow(&rt, rt.alloc(), 0)
 }
 
 #[test]
-fn eight_sessions_of_later_seeds_settle_where_the_index_grows(rt: HostRuntime) -> Result<(), Fail> {
-    all_grow(&rt, rt.alloc(), RUNS)
+fn eight_sessions_of_seed_5_on_settle_where_the_index_grows(rt: HostRuntime) -> Result<(), Fail> {
+    all_grow(&rt, rt.alloc(), 5)
+}
+
+#[test]
+fn eight_sessions_of_seed_10_on_settle_where_the_index_grows(rt: HostRuntime) -> Result<(), Fail> {
+    all_grow(&rt, rt.alloc(), 10)
+}
+
+#[test]
+fn eight_sessions_of_seed_15_on_settle_where_the_index_grows(rt: HostRuntime) -> Result<(), Fail> {
+    all_grow(&rt, rt.alloc(), 15)
 }
