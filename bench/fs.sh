@@ -16,8 +16,8 @@ mkdir got
 
 # The least seconds of processor of a command over all runs: least COMMAND..
 least() {
-    local best='' k took
-    for k in $(seq "$times"); do
+    local best='' took
+    for _ in $(seq "$times"); do
         rm -rf got
         mkdir got
         TIMEFORMAT='%U %S'

@@ -9,13 +9,14 @@ SOURCE is the file that debugfs copies from.
 """
 
 import argparse
+from collections.abc import Callable
 
 FILE_BLOCKS = 400  # of the file whose blocks are written and read: as many as a volume of 512 has room for
 GROWTH = 58  # blocks by which a file grows before it goes
 NAMES = 2_000  # in the directory
 
 
-def rounds(count, opening, body):
+def rounds(count: int, opening: list[str], body: Callable[[int], list[str]]) -> list[str]:
     """The opening, and then so many rounds of the body that there are `count` lines; body(k) gives the lines of round k."""
     lines = list(opening)
     k = 0
@@ -25,73 +26,73 @@ def rounds(count, opening, body):
     return lines[:count]
 
 
-def creates(count):
-    return rounds(count, [], lambda k: ["CREATE X.DAT 1", "DELETE $"])
+def creates(count: int) -> list[str]:
+    return rounds(count, [], lambda _: ["CREATE X.DAT 1", "DELETE $"])
 
 
-def mixed(count):
-    return rounds(count, [], lambda k: ["CREATE X.DAT 1", "WRITE $ 1 41", "READ $ 1", "DELETE $"])
+def mixed(count: int) -> list[str]:
+    return rounds(count, [], lambda _: ["CREATE X.DAT 1", "WRITE $ 1 41", "READ $ 1", "DELETE $"])
 
 
-def extends(count):
-    return rounds(count, [], lambda k: ["CREATE X.DAT 0"] + ["EXTEND $ 1"] * GROWTH + ["DELETE $"])
+def extends(count: int) -> list[str]:
+    return rounds(count, [], lambda _: ["CREATE X.DAT 0"] + ["EXTEND $ 1"] * GROWTH + ["DELETE $"])
 
 
-def blocks(count):
-    def body(k):
-        vbn = 1 + 37 * k % FILE_BLOCKS
+def blocks(count: int) -> list[str]:
+    def body(number: int) -> list[str]:
+        vbn = 1 + 37 * number % FILE_BLOCKS
         return [f"WRITE $ {vbn} 4142", f"READ $ {vbn}"]
 
     return rounds(count, [f"CREATE X.DAT {FILE_BLOCKS}"], body)
 
 
-def names(count):
+def names(count: int) -> list[str]:
     # The volumes of served.sh have the files 6 and 7.
-    opening = ["CREATE D.DIR 63", "CREATE X.DAT 0"] + [f"ENTER 8,1 N{k}.D 9,1" for k in range(NAMES)]
-    return rounds(count, opening, lambda k: ["ENTER 8,1 Z.D 9,1", "LOOK 8,1 Z.D", "REMOVE 8,1 Z.D"])
+    opening = ["CREATE D.DIR 63", "CREATE X.DAT 0"] + [f"ENTER 8,1 N{number}.D 9,1" for number in range(NAMES)]
+    return rounds(count, opening, lambda _: ["ENTER 8,1 Z.D 9,1", "LOOK 8,1 Z.D", "REMOVE 8,1 Z.D"])
 
 
-def views(count):
-    return rounds(count, ["CREATE X.DAT 1", "WRITE $ 1 4142"], lambda k: ["VIEW READ $ 1"])
+def views(count: int) -> list[str]:
+    return rounds(count, ["CREATE X.DAT 1", "WRITE $ 1 4142"], lambda _: ["VIEW READ $ 1"])
 
 
-def fills(count):
-    return rounds(count, [], lambda k: ["CREATE X.DAT 65535"])
+def fills(count: int) -> list[str]:
+    return rounds(count, [], lambda _: ["CREATE X.DAT 65535"])
 
 
-def spread(count):
+def spread(count: int) -> list[str]:
     # Over eleven files of the most blocks that a Create gives, as many writes to each, one at each twelfth block.
-    return rounds(count, [], lambda k: ["CREATE X.DAT 65535"] + [f"WRITE $ {1 + 12 * j} 41" for j in range(count // 11)])
+    return rounds(count, [], lambda _: ["CREATE X.DAT 65535"] + [f"WRITE $ {1 + 12 * step} 41" for step in range(count // 11)])
 
 
-def debugfs_creates(count, source):
-    return rounds(count, [], lambda k: [f"write {source} x", "rm x"])
+def debugfs_creates(count: int, source: str) -> list[str]:
+    return rounds(count, [], lambda _: [f"write {source} x", "rm x"])
 
 
-def debugfs_mixed(count, source):
+def debugfs_mixed(count: int, source: str) -> list[str]:
     body = [f"write {source} x", "zap_block -f x -p 65 0", "block_dump -f x 0", "rm x"]
-    return rounds(count, [], lambda k: body)
+    return rounds(count, [], lambda _: body)
 
 
-def debugfs_extends(count, source):
-    body = ["write /dev/null x"] + [f"fallocate x {k} {k}" for k in range(GROWTH)] + ["rm x"]
-    return rounds(count, [], lambda k: body)
+def debugfs_extends(count: int, source: str) -> list[str]:
+    body = ["write /dev/null x"] + [f"fallocate x {block} {block}" for block in range(GROWTH)] + ["rm x"]
+    return rounds(count, [], lambda _: body)
 
 
-def debugfs_blocks(count, source):
+def debugfs_blocks(count: int, source: str) -> list[str]:
     opening = ["write /dev/null x", f"fallocate x 0 {FILE_BLOCKS - 1}"]
 
-    def body(k):
-        block = 37 * k % FILE_BLOCKS
+    def body(number: int) -> list[str]:
+        block = 37 * number % FILE_BLOCKS
         return [f"zap_block -f x -p 65 {block}", f"block_dump -f x {block}"]
 
     return rounds(count, opening, body)
 
 
-def debugfs_names(count, source):
+def debugfs_names(count: int, source: str) -> list[str]:
     # It makes no room in a directory by itself.
-    opening = ["mkdir d", f"write {source} x"] + ["expand_dir d"] * 60 + ["cd d"] + [f"ln /x n{k}" for k in range(NAMES)]
-    return rounds(count, opening, lambda k: ["ln /x z", "stat z", "unlink z"])
+    opening = ["mkdir d", f"write {source} x"] + ["expand_dir d"] * 60 + ["cd d"] + [f"ln /x n{number}" for number in range(NAMES)]
+    return rounds(count, opening, lambda _: ["ln /x z", "stat z", "unlink z"])
 
 
 KINDS = {
@@ -106,7 +107,7 @@ KINDS = {
 }
 
 
-def main():
+def main() -> None:
     parser = argparse.ArgumentParser(description=__doc__, formatter_class=argparse.RawDescriptionHelpFormatter)
     parser.add_argument("kind", choices=KINDS)
     parser.add_argument("count", type=int)

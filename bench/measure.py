@@ -13,13 +13,13 @@ import sys
 import time
 
 
-def processor_seconds():
+def processor_seconds() -> float:
     """What all children took so far. A script that starts Python can have had some before."""
     usage = resource.getrusage(resource.RUSAGE_CHILDREN)
     return usage.ru_utime + usage.ru_stime
 
 
-def main():
+def main() -> None:
     if len(sys.argv) < 3:
         raise SystemExit(__doc__)
     output, command = sys.argv[1], sys.argv[2:]

@@ -58,6 +58,7 @@ measure() {
 # Runs each command once.
 measure_all() {
     measure f11 "$program" "$image"
+    # shellcheck disable=SC2016 # the inner shell has these words
     measure cat sh -c 'exec cat "$1" >/dev/null' sh "$image"
     [ ! -f "$folder/plain_reader" ] || measure plain "$folder/plain_reader" "$image"
     [ ! -f "$folder/ext2_image" ] || measure ext2 e2fsck -fn "$folder/ext2_image"

@@ -27,9 +27,9 @@ END
 
 # The least seconds of processor and of the clock of a command over all runs, each on a copy of an image: least FRESH COMMAND..
 least() {
-    local fresh=$1 cpu='' clock='' k took
+    local fresh=$1 cpu='' clock='' took
     shift
-    for k in $(seq "$times"); do
+    for _ in $(seq "$times"); do
         cp "$fresh" image
         TIMEFORMAT='%U %S %R'
         took=$({ time "$@" >out 2>err; } 2>&1) || { cat err >&2; exit 1; }

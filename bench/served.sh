@@ -171,6 +171,7 @@ if [ -f "$folder/plain_server" ]; then
 fi
 
 for ((round = 0; round < runs; round++)); do
+    # shellcheck disable=SC2016 # the inner shell has these words
     measure cat sh -c 'exec cat "$1" >"$2"' sh "$folder/large" "$folder/copy"
     rm -f "$folder/copy"
     measure checked "$program" "$folder/large"

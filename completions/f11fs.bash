@@ -2,7 +2,7 @@
 
 # Prints the paths of an image that begin with WORD, nothing where there is no such image: _f11fs_paths PROGRAM IMAGE WORD [OPTION..]
 _f11fs_paths() {
-    local program=$1 image=$2 word=$3 folder= begun=
+    local program=$1 image=$2 word=$3 folder='' begun=''
     shift 3
     case $word in
     *]*) folder=${word%]*}] ;;
@@ -59,7 +59,7 @@ _f11fs_value() {
 }
 
 _f11fs() {
-    local cur=${COMP_WORDS[COMP_CWORD]} at=1 word= image= command= ended= value= kind= options= takes= one=
+    local cur=${COMP_WORDS[COMP_CWORD]} at=1 word='' image='' command='' ended='' value='' kind='' options='' takes='' one=''
     local -a blocks=() found=()
     COMPREPLY=()
     while ((at < COMP_CWORD)); do

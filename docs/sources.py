@@ -9,55 +9,55 @@ CRATES = TOP / "crates"
 WORD = r"[A-Za-z_][\w'-]*"
 
 
-def crates_in_order():
+def crates_in_order() -> list[str]:
     """Returns the crates as crates.txt orders them: each stands on crates before it alone."""
     rows = (TOP / "crates.txt").read_text("utf-8").split("\n")
     return [row.split(":")[0].split()[0] for row in rows if ":" in row and not row.startswith("#")]
 
 
 @functools.cache
-def lines_of(file):
+def lines_of(file: pathlib.Path) -> list[str]:
     return file.read_text("utf-8").split("\n")
 
 
 class Definition:
     """A definition of specs/ or an item of src/: where it stands, its text, and what of that text names others."""
 
-    def __init__(self, file, name, first, last, head, kind):
+    def __init__(self, file: pathlib.Path, name: str, first: int, last: int, head: int, kind: str) -> None:
         self.file, self.name, self.first, self.head, self.kind = file, name, first, head, kind
         self.lines = lines_of(file)[first:last]
         while not self.lines[-1]:
             self.lines.pop()
 
     @property
-    def crate(self):
+    def crate(self) -> str:
         return self.file.relative_to(CRATES).parts[0]
 
     @property
-    def place(self):
+    def place(self) -> str:
         """Says the file and the line of the name."""
         return f"{self.file.relative_to(TOP)}:{self.head + 1}"
 
     @property
-    def path(self):
+    def path(self) -> str:
         return str(self.file.relative_to(TOP))
 
     @property
-    def comment(self):
+    def comment(self) -> list[str]:
         """Returns the lines of comment above the head."""
         return self.lines[:self.head - self.first]
 
     @property
-    def body(self):
+    def body(self) -> list[str]:
         return self.lines[self.head - self.first:]
 
 
-def starts_definition(line):
+def starts_definition(line: str) -> re.Match[str] | None:
     """Says whether a line of specs/ begins a definition: with the words of one that others may cite, or with a name and its type."""
     return re.match(rf"(abbrev|unfoldable|record|data) |pub (?!use |mod )|{WORD} :(?= )", line)
 
 
-def comment_above(lines, at, mark):
+def comment_above(lines: list[str], at: int, mark: str) -> int:
     """Returns the first of the lines of comment that stand directly above a line."""
     while at and lines[at - 1].lstrip().startswith(mark):
         at -= 1
@@ -65,10 +65,10 @@ def comment_above(lines, at, mark):
 
 
 @functools.cache
-def definitions(file):
+def definitions(file: pathlib.Path) -> dict[str, Definition]:
     """Returns the definitions of a file of specs/ by name, in their order."""
     lines = lines_of(file)
-    heads = [k for k, line in enumerate(lines) if starts_definition(line)]
+    heads = [at for at, line in enumerate(lines) if starts_definition(line)]
     firsts = [comment_above(lines, head, "--") for head in heads]
     found = {}
     for head, first, last in zip(heads, firsts, firsts[1:] + [len(lines)]):
@@ -79,13 +79,13 @@ def definitions(file):
 
 
 @functools.cache
-def constructors(file):
+def constructors(file: pathlib.Path) -> dict[str, str]:
     """Returns which definition each constructor of a `data` of this file belongs to."""
     return {row[1]: item.name for item in definitions(file).values() if item.kind == "data"
             for row in (re.match(rf"  ({WORD}) :", line) for line in item.body) if row}
 
 
-def split_uses(text, in_group=False):
+def split_uses(text: str, in_group: bool = False) -> list[tuple[str, str]]:
     """Returns the names that a `use` path of either language says: pairs of a name and its path, which ends with `.*` where it is a module's."""
     text = " ".join(text.split())
     alias = re.fullmatch(r"(\S+) as (\S+)", text)
@@ -97,7 +97,7 @@ def split_uses(text, in_group=False):
     return [pair for part in split_commas(group[3]) for pair in split_uses(f"{group[1]}{group[2]}{part}", True)]
 
 
-def split_commas(text):
+def split_commas(text: str) -> list[str]:
     """Splits at commas that stand in no braces."""
     parts, depth = [""], 0
     for char in text:
@@ -110,19 +110,19 @@ def split_commas(text):
 
 
 @functools.cache
-def spec_uses(file):
+def spec_uses(file: pathlib.Path) -> dict[str, str]:
     """Returns what a file of specs/ imports: the path of each name."""
     rows = (re.match(r"(?:pub )?use (.*)", line) for line in lines_of(file))
     return dict(pair for row in rows if row for pair in split_uses(row[1]))
 
 
-def ghost_uses(lines):
+def ghost_uses(lines: list[str]) -> dict[str, str]:
     """Returns what these lines of src/ import for contracts."""
     text = "\n".join(lines)
     return dict(pair for row in re.findall(r"ghost use ([^;]*);", text) for pair in split_uses(row))
 
 
-def rust_uses(lines):
+def rust_uses(lines: list[str]) -> dict[str, str]:
     """Returns what these lines of src/ import for the code."""
     text = "\n".join(lines)
     return dict(pair for row in re.findall(r"^ *(?:pub )?use ([^;]*);", text, re.M) for pair in split_uses(row))
@@ -133,7 +133,7 @@ METHOD = re.compile(r"    (?:pub(?:\(crate\))? )?(?:const |unsafe |final )*fn (\
 
 
 @functools.cache
-def items(file):
+def items(file: pathlib.Path) -> list[Definition]:
     """Returns the items of a file of src/ in their order: types, traits, constants, functions, and each `impl` with its lines."""
     lines, found = lines_of(file), []
     for head, line in enumerate(lines):
@@ -147,25 +147,25 @@ def items(file):
     return found
 
 
-def comment_above_item(lines, at):
+def comment_above_item(lines: list[str], at: int) -> int:
     """Returns the first of the lines of comment and of attributes that stand directly above an item."""
     while at and re.match(r" *(///|//|#\[)", lines[at - 1]) and not lines[at - 1].startswith("//!"):
         at -= 1
     return at
 
 
-def end_of_item(lines, head):
+def end_of_item(lines: list[str], head: int) -> int:
     """Returns the line behind an item: behind the end of its body, or behind the `;` where it has none."""
     indent = re.match(" *", lines[head])[0]
     for at in range(head, len(lines)):
         if lines[at] == indent + "{}" or re.search(r"(;| \{.*\})$", lines[at]) and not re.match(r" *(//|requires|ensures|×).*\}$", lines[at]):
             return at + 1
         if lines[at] == indent + "{" or lines[at].endswith(" {"):
-            return next(k for k in range(at, len(lines)) if re.match(rf"{indent}\}}", lines[k])) + 1
+            return next(row for row in range(at, len(lines)) if re.match(rf"{indent}\}}", lines[row])) + 1
     raise SystemExit(f"no end of the item at line {head + 1}")
 
 
-def methods(impl):
+def methods(impl: Definition) -> list[Definition]:
     """Returns the functions of an `impl` or a trait."""
     lines, found = lines_of(impl.file), []
     for head in range(impl.head + 1, impl.head + len(impl.body)):
@@ -175,7 +175,7 @@ def methods(impl):
     return found
 
 
-def signature(function):
+def signature(function: Definition) -> list[str]:
     """Returns the lines of a function from its head to its body, which opens on a line of its own where there are clauses."""
     lines, indent, has_clauses = [], re.match(" *", function.body[0])[0], False
     for line in function.body:
@@ -188,19 +188,19 @@ def signature(function):
     return lines
 
 
-def clauses(function):
+def clauses(function: Definition) -> list[tuple[str, str, int]]:
     """Returns the clauses of a function: the kind, the name or nothing, and the line where each begins."""
-    rows = ((k, re.match(r" *(requires|ensures|ghost)\*? ?(\w*):? ?\{", line)) for k, line in enumerate(signature(function)))
-    return [(row[1], row[2], function.head + k + 1) for k, row in rows if row]
+    rows = ((at, re.match(r" *(requires|ensures|ghost)\*? ?(\w*):? ?\{", line)) for at, line in enumerate(signature(function)))
+    return [(row[1], row[2], function.head + at + 1) for at, row in rows if row]
 
 
-def doc(item):
+def doc(item: Definition) -> str:
     """Returns the doc comment of an item as one text."""
     rows = (re.match(r" */// ?(.*)", line) for line in item.comment)
     return " ".join(row[1] for row in rows if row)
 
 
-def head_text(file):
+def head_text(file: pathlib.Path) -> str:
     """Returns the comment that a file opens with, as one text."""
     lines = []
     for line in lines_of(file):
@@ -211,11 +211,11 @@ def head_text(file):
     return " ".join(lines)
 
 
-def first_sentence(text):
+def first_sentence(text: str) -> str:
     return re.split(r"(?<=[.?]) (?=[A-Z`])", text)[0]
 
 
-def source_of(crate, module):
+def source_of(crate: str, module: str) -> pathlib.Path | None:
     """Returns the file of src/ that has a module of a crate."""
     folder = CRATES / crate / "src"
     for name in (module.replace("::", "/").replace(".", "/") + ".rt", module.replace("::", "/").replace(".", "/") + "/mod.rt"):
@@ -225,7 +225,7 @@ def source_of(crate, module):
 
 
 @functools.cache
-def handed_out(crate):
+def handed_out(crate: str) -> dict[str, tuple[str, str | None]]:
     """Returns what the lib.rt of a crate hands out: for each name the module and the name there; a public module stands for itself."""
     lines = lines_of(CRATES / crate / "src" / "lib.rt")
     uses = rust_uses([line for line in lines if not line.startswith("use ")])

@@ -1,3 +1,4 @@
+# shellcheck shell=sh disable=SC2154 # a script that reads this file sets here
 # What the examples share: a folder that goes away at the end, f11 as a command that shows itself, and a small volume.
 # A script sets `here` to its own folder before it reads this file.
 
@@ -23,6 +24,7 @@ show() {
 
 # put IMAGE LBN PLACE BYTES: puts bytes, in the form of printf, at a place of a block.
 put() {
+    # shellcheck disable=SC2059 # the bytes are a format
     printf "$4" | dd of="$1" bs=1 seek=$((512 * $2 + $3)) conv=notrunc 2>/dev/null
 }
 

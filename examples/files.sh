@@ -7,7 +7,7 @@ here=$(cd "$(dirname "$0")" && pwd)
 f11 --out disk.dsk
 
 # $ is the file that was made last. A block is written in hex: this is what `printf 'Hello, disk\r\n' | od -An -v -tx1 | tr -d ' '` prints.
-cat >write <<'END'
+cat >./write <<'END'
 CREATE HELLO.TXT;1 1
 WRITE $ 1 48656c6c6f2c206469736b0d0a
 ENTER 4,4 HELLO.TXT $
@@ -16,7 +16,7 @@ show cat write
 f11 disk.dsk write --out new.dsk
 
 # The saved volume is checked whole and read. The name leads to the file.
-cat >read <<'END'
+cat >./read <<'END'
 LIST 4,4
 LOOK 4,4 HELLO.TXT
 STAT $

@@ -19,6 +19,7 @@ f11 <longer
 echo '# every byte on lines of their own, behind a command'
 byte=0
 while [ $byte -lt 256 ]; do
+    # shellcheck disable=SC2059 # the byte is written as the format's escape
     printf "STAT 4,4\\$(printf %03o $byte)\n"
     byte=$((byte + 1))
 done >bytes

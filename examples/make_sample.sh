@@ -20,6 +20,7 @@ at() {
 
 # A record: its length, its bytes as printf writes them, and a zero where the length is odd. record LENGTH BYTES
 record() {
+    # shellcheck disable=SC2059 # the bytes are a format
     printf "\\$(printf %03o "$1")\\000$2"
     [ $(($1 % 2)) -eq 0 ] || printf '\0'
 }

@@ -48,6 +48,7 @@ is_wanted() {
 # Runs the row that was cut; says what is wrong.
 run_row() {
     rm -f "$image"
+    # shellcheck source=/dev/null
     . ./image
     words=
     [ ! -f words ] || words=$(cat words)
@@ -59,6 +60,7 @@ run_row() {
     done
     rm -f written.dsk
     status=0
+    # shellcheck disable=SC2086 # these are words apart
     "$top/f11" "$image" $words --out written.dsk $scripts >printed 2>errors </dev/null || status=$?
     is_wanted || return 1
     [ "$status" -eq "$wanted" ] || { echo "status $status, not $wanted"; return 1; }
@@ -73,11 +75,15 @@ run_row() {
     if [ -f bytes ]; then
         while read -r lbn place hex; do
             found=$(dd if=written.dsk bs=1 skip=$((512 * lbn + place)) count=$((${#hex} / 2)) 2>/dev/null | od -An -v -t x1 | tr -d ' \n')
-            [ -n "$hex" ] && [ "$found" = "$hex" ] || { echo "block $lbn has $found at $place, not $hex"; return 1; }
+            if [ -z "$hex" ] || [ "$found" != "$hex" ]; then
+                echo "block $lbn has $found at $place, not $hex"
+                return 1
+            fi
         done <bytes
     fi
     [ -f headers ] || return 0
-    for number in $(cat headers); do
+    numbers=$(cat headers)
+    for number in $numbers; do
         "$top/f11" written.dsk --header "$number" || :
     done | diff lines -
 }

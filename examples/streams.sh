@@ -125,5 +125,7 @@ apart pipe create
 
 echo '# no memory for the image: 256 MiB, where 128 may be used'
 dd if=/dev/zero of=large.dsk bs=1 count=0 seek=268435456 2>/dev/null
+# shellcheck disable=SC3045 # dash and bash have -v
 (ulimit -v 131072 && apart large.dsk)
+# shellcheck disable=SC3045
 (ulimit -v 131072 && apart large.dsk --header 1)
