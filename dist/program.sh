@@ -1,3 +1,4 @@
+# shellcheck shell=bash disable=SC2154 # a script that reads this file sets top
 # Where the programs f11 and f11fs stand, what they are made of, and how they are built. A script sets `top` to the repository's folder
 # before it reads this file. What decides are sums. Between two runs the looks of the files spare them: size, inode and both times of each.
 
@@ -56,9 +57,10 @@ folders() {
 
 # What the program is made of: the rows of its crates, and the sum of each file of theirs. A crate that it does not stand on is no part of it.
 sums() (
-    cd "$top"
+    cd "$top" || exit
+    mapfile -t list < <(folders)
     rows | sed 's/^/crates.txt: /'
-    find $(folders) -type f -print0 2>/dev/null | LC_ALL=C sort -z | xargs -0 sha256sum
+    find "${list[@]}" -type f -print0 2>/dev/null | LC_ALL=C sort -z | xargs -0 sha256sum
 )
 
 # The text of dist/SOURCES or dist/SOURCES.f11fs: these sums, and the toolchain. Where the machine has no toolchain, its line is taken from there as it stands.
@@ -103,8 +105,9 @@ ready() {
 # The files and folders that sums are taken of, and what says which program they made, each ended by a NUL. A folder looks otherwise when a
 # file comes or goes.
 watched() (
-    cd "$top"
-    find crates.txt $(folders) -print0 2>/dev/null || true # not each crate has all three folders
+    cd "$top" || exit
+    mapfile -t list < <(folders)
+    find crates.txt "${list[@]}" -print0 2>/dev/null || true # not each crate has all three folders
     printf '%s\0' "${program#"$top/"}" "${made#"$top/"}" "${shipped#"$top/"}" "${listed#"$top/"}" dist/SHA256SUMS
 )
 
@@ -115,7 +118,7 @@ quoted() {
 
 # The program that is here and made of these sources, if there is one; notes for dist/run.sh how all files look: found
 found() {
-    local new=$looks.$$ now ready list lines
+    local new=$looks.$$ now ready list lines names
     if ! { mkdir -p "$top/out" && : >"$new" && now=$(stat -c %Y "$new"); } 2>/dev/null; then
         ready "$(sums)" # nothing can be noted here
         return
@@ -124,10 +127,10 @@ found() {
     lines=$(cd "$top" && stat -c '%s %Y %Z %i' "${list[@]}" 2>/dev/null) || true # some are not there
     if ready=$(ready "$(sums)"); then
         echo "$ready"
-        list=$(printf '%s\n' "${list[@]}")
+        names=$(printf '%s\n' "${list[@]}")
         # A file that changed within this second, by the clock of the disk, may change once more and look the same: then nothing is noted.
-        if [[ $(wc -l <<<"$list") -eq $(watched | tr -dc '\0' | wc -c) ]] && awk -v now="$now" '$2 >= now || $3 >= now { exit 1 }' <<<"$lines"; then
-            { printf found= && quoted "${ready#"$top/"}" && printf files= && quoted "$list" && printf looks= && quoted "$lines"; } >"$new" &&
+        if [[ $(wc -l <<<"$names") -eq $(watched | tr -dc '\0' | wc -c) ]] && awk -v now="$now" '$2 >= now || $3 >= now { exit 1 }' <<<"$lines"; then
+            { printf found= && quoted "${ready#"$top/"}" && printf files= && quoted "$names" && printf looks= && quoted "$lines"; } >"$new" &&
                 mv -T "$new" "$looks"
         fi 2>/dev/null || true
     fi
@@ -137,7 +140,7 @@ found() {
 
 # The sum of everything that a part of the gate reads; with a folder's name, of all but that: everything [FOLDER]
 everything() (
-    cd "$top"
+    cd "$top" || exit
     find . \( -name .git -o -name out -o -path "./${1:-out}" \) -prune -o -type f -print0 | LC_ALL=C sort -z | xargs -0 sha256sum | sum
 )
 
