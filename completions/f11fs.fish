@@ -263,7 +263,7 @@ complete -c f11fs -n '__f11fs_at truncate' -s q -d 'Hide progress and remarks, b
 complete -c f11fs -n '__f11fs_at truncate' -l blocks -x -d 'Assume that the volume has N blocks, 1 to 1048576, whatever the image says'
 complete -c f11fs -n '__f11fs_at truncate' -s h -l help -d 'Print help'
 complete -c f11fs -n '__f11fs_at init' -a 'RX01 RX02 RX50 RK05 RL01 RL02 RK06 RK07 RM03 RP04 RP06 RM05 RA81'
-complete -c f11fs -n '__f11fs_at init' -l files -x -d 'Make room for N files besides the five reserved ones. Default: 10 for each 40 blocks'
+complete -c f11fs -n '__f11fs_at init' -l files -x -d 'Make room for N files besides the five reserved ones. Default: one for each 16 blocks'
 complete -c f11fs -n '__f11fs_at init' -l label -x -d 'Give the volume this label: at most 12 of A to Z, 0 to 9 and dots. Default: NEWVOLUME'
 complete -c f11fs -n '__f11fs_at init' -s n -d 'Write nothing. Print what the command would do'
 complete -c f11fs -n '__f11fs_at init' -l json -d 'With -n: print JSON, one object a line'

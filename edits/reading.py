@@ -46,9 +46,11 @@ def module_of(file):
 
 def scope_of(impl, folder, file):
     """Returns the first part of the names of an impl's methods: a method is in its type's module, one of a trait in the impl's. Types that the
-    type is of, as in Vec<Reply>, stand behind it; parameters, which have one letter, do not."""
+    type is of, as in Vec<Reply>, stand behind it; parameters, which have one letter, do not. The words of a trait's path stand behind each other, as in
+    FromIoError for From<io::Error>."""
     of = re.findall(r"\b[A-Z]\w+", impl[3] or "")
-    traits = re.findall(r"[A-Z]\w*", re.sub(r"(<\w+)<.*?>", r"\1", impl[1] or ""))
+    traits = re.findall(r"(?:\w+::)*[A-Z]\w*", re.sub(r"(<\w+)<.*?>", r"\1", impl[1] or ""))
+    traits = [word[:1].upper() + word[1:] for it in traits for word in it.split("::")]
     declared = re.compile(rf"^(?:pub\S* )?(?:struct|enum) {impl[2]}\b", re.M)
     homes = [it for it in folder.glob("src/**/*.rt") if declared.search(it.read_text("utf-8"))]
     home = file if traits or len(homes) != 1 else str(homes[0].relative_to(folder))

@@ -54,7 +54,8 @@ def words_that_do_not_go_with_a_form(room: Room) -> None:
     (room.folder / "a.txt").write_bytes(TEXT)
     for words in (("--form", "variable,none,0", "-t"), ("--form", "variable,none,0", "--like", "1,2/NOTES.TXT"), ("-t", "--like", "1,2/NOTES.TXT"), ("-t", "-b")):
         refused(room, re.compile(rb"error: the argument [^\n]* cannot be used with [^\n]*\n"), "disk", "put", *words, "a.txt", "1,2/A.TXT")
-    for form in ("variable", "variable,none", "odd,none,0", "variable,none,32768", "variable,none,x", ""):
+    for form in ("variable", "variable,none", "odd,none,0", "variable,none,32768", "variable,none,x", "variable,none,080", "variable,none,+80",
+                 "variable,none,", ""):
         refused(room, f"error: '{form}' is no form, as variable,cr,0; put --help has the words\n", "disk", "put", "--form", form, "a.txt",
                 "1,2/A.TXT")
 
@@ -77,7 +78,7 @@ def owner_of_what_is_made(room: Room) -> None:
 
 @row
 def owner_that_is_none(room: Room) -> None:
-    for owner in ("x", "[1]", "[400,1]", ""):
+    for owner in ("x", "[1]", "[400,1]", "[0001,2]", ""):
         refused(room, f"error: '{owner}' is no owner, as [1,2]\n", "disk", "mkdir", "--owner", owner, "7,7")
 
 
@@ -97,6 +98,31 @@ def volumes_by_device(room: Room) -> None:
         equal(done(room, "-n", "new", "init", device, "--files", "20"), f"new: a new volume of {blocks} blocks\n".encode(), device)
     equal(room.run("new", "init", "RX33"), (2, b"", b"error: 'RX33' is no number of blocks, and no device that init --help names\n"),
             "another device")
+
+
+@row
+def numbers_with_a_sign_or_a_leading_zero(room: Room) -> None:
+    for number in ("007", "+7", "00"):
+        line = f"error: '{number}' is no number: it has a sign or a leading zero\n"
+        for words in (("du", "--top"), ("mkdir", "7,7", "--names"), ("truncate", "1,2/NOTES.TXT"), ("init", "40", "--files")):
+            refused(room, line, "disk", *words, number)
+    for number in ("+100", "0100"):
+        line = f"error: '{number}' is no number: it has a sign or a leading zero\n"
+        refused(room, line, "--blocks", number, "disk", "ls")
+        refused(room, line, "disk", "ls", "--blocks", number)
+        refused(room, f"error: '{number}' is no number of blocks, and no device that init --help names\n", "new", "init", number)
+
+
+@row
+def paths_with_a_sign_or_a_leading_zero(room: Room) -> None:
+    for path in ("#06,1", "#6,01", "#+6,1", "#6,+1", "#6,-1"):
+        refused(room, f"f11fs: {path}: no file ID: #6,1 is file 6 with sequence number 1\n", "disk", "cat", path)
+    for version in ("01", "00", "+1", "-2", "-01"):
+        path = f"[1,2]NOTES.TXT;{version}"
+        refused(room, re.compile(rb"f11fs: [^\n]*: no version: [^\n]*\n"), "disk", "cat", path)
+    for folder in ("[0001,2]", "[1,0002]", "[+1,2]", "[1,-2]"):
+        refused(room, re.compile(rb"f11fs: [^\n]*: no directory: [^\n]*\n"), "disk", "cat", f"{folder}NOTES.TXT")
+    equal(done(room, "disk", "cat", "[001,002]NOTES.TXT"), done(room, "disk", "cat", "[1,2]NOTES.TXT"), "a directory of three digits each")
 
 
 @row(image=no_image)

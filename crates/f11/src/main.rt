@@ -48,8 +48,8 @@ fn run<R: Env + Files + Input + AllocGlobal + Print + Eprint + Threads + Wait + 
         Ok(found) => match run_for(&found) {
             Run::SampleHeader(number) => print_header(rt, None, number),
             Run::ImageHeader(path, number) => print_header(rt, Some(path), number),
-            Run::Input => answered(rt, serve_bare(rt, &found)),
-            Run::Scripts => answered(rt, serve_words(rt, &found)),
+            Run::Input => end_run(rt, serve_bare(rt, &found)),
+            Run::Scripts => end_run(rt, serve_words(rt, &found)),
         },
         Err(WordsFault::Help(text)) => match print!(rt; "{text}") {
             Ok(()) => Ok(ExitCode::SUCCESS),
@@ -61,7 +61,7 @@ fn run<R: Env + Files + Input + AllocGlobal + Print + Eprint + Threads + Wait + 
 }
 
 /// How a run ends that was to serve scripts.
-fn answered(rt: &impl Eprint, answer: Result<(), ServedFault<'_>>) -> Result<ExitCode, ServeFault> {
+fn end_run(rt: &impl Eprint, answer: Result<(), ServedFault<'_>>) -> Result<ExitCode, ServeFault> {
     match answer {
         Ok(()) => Ok(ExitCode::SUCCESS),
         Err(ServedFault::TooLarge(Some(path))) => {

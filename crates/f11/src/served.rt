@@ -9,6 +9,7 @@ use ods_cli::{
     serve,
 };
 use ods_share::{Gate, Script};
+use ods_views::MOST_SESSIONS;
 use std::alloc::AllocError;
 use std::io::Read;
 use std::rt::Files;
@@ -72,7 +73,7 @@ pub fn serve_words<'a, R: Files + AllocGlobal + Print + Threads + Wait + Sync>(
     words: &Words<'a>,
 ) -> Result<(), ServedFault<'a>>
     requires limit { IsLimit words.now.limit }
-    requires few { vec_len words.now.scripts ≤ 8 }
+    requires few { vec_len words.now.scripts ≤ MOST_SESSIONS }
 {
     let scripts = script_files(rt, words.scripts.as_slice())?;
     serve_scripts(rt, words, scripts.as_slice())
@@ -162,7 +163,7 @@ fn serve_scripts<'a, R: Files + AllocGlobal + Print + Threads + Wait + Sync>(
     scripts: &[Script],
 ) -> Result<(), ServedFault<'a>>
     requires limit { IsLimit words.now.limit }
-    requires few { length scripts.now ≤ 8 }
+    requires few { length scripts.now ≤ MOST_SESSIONS }
     requires can { All (λ s. CanBeRun s.commands.items) scripts.now }
 {
     match words.image {
@@ -185,7 +186,7 @@ fn serve_image<'a, I: Read, R: Files + AllocGlobal + Print + Threads + Wait + Sy
     scripts: &[Script],
 ) -> Result<(), ServedFault<'a>>
     requires limit { IsLimit words.now.limit }
-    requires few { length scripts.now ≤ 8 }
+    requires few { length scripts.now ≤ MOST_SESSIONS }
     requires can { All (λ s. CanBeRun s.commands.items) scripts.now }
 {
     let mut out = match words.out {

@@ -1,0 +1,6 @@
+mod Counts
+mod Leading
+mod Notes
+mod Places
+mod PutAll
+mod Slashed

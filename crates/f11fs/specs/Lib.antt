@@ -1,0 +1,6 @@
+pub mod Changed
+pub mod Forms
+pub mod Plans
+pub mod Readings
+pub mod Saved
+pub mod Seen

@@ -1,9 +1,17 @@
 //! The commands that change a volume: put, cp, mv, rm, mkdir, rmdir and truncate.
+ghost use Rattle.std.specs.Prelude.{◌≡◌, ◌⊎◌, ◌&&◌, true, false, None, IfErr, IfOk, IfSome, IsOk, IsSomeAnd, MatchOption, OnOk, is_some, length, not, unwrap_or};
+ghost use Rattle.fs_host.specs.{Found.SaysShort, Kept.force_kept, Kept.remark_kept, Times.IsStampOfLocal};
+ghost use Rattle.ods_shell.specs.declared.status.Status.{Status as Code};
+ghost use Rattle.ods_upkeep.specs.Pieces.{HasStatus};
+ghost use Rattle.fs_reads.specs.Ends.{StopsWith};
+ghost use Rattle.fs_reads.specs.declared.stop.Stop.{Stop as End};
+ghost use Rattle.f11fs.specs.{Changed.IsChanged, Changed.KeepsTo, Saved.EndsSaved, Saved.IsNotLocked, Saved.IsNotSaved, Saved.IsWrittenTo};
+
 use crate::early::Early;
 use crate::putting::put;
-use crate::telling::told;
-use fs_host::{Locked, SaveFault, Shown, Unfinished, stamp_of_now, write_new};
-use fs_reads::{Stop, say_extent, send, volume_of};
+use crate::telling::plan_text;
+use fs_host::{Locked, Shown, Unfinished, stamp_of_now, write_new};
+use fs_reads::{Stop, WordFault, say_extent, send, stop_about, volume_of};
 use fs_words::{Change, Saving, Words};
 use ods_base::Uic;
 use ods_filing::Filing;
@@ -14,7 +22,7 @@ use ods_upkeep::{
     Failure, Removal, copy_files, is_below_another, make_directories, move_names,
     remove_directories, remove_files, truncate_file,
 };
-use std::alloc::AllocError;
+use std::alloc::{AllocError, Global};
 use std::fs::File;
 use std::io::Input;
 use std::rt::{Clock, Env, Files};
@@ -49,38 +57,50 @@ pub fn change_image<'a, R: Host>(
 ) -> Result<Status, Stop<'a>> {
     let mut early = Early::of(rt, words.image);
     early.read_words(rt, words)?;
-    let (mut locked, volume) = locked_volume(rt, words, false)?;
-    let asked = asked(rt, words)?;
+    let (mut locked, volume) = lock_volume(rt, words, false)?;
+    let asker = asker_of(rt, words)?;
     let before = kept_before(words, &volume)?;
-    let mut filing = Filing::new(rt.alloc(), volume, asked.user)?;
-    change_volume(rt, &mut filing, asked.stamp, words, change, &mut early)?;
+    let mut filing = Filing::new(rt.alloc(), volume, asker.user)?;
+    change_volume(rt, &mut filing, asker.stamp, words, change, &mut early)?;
     match finish(rt, words, &mut locked, &before, filing.mounted())? {
         Finished::Told(status) | Finished::Saved(status) => Ok(status),
     }
 }
 
-/// The volume of the image, which is locked. Where it is to be copied, it shares its blocks with its copies.
-pub fn locked_volume<'a, R: Host>(
+/// Locks the image, and gives its volume. Where it is to be copied, it shares its blocks with its copies.
+pub fn lock_volume<'a, R: Host>(
     rt: &R,
     words: &Words<'a>,
     is_copied: bool,
-) -> Result<(Locked, Mounted), Stop<'a>> {
+) -> Result<(Locked, Mounted), Stop<'a>>
+    ensures { IfErr result (IsNotLocked words.now.image (not (is_some words.now.saving.out) && not words.now.saving.only_tells) words.now.force) }
+{
     let writes = words.saving.out.is_none() && !words.saving.only_tells;
     let mut locked = match Locked::of(rt, words.image, writes, words.force) {
         Ok(locked) => locked,
-        Err(fault) => return Err(not_saved(rt, words.image, fault)),
+        Err(fault) => return Err(Stop::Word(words.image, WordFault::Unsaved(fault))),
     };
     let image = locked.read(rt.alloc(), words.blocks);
     say_extent(rt, words.image, locked.extent(), false);
-    let volume = volume_of(rt, words.image, image)?;
+    let volume = match volume_of(rt, words.image, image) {
+        Ok(volume) => volume,
+        Err(stop) => return Err(stop),
+    };
     if is_copied || words.saving.only_tells {
-        return Ok((locked, sharing(volume)?));
+        match sharing(volume) {
+            Ok(volume) => Ok((locked, volume)),
+            Err(stop) => Err(stop),
+        }
+    } else {
+        Ok((locked, volume))
     }
-    Ok((locked, volume))
 }
 
 /// The volume over blocks that its copies share: each of them holds only what it changes.
-fn sharing<'a>(volume: Mounted) -> Result<Mounted, Stop<'a>> {
+fn sharing<'a>(volume: Mounted) -> Result<Mounted, Stop<'a>>
+    ensures ok { IfOk result (λ shared. (shared.image ≡ volume.image) × (shared.layout ≡ volume.layout)) }
+    ensures err { IfErr result (λ stop. stop ≡ End.NoMemory) }
+{
     match volume.split() {
         Ok((_, image, layout)) => Ok(Mounted::of(image, layout)),
         Err(_) => Err(Stop::from(AllocError)),
@@ -88,19 +108,14 @@ fn sharing<'a>(volume: Mounted) -> Result<Mounted, Stop<'a>> {
 }
 
 /// The volume as it is before a change, where it is told what would change.
-pub fn kept_before<'a>(words: &Words<'_>, volume: &Mounted) -> Result<Option<Mounted>, Stop<'a>> {
+pub fn kept_before<'a>(words: &Words<'_>, volume: &Mounted) -> Result<Option<Mounted>, Stop<'a>>
+    ensures { IfOk result (λ kept. MatchOption kept (words.now.saving.only_tells ≡ false) (λ copy. (words.now.saving.only_tells ≡ true) × (copy ≡ volume.now))) }
+{
     if words.saving.only_tells {
         Ok(Some(volume.copy()?))
     } else {
         Ok(None)
     }
-}
-
-/// The line of an image that is not locked or saved.
-pub fn not_saved<'a, R: Eprint>(rt: &R, path: &str, fault: SaveFault) -> Stop<'a> {
-    let path = Shown(path);
-    let _ = eprintln!(rt; "f11fs: {path}: {fault}");
-    Stop::Said(Status::Host)
 }
 
 /// How a run of changes ended, where nothing failed.
@@ -120,20 +135,18 @@ pub struct Asker {
 }
 
 /// Who asks for changes, and the time that new files get.
-pub fn asked<'a, R: Host>(rt: &R, words: &Words<'a>) -> Result<Asker, Stop<'a>> {
-    let stamp = match words.stamp {
-        Some(stamp) => Some(stamp),
-        None => stamp_of_now(rt),
-    };
-    match stamp {
-        Some(stamp) => Ok(Asker {
-            user: words.user.unwrap_or(KEEPER),
-            stamp,
-        }),
-        None => {
-            let _ = eprintln!(rt; "f11fs: the host's clock says no time; --stamp does");
-            Err(Stop::Said(Status::Host))
-        }
+pub fn asker_of<'a, R: Host>(rt: &R, words: &Words<'a>) -> Result<Asker, Stop<'a>>
+    ensures user { IfOk result (λ asker. asker.user ≡ unwrap_or words.now.user KEEPER) }
+    ensures stamp { IfOk result (λ asker. MatchOption words.now.stamp (IsStampOfLocal asker.stamp) (λ said. asker.stamp ≡ said)) }
+    ensures err { IfErr result (λ stop. (stop ≡ End.NoTime) × (words.now.stamp ≡ None)) }
+{
+    let user = words.user.unwrap_or(KEEPER);
+    match words.stamp {
+        Some(stamp) => Ok(Asker { user, stamp }),
+        None => match stamp_of_now(rt) {
+            Some(stamp) => Ok(Asker { user, stamp }),
+            None => Err(Stop::NoTime),
+        },
     }
 }
 
@@ -145,27 +158,30 @@ pub fn finish<'a, R: Host>(
     locked: &mut Locked,
     before: &Option<Mounted>,
     volume: &Mounted,
-) -> Result<Finished, Stop<'a>> {
+) -> Result<Finished, Stop<'a>>
+    ensures told { IfSome before.now (λ _. IfOk result (λ f. f ≡ Finished.Told Code.Done)) }
+    ensures status { IfOk result EndsSaved }
+    ensures out { before.now ≡ None → IfSome words.now.saving.out (λ out. IsWrittenTo out result) }
+    // An image that is shorter than its volume is written only where the words say so.
+    ensures short { before.now ≡ None → words.now.saving.out ≡ None → words.now.force ≡ false → IsSomeAnd (remark_kept locked.old) SaysShort → IfOk result (λ f. f ≡ Finished.Told Code.Done) }
+    ensures err { before.now ≡ None → words.now.saving.out ≡ None → IfErr result (IsNotSaved words.now.image (force_kept locked.old) words.now.saving.backup words.now.saving.break_links) }
+{
     let image = volume.image();
     if let Some(before) = before {
-        let text = told(rt, before, volume, words.json)?;
+        let text = plan_text(rt.alloc(), before, volume, words.json)?;
         return Ok(Finished::Told(send(rt, text.as_str())?));
     }
     if let Some(out) = words.saving.out {
         return match write_new(rt, out, image, locked.behind(), locked.mode()) {
-            Ok(wanting) => Ok(Finished::Saved(saved(rt, out, wanting))),
-            Err(fault) => Err(not_saved(rt, out, fault)),
+            Ok(wanting) => Ok(Finished::Saved(say_unfinished(rt, out, wanting))),
+            Err(fault) => Err(Stop::Word(out, WordFault::Unsaved(fault))),
         };
     }
     if locked.is(image) {
         return Ok(Finished::Told(Status::Done));
     }
     if locked.is_short() && !words.force {
-        let path = Shown(words.image);
-        let _ = eprintln!(rt;
-            "f11fs: {path}: the image is shorter than its volume; --force writes it whole"
-        );
-        return Err(Stop::Said(Status::Refused));
+        return Err(Stop::Word(words.image, WordFault::Short));
     }
     let Saving {
         backup,
@@ -173,13 +189,15 @@ pub fn finish<'a, R: Host>(
         ..
     } = words.saving;
     match locked.save(rt, image, backup, break_links) {
-        Ok(wanting) => Ok(Finished::Saved(saved(rt, words.image, wanting))),
-        Err(fault) => Err(not_saved(rt, words.image, fault)),
+        Ok(wanting) => Ok(Finished::Saved(say_unfinished(rt, words.image, wanting))),
+        Err(fault) => Err(Stop::Word(words.image, WordFault::Unsaved(fault))),
     }
 }
 
-/// The status of an image that is saved; what is wanting is said.
-pub fn saved<R: Eprint>(rt: &R, path: &str, wanting: Option<Unfinished>) -> Status {
+/// Says what is wanting of an image that is saved, and gives the status.
+pub fn say_unfinished<R: Eprint>(rt: &R, path: &str, wanting: Option<Unfinished>) -> Status
+    ensures { MatchOption wanting (result ≡ Code.Done) (λ _. result ≡ Code.Host) }
+{
     match wanting {
         None => Status::Done,
         Some(remark) => {
@@ -191,6 +209,7 @@ pub fn saved<R: Eprint>(rt: &R, path: &str, wanting: Option<Unfinished>) -> Stat
 }
 
 /// Makes the change that the words ask for. Refused, it may be made in part.
+#[tactic(auto, using(crate::proofs::Leading::through, crate::proofs::Leading::unmoved))]
 pub fn change_volume<'a, R: Files<File = File> + AllocGlobal + Eprint>(
     rt: &R,
     filing: &mut Filing,
@@ -198,18 +217,21 @@ pub fn change_volume<'a, R: Files<File = File> + AllocGlobal + Eprint>(
     words: &Words<'a>,
     change: Change<'a>,
     early: &mut Early,
-) -> Result<(), Stop<'a>> {
+) -> Result<(), Stop<'a>>
+    ensures done { OnOk result (IsChanged change.entry words.now.paths.items stamp filing.old filing.new) }
+    ensures kept { KeepsTo change.entry filing.old filing.new }
+{
     let alloc = rt.alloc();
     let paths = words.paths.as_slice();
-    let done = match change {
-        Change::Put(how) => return put(rt, filing, stamp, words, how, early),
+    match change {
+        Change::Put(how) => put(rt, filing, stamp, words, how, early),
         Change::Cp => match paths.split_last() {
-            Some((to, paths)) => copy_files(alloc, filing, stamp, paths, *to),
-            None => return Err(Stop::Said(Status::Words)),
+            Some((to, paths)) => end_change(alloc, copy_files(alloc, filing, stamp, paths, *to)),
+            None => Err(Stop::Lines(String::new(alloc), Status::Words)),
         },
         Change::Mv => match paths.split_last() {
-            Some((to, paths)) => move_names(alloc, filing, paths, *to),
-            None => return Err(Stop::Said(Status::Words)),
+            Some((to, paths)) => end_change(alloc, move_names(alloc, filing, paths, *to)),
+            None => Err(Stop::Lines(String::new(alloc), Status::Words)),
         },
         Change::Rm {
             entry_alone,
@@ -219,25 +241,32 @@ pub fn change_volume<'a, R: Files<File = File> + AllocGlobal + Eprint>(
                 entry_alone,
                 newest,
             };
-            remove_files(alloc, filing, paths, removal)
+            end_change(alloc, remove_files(alloc, filing, paths, removal))
         }
         Change::Mkdir { names, owner } => {
-            make_directories(alloc, filing, stamp, paths, names.unwrap_or(0), owner)
-        }
-        Change::Rmdir => remove_directories(alloc, filing, paths),
-        Change::Truncate { bytes } => match paths.first() {
-            Some(path) => truncate_file(alloc, filing, *path, bytes),
-            None => return Err(Stop::Said(Status::Words)),
-        },
-    };
-    match done {
-        Ok(()) => {
-            if matches!(change, Change::Mkdir { .. }) {
-                say_nested(rt, words);
+            match make_directories(alloc, filing, stamp, paths, names.unwrap_or(0), owner) {
+                Ok(()) => {
+                    say_nested(rt, words);
+                    Ok(())
+                }
+                Err(failure) => Err(stop_failed(alloc, &failure)),
             }
-            Ok(())
         }
-        Err(failure) => Err(failed(rt, &failure)),
+        Change::Rmdir => end_change(alloc, remove_directories(alloc, filing, paths)),
+        Change::Truncate { bytes } => match paths.first() {
+            Some(path) => end_change(alloc, truncate_file(alloc, filing, *path, bytes)),
+            None => Err(Stop::Lines(String::new(alloc), Status::Words)),
+        },
+    }
+}
+
+/// The end of a command whose change is made, or is refused.
+fn end_change<'a>(alloc: Global, done: Result<(), Failure>) -> Result<(), Stop<'a>>
+    ensures { OnOk result (IsOk done) }
+{
+    match done {
+        Ok(()) => Ok(()),
+        Err(failure) => Err(stop_failed(alloc, &failure)),
     }
 }
 
@@ -256,10 +285,9 @@ fn say_nested<R: AllocGlobal + Eprint>(rt: &R, words: &Words<'_>) {
     }
 }
 
-/// The line of a change that is refused.
-pub fn failed<'a, R: Eprint>(rt: &R, failure: &Failure) -> Stop<'a> {
-    let path = Shown(failure.path.as_str());
-    let why = &failure.why;
-    let _ = eprintln!(rt; "f11fs: {path}: {why}");
-    Stop::Said(failure.status())
+/// The end of a command whose change is refused.
+pub fn stop_failed<'a>(alloc: Global, failure: &Failure) -> Stop<'a>
+    ensures { (s : Code) × (HasStatus failure.now.why s × (StopsWith result s ⊎ (result ≡ End.NoMemory))) }
+{
+    stop_about(alloc, failure.path.as_str(), failure.why, failure.status())
 }

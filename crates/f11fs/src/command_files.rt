@@ -1,12 +1,19 @@
 //! Commands in a file of the host, one a line: obeyed one after another on the volume in memory; then the image is saved, once.
+ghost use Rattle.std.specs.Prelude.{◌≡◌, ◌≤◌, ◌⊎◌, ◌&&◌, ℕ, true, false, codes, IfErr, IfOk, IsTrue, length, unwrap_or, vec_len};
+ghost use Rattle.std.specs.{List.list_any, Str.bytes_eq};
+ghost use Rattle.fs_host.specs.Faults.{is_reason};
+ghost use Rattle.fs_reads.specs.declared.stop.Stop.{Stop as End};
+ghost use Rattle.f11fs.specs.{Changed.AreLinesDone, Changed.IsChanged, Changed.IsDoneBy, Changed.IsDoneNow, Changed.IsLineDone, Readings.IsUnread, Readings.reads_commands};
+ghost use Rattle.ods_shell.specs.declared.status.Status.{Status as Code};
+
 use crate::changing::{
-    Asker, Finished, Host, asked, change_volume, finish, kept_before, locked_volume,
+    Asker, Finished, Host, asker_of, change_volume, finish, kept_before, lock_volume,
 };
-use crate::early::Early;
-use crate::lines::{Line, no_memory, words_of, wrong};
-use fs_host::{Collecting, HostFault, Noting, Shown, read_host, read_some};
-use fs_reads::{Progress, Stop, check_image, ended, obey};
-use fs_words::{Action, Change, Words, WordsFault, parse_line};
+use crate::early::{Early, read_bytes};
+use crate::lines::{say_no_memory, say_wrong};
+use fs_host::{Collecting, HostFault, Noting};
+use fs_reads::{Progress, Stop, WordFault, check_image, obey, say_end};
+use fs_words::{Action, Change, LineFault, Words, WordsFault, line_words, parse_line};
 use ods_base::write_bytes;
 use ods_filing::Filing;
 use ods_request::Stamp;
@@ -29,42 +36,33 @@ pub fn obey_file<'a, R: Host>(
 ) -> Result<Status, Stop<'a>> {
     let bytes = commands_in(rt, file)?;
     let Ok(text) = str::from_utf8(bytes.as_slice()) else {
-        let file = Shown(file);
-        let _ = eprintln!(rt; "f11fs: {file}: no UTF-8 text");
-        return Err(Stop::Said(Status::Words));
+        return Err(Stop::Word(file, WordFault::NoText));
     };
     let text = text.strip_prefix('\u{feff}').unwrap_or(text);
     let mut early = Early::of(rt, words.image);
     read_early(rt, words, text, &mut early)?;
-    let (mut locked, volume) = locked_volume(rt, words, keep_going)?;
-    let asked = asked(rt, words)?;
+    let (mut locked, volume) = lock_volume(rt, words, keep_going)?;
+    let asker = asker_of(rt, words)?;
     let before = kept_before(words, &volume)?;
-    let mut filing = Filing::new(rt.alloc(), volume, asked.user)?;
+    let mut filing = Filing::new(rt.alloc(), volume, asker.user)?;
     let printed = RefCell::new(Vec::new(rt.alloc()));
     let run = Run {
-        asked,
+        asker,
         outer: words,
         file,
         keep_going,
     };
-    let obeyed = obey_lines(rt, &run, &printed, &mut filing, text, &mut early);
-    let done = match obeyed {
-        Ok(status) => match finish(rt, words, &mut locked, &before, filing.mounted()) {
-            Ok(Finished::Told(told)) => Ok((status.or(told), false)),
-            Ok(Finished::Saved(saved)) => Ok((status.or(saved), true)),
-            Err(stop) => Err(stop),
-        },
-        Err(stop) => Err(stop),
-    };
+    let (status, goes_on) = obey_lines(rt, &run, &printed, &mut filing, text, &mut early);
+    if !goes_on {
+        let _ = write_printed(rt, printed.into_inner().as_slice());
+        return Ok(status);
+    }
+    let finished = finish(rt, words, &mut locked, &before, filing.mounted());
     let written = write_printed(rt, printed.into_inner().as_slice());
-    match (done, written) {
-        (Err(stop), _) => Err(stop),
-        (Ok((status, _)), Ok(())) => Ok(status),
-        (Ok((_, true)), Err(why)) => {
-            let _ = eprintln!(rt; "f11fs: the image is saved; writing failed: {why}");
-            Err(Stop::Said(Status::Host))
-        }
-        (Ok((_, false)), Err(why)) => Err(Stop::Unwritten(why)),
+    match (finished?, written) {
+        (Finished::Told(later) | Finished::Saved(later), Ok(())) => Ok(status.or(later)),
+        (Finished::Told(_), Err(why)) => Err(Stop::Unwritten(why)),
+        (Finished::Saved(_), Err(why)) => Err(Stop::SavedUnwritten(why)),
     }
 }
 
@@ -72,7 +70,7 @@ pub fn obey_file<'a, R: Host>(
 #[derive(Clone, Copy)]
 struct Run<'r, 'a> {
     /// Who asks, and the time of new files, where a line says none.
-    asked: Asker,
+    asker: Asker,
     /// The words of the run.
     outer: &'r Words<'a>,
     file: &'a str,
@@ -80,20 +78,14 @@ struct Run<'r, 'a> {
 }
 
 /// The bytes of a file of commands, or of standard input.
-fn commands_in<'a, R: Host>(rt: &R, file: &'a str) -> Result<Vec<u8>, Stop<'a>> {
-    let read = if file == "-" {
-        read_some(rt.alloc(), &mut rt.reader(), MOST)
-    } else {
-        read_host(rt, file, MOST)
-    };
-    match read {
+fn commands_in<'a, R: Host>(rt: &R, file: &'a str) -> Result<Vec<u8>, Stop<'a>>
+    ensures few { IfOk result (λ bytes. vec_len bytes ≤ MOST) }
+    ensures err { IfErr result (λ stop. (stop ≡ End.Word file.entry (WordFault.ManyBytes MOST)) ⊎ IsUnread file.entry stop) }
+{
+    match read_bytes(rt, file, MOST) {
         Ok(bytes) => Ok(bytes),
-        Err(HostFault::TooLarge) => {
-            let file = Shown(file);
-            let _ = eprintln!(rt; "f11fs: {file}: a file of commands has at most {MOST} bytes");
-            Err(Stop::Said(Status::Words))
-        }
-        Err(fault) => Err(Stop::Unread(file, fault)),
+        Err(HostFault::TooLarge) => Err(Stop::Word(file, WordFault::ManyBytes(MOST))),
+        Err(fault) => Err(Stop::Word(file, WordFault::Unread(fault))),
     }
 }
 
@@ -117,9 +109,9 @@ fn read_line_early<'a, R: Host>(
     line: &str,
     early: &mut Early,
 ) -> Result<(), Stop<'a>> {
-    let words = match words_of(rt.alloc(), line) {
-        Line::Words(words) => words,
-        Line::Open | Line::NoMemory => return Ok(()),
+    let words = match line_words(rt.alloc(), line) {
+        Ok(words) => words,
+        Err(_) => return Ok(()),
     };
     match parse_line(rt.alloc(), outer.image, words.as_slice()) {
         Ok(Some(own)) => {
@@ -132,15 +124,19 @@ fn read_line_early<'a, R: Host>(
     }
 }
 
-/// Obeys the lines, and gives how they ended. Where the run goes on after a refusal, the refused line has done nothing.
-fn obey_lines<'a, R: Host>(
+/// Obeys the lines, and gives how they ended, and whether the run goes on: it does not behind a refusal, unless the words say so and the refused
+/// line has done nothing.
+fn obey_lines<R: Host>(
     rt: &R,
     run: &Run<'_, '_>,
     printed: &RefCell<Vec<u8>>,
     filing: &mut Filing,
     text: &str,
     early: &mut Early,
-) -> Result<Status, Stop<'a>> {
+) -> (Status, bool)
+    // Where the run goes on, each line has left the volume as it was, or changed it whole.
+    ensures { result.1 ≡ true → (count : ℕ) × AreLinesDone count filing.old filing.new }
+{
     let mut status = Status::Done;
     let mut number = 0usize;
     for line in text.lines() {
@@ -155,14 +151,16 @@ fn obey_lines<'a, R: Host>(
         status = status.or(done);
         let is_refused = done != Status::Done && done != Status::Found;
         if !stands || (is_refused && !run.keep_going) {
-            return Err(Stop::Said(done));
+            return (done, false);
         }
     }
-    Ok(status)
+    (status, true)
 }
 
 /// Writes what the commands printed.
-fn write_printed<R: Print>(rt: &R, printed: &[u8]) -> Result<(), HostFault> {
+fn write_printed<R: Print>(rt: &R, printed: &[u8]) -> Result<(), HostFault>
+    ensures { IfErr result (λ why. IsTrue (is_reason why)) }
+{
     let mut output = io::writer(rt);
     let mut noting = Noting::new(&mut output);
     match write_bytes(&mut noting, printed) {
@@ -178,11 +176,13 @@ fn obey_line<R: Files<File = File> + Clock + Input + AllocGlobal + Print + Eprin
     run: &Run<'_, '_>,
     line: &str,
     early: &mut Early,
-) -> (Status, bool) {
-    let words = match words_of(rt.alloc(), line) {
-        Line::Words(words) => words,
-        Line::Open => return (wrong(rt, "error: a quote is not closed"), true),
-        Line::NoMemory => return (no_memory(rt), true),
+) -> (Status, bool)
+    ensures { result.1 ≡ true → IsLineDone result.0 filing.old filing.new }
+{
+    let words = match line_words(rt.alloc(), line) {
+        Ok(words) => words,
+        Err(LineFault::Open) => return (say_wrong(rt, "error: a quote is not closed"), true),
+        Err(LineFault::NoMemory) => return (say_no_memory(rt), true),
     };
     match parse_line(rt.alloc(), run.outer.image, words.as_slice()) {
         Ok(Some(own)) => obey_words(rt, filing, run, own, early),
@@ -194,15 +194,33 @@ fn obey_line<R: Files<File = File> + Clock + Input + AllocGlobal + Print + Eprin
             };
             (status, true)
         }
-        Err(WordsFault::Wrong(text)) => (wrong(rt, text.as_str()), true),
-        Err(WordsFault::NoMemory) => (no_memory(rt), true),
+        Err(WordsFault::Wrong(text)) => (say_wrong(rt, text.as_str()), true),
+        Err(WordsFault::NoMemory) => (say_no_memory(rt), true),
     }
 }
 
 /// Whether a `put` wants the standard input that has the commands.
-fn reads_input(outer: &Words<'_>, own: &Words<'_>) -> bool {
-    matches!(outer.action, Action::Commands { file: "-", .. })
-        && own.paths.iter().any(|path| *path == "-")
+fn reads_input(outer: &Words<'_>, own: &Words<'_>) -> bool
+    ensures { result ≡ (reads_commands outer.now.action && list_any (λ path. bytes_eq path.now (codes "-")) own.now.paths.items) }
+{
+    is_from_input(&outer.action) && name_input(own.paths.as_slice())
+}
+
+/// Whether one of these paths is that of standard input.
+fn name_input(paths: &[&str]) -> bool
+    ensures { result ≡ list_any (λ path. bytes_eq path.now (codes "-")) paths.now }
+{
+    paths.iter().any(|path| *path == "-")
+}
+
+/// Whether the commands come from standard input.
+fn is_from_input(action: &Action<'_>) -> bool
+    ensures { result ≡ reads_commands action.now }
+{
+    match action {
+        Action::Commands { file, .. } => *file == "-",
+        _ => false,
+    }
 }
 
 /// Obeys a command. What its line does not say of users, stamps and forms is as in the words of the run.
@@ -212,41 +230,65 @@ fn obey_words<R: Files<File = File> + Clock + Input + AllocGlobal + Print + Epri
     run: &Run<'_, '_>,
     own: Words<'_>,
     early: &mut Early,
-) -> (Status, bool) {
+) -> (Status, bool)
+    // Where the volume stands it is as it was, or the change of the command is made whole.
+    ensures { result.1 ≡ true → IsDoneBy own.entry.action own.entry.paths.items (unwrap_or own.entry.stamp run.now.asker.stamp) (unwrap_or own.entry.user run.now.asker.user) result.0 filing.old filing.new }
+{
     let mut own = own;
     if !own.saving.says_nothing() {
         let text = "error: how the image is saved is said before IMAGE";
-        return (wrong(rt, text), true);
+        return (say_wrong(rt, text), true);
     }
-    filing.set_user(own.user.unwrap_or(run.asked.user));
-    let stamp = own.stamp.unwrap_or(run.asked.stamp);
+    filing.set_user(own.user.unwrap_or(run.asker.user));
+    let stamp = own.stamp.unwrap_or(run.asker.stamp);
     let outer = run.outer;
     own.user = own.user.or(outer.user);
-    own.force = own.force || outer.force;
-    own.json = own.json || outer.json;
-    own.quiet = own.quiet || outer.quiet;
+    own.force |= outer.force;
+    own.json |= outer.json;
+    own.quiet |= outer.quiet;
     own.saving.only_tells = outer.saving.only_tells;
+    obey_action(rt, filing, run, stamp, &own, early)
+}
+
+/// Obeys a command for the user of the filing, with this stamp for new files.
+#[tactic(auto, using(crate::proofs::Leading::changed_now, crate::proofs::Leading::kept_now))]
+fn obey_action<R: Files<File = File> + Clock + Input + AllocGlobal + Print + Eprint>(
+    rt: &R,
+    filing: &mut Filing,
+    run: &Run<'_, '_>,
+    stamp: Stamp,
+    own: &Words<'_>,
+    early: &mut Early,
+) -> (Status, bool)
+    ensures { result.1 ≡ true → IsDoneNow own.now.action own.now.paths.items stamp result.0 filing.old filing.new }
+{
     match own.action {
-        Action::Change(Change::Put(_)) if reads_input(outer, &own) => {
-            (wrong(rt, "error: standard input has the commands"), true)
+        Action::Change(Change::Put(_)) if reads_input(run.outer, own) => {
+            (
+                say_wrong(rt, "error: standard input has the commands"),
+                true,
+            )
         }
         Action::Change(change) if run.keep_going => {
-            change_or_keep(rt, filing, stamp, &own, change, early)
+            change_or_keep(rt, filing, stamp, own, change, early)
         }
-        Action::Change(change) => match change_volume(rt, filing, stamp, &own, change, early) {
+        Action::Change(change) => match change_volume(rt, filing, stamp, own, change, early) {
             Ok(()) => (Status::Done, true),
-            Err(stop) => (ended(rt, Err(stop)), false),
+            Err(stop) => (say_end(rt, Err(stop)), false),
         },
         Action::Check { all } => {
             let done = check_image(rt, filing.mounted().image(), all, own.json);
-            (ended(rt, done), true)
+            (say_end(rt, done), true)
         }
         Action::Commands { .. } | Action::Init { .. } | Action::Rescue { .. } => {
-            (wrong(rt, "error: no command for a file of commands"), true)
+            (
+                say_wrong(rt, "error: no command for a file of commands"),
+                true,
+            )
         }
         _ => {
-            let done = obey(rt, filing.mounted(), &own, &mut Progress::none());
-            (ended(rt, done), true)
+            let done = obey(rt, filing.mounted(), own, &mut Progress::none());
+            (say_end(rt, done), true)
         }
     }
 }
@@ -259,21 +301,24 @@ fn change_or_keep<'a, R: Files<File = File> + AllocGlobal + Eprint>(
     words: &Words<'a>,
     change: Change<'a>,
     early: &mut Early,
-) -> (Status, bool) {
+) -> (Status, bool)
+    // Where the volume stands, the change is made, or nothing is.
+    ensures { result.1 ≡ true → ((result.0 ≡ Code.Done) × IsChanged change.entry words.now.paths.items stamp filing.old filing.new) ⊎ (filing.new ≡ filing.old) }
+{
     let Ok(kept) = filing.mounted().copy() else {
-        return (no_memory(rt), true);
+        return (say_no_memory(rt), true);
     };
     let user = filing.user();
     match change_volume(rt, filing, stamp, words, change, early) {
         Ok(()) => (Status::Done, true),
         Err(stop) => {
-            let status = ended(rt, Err(stop));
+            let status = say_end(rt, Err(stop));
             match Filing::new(rt.alloc(), kept, user) {
                 Ok(before) => {
                     *filing = before;
                     (status, true)
                 }
-                Err(_) => (no_memory(rt), false),
+                Err(_) => (say_no_memory(rt), false),
             }
         }
     }

@@ -1,8 +1,11 @@
 //! Which command the words ask for.
+ghost use Rattle.std.specs.Prelude.{◌≡◌, ◌&&◌, not};
+ghost use Rattle.f11fs.specs.Seen.{prints_names};
+
 use crate::changing::{Host, change_image};
 use crate::command_files::obey_file;
 use crate::making::init_image;
-use fs_reads::{Progress, Stop, check, ended, obey, rescue, volume_at};
+use fs_reads::{Progress, Stop, check, obey, open_volume, rescue, say_end};
 use fs_words::{Action, Words};
 use ods_shell::Status;
 use std::fs::File;
@@ -29,26 +32,41 @@ pub fn run_command<R: Host>(rt: &R, words: &Words<'_>, seen: Seen) -> Status {
             label,
         } => init_image(rt, words, blocks, files, label),
         Action::Commands { file, keep_going } => obey_file(rt, words, file, keep_going),
-        _ => on_volume(rt, words, &mut progress),
+        _ => read_volume(rt, words, &mut progress),
     };
+    // Lines about a file are written over the progress. Any other end comes behind it.
+    if let Err(Stop::Lines(_, _)) = &done {
+        let status = say_end(rt, done);
+        progress.end(rt);
+        return status;
+    }
     progress.end(rt);
-    ended(rt, done)
+    say_end(rt, done)
 }
 
 /// Whether progress is shown: people see standard error, and the words do not ask for quiet. The names that a rescue prints are its
 /// progress where people see these.
-fn shows_progress(words: &Words<'_>, seen: Seen) -> bool {
-    let prints = matches!(words.action, Action::Rescue { .. });
+fn shows_progress(words: &Words<'_>, seen: Seen) -> bool
+    ensures { result ≡ (seen.errors && not words.now.quiet && not (prints_names words.now.action && seen.output)) }
+{
+    let prints = is_rescue(&words.action);
     seen.errors && !words.quiet && !(prints && seen.output)
 }
 
-/// Does what the words ask for on a sound volume.
-fn on_volume<'a, R: Files<File = File> + Clock + AllocGlobal + Print + Eprint>(
+/// Whether the command is a rescue.
+fn is_rescue(action: &Action<'_>) -> bool
+    ensures { result ≡ prints_names action.now }
+{
+    matches!(action, Action::Rescue { .. })
+}
+
+/// Does what the words ask for on a sound volume, which stays as it is.
+fn read_volume<'a, R: Files<File = File> + Clock + AllocGlobal + Print + Eprint>(
     rt: &R,
     words: &Words<'a>,
     progress: &mut Progress,
 ) -> Result<Status, Stop<'a>> {
     let tells_behind = matches!(words.action, Action::Df) && !words.quiet;
-    let volume = volume_at(rt, words.image, words.blocks, tells_behind)?;
+    let volume = open_volume(rt, words.image, words.blocks, tells_behind)?;
     obey(rt, &volume, words, progress)
 }

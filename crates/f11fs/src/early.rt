@@ -1,15 +1,20 @@
 //! Host files that are no plain files, as pipes and standard input: a `put` reads them before the image is locked, so that nobody waits under the
 //! lock.
+ghost use Rattle.std.specs.Prelude.{◌≡◌, ◌<◌, ◌≤◌, ◌-◌, ◌∷◌, ◌++◌, ℕ, [], None, Some, IfErr, IfOk, IfSome, IsTrue, MatchResult, OnOk, length, slice_get, take, vec_len};
+ghost use Rattle.fs_host.specs.Faults.{is_reason};
+ghost use Rattle.std.specs.List.{remove};
+ghost use Rattle.f11fs.specs.{Changed.host_count, Readings.AddsReading, Readings.IsNoPut, Readings.first_at};
+ghost use Rattle.f11fs.specs.declared.early.Taken.{Taken as Read};
+
 use fs_host::{HostFault, read_host, read_some};
 use fs_reads::Stop;
 use fs_words::{Action, Change, Words};
+use ods_base::MAX_BYTES;
+use std::alloc::AllocError;
 use std::fs;
 use std::fs::File;
 use std::io::Input;
 use std::rt::Files;
-
-/// The most bytes that a volume may have.
-const MOST: u64 = 512 * 1_048_576;
 
 /// What was read of a host file.
 #[derive(Drop)]
@@ -28,12 +33,14 @@ pub struct Early {
 
 impl Early {
     /// Nothing yet, for the image at this path.
-    pub fn of<R: Files + AllocGlobal>(rt: &R, image: &str) -> Early {
+    pub fn of<R: Files + AllocGlobal>(rt: &R, image: &str) -> Early
+        ensures { result.taken.items ≡ [] }
+    {
         Early {
             taken: Vec::new(rt.alloc()),
             room: match fs::metadata(rt, image) {
                 Ok(found) if found.is_file() => Some(found.len()),
-                Ok(_) => Some(MOST),
+                Ok(_) => Some(MAX_BYTES as u64),
                 Err(_) => None,
             },
         }
@@ -44,7 +51,9 @@ impl Early {
         &mut self,
         rt: &R,
         words: &Words<'_>,
-    ) -> Result<(), Stop<'a>> {
+    ) -> Result<(), Stop<'a>>
+        ensures { IsNoPut words.now.action → self.new ≡ self.old }
+    {
         if !matches!(words.action, Action::Change(Change::Put(_))) {
             return Ok(());
         }
@@ -61,36 +70,88 @@ impl Early {
         &mut self,
         rt: &R,
         path: &str,
-    ) -> Result<(), Stop<'a>> {
+    ) -> Result<(), Stop<'a>>
+        ensures { OnOk result (AddsReading path.now self.old self.new) }
+    {
         let Some(room) = self.room else {
             return Ok(());
         };
-        let bytes = if path == "-" {
-            read_some(rt.alloc(), &mut rt.reader(), room)
-        } else {
-            read_host(rt, path, room)
-        };
-        if let Ok(bytes) = &bytes {
-            self.room = Some(room.saturating_sub(bytes.len() as u64));
-        }
+        let bytes = read_bytes(rt, path, room);
+        self.room = Some(room_behind(room, &bytes));
         let path = String::from_str(rt.alloc(), path)?;
-        match self.taken.push(Taken { path, bytes }) {
-            Ok(()) => Ok(()),
-            Err(_) => Err(Stop::NoMemory),
-        }
+        Ok(push_taken(&mut self.taken, Taken { path, bytes })?)
     }
 
     /// What was read of a host file, the first that is still here.
-    pub fn take(&mut self, path: &str) -> Option<Result<Vec<u8>, HostFault>> {
-        let place = self.taken.iter().position(|one| one.path.as_str() == path)?;
-        Some(self.taken.remove(place).bytes)
+    pub fn take(&mut self, path: &str) -> Option<Result<Vec<u8>, HostFault>>
+        ensures none { first_at path.now self.old.taken.items ≡ None → (result ≡ None) × (self.new ≡ self.old) }
+        ensures some { (place : ℕ) (one : Read) → first_at path.now self.old.taken.items ≡ Some place → slice_get self.old.taken.items place ≡ Some one → (result ≡ Some one.bytes) × (self.new.taken.items ≡ remove self.old.taken.items place) }
+    {
+        match place_at(self.taken.as_slice(), path) {
+            Some(place) => Some(self.taken.remove(place).bytes),
+            None => None,
+        }
+    }
+}
+
+/// Adds what was read of a host file.
+fn push_taken(taken: &mut Vec<Taken>, one: Taken) -> Result<(), AllocError>
+    ensures { OnOk result (taken.new.items ≡ taken.old.items ++ one ∷ []) }
+{
+    match taken.push(one) {
+        Ok(()) => Ok(()),
+        Err(_) => Err(AllocError),
+    }
+}
+
+/// The place of the first that was read at this path.
+fn place_at(taken: &[Taken], path: &str) -> Option<usize>
+    ensures first { result ≡ first_at path.now taken.now }
+    ensures within { IfSome result (λ place. place < length taken.now) }
+{
+    taken.iter().position(|one| one.path.as_str() == path)
+}
+
+/// The bytes of a host file, or of standard input, where there are no more than `most`.
+pub fn read_bytes<R: Files<File = File> + Input + AllocGlobal>(
+    rt: &R,
+    path: &str,
+    most: u64,
+) -> Result<Vec<u8>, HostFault>
+    ensures few { IfOk result (λ bytes. vec_len bytes ≤ most) }
+    ensures err { IfErr result (λ fault. IsTrue (is_reason fault)) }
+{
+    if path == "-" {
+        read_some(rt.alloc(), &mut rt.reader(), most)
+    } else {
+        read_host(rt, path, most)
+    }
+}
+
+/// How many bytes may be read behind these.
+fn room_behind(room: u64, bytes: &Result<Vec<u8>, HostFault>) -> u64
+    ensures { MatchResult bytes.now (λ bytes. result ≡ room - vec_len bytes) (λ _. result ≡ room) }
+{
+    match bytes {
+        Ok(bytes) => room.saturating_sub(bytes.len() as u64),
+        Err(_) => room,
     }
 }
 
 /// The words of a `put` that name host files: all but the last, where there are several.
-pub fn hosts<'w, 'a>(words: &'w [&'a str]) -> &'w [&'a str] {
-    let count = words.len().saturating_sub(1).max(1).min(words.len());
+pub fn hosts<'w, 'a>(words: &'w [&'a str]) -> &'w [&'a str]
+    ensures { result.now ≡ take (host_count (length words.now)) words.now }
+{
+    let count = count_hosts(words.len());
     &words[..count]
+}
+
+/// How many of so many words name host files.
+fn count_hosts(words: usize) -> usize
+    ensures count { result ≡ host_count words }
+    ensures within { result ≤ words }
+{
+    if 1 < words { words - 1 } else { words }
 }
 
 /// Whether there is something at this path that is read as a stream.

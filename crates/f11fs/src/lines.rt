@@ -1,29 +1,14 @@
-//! The lines of a file of commands, and what is said of one that is not obeyed.
+//! What is said of words that are not obeyed, of the command line or of a line in a file of commands.
+ghost use Rattle.std.specs.Prelude.{◌≡◌};
+ghost use Rattle.ods_shell.specs.declared.status.Status.{Status as Code};
+
 use fs_host::Shown;
-use fs_words::{LineFault, line_words};
 use ods_shell::Status;
-use std::alloc::Global;
 
-/// What a line has.
-#[derive(Drop)]
-pub enum Line {
-    Words(Vec<String>),
-    /// A quote that is not closed.
-    Open,
-    NoMemory,
-}
-
-/// The words of a line.
-pub fn words_of(alloc: Global, line: &str) -> Line {
-    match line_words(alloc, line) {
-        Ok(words) => Line::Words(words),
-        Err(LineFault::Open) => Line::Open,
-        Err(LineFault::NoMemory) => Line::NoMemory,
-    }
-}
-
-/// What is said of words that are not obeyed, with no control character.
-pub fn wrong<R: Eprint>(rt: &R, text: &str) -> Status {
+/// Says what is wrong with words, with no control character.
+pub fn say_wrong<R: Eprint>(rt: &R, text: &str) -> Status
+    ensures { result ≡ Code.Words }
+{
     for line in text.lines() {
         let line = Shown(line);
         let _ = eprintln!(rt; "{line}");
@@ -31,8 +16,10 @@ pub fn wrong<R: Eprint>(rt: &R, text: &str) -> Status {
     Status::Words
 }
 
-/// A line that memory ran out.
-pub fn no_memory<R: Eprint>(rt: &R) -> Status {
+/// Says that memory ran out.
+pub fn say_no_memory<R: Eprint>(rt: &R) -> Status
+    ensures { result ≡ Code.Host }
+{
     let _ = eprintln!(rt; "f11fs: no memory");
     Status::Host
 }

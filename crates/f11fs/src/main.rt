@@ -2,6 +2,9 @@
 //! `ods_shell`, what a change does by `ods_upkeep`; here are the files of the host, the streams and the exit status.
 #![tactic(auto)]
 
+ghost use Rattle.std.specs.Prelude.{◌≡◌, ◌≤◌, IfSome};
+ghost use Rattle.ods_shell.specs.declared.status.Status.{Status as Code};
+
 mod changing;
 mod command_files;
 mod commands;
@@ -15,7 +18,7 @@ use changing::Host;
 use commands::{Seen, run_command};
 use fs_host::hold_streams;
 use fs_words::{WordsFault, parse_words};
-use lines::{no_memory, wrong};
+use lines::{say_no_memory, say_wrong};
 use ods_shell::Status;
 use std::io::IsTerminal;
 use std::process::ExitCode;
@@ -41,12 +44,12 @@ fn run<R: Host>(rt: &R, seen: Seen) -> Status {
     let args = match env::args(rt) {
         Ok(args) => args,
         Err(error) if error.kind() == io::ErrorKind::InvalidData => {
-            return no_text(rt);
+            return say_no_text(rt);
         }
-        Err(_) => return no_memory(rt),
+        Err(_) => return say_no_memory(rt),
     };
     let Ok(words) = args.skip(1).collect::<Vec<String>>(rt.alloc()) else {
-        return no_memory(rt);
+        return say_no_memory(rt);
     };
     match parse_words(rt.alloc(), words.as_slice()) {
         Ok(found) => run_command(rt, &found, seen),
@@ -54,27 +57,31 @@ fn run<R: Host>(rt: &R, seen: Seen) -> Status {
             Ok(()) => Status::Done,
             Err(_) => Status::Host,
         },
-        Err(WordsFault::Wrong(line)) => wrong(rt, line.as_str()),
-        Err(WordsFault::NoMemory) => no_memory(rt),
+        Err(WordsFault::Wrong(line)) => say_wrong(rt, line.as_str()),
+        Err(WordsFault::NoMemory) => say_no_memory(rt),
     }
 }
 
 /// The longest word that a host gives.
 const WORD: usize = 131_072;
 
-/// A line about the first word that is no UTF-8 text, with its number; the first word behind the program's name is word 1.
-fn no_text<R: Host>(rt: &R) -> Status {
+/// Says that a word is no UTF-8 text, with the number of the first such word; the first word behind the program's name is word 1.
+fn say_no_text<R: Host>(rt: &R) -> Status
+    ensures { result ≡ Code.Words }
+{
     match spoiled_word(rt) {
         Some(number) => {
             let _ = eprintln!(rt; "error: word {number} is no UTF-8 text");
             Status::Words
         }
-        None => wrong(rt, "error: a word is no UTF-8 text"),
+        None => say_wrong(rt, "error: a word is no UTF-8 text"),
     }
 }
 
 /// The number of the first word that is no UTF-8 text.
-fn spoiled_word<R: Host>(rt: &R) -> Option<usize> {
+fn spoiled_word<R: Host>(rt: &R) -> Option<usize>
+    ensures { IfSome result (λ number. 1 ≤ number) }
+{
     let Ok(mut word) = vec![in rt.alloc(); 0; WORD] else {
         return None;
     };

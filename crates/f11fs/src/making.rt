@@ -1,7 +1,14 @@
 //! `init`: the image of a new volume.
-use crate::changing::{Host, asked, not_saved, saved};
+ghost use Rattle.std.specs.Prelude.{◌≡◌, false, true, IfErr, IfOk, IsTrue};
+ghost use Rattle.fs_host.specs.Faults.{may_end_writing};
+ghost use Rattle.fs_host.specs.declared.faults.SaveFault.{SaveFault as Fault};
+ghost use Rattle.fs_reads.specs.declared.stop.Stop.{Stop as End};
+ghost use Rattle.f11fs.specs.Saved.{IsSavedStatus};
+ghost use Rattle.ods_shell.specs.declared.status.Status.{Status as Code};
+
+use crate::changing::{Host, asker_of, say_unfinished};
 use fs_host::{SaveFault, Shown, write_new};
-use fs_reads::{Stop, send};
+use fs_reads::{Stop, WordFault, send, stop_about};
 use fs_words::Words;
 use ods_base::Image;
 use ods_init::{InitFault, Label, NewVolume, default_files, init};
@@ -18,39 +25,40 @@ pub fn init_image<'a, R: Host>(
     blocks: u32,
     files: Option<u32>,
     label: Option<&'a str>,
-) -> Result<Status, Stop<'a>> {
+) -> Result<Status, Stop<'a>>
+    ensures status { IfOk result IsSavedStatus }
+    ensures told { words.now.saving.only_tells ≡ true → IfOk result (λ s. s ≡ Code.Done) }
+{
     let path = words.image;
     let text = label.unwrap_or(LABEL);
     let Some(label) = Label::parse(text) else {
-        let text = Shown(text);
-        let _ = eprintln!(rt; "f11fs: {text}: no label: 1 to 12 of A to Z, 0 to 9 and dots");
-        return Err(Stop::Said(Status::Words));
+        return Err(Stop::Word(text, WordFault::NoLabel));
     };
     // The host says it again where the file is made; here nothing has been done yet.
     if fs::symlink_metadata(rt, path).is_ok() {
-        return Err(not_saved(rt, path, SaveFault::IsThere));
+        return Err(Stop::Word(path, WordFault::Unsaved(SaveFault::IsThere)));
     }
-    let asked = asked(rt, words)?;
+    let asker = asker_of(rt, words)?;
     let new = NewVolume {
         blocks,
         files: files.unwrap_or(default_files(blocks)),
         label,
-        owner: asked.user,
-        stamp: asked.stamp,
+        owner: asker.user,
+        stamp: asker.stamp,
     };
     match init(rt.alloc(), &new) {
         Ok(image) => write_image(rt, words, &image),
         Err(InitFault::NoMemory) => Err(Stop::NoMemory),
-        Err(fault) => {
-            let path = Shown(path);
-            let _ = eprintln!(rt; "f11fs: {path}: {fault}");
-            Err(Stop::Said(Status::Words))
-        }
+        Err(fault) => Err(stop_about(rt.alloc(), path, fault, Status::Words)),
     }
 }
 
 /// Writes a new image, or only tells of it.
-fn write_image<'a, R: Host>(rt: &R, words: &Words<'a>, image: &Image) -> Result<Status, Stop<'a>> {
+fn write_image<'a, R: Host>(rt: &R, words: &Words<'a>, image: &Image) -> Result<Status, Stop<'a>>
+    ensures status { IfOk result IsSavedStatus }
+    ensures told { words.now.saving.only_tells ≡ true → IfOk result (λ s. s ≡ Code.Done) }
+    ensures err { words.now.saving.only_tells ≡ false → IfErr result (λ stop. (fault : Fault) × IsTrue (may_end_writing fault) × (stop ≡ End.Word words.now.image (WordFault.Unsaved fault))) }
+{
     let path = words.image;
     if words.saving.only_tells {
         let text = if words.json {
@@ -62,7 +70,7 @@ fn write_image<'a, R: Host>(rt: &R, words: &Words<'a>, image: &Image) -> Result<
         return send(rt, text.as_str());
     }
     match write_new(rt, path, image, &[], None) {
-        Ok(wanting) => Ok(saved(rt, path, wanting)),
-        Err(fault) => Err(not_saved(rt, path, fault)),
+        Ok(wanting) => Ok(say_unfinished(rt, path, wanting)),
+        Err(fault) => Err(Stop::Word(path, WordFault::Unsaved(fault))),
     }
 }

@@ -1,12 +1,16 @@
 //! `put`: files of the host, put into a volume.
-use crate::changing::failed;
+ghost use Rattle.std.specs.Prelude.{◌≡◌, ◌≤◌, ◌⊎◌, ℕ, Ok, Some, IfErr, IfOk, OnOk, length, slice_get, vec_len};
+ghost use Rattle.f11fs.specs.{Changed.ArePut, Changed.host_count, Forms.form_said, Readings.IsLastPart, Readings.IsTooLarge, Readings.IsUnread, Readings.first_at};
+ghost use Rattle.f11fs.specs.declared.early.Taken.{Taken as Read};
+ghost use Rattle.ods_upkeep.specs.{Kinds.Puts, PutFor.IsPut};
+
+use crate::changing::stop_failed;
 use crate::early::{Early, hosts};
 use fs_host::{HostFault, Shown, read_host};
-use fs_reads::Stop;
+use fs_reads::{Stop, WordFault};
 use fs_words::{PutWords, Words};
 use ods_filing::Filing;
 use ods_request::Stamp;
-use ods_shell::Status;
 use ods_upkeep::{HostFile, PutForm, Putting};
 use std::fs;
 use std::fs::File;
@@ -20,15 +24,16 @@ pub fn put<'a, R: Files<File = File> + AllocGlobal + Eprint>(
     words: &Words<'a>,
     how: PutWords<'a>,
     early: &mut Early,
-) -> Result<(), Stop<'a>> {
+) -> Result<(), Stop<'a>>
+    ensures { OnOk result (ArePut how.entry.replace how.entry.owner (host_count (length words.now.paths.items)) filing.old filing.new) }
+{
     let hosts = hosts(words.paths.as_slice());
     let to = match words.paths.last() {
         Some(last) if hosts.len() < words.paths.len() => Some(*last),
         _ => None,
     };
     if to.is_none() && hosts.iter().any(|host| *host == "-") {
-        let _ = eprintln!(rt; "f11fs: -: standard input wants a PATH");
-        return Err(Stop::Said(Status::Words));
+        return Err(Stop::Word("-", WordFault::NoPath));
     }
     let room = u64::from(filing.free_count()).saturating_mul(512);
     let begun = Putting::begin(
@@ -44,8 +49,9 @@ pub fn put<'a, R: Files<File = File> + AllocGlobal + Eprint>(
     );
     let mut putting = match begun {
         Ok(putting) => putting,
-        Err(failure) => return Err(failed(rt, &failure)),
+        Err(failure) => return Err(stop_failed(rt.alloc(), &failure)),
     };
+    putting.make_ready(filing, hosts.len());
     for host in hosts {
         let bytes = host_bytes(rt, *host, room, early)?;
         put_one(
@@ -61,7 +67,9 @@ pub fn put<'a, R: Files<File = File> + AllocGlobal + Eprint>(
 }
 
 /// The form that the words say.
-fn form_of(how: &PutWords<'_>) -> PutForm {
+fn form_of(how: &PutWords<'_>) -> PutForm
+    ensures { result ≡ form_said how.now }
+{
     if let Some(four) = how.form {
         PutForm::Said(four)
     } else if how.text {
@@ -81,7 +89,10 @@ fn put_one<'a, R: AllocGlobal + Eprint>(
     host: &'a str,
     bytes: &[u8],
     quiet: bool,
-) -> Result<(), Stop<'a>> {
+) -> Result<(), Stop<'a>>
+    ensures volume { OnOk result (IsPut (Puts putting.old.replaces) putting.old.owner filing.old filing.new) }
+    ensures same { putting.new ≡ putting.old }
+{
     let file = HostFile {
         name: last_part(host),
         bytes,
@@ -96,12 +107,14 @@ fn put_one<'a, R: AllocGlobal + Eprint>(
             }
             Ok(())
         }
-        Err(failure) => Err(failed(rt, &failure)),
+        Err(failure) => Err(stop_failed(rt.alloc(), &failure)),
     }
 }
 
 /// The last part of the path of a host file.
-fn last_part(path: &str) -> &str {
+fn last_part(path: &str) -> &str
+    ensures { IsLastPart path.now result.now }
+{
     match path.rsplit_once('/') {
         Some((_, name)) => name,
         None => path,
@@ -109,38 +122,46 @@ fn last_part(path: &str) -> &str {
 }
 
 /// The bytes of a host file, at most as many as there is room for on the volume. No form of a file has fewer bytes than the host file.
-fn host_bytes<'a, R: Files<File = File> + AllocGlobal + Eprint>(
+fn host_bytes<'a, R: Files<File = File> + AllocGlobal>(
     rt: &R,
     path: &'a str,
     room: u64,
     early: &mut Early,
-) -> Result<Vec<u8>, Stop<'a>> {
-    let read = match early.take(path) {
-        Some(read) => read,
-        None => read_host(rt, path, room),
-    };
-    match read {
-        Ok(bytes) if bytes.len() as u64 > room => Err(too_large(rt, path, room)),
+) -> Result<Vec<u8>, Stop<'a>>
+    ensures few { IfOk result (λ bytes. vec_len bytes ≤ room) }
+    // What was read early is put.
+    ensures early { (place : ℕ) (one : Read) → first_at path.now early.old.taken.items ≡ Some place → slice_get early.old.taken.items place ≡ Some one → IfOk result (λ bytes. one.bytes ≡ Ok bytes) }
+    ensures err { IfErr result (λ stop. IsTooLarge path.entry room stop ⊎ IsUnread path.entry stop) }
+{
+    match taken_or_read(rt, path, room, early) {
+        Ok(bytes) if bytes.len() as u64 > room => Err(stop_too_large(rt, path, room)),
         Ok(bytes) => Ok(bytes),
-        Err(HostFault::TooLarge) => Err(too_large(rt, path, room)),
-        Err(fault) => Err(Stop::Unread(path, fault)),
+        Err(HostFault::TooLarge) => Err(stop_too_large(rt, path, room)),
+        Err(fault) => Err(Stop::Word(path, WordFault::Unread(fault))),
     }
 }
 
-/// That a host file is larger than the room on the volume.
-fn too_large<'a, R: Files + Eprint>(rt: &R, path: &'a str, room: u64) -> Stop<'a> {
-    let size = match fs::metadata(rt, path) {
-        Ok(found) if found.is_file() => Some(found.len()),
-        _ => None,
-    };
-    let shown = Shown(path);
-    let _ = match size {
-        Some(size) => eprintln!(rt;
-            "f11fs: {shown}: VolumeFull: it has {size} bytes, and the free blocks of the volume hold {room}"
-        ),
-        None => eprintln!(rt;
-            "f11fs: {shown}: VolumeFull: it has more bytes than the {room} that the free blocks of the volume hold"
-        ),
-    };
-    Stop::Said(Status::Refused)
+/// What was read early of a host file, or else what is read now.
+fn taken_or_read<R: Files<File = File> + AllocGlobal>(
+    rt: &R,
+    path: &str,
+    room: u64,
+    early: &mut Early,
+) -> Result<Vec<u8>, HostFault>
+    ensures { (place : ℕ) (one : Read) → first_at path.now early.old.taken.items ≡ Some place → slice_get early.old.taken.items place ≡ Some one → result ≡ one.bytes }
+{
+    match early.take(path) {
+        Some(read) => read,
+        None => read_host(rt, path, room),
+    }
+}
+
+/// The end of a `put` of a host file that is larger than the room on the volume.
+fn stop_too_large<'a, R: Files>(rt: &R, path: &'a str, room: u64) -> Stop<'a>
+    ensures { IsTooLarge path.entry room result }
+{
+    match fs::metadata(rt, path) {
+        Ok(found) if found.is_file() => Stop::Word(path, WordFault::Large(found.len(), room)),
+        _ => Stop::Word(path, WordFault::LargeStream(room)),
+    }
 }

@@ -1,0 +1,7 @@
+mod Slashes
+mod Fronts
+mod Comparing
+mod Finding
+mod MayEnd
+mod HiddenNames
+mod HolderTexts

@@ -1,0 +1,11 @@
+pub mod Reasons
+pub mod Faults
+pub mod Names
+pub mod Noted
+pub mod Texts
+pub mod Holders
+pub mod Found
+pub mod Times
+pub mod Kept
+pub mod Making
+pub mod Compared

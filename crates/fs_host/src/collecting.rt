@@ -1,4 +1,8 @@
 //! A runtime for a command among others: what it prints is kept until the run's end, and its faults say the line where it stands.
+//! Most methods hand a call on. No contract of std says what these calls do, nor what a cell holds.
+ghost use Rattle.std.specs.Prelude.{IfErr};
+ghost use Rattle.fs_host.specs.Reasons.{IsNotKept};
+
 use crate::shown::Shown;
 use std::alloc::Allocator;
 use std::cell::RefCell;
@@ -21,17 +25,23 @@ pub struct Collecting<'a, R> {
 }
 
 impl<R: AllocGlobal> Print for Collecting<'_, R> {
-    fn print<D: Display + Drop>(&self, value: D) -> io::Result<()> {
+    fn print<D: Display + Drop>(&self, value: D) -> io::Result<()>
+        ensures { IfErr result IsNotKept }
+    {
         let text = format!(in self.rt.alloc(); "{value}")?;
         self.write_all(text.as_bytes())
     }
 
-    fn println<D: Display + Drop>(&self, value: D) -> io::Result<()> {
+    fn println<D: Display + Drop>(&self, value: D) -> io::Result<()>
+        ensures { IfErr result IsNotKept }
+    {
         let text = format!(in self.rt.alloc(); "{value}\n")?;
         self.write_all(text.as_bytes())
     }
 
-    fn write_all(&self, bytes: &[u8]) -> io::Result<()> {
+    fn write_all(&self, bytes: &[u8]) -> io::Result<()>
+        ensures { IfErr result IsNotKept }
+    {
         match self.printed.try_borrow_mut() {
             Ok(mut printed) => Ok(printed.extend_from_slice(bytes)?),
             Err(_) => Err(io::Error::from(io::ErrorKind::Other)),

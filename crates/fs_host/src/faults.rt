@@ -1,6 +1,9 @@
 //! Why an image cannot be locked for a change, or cannot be saved.
+ghost use Rattle.std.specs.Prelude.{◌≡◌};
+ghost use Rattle.fs_host.specs.declared.faults.SaveFault.TheVariants.{NoMemory};
+
+use crate::holders::Holder;
 use crate::host_fault::HostFault;
-use crate::in_use::Holder;
 use std::alloc::AllocError;
 use thiserror::Error;
 
@@ -58,6 +61,8 @@ pub enum SaveFault {
 }
 
 impl From<AllocError> for SaveFault {
+    ghost from_gives = { λ _ fault. fault ≡ NoMemory };
+
     fn from(_error: AllocError) -> SaveFault {
         SaveFault::NoMemory
     }

@@ -1,4 +1,8 @@
 //! Why the host does not do what it is asked for, in words.
+ghost use Rattle.std.specs.Prelude.{◌≡◌};
+ghost use Rattle.fs_host.specs.Reasons.{reason_of, reason_of_number};
+ghost use Rattle.fs_host.specs.declared.host_fault.HostFault.TheVariants.{NoMemory};
+
 use std::alloc::AllocError;
 use std::io;
 use std::io::ErrorKind;
@@ -80,7 +84,9 @@ pub enum HostFault {
 
 impl HostFault {
     /// The reason of an error.
-    pub fn of(error: &io::Error) -> HostFault {
+    pub fn of(error: &io::Error) -> HostFault
+        ensures { result ≡ reason_of error.now }
+    {
         match error.kind() {
             ErrorKind::NotFound => HostFault::NotThere,
             ErrorKind::PermissionDenied => HostFault::Denied,
@@ -101,7 +107,9 @@ impl HostFault {
     }
 
     /// The reason of an error that its kind does not tell.
-    fn of_number(number: Option<i32>) -> HostFault {
+    fn of_number(number: Option<i32>) -> HostFault
+        ensures { result ≡ reason_of_number number }
+    {
         match number {
             Some(5) => HostFault::Device,
             Some(9) => HostFault::Closed,
@@ -113,12 +121,16 @@ impl HostFault {
 }
 
 impl From<io::Error> for HostFault {
+    ghost from_gives = { λ error fault. fault ≡ reason_of error };
+
     fn from(error: io::Error) -> HostFault {
         HostFault::of(&error)
     }
 }
 
 impl From<AllocError> for HostFault {
+    ghost from_gives = { λ _ fault. fault ≡ NoMemory };
+
     fn from(_error: AllocError) -> HostFault {
         HostFault::NoMemory
     }

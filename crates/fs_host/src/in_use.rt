@@ -1,15 +1,16 @@
-//! Which other process of the host has a file open, as far as `/proc` tells.
+//! Which other process of the host has a file open, as far as `/proc` tells. No contract of std says what is read there.
+ghost use Rattle.std.specs.Prelude.{◌≡◌, ◌≤◌, Some, IfSome, take};
+ghost use Rattle.fs_host.specs.Holders.{LacksLine, name_held, shown_holder};
+
+use crate::holders::{Holder, NAME};
+use crate::marks::Mark;
 use crate::shown::Shown;
 use std::fmt::{Display, Formatter};
 use std::fs::{File, Metadata};
 use std::io::Read;
-use std::os::unix::fs::MetadataExt;
 use std::rt::{Clock, Files};
 use std::time::Duration;
 use std::{fmt, fs};
-
-/// The most bytes of a process's name that are kept.
-const NAME: usize = 16;
 
 /// How many processes are looked at that have the file open.
 const TRIES: u32 = 8;
@@ -20,20 +21,11 @@ const LOOKS: u32 = 7;
 /// The milliseconds before the first of these looks. Each further one waits twice as long.
 const PAUSE: u64 = 5;
 
-/// A process that has a file open.
-#[derive(Clone, Copy, Debug, PartialEq, Eq)]
-pub struct Holder {
-    process: u32,
-    name: [u8; NAME],
-    length: usize,
-}
-
 impl Display for Holder {
+    ghost output = { λ holder. Some (shown_holder holder) };
+
     fn fmt<W: fmt::Write>(&self, f: &mut Formatter<W>) -> fmt::Result {
-        let Some(bytes) = self.name.get(..self.length) else {
-            return write!(f, "process {}", self.process);
-        };
-        match str::from_utf8(bytes) {
+        match str::from_utf8(&self.name[..self.length]) {
             Ok(name) => write!(f, "process {} ({})", self.process, Shown(name)),
             Err(_) => write!(f, "process {}", self.process),
         }
@@ -45,11 +37,13 @@ impl Display for Holder {
 pub fn holder_of<R: Files<File = File> + Clock + AllocGlobal + Clone + Drop>(
     rt: &R,
     file: &Metadata,
-) -> Option<Holder> {
+) -> Option<Holder>
+    ensures { IfSome result (λ holder. LacksLine (name_held holder)) }
+{
     for _ in 0..TRIES {
         let process = seen_holder(rt, file)?;
         if keeps_open(rt, process, file) {
-            return Some(named(rt, process));
+            return Some(name_holder(rt, process));
         }
     }
     None
@@ -117,7 +111,7 @@ fn has_open<R: Files<File = File> + AllocGlobal + Clone + Drop>(
             continue;
         };
         if let Ok(found) = fs::metadata(rt, entry.path()) {
-            if found.dev() == file.dev() && found.ino() == file.ino() {
+            if Mark::of(&found).is_same_file(&Mark::of(file)) {
                 return true;
             }
         }
@@ -126,7 +120,10 @@ fn has_open<R: Files<File = File> + AllocGlobal + Clone + Drop>(
 }
 
 /// The process with its name, where that can be read.
-fn named<R: Files<File = File> + AllocGlobal>(rt: &R, process: u32) -> Holder {
+fn name_holder<R: Files<File = File> + AllocGlobal>(rt: &R, process: u32) -> Holder
+    ensures same { result.process ≡ process }
+    ensures line { LacksLine (name_held result) }
+{
     let mut name = [0; NAME];
     let length = name_of(rt, process, &mut name).unwrap_or(0);
     Holder {
@@ -141,7 +138,10 @@ fn name_of<R: Files<File = File> + AllocGlobal>(
     rt: &R,
     process: u32,
     name: &mut [u8; NAME],
-) -> Option<usize> {
+) -> Option<usize>
+    ensures within { IfSome result (λ length. length ≤ 16) }
+    ensures line { IfSome result (λ length. LacksLine (take length name.new)) }
+{
     let Ok(path) = format!(in rt.alloc(); "/proc/{process}/comm") else {
         return None;
     };

@@ -1,15 +1,17 @@
 //! The host of `f11fs`: images that are locked, changed and saved whole, new files, the streams, the local time, and what commands print until a
-//! run's end. No contract can say what a host file or a stream gives or takes, so these calls have no
-//! clause. `tests/fs_changes` and `tests/fs_faults` check them on the built program.
+//! run's end. No contract can say what a host file or a stream gives or takes: clauses say what is made of values, and of the bytes of a reader or a
+//! writer that is known. `tests/fs_changes` and `tests/fs_faults` check the calls of the host on the built program.
 #![tactic(auto)]
 
 mod collecting;
 mod comparing_bytes;
 mod containers;
 mod faults;
+mod holders;
 mod host_fault;
 mod in_use;
 mod local_time;
+mod marks;
 mod names;
 mod new_file;
 mod noting;
@@ -22,8 +24,8 @@ mod writing;
 pub use collecting::Collecting;
 pub use containers::{Extent, volume_in};
 pub use faults::{SaveFault, Unfinished};
+pub use holders::Holder;
 pub use host_fault::HostFault;
-pub use in_use::Holder;
 pub use local_time::stamp_of_now;
 pub use names::end_of_links;
 pub use new_file::NewFile;

@@ -1,27 +1,28 @@
 //! The host's local time, as new files carry it.
+ghost use Rattle.std.specs.Prelude.{◌≡◌, IfSome};
+ghost use Rattle.fs_host.specs.Times.{IsMonth, IsLocal, IsStampOf, IsStampOfLocal, stamp_text};
+
 use jiff::Timestamp;
 use jiff::civil::DateTime;
 use jiff::tz::{SystemTimeZone, TimeZone, TimeZoneDatabase};
 use ods_request::Stamp;
-use std::alloc::Global;
 use std::rt::{Clock, Env, Files};
-
-/// The months of a stamp.
-const MONTHS: [&str; 12] = [
-    "JAN", "FEB", "MAR", "APR", "MAY", "JUN", "JUL", "AUG", "SEP", "OCT", "NOV", "DEC",
-];
 
 /// The stamp of now, by the zone that `TZ` names, or else `/etc/localtime`; by UTC where neither names one. None where the clock fails.
 /// No contract can say what the host's clock and files give.
-pub fn stamp_of_now<R: Clock + Env + Files + AllocGlobal + Clone + Drop>(rt: &R) -> Option<Stamp> {
+pub fn stamp_of_now<R: Clock + Env + Files + AllocGlobal + Clone + Drop>(rt: &R) -> Option<Stamp>
+    ensures { IfSome result IsStampOfLocal }
+{
     let Ok(now) = Timestamp::now(rt) else {
         return None;
     };
-    stamp_of(rt.alloc(), local(rt, now))
+    stamp_of(local(rt, now))
 }
 
 /// The local time of an instant.
-fn local<R: Env + Files + AllocGlobal + Clone + Drop>(rt: &R, now: Timestamp) -> DateTime {
+fn local<R: Env + Files + AllocGlobal + Clone + Drop>(rt: &R, now: Timestamp) -> DateTime
+    ensures { IsLocal now result }
+{
     let utc = TimeZone::UTC.to_datetime(now);
     let Ok(zone) = SystemTimeZone::read(rt) else {
         return utc;
@@ -40,16 +41,57 @@ fn local<R: Env + Files + AllocGlobal + Clone + Drop>(rt: &R, now: Timestamp) ->
 }
 
 /// The stamp of a time.
-fn stamp_of(alloc: Global, time: DateTime) -> Option<Stamp> {
-    let month = MONTHS.get(usize::try_from(time.month()).ok()?.checked_sub(1)?)?;
-    let year = time.year().rem_euclid(100);
-    let text = format!(in alloc;
-        "{:02}{month}{year:02}{:02}{:02}{:02}",
-        time.day(),
-        time.hour(),
-        time.minute(),
-        time.second()
-    )
-    .ok()?;
-    Stamp::parse(text.as_bytes())
+fn stamp_of(time: DateTime) -> Option<Stamp>
+    ensures { IfSome result (IsStampOf time) }
+{
+    let month = letters_of(time.month().unsigned_abs())?;
+    let year = time.year().rem_euclid(100).unsigned_abs() as u8;
+    let day = time.day().unsigned_abs();
+    let hour = time.hour().unsigned_abs();
+    let minute = time.minute().unsigned_abs();
+    let second = time.second().unsigned_abs();
+    stamp_with(day, &month, year, hour, minute, second)
+}
+
+/// The stamp with these letters of the month, and the last two digits of these numbers.
+fn stamp_with(day: u8, month: &[u8; 3], year: u8, hour: u8, minute: u8, second: u8) -> Option<Stamp>
+    ensures { IfSome result (λ stamp. stamp ≡ stamp_text day month.now year hour minute second) }
+{
+    let text = [
+        b'0' + day / 10 % 10,
+        b'0' + day % 10,
+        month[0],
+        month[1],
+        month[2],
+        b'0' + year / 10 % 10,
+        b'0' + year % 10,
+        b'0' + hour / 10 % 10,
+        b'0' + hour % 10,
+        b'0' + minute / 10 % 10,
+        b'0' + minute % 10,
+        b'0' + second / 10 % 10,
+        b'0' + second % 10,
+    ];
+    Stamp::parse(&text)
+}
+
+/// The letters of the month of this number, counted from 1.
+fn letters_of(month: u8) -> Option<[u8; 3]>
+    ensures { IfSome result (IsMonth month) }
+{
+    Some(match month {
+        1 => *b"JAN",
+        2 => *b"FEB",
+        3 => *b"MAR",
+        4 => *b"APR",
+        5 => *b"MAY",
+        6 => *b"JUN",
+        7 => *b"JUL",
+        8 => *b"AUG",
+        9 => *b"SEP",
+        10 => *b"OCT",
+        11 => *b"NOV",
+        12 => *b"DEC",
+        _ => return None,
+    })
 }

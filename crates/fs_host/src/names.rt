@@ -1,4 +1,8 @@
 //! Names of files of the host: where symbolic links lead, and the hidden names of files that are being made.
+ghost use Rattle.std.specs.Prelude.{◌≡◌, ◌≤◌, IfOk, IfErr, IsTrue, string_bytes};
+ghost use Rattle.fs_host.specs.Faults.{is_reason};
+ghost use Rattle.fs_host.specs.Names.{AreParts, LeadsTo, IsReached, IsHidden, IsFront, number_in as number_of_name};
+
 use crate::host_fault::HostFault;
 use std::alloc::{AllocError, Global};
 use std::fs;
@@ -7,55 +11,79 @@ use std::rt::Files;
 /// The most bytes of a name.
 const LONGEST: usize = 255;
 
-/// The most symbolic links that are followed.
+/// So many symbolic links have no end.
 const MOST_LINKS: u32 = 40;
 
 /// The path whose last part is the file itself: where it is a symbolic link that is followed, as are those that come then. A file that is
 /// not there is an error.
-pub fn followed<R: Files + AllocGlobal>(rt: &R, path: &str) -> Result<String, HostFault> {
+pub fn follow_links<R: Files + AllocGlobal>(rt: &R, path: &str) -> Result<String, HostFault>
+    ensures ok { IfOk result (λ end. IsReached path.now (string_bytes end)) }
+    ensures err { IfErr result (λ fault. IsTrue (is_reason fault)) }
+{
     follow(rt, path, false)
 }
 
 /// The path to which symbolic links lead, whether something is there or not.
-pub fn end_of_links<R: Files + AllocGlobal>(rt: &R, path: &str) -> Result<String, HostFault> {
+pub fn end_of_links<R: Files + AllocGlobal>(rt: &R, path: &str) -> Result<String, HostFault>
+    ensures ok { IfOk result (λ end. IsReached path.now (string_bytes end)) }
+    ensures err { IfErr result (λ fault. IsTrue (is_reason fault)) }
+{
     follow(rt, path, true)
 }
 
-/// Follows symbolic links, at most 40. With `to_new` the last one may lead to nothing.
-fn follow<R: Files + AllocGlobal>(rt: &R, path: &str, to_new: bool) -> Result<String, HostFault> {
-    let mut path = String::from_str(rt.alloc(), path)?;
-    for _ in 0..MOST_LINKS {
-        match fs::symlink_metadata(rt, path.as_str()) {
+/// Follows symbolic links, fewer than 40. With `to_new` the last one may lead to nothing.
+#[tactic(auto, using(crate::proofs::MayEnd::reason_given, crate::proofs::MayEnd::memory_given))]
+fn follow<R: Files + AllocGlobal>(rt: &R, path: &str, to_new: bool) -> Result<String, HostFault>
+    ensures ok { IfOk result (λ end. IsReached path.now (string_bytes end)) }
+    ensures err { IfErr result (λ fault. IsTrue (is_reason fault)) }
+{
+    let mut end = String::from_str(rt.alloc(), path)?;
+    for count in 0..MOST_LINKS {
+        match fs::symlink_metadata(rt, end.as_str()) {
             Ok(found) if found.is_symlink() => {}
-            Ok(_) => return Ok(path),
-            Err(_) if to_new => return Ok(path),
+            Ok(_) => return Ok(end),
+            Err(_) if to_new => return Ok(end),
             Err(error) => return Err(error.into()),
         }
-        let link = fs::read_link(rt, path.as_str())?;
-        path = from_folder(rt.alloc(), path.as_str(), link.as_str())?;
+        let link = fs::read_link(rt, end.as_str())?;
+        end = from_folder(rt.alloc(), end.as_str(), link.as_str())?;
     }
     Err(HostFault::Links)
 }
 
 /// The path that a link in the folder of this one leads to.
-fn from_folder(alloc: Global, path: &str, link: &str) -> Result<String, AllocError> {
+fn from_folder(alloc: Global, path: &str, link: &str) -> Result<String, AllocError>
+    ensures { IfOk result (λ text. LeadsTo path.now link.now (string_bytes text)) }
+{
+    if link.starts_with('/') {
+        return String::from_str(alloc, link);
+    }
     match path.rsplit_once('/') {
-        Some((folder, _)) if !link.starts_with('/') => format!(in alloc; "{folder}/{link}"),
-        _ => String::from_str(alloc, link),
+        Some((folder, _)) => format!(in alloc; "{folder}/{link}"),
+        None => String::from_str(alloc, link),
     }
 }
 
 /// The folder of a path, and the name in it.
-pub fn parts(path: &str) -> (&str, &str) {
+pub fn parts(path: &str) -> (&str, &str)
+    ensures { AreParts path.now result.0.now result.1.now }
+{
     match path.rsplit_once('/') {
-        Some(("", name)) => ("/", name),
-        Some(parts) => parts,
+        Some((folder, name)) => {
+            if folder.is_empty() {
+                ("/", name)
+            } else {
+                (folder, name)
+            }
+        }
         None => (".", path),
     }
 }
 
 /// The path of the hidden file beside this one, for this use. A name that leaves no room is cut, and gets a number of its own.
-pub fn hidden(alloc: Global, path: &str, word: &str) -> Result<String, AllocError> {
+pub fn hidden_name(alloc: Global, path: &str, word: &str) -> Result<String, AllocError>
+    ensures { IfOk result (λ text. IsHidden path.now word.now (string_bytes text)) }
+{
     let (folder, name) = parts(path);
     let room = LONGEST.saturating_sub(word.len()).saturating_sub(8);
     if name.len() <= room {
@@ -66,8 +94,10 @@ pub fn hidden(alloc: Global, path: &str, word: &str) -> Result<String, AllocErro
     format!(in alloc; "{folder}/.{front}.{number}.f11fs-{word}")
 }
 
-/// At most so many bytes of a name, in whole letters.
-fn front_of(name: &str, most: usize) -> &str {
+/// Less than so many bytes of a name, in whole letters.
+fn front_of(name: &str, most: usize) -> &str
+    ensures { IsFront name.now most result.now }
+{
     for end in (0..most).rev() {
         if let Some(front) = name.get(..end) {
             return front;
@@ -77,10 +107,13 @@ fn front_of(name: &str, most: usize) -> &str {
 }
 
 /// A number for a name: that two long ones have one number is no harm, since one of their files is made at a time.
-fn number_of(name: &str) -> u64 {
+#[tactic(auto, using(crate::proofs::Fronts::next_number))]
+fn number_of(name: &str) -> u64
+    ensures { result ≡ number_of_name name.now }
+{
     let mut number = 0u64;
-    for byte in name.bytes() {
-        number = number.wrapping_mul(257).wrapping_add(u64::from(byte));
+    for byte in name.as_bytes() {
+        number = number.wrapping_mul(257).wrapping_add(u64::from(*byte));
     }
     number
 }

@@ -1,9 +1,15 @@
 //! New files of the host: made under a hidden name beside their own, which they take when they are whole.
+ghost use Rattle.std.specs.Prelude.{◌≡◌, ◌↔◌, ◌⊎◌, IfOk, IfErr, IsTrue, codes, string_bytes};
+ghost use Rattle.fs_host.specs.Faults.{is_reason, is_reason_but_there, may_end_path, may_end_beginning, may_end_naming, may_end_finish};
+ghost use Rattle.fs_host.specs.Making.{file_made, path_made, hidden_made, mode_made, KeepsNames};
+ghost use Rattle.fs_host.specs.Names.{IsReached, IsHidden};
+
 use crate::host_fault::HostFault;
-use crate::names::{followed, hidden};
-use std::fs::{File, Metadata, OpenOptions, Permissions, TryLockError};
+use crate::marks::Mark;
+use crate::names::{follow_links, hidden_name};
+use std::fs::{File, OpenOptions, Permissions, TryLockError};
 use std::io::{ErrorKind, Seek, SeekFrom};
-use std::os::unix::fs::{MetadataExt, OpenOptionsExt, PermissionsExt};
+use std::os::unix::fs::{OpenOptionsExt, PermissionsExt};
 use std::rt::Files;
 use std::{fs, io};
 
@@ -26,15 +32,21 @@ pub struct NewFile {
 impl NewFile {
     /// An empty file beside this path, or beside the plain file that a symbolic link there leads to. What is there and no plain file
     /// is refused, as `IsFolder` or `NotPlain`.
+    #[tactic(auto, using(crate::proofs::MayEnd::path_ends_beginning, crate::proofs::MayEnd::memory_ends_beginning, crate::proofs::MayEnd::there_ends_beginning))]
     pub fn begin<R: Files<File = File> + AllocGlobal>(
         rt: &R,
         path: &str,
         mode: Option<u32>,
-    ) -> Result<NewFile, HostFault> {
+    ) -> Result<NewFile, HostFault>
+        ensures said { IfOk result (λ new. mode_made new ≡ mode) }
+        ensures reached { IfOk result (λ new. IsReached path.now (path_made new)) }
+        ensures hides { IfOk result (λ new. IsHidden (path_made new) (codes "new") (hidden_made new)) }
+        ensures err { IfErr result (λ fault. IsTrue (may_end_beginning fault)) }
+    {
         let path = taken_path(rt, path)?;
-        let hidden = hidden(rt.alloc(), path.as_str(), "new")?;
+        let hidden = hidden_name(rt.alloc(), path.as_str(), "new")?;
         for _ in 0..TRIES {
-            if let Some(file) = made(rt, hidden.as_str(), mode)? {
+            if let Some(file) = make_locked(rt, hidden.as_str(), mode)? {
                 return Ok(NewFile {
                     file,
                     path,
@@ -48,36 +60,40 @@ impl NewFile {
     }
 
     /// The file, at the place where it was left.
-    pub fn file(&mut self) -> &mut File {
+    pub fn file(&mut self) -> &mut File
+        ensures { result.now ≡ file_made self.old }
+    {
         &mut self.file
     }
 
     /// Gives the file its mode and name. With `replaces` a file that has the name by then goes, and else it stays, and the new file
     /// is gone. After any failure the new file is gone, but after `Left`: then it has its name, and the hidden one too.
-    pub fn finish<R: Files<File = File>>(
-        mut self,
-        rt: &R,
-        replaces: bool,
-    ) -> Result<(), HostFault> {
-        let done = self.take_name(rt, replaces);
-        if done.is_ok() && replaces {
+    #[tactic(auto, using(crate::proofs::MayEnd::naming_ends_finish))]
+    pub fn finish<R: Files<File = File>>(mut self, rt: &R, replaces: bool) -> Result<(), HostFault>
+        ensures { IfErr result (λ fault. IsTrue (may_end_finish replaces fault)) }
+    {
+        if let Err(fault) = self.take_name(rt, replaces) {
+            self.give_up(rt);
+            return Err(fault);
+        }
+        if replaces {
             return Ok(());
         }
-        let is_gone = self.give_up(rt);
-        if done.is_ok() && !is_gone {
-            return Err(HostFault::Left);
+        if self.give_up(rt) {
+            Ok(())
+        } else {
+            Err(HostFault::Left)
         }
-        done
     }
 
     /// Removes the hidden name, and with it a file that has no other; whether the file has it no more. A file that another program put
-    /// there stays.
+    /// there stays. No contract of std says what the host does.
     pub fn give_up<R: Files<File = File>>(self, rt: &R) -> bool {
         let is_gone = match (
             fs::symlink_metadata(rt, self.hidden.as_str()),
             self.file.metadata(),
         ) {
-            (Ok(there), Ok(own)) => !is_same(&there, &own),
+            (Ok(there), Ok(own)) => !Mark::of(&there).is_same_file(&Mark::of(&own)),
             (Err(error), _) => error.kind() == ErrorKind::NotFound,
             _ => false,
         };
@@ -85,17 +101,15 @@ impl NewFile {
     }
 
     /// Gives the file its mode and name; without `replaces` it has the hidden one too.
-    fn take_name<R: Files<File = File>>(
-        &mut self,
-        rt: &R,
-        replaces: bool,
-    ) -> Result<(), HostFault> {
+    #[tactic(auto, using(crate::proofs::MayEnd::error_ends_naming, crate::proofs::MayEnd::changed_ends_naming, crate::proofs::MayEnd::reasons_end_naming))]
+    fn take_name<R: Files<File = File>>(&mut self, rt: &R, replaces: bool) -> Result<(), HostFault>
+        ensures stays { KeepsNames self.old self.new }
+        ensures err { IfErr result (λ fault. IsTrue (may_end_naming fault)) }
+    {
         if let Some(mode) = self.mode {
             self.file.set_permissions(Permissions::from_mode(mode))?;
         }
-        if !is_at(rt, self.hidden.as_str(), &self.file) {
-            return Err(HostFault::Changed);
-        }
+        ask_name(rt, self.hidden.as_str(), &self.file)?;
         if replaces {
             fs::rename(rt, self.hidden.as_str(), self.path.as_str())?;
             return Ok(());
@@ -108,7 +122,11 @@ impl NewFile {
     }
 
     /// Makes the file anew under its name, where the file system has no hard links.
-    fn copy_out<R: Files<File = File>>(&mut self, rt: &R) -> Result<(), HostFault> {
+    #[tactic(auto, using(crate::proofs::MayEnd::reason_given))]
+    fn copy_out<R: Files<File = File>>(&mut self, rt: &R) -> Result<(), HostFault>
+        ensures stays { KeepsNames self.old self.new }
+        ensures err { IfErr result (λ fault. IsTrue (is_reason fault)) }
+    {
         let mut options = OpenOptions::new();
         options.read(true).write(true).create_new(true);
         if self.mode.is_some() {
@@ -123,7 +141,11 @@ impl NewFile {
     }
 
     /// Writes the bytes to another file too, and gives it the mode.
-    fn fill(&mut self, copy: &mut File) -> Result<(), HostFault> {
+    #[tactic(auto, using(crate::proofs::MayEnd::reason_given))]
+    fn fill(&mut self, copy: &mut File) -> Result<(), HostFault>
+        ensures stays { KeepsNames self.old self.new }
+        ensures err { IfErr result (λ fault. IsTrue (is_reason fault)) }
+    {
         self.file.seek(SeekFrom::Start(0))?;
         io::copy(&mut self.file, copy)?;
         if let Some(mode) = self.mode {
@@ -135,36 +157,38 @@ impl NewFile {
 }
 
 /// Whether an error says that a file system has no hard links.
-fn has_no_links(kind: ErrorKind) -> bool {
+fn has_no_links(kind: ErrorKind) -> bool
+    ensures { IsTrue result ↔ ((kind ≡ ErrorKind.PermissionDenied) ⊎ (kind ≡ ErrorKind.Unsupported) ⊎ (kind ≡ ErrorKind.TooManyLinks)) }
+{
     matches!(
         kind,
         ErrorKind::PermissionDenied | ErrorKind::Unsupported | ErrorKind::TooManyLinks
     )
 }
 
-/// Whether the file has this name.
-fn is_at<R: Files<File = File>>(rt: &R, path: &str, file: &File) -> bool {
+/// That the file has this name.
+fn ask_name<R: Files<File = File>>(rt: &R, path: &str, file: &File) -> Result<(), HostFault>
+    ensures { IfErr result (λ fault. fault ≡ HostFault.Changed) }
+{
     match (fs::symlink_metadata(rt, path), file.metadata()) {
-        (Ok(there), Ok(own)) => is_same(&there, &own),
-        _ => false,
+        (Ok(there), Ok(own)) if Mark::of(&there).is_same_file(&Mark::of(&own)) => Ok(()),
+        _ => Err(HostFault::Changed),
     }
-}
-
-/// Whether both are of one file.
-fn is_same(one: &Metadata, other: &Metadata) -> bool {
-    one.dev() == other.dev() && one.ino() == other.ino()
 }
 
 /// The path of a plain file or of nothing, with no symbolic link at its end.
-fn taken_path<R: Files + AllocGlobal>(rt: &R, path: &str) -> Result<String, HostFault> {
-    match fs::symlink_metadata(rt, path) {
-        Err(error) if error.kind() == ErrorKind::NotFound => {
-            return Ok(String::from_str(rt.alloc(), path)?);
-        }
-        Err(error) => return Err(HostFault::of(&error)),
-        Ok(_) => {}
+#[tactic(auto, using(crate::proofs::MayEnd::error_ends_path, crate::proofs::MayEnd::memory_ends_path, crate::proofs::MayEnd::reason_ends_path))]
+fn taken_path<R: Files + AllocGlobal>(rt: &R, path: &str) -> Result<String, HostFault>
+    ensures ok { IfOk result (λ taken. IsReached path.now (string_bytes taken)) }
+    ensures err { IfErr result (λ fault. IsTrue (may_end_path fault)) }
+{
+    if let Err(error) = fs::symlink_metadata(rt, path) {
+        return match HostFault::of(&error) {
+            HostFault::NotThere => Ok(String::from_str(rt.alloc(), path)?),
+            fault => Err(fault),
+        };
     }
-    let path = match followed(rt, path) {
+    let path = match follow_links(rt, path) {
         Ok(path) => path,
         // A link that leads to nothing.
         Err(HostFault::NotThere) => return Err(HostFault::IsThere),
@@ -181,11 +205,14 @@ fn taken_path<R: Files + AllocGlobal>(rt: &R, path: &str) -> Result<String, Host
 }
 
 /// A file that is made under this name and locked; none where the name is taken, or was taken away before the lock.
-fn made<R: Files<File = File>>(
+#[tactic(auto, using(crate::proofs::MayEnd::error_but_there))]
+fn make_locked<R: Files<File = File>>(
     rt: &R,
     path: &str,
     mode: Option<u32>,
-) -> Result<Option<File>, HostFault> {
+) -> Result<Option<File>, HostFault>
+    ensures { IfErr result (λ fault. IsTrue (is_reason_but_there fault)) }
+{
     let mut options = OpenOptions::new();
     options.read(true).write(true).create_new(true);
     if mode.is_some() {
@@ -193,10 +220,12 @@ fn made<R: Files<File = File>>(
     }
     let file = match options.open(rt, path) {
         Ok(file) => file,
-        Err(error) if error.kind() == ErrorKind::AlreadyExists => return Ok(None),
-        Err(error) => return Err(HostFault::of(&error)),
+        Err(error) => match HostFault::of(&error) {
+            HostFault::IsThere => return Ok(None),
+            fault => return Err(fault),
+        },
     };
-    if locks(&file) && is_at(rt, path, &file) {
+    if lock(&file).is_ok() && ask_name(rt, path, &file).is_ok() {
         Ok(Some(file))
     } else {
         Ok(None)
@@ -204,7 +233,10 @@ fn made<R: Files<File = File>>(
 }
 
 /// Takes away a hidden file that nobody is writing.
-fn clear<R: Files<File = File>>(rt: &R, path: &str) -> Result<(), HostFault> {
+#[tactic(auto, using(crate::proofs::MayEnd::error_ends_beginning, crate::proofs::MayEnd::held_ends_beginning))]
+fn clear<R: Files<File = File>>(rt: &R, path: &str) -> Result<(), HostFault>
+    ensures { IfErr result (λ fault. IsTrue (may_end_beginning fault)) }
+{
     match fs::symlink_metadata(rt, path) {
         Ok(found) if found.is_file() => {}
         Ok(_) => return Err(HostFault::NotPlain),
@@ -216,16 +248,19 @@ fn clear<R: Files<File = File>>(rt: &R, path: &str) -> Result<(), HostFault> {
         Err(error) if error.kind() == ErrorKind::NotFound => return Ok(()),
         Err(error) => return Err(HostFault::of(&error)),
     };
-    if !locks(&file) {
-        return Err(HostFault::Held);
-    }
-    if is_at(rt, path, &file) {
+    lock(&file)?;
+    if ask_name(rt, path, &file).is_ok() {
         fs::remove_file(rt, path)?;
     }
     Ok(())
 }
 
 /// Locks the file, where no other run has it locked. A file system that has no locks is no hindrance.
-fn locks(file: &File) -> bool {
-    !matches!(file.try_lock(), Err(TryLockError::WouldBlock))
+fn lock(file: &File) -> Result<(), HostFault>
+    ensures { IfErr result (λ fault. fault ≡ HostFault.Held) }
+{
+    match file.try_lock() {
+        Err(TryLockError::WouldBlock) => Err(HostFault::Held),
+        _ => Ok(()),
+    }
 }

@@ -1,4 +1,7 @@
 //! Files of the host and streams, read whole where they are not too large.
+ghost use Rattle.std.specs.Prelude.{◌≡◌, ◌≤◌, IfOk, IfErr, IfSome, IsTrue, vec_len};
+ghost use Rattle.fs_host.specs.Faults.{is_reason};
+
 use crate::host_fault::HostFault;
 use std::alloc::Global;
 use std::fs;
@@ -8,11 +11,15 @@ use std::rt::Files;
 
 /// The bytes of a file of the host. A plain file of more than `most` bytes is refused before it is read, any other one behind
 /// that many.
+#[tactic(auto, using(crate::proofs::MayEnd::reason_given))]
 pub fn read_host<R: Files<File = File> + AllocGlobal>(
     rt: &R,
     path: &str,
     most: u64,
-) -> Result<Vec<u8>, HostFault> {
+) -> Result<Vec<u8>, HostFault>
+    ensures few { IfOk result (λ bytes. vec_len bytes ≤ most) }
+    ensures err { IfErr result (λ fault. IsTrue (is_reason fault)) }
+{
     let found = fs::metadata(rt, path)?;
     if found.is_dir() {
         return Err(HostFault::IsFolder);
@@ -25,12 +32,15 @@ pub fn read_host<R: Files<File = File> + AllocGlobal>(
 }
 
 /// What a reader gives up to its end, where that is no more than `most` bytes.
-pub fn read_some<I: Read>(alloc: Global, reader: &mut I, most: u64) -> Result<Vec<u8>, HostFault> {
+#[tactic(auto, using(crate::proofs::MayEnd::reason_given))]
+pub fn read_some<I: Read>(alloc: Global, reader: &mut I, most: u64) -> Result<Vec<u8>, HostFault>
+    ensures all { IfOk result (λ bytes. IfSome (I.remaining reader.old) (λ all. bytes.items ≡ all)) }
+    ensures few { IfOk result (λ bytes. vec_len bytes ≤ most) }
+    ensures err { IfErr result (λ fault. IsTrue (is_reason fault)) }
+{
     let mut bytes = Vec::new(alloc);
-    reader
-        .by_ref()
-        .take(most.saturating_add(1))
-        .read_to_end(&mut bytes)?;
+    let mut front = Read::take(reader, most.saturating_add(1));
+    front.read_to_end(&mut bytes)?;
     if bytes.len() as u64 > most {
         return Err(HostFault::TooLarge);
     }

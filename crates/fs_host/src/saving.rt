@@ -1,49 +1,30 @@
 //! Images of the host that are changed: locked before they are read, and saved whole under their name or not at all.
+ghost use Rattle.std.specs.Prelude.{◌≡◌, ◌↔◌, ◌||◌, ◌<◌, ◌^◌, ℕ, List, [], Some, None, not, IfOk, IfErr, IfSome, OnErr, IsSomeAnd, IsTrue, length};
+ghost use Rattle.std.specs.Fs.{metadata_len};
+ghost use Rattle.fs_host.specs.Faults.{may_end_opening, may_end_asking, may_end_locking, may_end_keeping, may_end_giving, may_end_preparing, may_end_saving, is_unsynced};
+ghost use Rattle.ods_container.specs.Container.{IsContained};
+ghost use Rattle.fs_host.specs.Found.{IsRemark, SaysShort};
+ghost use Rattle.fs_host.specs.Kept.{bytes_kept, remark_kept, mode_kept, force_kept, path_kept, size_kept, KeepsAll};
+ghost use Rattle.fs_host.specs.Names.{IsReached};
+
 use crate::comparing_bytes::has_bytes;
 use crate::containers::{Extent, volume_in};
 use crate::faults::{SaveFault, Unfinished};
 use crate::host_fault::HostFault;
 use crate::in_use::holder_of;
-use crate::names::{followed, hidden};
+use crate::marks::Mark;
+use crate::names::{follow_links, hidden_name};
 use crate::new_file::NewFile;
-use crate::writing::{fill, unsynced};
+use crate::writing::{fill, sync_folder};
 use ods_base::{Image, ImageError};
 use std::alloc::Global;
 use std::fs;
 use std::fs::{File, Metadata, OpenOptions, TryLockError};
-use std::io::{ErrorKind, Seek, SeekFrom};
 use std::os::unix::fs::{FileTypeExt, MetadataExt, fchown};
 use std::rt::{Clock, Files};
 
 /// The bits of a mode that say who may do what.
 const MODE_BITS: u32 = 0o7777;
-
-/// By what it is seen whether a file is another one, or was written to.
-#[derive(Clone, Copy, PartialEq, Eq)]
-struct Mark {
-    device: u64,
-    node: u64,
-    size: u64,
-    seconds: i64,
-    nanoseconds: i64,
-}
-
-impl Mark {
-    fn of(file: &Metadata) -> Mark {
-        Mark {
-            device: file.dev(),
-            node: file.ino(),
-            size: file.size(),
-            seconds: file.mtime(),
-            nanoseconds: file.mtime_nsec(),
-        }
-    }
-
-    /// Whether this is the file, whatever its bytes.
-    fn is_of(&self, file: &Metadata) -> bool {
-        self.device == file.dev() && self.node == file.ino()
-    }
-}
 
 /// An image that no other run of this program changes while this value is there. It is open only for reading.
 #[derive(Drop)]
@@ -64,17 +45,24 @@ pub struct Locked {
 impl Locked {
     /// Locks the image at this path, for a change that `writes` it or one that leaves it as it is. One that is written is refused where
     /// another process has it open, unless by `force`; it has to be a plain file, and the other may be a block device.
+    #[tactic(auto, using(crate::proofs::MayEnd::reason_given, crate::proofs::MayEnd::opening_ends_locking, crate::proofs::MayEnd::asking_ends_locking))]
     pub fn of<R: Files<File = File> + Clock + AllocGlobal + Clone + Drop>(
         rt: &R,
         path: &str,
         writes: bool,
         force: bool,
-    ) -> Result<Locked, SaveFault> {
-        let path = match followed(rt, path) {
+    ) -> Result<Locked, SaveFault>
+        ensures unread { IfOk result (λ locked. (bytes_kept locked ≡ []) × (remark_kept locked ≡ None)) }
+        ensures reached { IfOk result (λ locked. IsReached path.now (path_kept locked)) }
+        ensures bits { IfOk result (λ locked. mode_kept locked < 2 ^ 12) }
+        ensures alone { IfOk result (λ locked. force_kept locked ≡ (force || not writes)) }
+        ensures err { IfErr result (λ fault. IsTrue (may_end_locking writes force fault)) }
+    {
+        let path = match follow_links(rt, path) {
             Ok(path) => path,
             Err(fault) => return Err(SaveFault::Read(fault)),
         };
-        let file = opened(rt, path.as_str(), writes)?;
+        let file = open_image(rt, path.as_str(), writes)?;
         match file.try_lock() {
             Ok(()) => {}
             Err(TryLockError::WouldBlock) => return Err(SaveFault::Held),
@@ -99,8 +87,13 @@ impl Locked {
     }
 
     /// The volume in the image that was locked, of so many blocks where a number is given.
-    /// No contract can say what a host file gives.
-    pub fn read(&mut self, alloc: Global, given: Option<u32>) -> Result<Image, ImageError> {
+    /// No contract can say which bytes a host file gives.
+    pub fn read(&mut self, alloc: Global, given: Option<u32>) -> Result<Image, ImageError>
+        ensures ok { IfOk result (λ image. (bytes : List ℕ) × (n : ℕ) × IsContained bytes given image (bytes_kept self.new) n
+            × IsRemark n (length image) (bytes_kept self.new) (remark_kept self.new)) }
+        ensures err { OnErr result ((bytes_kept self.new ≡ bytes_kept self.old) × (remark_kept self.new ≡ remark_kept self.old)) }
+        ensures mode { mode_kept self.new ≡ mode_kept self.old }
+    {
         match volume_in(alloc, &mut self.file, given) {
             Ok(contained) => {
                 self.extent = Extent::of(&contained);
@@ -111,21 +104,17 @@ impl Locked {
         }
     }
 
-    /// The volume once more.
-    pub fn read_again(&mut self, alloc: Global, given: Option<u32>) -> Result<Image, ImageError> {
-        match self.file.seek(SeekFrom::Start(0)) {
-            Ok(_) => self.read(alloc, given),
-            Err(_) => Err(ImageError::ReadFailed),
-        }
-    }
-
     /// What is to be said of an image that is longer or shorter than its volume.
-    pub fn extent(&self) -> Option<Extent> {
+    pub fn extent(&self) -> Option<Extent>
+        ensures { result ≡ remark_kept self.now }
+    {
         self.extent
     }
 
     /// Whether the image is shorter than its volume.
-    pub fn is_short(&self) -> bool {
+    pub fn is_short(&self) -> bool
+        ensures { IsTrue result ↔ IsSomeAnd (remark_kept self.now) SaysShort }
+    {
         match &self.extent {
             Some(extent) => extent.is_short(),
             None => false,
@@ -133,23 +122,33 @@ impl Locked {
     }
 
     /// What stands behind the volume.
-    pub fn behind(&self) -> &[u8] {
+    pub fn behind(&self) -> &[u8]
+        ensures { result.now ≡ bytes_kept self.now }
+    {
         self.behind.as_slice()
     }
 
     /// Whether the file has the bytes of this volume, and those that stood behind it.
-    pub fn is(&mut self, image: &Image) -> bool {
+    /// No contract can say which bytes a host file gives.
+    pub fn is(&mut self, image: &Image) -> bool
+        ensures { KeepsAll self.old self.new }
+    {
         let is_short = self.is_short();
         has_bytes(&mut self.file, image, self.behind.as_slice(), is_short)
     }
 
     /// The bits of its mode, as `write_new` takes them.
-    pub fn mode(&self) -> Option<u32> {
+    pub fn mode(&self) -> Option<u32>
+        ensures { result ≡ Some (mode_kept self.now) }
+    {
         Some(self.mode)
     }
 
     /// What the host says of the file under this name, which is the one that was locked, and as it was then.
-    fn found<R: Files>(&self, rt: &R) -> Result<Metadata, SaveFault> {
+    fn look_again<R: Files>(&self, rt: &R) -> Result<Metadata, SaveFault>
+        ensures ok { IfOk result (λ found. metadata_len found ≡ size_kept self.now) }
+        ensures err { IfErr result (λ fault. fault ≡ SaveFault.Changed) }
+    {
         match fs::symlink_metadata(rt, self.path.as_str()) {
             Ok(metadata) if Mark::of(&metadata) == self.mark => Ok(metadata),
             Ok(_) => Err(SaveFault::Changed),
@@ -158,11 +157,14 @@ impl Locked {
     }
 
     /// That the file is as it was, and no other process has it open.
+    #[tactic(auto, using(crate::proofs::MayEnd::changed_ends_asking, crate::proofs::MayEnd::is_not))]
     fn ask_alone<R: Files<File = File> + Clock + AllocGlobal + Clone + Drop>(
         &self,
         rt: &R,
-    ) -> Result<(), SaveFault> {
-        let found = self.found(rt)?;
+    ) -> Result<(), SaveFault>
+        ensures { IfErr result (λ fault. IsTrue (may_end_asking (force_kept self.now) fault)) }
+    {
+        let found = self.look_again(rt)?;
         if self.force {
             return Ok(());
         }
@@ -176,20 +178,24 @@ impl Locked {
     /// read back, and takes its name. After a failure that file is gone, and the old image is there. What it gives is to be said, and
     /// the image is saved.
     /// No contract can say what a host file takes. `tests/fs_faults` checks that the image is whole or as it was.
+    #[tactic(auto, using(crate::proofs::MayEnd::changed_ends_saving, crate::proofs::MayEnd::memory_ends_saving, crate::proofs::MayEnd::preparing_ends_saving, crate::proofs::MayEnd::is_not))]
     pub fn save<R: Files<File = File> + Clock + AllocGlobal + Clone + Drop>(
         &self,
         rt: &R,
         image: &Image,
         backup: bool,
         break_links: bool,
-    ) -> Result<Option<Unfinished>, SaveFault> {
-        self.found(rt)?;
+    ) -> Result<Option<Unfinished>, SaveFault>
+        ensures ok { IfOk result (λ wanting. IfSome wanting (λ unfinished. IsTrue (is_unsynced unfinished))) }
+        ensures err { IfErr result (λ fault. IsTrue (may_end_saving (force_kept self.now) backup break_links fault)) }
+    {
+        self.look_again(rt)?;
         self.drop_name(rt, "old")?;
         self.drop_name(rt, "new")?;
-        let old = self.found(rt)?;
+        let old = self.look_again(rt)?;
         let kept = format!(in rt.alloc(); "{}~", self.path.as_str())?;
         // A backup is a second name where a run was ended by force just behind it.
-        let most = if self.is_named(rt, kept.as_str()) {
+        let most = if self.ask_named(rt, kept.as_str()).is_ok() {
             2
         } else {
             1
@@ -208,29 +214,34 @@ impl Locked {
             return Err(SaveFault::Changed);
         }
         match new.finish(rt, true) {
-            Ok(()) => Ok(unsynced(rt, self.path.as_str())),
+            Ok(()) => Ok(sync_folder(rt, self.path.as_str())),
             Err(fault) => Err(SaveFault::Rename(fault)),
         }
     }
 
     /// Takes away a hidden name of the image that a run left which was ended by force.
-    fn drop_name<R: Files + AllocGlobal>(&self, rt: &R, word: &str) -> Result<(), SaveFault> {
-        let name = hidden(rt.alloc(), self.path.as_str(), word)?;
-        if self.is_named(rt, name.as_str()) {
+    fn drop_name<R: Files + AllocGlobal>(&self, rt: &R, word: &str) -> Result<(), SaveFault>
+        ensures { IfErr result (λ fault. fault ≡ SaveFault.NoMemory) }
+    {
+        let name = hidden_name(rt.alloc(), self.path.as_str(), word)?;
+        if self.ask_named(rt, name.as_str()).is_ok() {
             let _ = fs::remove_file(rt, name.as_str());
         }
         Ok(())
     }
 
-    /// Whether this is a name of the image.
-    fn is_named<R: Files>(&self, rt: &R, name: &str) -> bool {
+    /// That this is a name of the image.
+    fn ask_named<R: Files>(&self, rt: &R, name: &str) -> Result<(), SaveFault>
+        ensures { IfErr result (λ fault. fault ≡ SaveFault.Changed) }
+    {
         match fs::symlink_metadata(rt, name) {
-            Ok(found) => self.mark.is_of(&found),
-            Err(_) => false,
+            Ok(found) if self.mark.is_same_file(&Mark::of(&found)) => Ok(()),
+            _ => Err(SaveFault::Changed),
         }
     }
 
     /// Makes the new file what the image is to be, and keeps the old one where that is asked for; then only the name is wanting.
+    #[tactic(auto, using(crate::proofs::MayEnd::giving_ends_preparing, crate::proofs::MayEnd::filling_ends_preparing, crate::proofs::MayEnd::asking_ends_preparing, crate::proofs::MayEnd::keeping_ends_preparing, crate::proofs::MayEnd::memory_ends_preparing, crate::proofs::MayEnd::changed_ends_preparing))]
     fn prepare<R: Files<File = File> + Clock + AllocGlobal + Clone + Drop>(
         &self,
         rt: &R,
@@ -239,30 +250,35 @@ impl Locked {
         image: &Image,
         backup: bool,
         kept: &str,
-    ) -> Result<(), SaveFault> {
+    ) -> Result<(), SaveFault>
+        ensures { IfErr result (λ fault. IsTrue (may_end_preparing (force_kept self.now) backup fault)) }
+    {
         give_owner(new, old)?;
         fill(new, image, self.behind.as_slice())?;
         self.ask_alone(rt)?;
         if backup {
             self.keep(
                 rt,
-                hidden(rt.alloc(), self.path.as_str(), "old")?.as_str(),
+                hidden_name(rt.alloc(), self.path.as_str(), "old")?.as_str(),
                 kept,
             )?;
-            self.found(rt)?;
+            self.look_again(rt)?;
         }
         Ok(())
     }
 
     /// Gives the old image a second name, by way of `linked`, so that an older backup is there until then.
-    fn keep<R: Files>(&self, rt: &R, linked: &str, kept: &str) -> Result<(), SaveFault> {
+    #[tactic(auto, using(crate::proofs::MayEnd::reason_given, crate::proofs::MayEnd::changed_ends_keeping))]
+    fn keep<R: Files>(&self, rt: &R, linked: &str, kept: &str) -> Result<(), SaveFault>
+        ensures { IfErr result (λ fault. IsTrue (may_end_keeping fault)) }
+    {
         let _ = fs::remove_file(rt, linked);
         if let Err(error) = fs::hard_link(rt, self.path.as_str(), linked) {
             return Err(SaveFault::Backup(HostFault::of(&error)));
         }
-        if !self.is_named(rt, linked) {
+        if let Err(fault) = self.ask_named(rt, linked) {
             let _ = fs::remove_file(rt, linked);
-            return Err(SaveFault::Changed);
+            return Err(fault);
         }
         let done = fs::rename(rt, linked, kept);
         // Where both were names of one file already the host leaves both.
@@ -275,7 +291,10 @@ impl Locked {
 }
 
 /// The file at this path, open for reading. That it may be written is asked by another descriptor, which is closed at once.
-fn opened<R: Files<File = File>>(rt: &R, path: &str, writes: bool) -> Result<File, SaveFault> {
+#[tactic(auto, using(crate::proofs::MayEnd::reason_given, crate::proofs::MayEnd::written_but_denied))]
+fn open_image<R: Files<File = File>>(rt: &R, path: &str, writes: bool) -> Result<File, SaveFault>
+    ensures { IfErr result (λ fault. IsTrue (may_end_opening writes fault)) }
+{
     match fs::symlink_metadata(rt, path) {
         Ok(found) if found.is_file() => {}
         Ok(found) if found.file_type().is_block_device() && !writes => {}
@@ -287,10 +306,10 @@ fn opened<R: Files<File = File>>(rt: &R, path: &str, writes: bool) -> Result<Fil
         options.write(true);
         match options.open(rt, path) {
             Ok(_) => {}
-            Err(error) if error.kind() == ErrorKind::PermissionDenied => {
-                return Err(SaveFault::Denied);
-            }
-            Err(error) => return Err(SaveFault::Write(HostFault::of(&error))),
+            Err(error) => match HostFault::of(&error) {
+                HostFault::Denied => return Err(SaveFault::Denied),
+                fault => return Err(SaveFault::Write(fault)),
+            },
         }
     }
     match fs::open(rt, path) {
@@ -300,7 +319,10 @@ fn opened<R: Files<File = File>>(rt: &R, path: &str, writes: bool) -> Result<Fil
 }
 
 /// Gives a new file the owner of the old one. It is asked only where it matters: most users may give none away.
-fn give_owner(new: &File, old: &Metadata) -> Result<(), SaveFault> {
+#[tactic(auto, using(crate::proofs::MayEnd::reason_given))]
+fn give_owner(new: &File, old: &Metadata) -> Result<(), SaveFault>
+    ensures { IfErr result (λ fault. IsTrue (may_end_giving fault)) }
+{
     let own = match new.metadata() {
         Ok(own) => own,
         Err(error) => return Err(SaveFault::Mode(HostFault::of(&error))),

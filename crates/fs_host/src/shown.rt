@@ -1,4 +1,8 @@
 //! Names of the host and words, as messages show them.
+ghost use Rattle.std.specs.Prelude.{Some};
+ghost use Rattle.std.specs.Fmt.{WritesOnOk};
+ghost use Rattle.fs_host.specs.Texts.{shown_letter, shown_text};
+
 use std::fmt;
 use std::fmt::{Display, Formatter};
 
@@ -7,14 +11,30 @@ use std::fmt::{Display, Formatter};
 pub struct Shown<'a>(pub &'a str);
 
 impl Display for Shown<'_> {
+    ghost output = { λ shown. Some (shown_text shown.0.now) };
+
     fn fmt<W: fmt::Write>(&self, f: &mut Formatter<W>) -> fmt::Result {
-        for letter in self.0.chars() {
-            if letter.is_control() {
-                write!(f, "\\x{:02x}", u32::from(letter))?;
-            } else {
-                f.write_char(letter)?;
-            }
-        }
-        Ok(())
+        write_text(f, self.0)
+    }
+}
+
+/// Writes a text, with its control characters as numbers.
+fn write_text<W: fmt::Write>(f: &mut Formatter<W>, text: &str) -> fmt::Result
+    ensures { WritesOnOk W.write_str_gives f.old result (shown_text text.now) f.new }
+{
+    for letter in text.chars() {
+        write_letter(f, letter)?;
+    }
+    Ok(())
+}
+
+/// Writes a letter, a control character as its number.
+fn write_letter<W: fmt::Write>(f: &mut Formatter<W>, letter: char) -> fmt::Result
+    ensures { WritesOnOk W.write_str_gives f.old result (shown_letter letter) f.new }
+{
+    if letter.is_control() {
+        write!(f, "\\x{:02x}", u32::from(letter))
+    } else {
+        f.write_char(letter)
     }
 }

@@ -1,0 +1,7 @@
+mod Closing
+mod Growing
+mod Likeness
+mod Lines
+mod Mounting
+mod Saying
+mod Statuses

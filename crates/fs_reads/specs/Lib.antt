@@ -1,1 +1,11 @@
+pub mod Advised
+pub mod Alike
+pub mod Denied
+pub mod Ends
 pub mod Looks
+pub mod Shown
+pub mod Volumes
+pub mod Written
+pub mod Named
+pub mod Host
+pub mod Folders

@@ -1,4 +1,8 @@
 //! `check`: what is wrong with an image, sound or not.
+ghost use Rattle.std.specs.Prelude.{◌≡◌, ◌++◌, ◌⊎◌, IfOk, OnOk, string_bytes};
+ghost use Rattle.ods_mount.specs.Faults.{IsSound};
+ghost use Rattle.ods_shell.specs.declared.status.Status.{Status as Code};
+ghost use Rattle.fs_reads.specs.{Ends.EndsCheck, Shown.StaysSaid, Shown.findings_line};
 ghost use Rattle.ods_space.specs.Files.{IsLayoutOf};
 ghost use Rattle.ods_space.specs.Disks.{on};
 
@@ -21,7 +25,9 @@ pub fn check<'a, R: Files<File = File> + AllocGlobal + Print + Eprint>(
     given: Option<u32>,
     all: bool,
     json: bool,
-) -> Result<Status, Stop<'a>> {
+) -> Result<Status, Stop<'a>>
+    ensures { IfOk result (λ s. (s ≡ Code.Done) ⊎ (s ≡ Code.Found)) }
+{
     stop_at_own_output(rt, path)?;
     match open_image(rt, path, given) {
         Ok((image, extent)) => {
@@ -50,7 +56,9 @@ pub fn check_image<'a, R: AllocGlobal + Print>(
     image: &Image,
     all: bool,
     json: bool,
-) -> Result<Status, Stop<'a>> {
+) -> Result<Status, Stop<'a>>
+    ensures { IfOk result (EndsCheck (IsSound image.now)) }
+{
     check_with(rt, image, None, all, json)
 }
 
@@ -61,7 +69,9 @@ fn check_with<'a, R: AllocGlobal + Print>(
     short: Option<Extent>,
     all: bool,
     json: bool,
-) -> Result<Status, Stop<'a>> {
+) -> Result<Status, Stop<'a>>
+    ensures { IfOk result (EndsCheck (IsSound image.now)) }
+{
     if all {
         tell_all(rt, image, short, json)
     } else {
@@ -70,15 +80,15 @@ fn check_with<'a, R: AllocGlobal + Print>(
 }
 
 /// The words of an image on which nothing is found.
-fn tell_sound<'a, R: Print>(rt: &R, json: bool) -> Result<Status, Stop<'a>> {
-    send(
-        rt,
-        if json {
-            "{\"answer\":\"sound\"}\n"
-        } else {
-            "sound\n"
-        },
-    )
+fn tell_sound<'a, R: Print>(rt: &R, json: bool) -> Result<Status, Stop<'a>>
+    ensures { IfOk result (λ s. s ≡ Code.Done) }
+{
+    let text = if json {
+        "{\"answer\":\"sound\"}\n"
+    } else {
+        "sound\n"
+    };
+    send(rt, text)
 }
 
 /// The fault that a mount answers, and how many findings there are.
@@ -87,7 +97,9 @@ fn tell_first<'a, R: AllocGlobal + Print>(
     image: &Image,
     short: Option<Extent>,
     json: bool,
-) -> Result<Status, Stop<'a>> {
+) -> Result<Status, Stop<'a>>
+    ensures { IfOk result (EndsCheck (IsSound image.now)) }
+{
     let alloc = rt.alloc();
     let first = check_first(alloc, image)?;
     let mut count = u64::from(short.is_some());
@@ -131,7 +143,9 @@ fn count_all(alloc: Global, disk: &Disk<'_>) -> Result<u64, AllocError>
 }
 
 /// Appends a line that says how many findings there are.
-fn push_count(text: &mut String, count: u64) -> Result<(), AllocError> {
+fn push_count(text: &mut String, count: u64) -> Result<(), AllocError>
+    ensures { OnOk result (string_bytes text.new ≡ string_bytes text.old ++ findings_line count) }
+{
     match count {
         0 => Ok(()),
         1 => text.push_str("1 finding that a mount does not refuse; check --all lists it\n"),
@@ -151,13 +165,15 @@ fn tell_all<'a, R: AllocGlobal + Print>(
     image: &Image,
     short: Option<Extent>,
     json: bool,
-) -> Result<Status, Stop<'a>> {
+) -> Result<Status, Stop<'a>>
+    ensures { IfOk result (EndsCheck (IsSound image.now)) }
+{
     let mut output = Output::new(rt.alloc(), json);
     if let Some(short) = short {
         output.say(rt, "finding", short)?;
     }
     let checked = check_all(rt.alloc(), image)?;
-    for fault in checked.faults.kept() {
+    for fault in checked.faults.kept_lines() {
         output.say(rt, "fault", *fault)?;
     }
     output.say_more(rt, "more_faults", checked.faults.more(), "faults")?;
@@ -188,20 +204,35 @@ fn tell_findings<'a, R: AllocGlobal + Print>(
     output: &mut Output,
 ) -> Result<Status, Stop<'a>>
     requires { on IsLayoutOf disk.now }
+    ensures stays { OnOk result (StaysSaid output.old.is_empty output.new.is_empty) }
+    ensures status { IfOk result (λ s. s ≡ Code.Done) }
 {
     let all_read = are_all_read(rt.alloc(), disk)?;
-    if !all_read {
-        output.say(
-            rt,
-            "remark",
-            "files that no directory names are not listed, since a directory is not read",
-        )?;
-    }
+    tell_unread(rt, all_read, output)?;
     let found = findings(rt.alloc(), disk, MOST_LINES, all_read)?;
-    for finding in found.kept() {
+    for finding in found.kept_lines() {
         output.say(rt, "finding", *finding)?;
     }
     output.say_more(rt, "more_findings", found.more(), "findings")
+}
+
+/// A remark, where not all directories are read.
+fn tell_unread<'a, R: Print>(
+    rt: &R,
+    all_read: bool,
+    output: &mut Output,
+) -> Result<Status, Stop<'a>>
+    ensures stays { OnOk result (StaysSaid output.old.is_empty output.new.is_empty) }
+    ensures status { IfOk result (λ s. s ≡ Code.Done) }
+{
+    if all_read {
+        return Ok(Status::Done);
+    }
+    output.say(
+        rt,
+        "remark",
+        "files that no directory names are not listed, since a directory is not read",
+    )
 }
 
 /// A line for each file above 2 whose records are not whole.
@@ -211,9 +242,12 @@ fn tell_spoiled<'a, R: AllocGlobal + Print>(
     output: &mut Output,
 ) -> Result<Status, Stop<'a>>
     requires { on IsLayoutOf disk.now }
+    ensures stays { OnOk result (StaysSaid output.old.is_empty output.new.is_empty) }
+    ensures status { IfOk result (λ s. s ≡ Code.Done) }
 {
     let mut count = 0u64;
-    for number in 3..=last_number(disk.layout) {
+    for before in 2..last_number(disk.layout) {
+        let number = before + 1;
         if let Some(fault) = spoiled_records(rt.alloc(), disk, number)? {
             count = count.saturating_add(1);
             if count <= u64::from(MOST_LINES) {

@@ -1,31 +1,55 @@
 //! Directories whose names a user may not read.
-use crate::stop::Stop;
+ghost use Rattle.std.specs.Prelude.{◌≡◌, ◌⊎◌, [], None, IfErr, IfOk, OnOk, MatchBool};
+ghost use Rattle.fs_reads.specs.Denied.{AddsClosed, AreClosedTo, IsClosedStatus, IsClosedTo};
+ghost use Rattle.fs_reads.specs.Ends.{StopsWith};
+ghost use Rattle.fs_reads.specs.declared.stop.Stop.{Stop as End};
+ghost use Rattle.ods_shell.specs.declared.status.Status.{Status as Code};
+
+use crate::stop::{Stop, say_lines};
 use ods_base::Uic;
 use ods_mount::Mounted;
 use ods_request::{Right, permits};
 use ods_shell::{Directory, Kind, Status, facts_of, push_directory};
 use ods_space::last_number;
+use std::alloc::{AllocError, Global};
 
 /// The directories whose names this user may not read; none where no user is said.
-pub(crate) fn closed_to<'a, R: AllocGlobal>(
-    rt: &R,
+pub(crate) fn closed_to(
+    alloc: Global,
     volume: &Mounted,
     user: Option<Uic>,
-) -> Result<Vec<u16>, Stop<'a>> {
-    let mut closed = Vec::new(rt.alloc());
+) -> Result<Vec<u16>, AllocError>
+    ensures { IfOk result (λ closed. AreClosedTo volume.now.image volume.now.layout user closed.items) }
+{
+    let mut closed = Vec::new(alloc);
     let Some(user) = user else {
         return Ok(closed);
     };
-    for number in 1..=last_number(volume.layout()) {
-        if is_closed(volume, number, user) && closed.push(number).is_err() {
-            return Err(Stop::NoMemory);
-        }
+    for before in 0..last_number(volume.layout()) {
+        push_closed(volume, before + 1, user, &mut closed)?;
     }
     Ok(closed)
 }
 
+/// Adds the number, where it is that of a directory that this user may not read.
+fn push_closed(
+    volume: &Mounted,
+    number: u16,
+    user: Uic,
+    closed: &mut Vec<u16>,
+) -> Result<(), AllocError>
+    ensures { OnOk result (AddsClosed volume.now.image volume.now.layout user number closed.old.items closed.new.items) }
+{
+    if is_closed(volume, number, user) {
+        closed.push(number)?;
+    }
+    Ok(())
+}
+
 /// Whether the number is that of a directory that this user may not read.
-fn is_closed(volume: &Mounted, number: u16, user: Uic) -> bool {
+fn is_closed(volume: &Mounted, number: u16, user: Uic) -> bool
+    ensures { MatchBool result (IsClosedTo volume.now.image volume.now.layout user number) (¬ IsClosedTo volume.now.image volume.now.layout user number) }
+{
     match facts_of(volume, number) {
         Some(facts) => {
             facts.kind == Kind::Directory
@@ -35,55 +59,66 @@ fn is_closed(volume: &Mounted, number: u16, user: Uic) -> bool {
     }
 }
 
-/// A line for each closed directory.
+/// A line for each of these directories, which this user may not read.
+fn closed_lines(alloc: Global, closed: &[Directory], user: Uic) -> Result<String, AllocError> {
+    let mut lines = String::new(alloc);
+    for directory in closed {
+        push_directory(&mut lines, &directory.names)?;
+        writeln!(lines, ": denied to [{:o},{:o}]", user.group, user.member)?;
+    }
+    Ok(lines)
+}
+
+/// Says of each closed directory that this user may not read it, and gives the status for that.
 pub(crate) fn say_closed<'a, R: AllocGlobal + Eprint>(
     rt: &R,
     closed: &[Directory],
     user: Option<Uic>,
-) -> Result<Status, Stop<'a>> {
+) -> Result<Status, Stop<'a>>
+    ensures ok { IfOk result (IsClosedStatus user closed.now) }
+    ensures err { IfErr result (λ stop. stop ≡ End.NoMemory) }
+{
     let Some(user) = user else {
         return Ok(Status::Done);
     };
-    for directory in closed {
-        let mut name = String::new(rt.alloc());
-        push_directory(&mut name, &directory.names)?;
-        let name = name.as_str();
-        let _ = eprintln!(rt;
-            "f11fs: {name}: denied to [{:o},{:o}]",
-            user.group, user.member
-        );
+    match closed {
+        [] => Ok(Status::Done),
+        _ => {
+            let lines = closed_lines(rt.alloc(), closed, user)?;
+            say_lines(rt, lines.as_str());
+            Ok(Status::Refused)
+        }
     }
-    Ok(if closed.is_empty() {
-        Status::Done
-    } else {
-        Status::Refused
-    })
 }
 
 /// Ends a command that met a closed directory.
-pub(crate) fn stop_at_closed<'a, R: AllocGlobal + Eprint>(
-    rt: &R,
+pub(crate) fn stop_at_closed<'a>(
+    alloc: Global,
     closed: &[Directory],
     user: Option<Uic>,
-) -> Result<Status, Stop<'a>> {
-    match say_closed(rt, closed, user)? {
-        Status::Done => Ok(Status::Done),
-        status => Err(Stop::Said(status)),
+) -> Result<(), Stop<'a>>
+    ensures ok { OnOk result ((user ≡ None) ⊎ (closed.now ≡ [])) }
+    ensures err { IfErr result (λ stop. StopsWith stop Code.Refused ⊎ (stop ≡ End.NoMemory)) }
+{
+    let Some(user) = user else {
+        return Ok(());
+    };
+    match closed {
+        [] => Ok(()),
+        _ => Err(Stop::Lines(closed_lines(alloc, closed, user)?, Status::Refused)),
     }
 }
 
 /// Ends a command that needs the names of all directories, where one is closed.
-pub(crate) fn stop_at_numbers<'a, R: Eprint>(
-    rt: &R,
-    closed: &[u16],
-    user: Option<Uic>,
-) -> Result<Status, Stop<'a>> {
-    let (Some(number), Some(user)) = (closed.first(), user) else {
-        return Ok(Status::Done);
+pub(crate) fn stop_at_numbers<'a>(closed: &[u16], user: Option<Uic>) -> Result<(), Stop<'a>>
+    ensures ok { OnOk result ((user ≡ None) ⊎ (closed.now ≡ [])) }
+    ensures err { IfErr result (λ stop. StopsWith stop Code.Refused) }
+{
+    let Some(user) = user else {
+        return Ok(());
     };
-    let _ = eprintln!(rt;
-        "f11fs: directory {number}: denied to [{:o},{:o}]",
-        user.group, user.member
-    );
-    Err(Stop::Said(Status::Refused))
+    match closed {
+        [] => Ok(()),
+        [number, ..] => Err(Stop::Closed(*number, user)),
+    }
 }

@@ -1,15 +1,24 @@
 //! `cmp`: which files of two images differ.
+ghost use Rattle.std.specs.Prelude.{◌≡◌, ◌⊎◌, IfErr, IfOk, IfSome, OnOk, string_bytes};
+ghost use Rattle.std.specs.List.{HoldsAt};
+ghost use Rattle.std.specs.Ordering.{nat_cmp};
+ghost use Rattle.std.specs.Cmp.Lexicographic.{slice_cmp};
+ghost use Rattle.std.specs.Option.{option_copied};
+ghost use Rattle.fs_reads.specs.{Alike.AreCompared, Alike.IsTold, Alike.has_path, Ends.EndsCompare, Ends.StopsWith, Shown.Extends};
+ghost use Rattle.fs_reads.specs.declared.stop.Stop.{Stop as End};
+ghost use Rattle.ods_shell.specs.declared.status.Status.{Status as Code};
+
 use crate::closed::{closed_to, stop_at_closed};
 use crate::finding::find_all;
-use crate::printing::{Reader, may_read};
 use crate::progress::Progress;
-use crate::stop::{Stop, send};
-use crate::volume::volume_at;
+use crate::reading::check_right;
+use crate::stop::{Stop, send, stop_about};
+use crate::volume::open_volume;
 use fs_words::Words;
 use ods_base::{FileId, Uic};
 use ods_mount::Mounted;
 use ods_shell::{
-    Facts, FormFault, Kind, Status, facts_of, have_same_bytes, pair_object, push_path,
+    Facts, FormFault, Kind, Status, facts_by_id, have_same_bytes, pair_object, push_path,
 };
 use std::alloc::{AllocError, Global};
 use std::cmp::Ordering;
@@ -31,20 +40,25 @@ pub(crate) fn compare_all<'a, R: Files<File = File> + Clock + AllocGlobal + Prin
     words: &Words<'a>,
     all: bool,
     progress: &mut Progress,
-) -> Result<Status, Stop<'a>> {
+) -> Result<Status, Stop<'a>>
+    ensures { IfOk result EndsCompare }
+{
     let Some(path) = words.paths.first() else {
         return Ok(Status::Words);
     };
-    let other = volume_at(rt, *path, None, false)?;
-    let ours = all_known(rt, volume, words.user)?;
-    let theirs = all_known(rt, &other, words.user)?;
-    let mut text = String::new(rt.alloc());
+    let other = open_volume(rt, *path, None, false)?;
+    let alloc = rt.alloc();
+    let ours = all_known(alloc, volume, words.user)?;
+    let theirs = all_known(alloc, &other, words.user)?;
+    let mut text = String::new(alloc);
     for (done, one) in ours.iter().enumerate() {
         progress.show(rt, done as u64, ours.len() as u64);
         match place_of(&theirs, one.path.as_str()) {
             Some(place) => {
                 if let Some(found) = theirs.get(place) {
-                    push_difference(rt, volume, one, &other, found.file, words, all, &mut text)?;
+                    push_difference(
+                        alloc, volume, one, &other, found.file, words.user, all, &mut text,
+                    )?;
                 }
             }
             None => writeln!(text, "{}: only in the first image", one.path.as_str())?,
@@ -59,7 +73,7 @@ pub(crate) fn compare_all<'a, R: Files<File = File> + Clock + AllocGlobal + Prin
         return Ok(Status::Done);
     }
     if words.json {
-        text = objects(rt.alloc(), text.as_str())?;
+        text = objects(alloc, text.as_str())?;
     }
     send(rt, text.as_str())?;
     Ok(Status::Found)
@@ -77,17 +91,19 @@ fn objects(alloc: Global, text: &str) -> Result<String, AllocError> {
 }
 
 /// All paths of a volume, in the order of their bytes.
-pub fn all_known<'a, R: AllocGlobal + Eprint>(
-    rt: &R,
+pub fn all_known<'a>(
+    alloc: Global,
     volume: &Mounted,
     user: Option<Uic>,
-) -> Result<Vec<Known>, Stop<'a>> {
-    let closed = closed_to(rt, volume, user)?;
-    let found = find_all(rt, volume, &closed)?;
-    stop_at_closed(rt, &found.closed, user)?;
-    let mut all = Vec::new(rt.alloc());
+) -> Result<Vec<Known>, Stop<'a>>
+    ensures { IfErr result (λ stop. StopsWith stop Code.Refused ⊎ (stop ≡ End.NoMemory)) }
+{
+    let closed = closed_to(alloc, volume, user)?;
+    let found = find_all(alloc, volume, &closed)?;
+    stop_at_closed(alloc, &found.closed, user)?;
+    let mut all = Vec::new(alloc);
     for line in &found.lines {
-        let mut path = String::new(rt.alloc());
+        let mut path = String::new(alloc);
         if let Some(directory) = found.directories.get(line.directory) {
             push_path(&mut path, &directory.names, &line.entry)?;
         }
@@ -101,119 +117,178 @@ pub fn all_known<'a, R: AllocGlobal + Eprint>(
 }
 
 /// How two paths stand to one another.
-fn compare_paths(one: &Known, other: &Known) -> Ordering {
-    one.path.as_str().cmp(other.path.as_str())
+fn compare_paths(one: &Known, other: &Known) -> Ordering
+    ensures { result ≡ slice_cmp nat_cmp (string_bytes one.now.path) (string_bytes other.now.path) }
+{
+    compare_path(one, other.path.as_str())
+}
+
+/// How the path of this one stands to a path.
+fn compare_path(known: &Known, path: &str) -> Ordering
+    ensures { result ≡ slice_cmp nat_cmp (string_bytes known.now.path) path.now }
+{
+    known.path.as_str().cmp(path)
 }
 
 /// The place of a path.
-pub fn place_of(all: &[Known], path: &str) -> Option<usize> {
-    match all.binary_search_by(|known| known.path.as_str().cmp(path)) {
+pub fn place_of(all: &[Known], path: &str) -> Option<usize>
+    ensures { IfSome result (HoldsAt (has_path path.now) all.now) }
+{
+    match all.binary_search_by(|known| compare_path(known, path)) {
         Ok(place) => Some(place),
         Err(_) => None,
     }
 }
 
 /// Appends a line where two files differ. Directories differ by their names alone, and files 1 and 2 are not looked at.
-fn push_difference<'a, R: AllocGlobal + Eprint>(
-    rt: &R,
+#[tactic(auto, using(crate::proofs::Growing::extends_pushed, crate::proofs::Growing::extends_on, crate::proofs::Growing::extends_same))]
+fn push_difference<'a>(
+    alloc: Global,
     volume: &Mounted,
     one: &Known,
     other: &Mounted,
     file: FileId,
-    words: &Words<'_>,
+    user: Option<Uic>,
     all: bool,
     text: &mut String,
-) -> Result<(), Stop<'a>> {
-    let path = one.path.as_str();
+) -> Result<(), Stop<'a>>
+    ensures { OnOk result (Extends (string_bytes text.old) (string_bytes text.new)) }
+{
     if one.file.number <= 2 && file.number <= 2 {
         return Ok(());
     }
-    if let (Some(facts), Some(others)) = (facts_by_id(volume, one.file), facts_by_id(other, file)) {
-        let reader = Reader::of(words);
-        if !may_read(rt, path, &facts, reader) || !may_read(rt, path, &others, reader) {
-            return Err(Stop::Said(Status::Refused));
-        }
+    check_rights(alloc, volume, one, other, file, user)?;
+    push_word(alloc, volume, one, other, file, text)?;
+    if !all {
+        return Ok(());
     }
-    if let Some(word) = difference_by_id(rt, volume, one.file, other, file)? {
-        writeln!(text, "{path}: {word}")?;
-    }
-    if all {
-        if let (Some(facts), Some(others)) = (
-            facts_by_id(volume, one.file),
-            facts_by_id(other, file),
-        ) {
-            push_others(path, &facts, &others, text)?;
-        }
-    }
+    push_facts(volume, one, other, file, text)?;
     Ok(())
 }
 
+/// Ends a comparison of two files of which this user may not read one.
+fn check_rights<'a>(
+    alloc: Global,
+    volume: &Mounted,
+    one: &Known,
+    other: &Mounted,
+    file: FileId,
+    user: Option<Uic>,
+) -> Result<(), Stop<'a>>
+    ensures { IfErr result (λ stop. StopsWith stop Code.Refused ⊎ (stop ≡ End.NoMemory)) }
+{
+    let (Some(facts), Some(others)) = (facts_by_id(volume, one.file), facts_by_id(other, file))
+    else {
+        return Ok(());
+    };
+    match check_right(&facts, user).and(check_right(&others, user)) {
+        Ok(()) => Ok(()),
+        Err(fault) => Err(stop_about(alloc, one.path.as_str(), fault, Status::Refused)),
+    }
+}
+
+/// Appends a line of the first in which two files differ.
+#[tactic(auto, using(crate::proofs::Growing::extends_same))]
+fn push_word<'a>(
+    alloc: Global,
+    volume: &Mounted,
+    one: &Known,
+    other: &Mounted,
+    file: FileId,
+    text: &mut String,
+) -> Result<(), Stop<'a>>
+    ensures { OnOk result (Extends (string_bytes text.old) (string_bytes text.new)) }
+{
+    match difference_by_id(alloc, volume, one.file, other, file)? {
+        Some(word) => {
+            push_if(text, one.path.as_str(), true, word)?;
+            Ok(())
+        }
+        None => Ok(()),
+    }
+}
+
+/// Appends a line for each of the other facts in which two files differ.
+#[tactic(auto, using(crate::proofs::Growing::extends_same))]
+fn push_facts(
+    volume: &Mounted,
+    one: &Known,
+    other: &Mounted,
+    file: FileId,
+    text: &mut String,
+) -> Result<(), AllocError>
+    ensures { OnOk result (Extends (string_bytes text.old) (string_bytes text.new)) }
+{
+    match (facts_by_id(volume, one.file), facts_by_id(other, file)) {
+        (Some(facts), Some(others)) => push_others(one.path.as_str(), &facts, &others, text),
+        _ => Ok(()),
+    }
+}
+
 /// Appends a line for each of ID, owner, protection and dates that differ.
+#[tactic(auto, using(crate::proofs::Growing::extends_pushed, crate::proofs::Growing::extends_on, crate::proofs::Growing::extends_same))]
 fn push_others(
     path: &str,
     facts: &Facts,
     others: &Facts,
     text: &mut String,
-) -> Result<(), AllocError> {
-    if facts.file != others.file {
-        writeln!(text, "{path}: IDs differ")?;
-    }
-    if facts.owner != others.owner {
-        writeln!(text, "{path}: owners differ")?;
-    }
-    if facts.protection != others.protection {
-        writeln!(text, "{path}: protection differs")?;
-    }
-    if facts.created() != others.created() || facts.revised() != others.revised() {
-        writeln!(text, "{path}: dates differ")?;
+) -> Result<(), AllocError>
+    ensures { OnOk result (Extends (string_bytes text.old) (string_bytes text.new)) }
+{
+    push_if(text, path, facts.file != others.file, "IDs differ")?;
+    push_if(text, path, facts.owner != others.owner, "owners differ")?;
+    let other_rights = facts.protection != others.protection;
+    push_if(text, path, other_rights, "protection differs")?;
+    let is_same_day = facts.creation_date() == others.creation_date()
+        && facts.revision_date() == others.revision_date();
+    push_if(text, path, !is_same_day, "dates differ")
+}
+
+/// Appends a line of what differs, where it does.
+#[tactic(auto, using(crate::proofs::Growing::extends_same))]
+fn push_if(text: &mut String, path: &str, differs: bool, what: &str) -> Result<(), AllocError>
+    ensures { OnOk result (Extends (string_bytes text.old) (string_bytes text.new)) }
+{
+    if differs {
+        writeln!(text, "{path}: {what}")?;
     }
     Ok(())
 }
 
-/// What is known of the file with this ID.
-fn facts_by_id(volume: &Mounted, file: FileId) -> Option<Facts> {
-    match facts_of(volume, file.number) {
-        Some(facts) if facts.file == file => Some(facts),
-        _ => None,
-    }
-}
-
 /// What differs between the files with these IDs.
-pub fn difference_by_id<'a, R: AllocGlobal>(
-    rt: &R,
+pub fn difference_by_id<'a>(
+    alloc: Global,
     volume: &Mounted,
     one: FileId,
     other: &Mounted,
     file: FileId,
-) -> Result<Option<&'static str>, Stop<'a>> {
+) -> Result<Option<&'static str>, Stop<'a>>
+    ensures { IfOk result (λ word. AreCompared volume.now one other.now file (option_copied word)) }
+{
     match (facts_by_id(volume, one), facts_by_id(other, file)) {
         (None, None) => Ok(None),
-        (Some(facts), Some(others)) => difference(rt, volume, &facts, other, &others),
+        (Some(facts), Some(others)) => difference(alloc, volume, &facts, other, &others),
         _ => Ok(Some("only one names a file")),
     }
 }
 
 /// What differs between two files.
-fn difference<'a, R: AllocGlobal>(
-    rt: &R,
+fn difference<'a>(
+    alloc: Global,
     volume: &Mounted,
     facts: &Facts,
     other: &Mounted,
     others: &Facts,
-) -> Result<Option<&'static str>, Stop<'a>> {
+) -> Result<Option<&'static str>, Stop<'a>>
+    ensures { IfOk result (λ word. IsTold volume.now facts.now other.now others.now (option_copied word)) }
+{
     if facts.kind == Kind::Directory && others.kind == Kind::Directory {
         return Ok(None);
     }
     if facts.attributes != others.attributes {
         return Ok(Some("attributes differ"));
     }
-    match have_same_bytes(
-        rt.alloc(),
-        volume,
-        facts.file.number,
-        other,
-        others.file.number,
-    ) {
+    match have_same_bytes(alloc, volume, facts.file.number, other, others.file.number) {
         Ok(true) => Ok(None),
         Ok(false) => Ok(Some("bytes differ")),
         Err(FormFault::NoMemory) => Err(Stop::NoMemory),

@@ -1,90 +1,106 @@
 //! `find` and `du`: the paths of a volume, and the blocks below them.
+ghost use Rattle.std.specs.Prelude.{◌≡◌, ℕ, List, None, IfErr, IfOk, string_bytes};
+ghost use Rattle.ods_paths.specs.Views.{folder as said_folder};
+ghost use Rattle.ods_shell.specs.{Found.AreFound, Ways.AreMeant, Ways.CountAsClosed};
+ghost use Rattle.fs_reads.specs.{Ends.EndsPath, Named.AreFoundBy, Named.everywhere as all_directories, Named.names_no_directory, Named.searched, Shown.Extends};
+
 use crate::closed::{closed_to, stop_at_closed, stop_at_numbers};
 use crate::listing::is_nothing;
-use crate::stop::{Stop, send};
+use crate::stop::Stop;
 use fs_words::Words;
 use ods_mount::Mounted;
 use ods_paths::{Folder, Path, Place, Versions, parse_path};
 use ods_shell::{
-    Finding, PathFault, Status, find_lines, find_open, largest_lines, lost_lines, ls_objects,
+    FoundLines, PathFault, find_lines, find_open, largest_lines, lost_lines, ls_objects,
     unreached_lines, usage_lines,
 };
+use std::alloc::{AllocError, Global};
 
-/// `find`.
-pub(crate) fn find<'a, R: AllocGlobal + Print + Eprint>(
-    rt: &R,
+/// Appends what `find` shows.
+#[tactic(auto, using(crate::proofs::Growing::extends_pushed, crate::proofs::Growing::extends_on, crate::proofs::Growing::extends_same))]
+pub(crate) fn push_paths<'a>(
+    alloc: Global,
     volume: &Mounted,
     words: &Words<'a>,
     lost: bool,
-) -> Result<Status, Stop<'a>> {
-    let closed = closed_to(rt, volume, words.user)?;
+    text: &mut String,
+) -> Result<(), Stop<'a>>
+    ensures { Extends (string_bytes text.old) (string_bytes text.new) }
+{
+    let closed = closed_to(alloc, volume, words.user)?;
     if lost {
-        stop_at_numbers(rt, &closed, words.user)?;
-        let text = lost_lines(rt.alloc(), volume, words.json)?;
-        return send(rt, text.as_str());
+        stop_at_numbers(&closed, words.user)?;
+        let lines = lost_lines(alloc, volume, words.json)?;
+        text.push_str(lines.as_str())?;
+        return Ok(());
     }
     if words.paths.is_empty() {
-        let all = find_all(rt, volume, &closed)?;
-        send_found(rt, volume, &all, words.json)?;
-        stop_at_closed(rt, &all.closed, words.user)?;
-        let text = unreached_lines(rt.alloc(), volume, &all, words.json)?;
-        return send(rt, text.as_str());
+        let all = find_all(alloc, volume, &closed)?;
+        push_found(alloc, volume, &all, words.json, text)?;
+        stop_at_closed(alloc, &all.closed, words.user)?;
+        let lines = unreached_lines(alloc, volume, &all, words.json)?;
+        text.push_str(lines.as_str())?;
+        return Ok(());
     }
     for path in &words.paths {
-        let found = found_by(rt, volume, *path, &closed)?;
-        send_found(rt, volume, &found, words.json)?;
-        stop_at_closed(rt, &found.closed, words.user)?;
+        let found = found_by(alloc, volume, *path, &closed)?;
+        push_found(alloc, volume, &found, words.json, text)?;
+        stop_at_closed(alloc, &found.closed, words.user)?;
     }
-    Ok(Status::Done)
+    Ok(())
 }
 
-/// Writes what was found: a line, or an object, for each path.
-fn send_found<'a, R: AllocGlobal + Print>(
-    rt: &R,
+/// Appends what was found: a line, or an object, for each path.
+#[tactic(auto, using(crate::proofs::Growing::extends_pushed, crate::proofs::Growing::extends_on, crate::proofs::Growing::extends_same))]
+fn push_found(
+    alloc: Global,
     volume: &Mounted,
-    found: &Finding,
+    found: &FoundLines,
     json: bool,
-) -> Result<Status, Stop<'a>> {
-    let text = if json {
-        ls_objects(rt.alloc(), volume, found)?
+    text: &mut String,
+) -> Result<(), AllocError>
+    ensures { Extends (string_bytes text.old) (string_bytes text.new) }
+{
+    let lines = if json {
+        ls_objects(alloc, volume, found)?
     } else {
-        find_lines(rt.alloc(), found)?
+        find_lines(alloc, found)?
     };
-    send(rt, text.as_str())
+    text.push_str(lines.as_str())
 }
 
 /// All that a walk from the master directory reaches, but for what stands in these directories.
-pub(crate) fn find_all<'a, R: AllocGlobal>(
-    rt: &R,
+pub(crate) fn find_all(
+    alloc: Global,
     volume: &Mounted,
     closed: &[u16],
-) -> Result<Finding, Stop<'a>> {
+) -> Result<FoundLines, AllocError>
+    ensures directories { IfOk result (λ found. (shut : List ℕ) → CountAsClosed closed.now found.closed.items shut
+        → AreMeant volume.now.image volume.now.layout shut all_directories found.directories.items) }
+    ensures lines { IfOk result (λ found. AreFound volume.now.image volume.now.layout None Versions.Every 0 found.directories.items found.lines.items) }
+{
     let everywhere = Folder {
         place: Place::Master,
         below: true,
     };
-    Ok(find_open(
-        rt.alloc(),
-        volume,
-        &everywhere,
-        &None,
-        Versions::Every,
-        closed,
-    )?)
+    find_open(alloc, volume, &everywhere, &None, Versions::Every, closed)
 }
 
 /// What a path finds, with all versions where it says none; a name or a pattern alone is looked for in all directories.
-fn found_by<'a, R: AllocGlobal>(
-    rt: &R,
+fn found_by<'a>(
+    alloc: Global,
     volume: &Mounted,
     path: &'a str,
     closed: &[u16],
-) -> Result<Finding, Stop<'a>> {
+) -> Result<FoundLines, Stop<'a>>
+    ensures ok { IfOk result (λ found. (shut : List ℕ) → CountAsClosed closed.now found.closed.items shut
+        → AreFoundBy volume.now.image volume.now.layout shut path.entry.now found) }
+    ensures err { IfErr result (EndsPath path.entry) }
+{
     match parse_path(path.as_bytes()) {
         Ok(Path::Within(folder, files)) => {
-            let mut folder = folder;
-            folder.below = folder.below || names_no_directory(path);
-            let found = find_open(rt.alloc(), volume, &folder, &files, Versions::Every, closed)?;
+            let folder = to_search(path, folder);
+            let found = find_open(alloc, volume, &folder, &files, Versions::Every, closed)?;
             if is_nothing(&found, files.is_some()) {
                 return Err(Stop::Path(path, PathFault::Nothing));
             }
@@ -95,25 +111,39 @@ fn found_by<'a, R: AllocGlobal>(
     }
 }
 
-/// Whether a path has no part that names a directory.
-fn names_no_directory(path: &str) -> bool {
-    !path
-        .as_bytes()
-        .iter()
-        .any(|byte| *byte == b'[' || *byte == b'/')
+/// The directories in which a path is looked for: all, where it names none.
+fn to_search<'a>(path: &str, folder: Folder<'a>) -> Folder<'a>
+    ensures { said_folder result ≡ searched path.now (said_folder folder.entry) }
+{
+    Folder {
+        place: folder.place,
+        below: folder.below | names_no_directory(path),
+    }
 }
 
-/// `du`.
-pub(crate) fn du<'a, R: AllocGlobal + Print>(
-    rt: &R,
+/// Whether a path has no part that names a directory.
+fn names_no_directory(path: &str) -> bool
+    ensures { result ≡ names_no_directory path.now }
+{
+    let bytes = path.as_bytes();
+    !bytes.contains(&b'[') && !bytes.contains(&b'/')
+}
+
+/// Appends what `du` shows.
+#[tactic(auto, using(crate::proofs::Growing::extends_pushed, crate::proofs::Growing::extends_on, crate::proofs::Growing::extends_same))]
+pub(crate) fn push_usage(
+    alloc: Global,
     volume: &Mounted,
     top: Option<u32>,
     json: bool,
-) -> Result<Status, Stop<'a>> {
-    let all = find_all(rt, volume, &[])?;
-    let text = match top {
-        Some(most) => largest_lines(rt.alloc(), volume, &all, most as usize, json)?,
-        None => usage_lines(rt.alloc(), volume, &all, json)?,
+    text: &mut String,
+) -> Result<(), AllocError>
+    ensures { Extends (string_bytes text.old) (string_bytes text.new) }
+{
+    let all = find_all(alloc, volume, &[])?;
+    let lines = match top {
+        Some(most) => largest_lines(alloc, volume, &all, most as usize, json)?,
+        None => usage_lines(alloc, volume, &all, json)?,
     };
-    send(rt, text.as_str())
+    text.push_str(lines.as_str())
 }

@@ -1,13 +1,20 @@
 //! `get`: files of a volume, written to files of the host.
+ghost use Rattle.std.specs.Prelude.{◌≡◌, ◌≤◌, ◌↔◌, ◌++◌, ◌⊎◌, IfOk, IsSome, length};
+ghost use Rattle.std.specs.Option.{option_to_list};
+ghost use Rattle.fs_reads.specs.Ends.{IsFileStatus};
+ghost use Rattle.fs_reads.specs.Written.{status_written};
+ghost use Rattle.ods_shell.specs.declared.status.Status.{Status as Code};
+
 use crate::closed::closed_to;
 use crate::host_files::{Written, could_write, write_host};
-use crate::printing::{Reader, add_named, cat_file, contents_of, readable, refused};
+use crate::printing::{Reader, add_named, cat_file, say_remark, say_unread};
 use crate::progress::Progress;
-use crate::stop::{Stop, send};
+use crate::reading::open_found;
+use crate::stop::{Stop, WordFault, send};
 use fs_host::{HostFault, Shown};
 use fs_words::Words;
 use ods_mount::Mounted;
-use ods_shell::{Contents, Status, Target, Versioned, Wanted, pair_object};
+use ods_shell::{Contents, Found, Status, Versioned, Wanted, pair_object};
 use std::alloc::AllocError;
 use std::collections::BTreeSet;
 use std::fs;
@@ -18,7 +25,7 @@ use std::time::Clock;
 
 /// Where files are written to.
 #[derive(Clone, Copy, PartialEq, Eq)]
-enum Place<'a> {
+enum Destination<'a> {
     /// Standard output.
     Output,
     /// A folder of the host.
@@ -43,33 +50,31 @@ struct How<'a> {
     reader: Reader,
 }
 
-/// `get`: the files that the paths name, to a target; where none is said the last word is it, of two or more.
+/// `get`: the files that the paths name, to a destination; where none is said the last word is it, of two or more.
 pub(crate) fn get<'a, R: Files<File = File> + Clock + AllocGlobal + Print + Eprint>(
     rt: &R,
     volume: &Mounted,
     words: &Words<'a>,
-    target: Option<&'a str>,
+    said: Option<&'a str>,
     wanted: Wanted,
     progress: &mut Progress,
 ) -> Result<Status, Stop<'a>> {
-    let (paths, target) = match target {
-        Some(target) => (words.paths.as_slice(), Some(target)),
+    let (paths, said) = match said {
+        Some(host) => (words.paths.as_slice(), Some(host)),
         None => last_word(&words.paths),
     };
-    let place = match target {
-        None => Place::Folder("."),
-        Some("-") => Place::Output,
-        Some(target) if is_folder(rt, target) => Place::Folder(target),
-        Some(target) => {
+    let to = match said {
+        None => Destination::Folder("."),
+        Some("-") => Destination::Output,
+        Some(host) if is_folder(rt, host) => Destination::Folder(host),
+        Some(host) => {
             if paths.len() > 1 {
-                let target = Shown(target);
-                let _ = eprintln!(rt; "f11fs: {target}: no folder");
-                return Err(Stop::Said(Status::Words));
+                return Err(Stop::Word(host, WordFault::NoFolder));
             }
-            Place::File(target)
+            Destination::File(host)
         }
     };
-    let closed = closed_to(rt, volume, words.user)?;
+    let closed = closed_to(rt.alloc(), volume, words.user)?;
     let mut status = Status::Done;
     let mut all = Vec::new(rt.alloc());
     let mut with_versions = false;
@@ -86,11 +91,14 @@ pub(crate) fn get<'a, R: Files<File = File> + Clock + AllocGlobal + Print + Epri
         json: words.json,
         reader: Reader::of(words),
     };
-    Ok(status.or(get_all(rt, volume, &all, place, how, progress)?))
+    Ok(status.or(get_all(rt, volume, &all, to, how, progress)?))
 }
 
-/// The words but for the last one, which is the target, where there are two or more.
-fn last_word<'a, 'b>(words: &'b [&'a str]) -> (&'b [&'a str], Option<&'a str>) {
+/// The words but for the last one, which is the destination, where there are two or more.
+fn last_word<'a, 'b>(words: &'b [&'a str]) -> (&'b [&'a str], Option<&'a str>)
+    ensures all { result.0.now ++ option_to_list result.1 ≡ words.now }
+    ensures two { IsSome result.1 ↔ (2 ≤ length words.now) }
+{
     match words.split_last() {
         Some((last, paths)) if !paths.is_empty() => (paths, Some(*last)),
         _ => (words, None),
@@ -109,35 +117,33 @@ fn is_folder<R: Files>(rt: &R, path: &str) -> bool {
 fn get_all<'a, R: Files<File = File> + Clock + AllocGlobal + Print + Eprint>(
     rt: &R,
     volume: &Mounted,
-    targets: &[Target],
-    place: Place<'_>,
+    files: &[Found],
+    to: Destination<'a>,
     how: How<'_>,
     progress: &mut Progress,
 ) -> Result<Status, Stop<'a>> {
-    if let Place::File(path) = place {
-        if targets.len() > 1 {
-            let path = Shown(path);
-            let _ = eprintln!(rt; "f11fs: {path}: no folder");
-            return Err(Stop::Said(Status::Words));
+    if let Destination::File(host) = to {
+        if files.len() > 1 {
+            return Err(Stop::Word(host, WordFault::NoFolder));
         }
     }
-    let versions = Versioned::of(rt.alloc(), targets)?;
+    let versions = Versioned::of(rt.alloc(), files)?;
     let mut written = BTreeSet::new(rt.alloc());
     let mut status = Status::Done;
-    for (before, target) in targets.iter().enumerate() {
-        let done = match place {
-            Place::Output if how.only_tells => get_file(rt, volume, target, "-", how)?,
-            Place::Output => cat_file(rt, volume, target, how.wanted, how.reader)?,
-            Place::File(path) => get_file(rt, volume, target, path, how)?,
-            Place::Folder(folder) => {
-                let with_version = how.with_versions || versions.has_other(target);
-                let name = target.host_name(rt.alloc(), with_version)?;
-                get_into(rt, volume, target, folder, name, how, &mut written)?
+    for (before, found) in files.iter().enumerate() {
+        let done = match to {
+            Destination::Output if how.only_tells => get_file(rt, volume, found, "-", how)?,
+            Destination::Output => cat_file(rt, volume, found, how.wanted, how.reader)?,
+            Destination::File(path) => get_file(rt, volume, found, path, how)?,
+            Destination::Folder(folder) => {
+                let with_version = how.with_versions || versions.has_other(found);
+                let name = found.host_name(rt.alloc(), with_version)?;
+                get_into(rt, volume, found, folder, name, how, &mut written)?
             }
         };
         status = status.or(done);
-        if place != Place::Output {
-            progress.show(rt, before as u64, targets.len() as u64);
+        if to != Destination::Output {
+            progress.show(rt, before as u64, files.len() as u64);
         }
     }
     Ok(status)
@@ -147,19 +153,21 @@ fn get_all<'a, R: Files<File = File> + Clock + AllocGlobal + Print + Eprint>(
 fn get_into<'a, R: Files<File = File> + AllocGlobal + Print + Eprint>(
     rt: &R,
     volume: &Mounted,
-    target: &Target,
+    found: &Found,
     folder: &str,
     name: String,
     how: How<'_>,
     written: &mut BTreeSet<String>,
-) -> Result<Status, Stop<'a>> {
+) -> Result<Status, Stop<'a>>
+    ensures { IfOk result IsFileStatus }
+{
     let path = format!(in rt.alloc(); "{folder}/{}", name.as_str())?;
     if written.contains(&name) && (how.force || how.only_tells) {
-        let (from, path) = (target.path.as_str(), Shown(path.as_str()));
+        let (from, path) = (found.path.as_str(), Shown(path.as_str()));
         let _ = eprintln!(rt; "f11fs: {from}: {path} has been written by this command");
         return Ok(Status::Host);
     }
-    let done = get_file(rt, volume, target, path.as_str(), how)?;
+    let done = get_file(rt, volume, found, path.as_str(), how)?;
     if done == Status::Done && written.insert(name).is_err() {
         return Err(Stop::NoMemory);
     }
@@ -170,17 +178,19 @@ fn get_into<'a, R: Files<File = File> + AllocGlobal + Print + Eprint>(
 fn get_file<'a, R: Files<File = File> + AllocGlobal + Print + Eprint>(
     rt: &R,
     volume: &Mounted,
-    target: &Target,
+    found: &Found,
     host: &str,
     how: How<'_>,
-) -> Result<Status, Stop<'a>> {
-    let path = target.path.as_str();
-    let Some(facts) = readable(rt, target, how.reader) else {
-        return Ok(Status::Refused);
-    };
-    match contents_of(rt, volume, path, facts, how.wanted, how.reader) {
-        Ok(contents) => keep(rt, path, &contents, host, how),
-        Err(fault) => refused(rt, path, fault),
+) -> Result<Status, Stop<'a>>
+    ensures { IfOk result IsFileStatus }
+{
+    let path = found.path.as_str();
+    match open_found(rt.alloc(), volume, found, how.wanted, how.reader.user) {
+        Ok(got) => {
+            say_remark(rt, path, &got.remark, how.reader.quiet);
+            keep(rt, path, &got.contents, host, how)
+        }
+        Err(fault) => say_unread(rt, path, fault),
     }
 }
 
@@ -191,7 +201,9 @@ fn keep<'a, R: Files<File = File> + AllocGlobal + Print + Eprint>(
     contents: &Contents<'_>,
     host: &str,
     how: How<'_>,
-) -> Result<Status, Stop<'a>> {
+) -> Result<Status, Stop<'a>>
+    ensures { IfOk result (λ s. (s ≡ Code.Done) ⊎ (s ≡ Code.Host)) }
+{
     if host != "-" && is_same_file(rt, host, how.image) {
         let host = Shown(host);
         let _ = eprintln!(rt; "f11fs: {path}: {host} is the image");
@@ -207,7 +219,7 @@ fn keep<'a, R: Files<File = File> + AllocGlobal + Print + Eprint>(
     if written == Written::Done && how.only_tells {
         return tell(rt, path, host, how.json);
     }
-    Ok(said(rt, path, host, written))
+    Ok(say_written(rt, path, host, written))
 }
 
 /// A line, or an object, for a file that would be got.
@@ -216,7 +228,9 @@ fn tell<'a, R: AllocGlobal + Print>(
     path: &str,
     host: &str,
     json: bool,
-) -> Result<Status, Stop<'a>> {
+) -> Result<Status, Stop<'a>>
+    ensures { IfOk result (λ s. s ≡ Code.Done) }
+{
     let line = if json {
         pair_object(rt.alloc(), "get", path, "to", host)?
     } else {
@@ -226,8 +240,10 @@ fn tell<'a, R: AllocGlobal + Print>(
     send(rt, line.as_str())
 }
 
-/// The line where a file could not be written, and the status.
-fn said<R: Eprint>(rt: &R, path: &str, host: &str, written: Written) -> Status {
+/// Says where a file could not be written, and gives the status.
+fn say_written<R: Eprint>(rt: &R, path: &str, host: &str, written: Written) -> Status
+    ensures { result ≡ status_written written }
+{
     let host = Shown(host);
     let _ = match written {
         Written::Done => return Status::Done,

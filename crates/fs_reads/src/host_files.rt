@@ -1,9 +1,12 @@
 //! Files of the host that are written: whole under their names, or not at all.
+ghost use Rattle.std.specs.Prelude.{◌≡◌, IfErr, IsTrue};
+ghost use Rattle.fs_host.specs.Faults.{may_end_beginning};
+ghost use Rattle.fs_reads.specs.Host.{IsFoundThere, WouldEnd, unseen_by};
+
 use fs_host::{HostFault, NewFile, Noting, end_of_links};
 use ods_shell::Contents;
 use std::fs;
 use std::fs::{File, Metadata, OpenOptions};
-use std::io::ErrorKind;
 use std::os::unix::fs::{MetadataExt, fchown};
 use std::rt::Files;
 
@@ -33,7 +36,9 @@ enum There {
 }
 
 /// Whether a file could be written to this path, as far as is seen without writing.
-pub(crate) fn could_write<R: Files>(rt: &R, host: &str, replaces: bool) -> Written {
+pub(crate) fn could_write<R: Files>(rt: &R, host: &str, replaces: bool) -> Written
+    ensures { WouldEnd replaces result }
+{
     match found_at(rt, host, replaces) {
         There::Kept => Written::IsThere,
         There::Closed(fault) => Written::Unmade(fault),
@@ -66,20 +71,31 @@ pub(crate) fn write_host<R: Files<File = File> + AllocGlobal>(
 }
 
 /// What is there by a path, where plain files may be replaced or not.
-fn found_at<R: Files>(rt: &R, host: &str, replaces: bool) -> There {
-    match fs::symlink_metadata(rt, host) {
-        Err(error) if error.kind() == ErrorKind::NotFound => return There::Nothing,
-        Err(error) => return There::Closed(HostFault::of(&error)),
-        Ok(_) if !replaces => return There::Kept,
-        Ok(_) => {}
+fn found_at<R: Files>(rt: &R, host: &str, replaces: bool) -> There
+    ensures { IsFoundThere replaces result }
+{
+    if let Err(error) = fs::symlink_metadata(rt, host) {
+        return unseen(HostFault::of(&error));
+    }
+    if !replaces {
+        return There::Kept;
     }
     match fs::metadata(rt, host) {
         Ok(found) if found.is_dir() => There::Closed(HostFault::IsFolder),
         Ok(found) if found.is_file() && !is_stream(rt, &found) => There::Plain(found),
         Ok(_) => There::Stream,
-        // A symbolic link to a file that is made.
-        Err(error) if error.kind() == ErrorKind::NotFound => There::Nothing,
-        Err(error) => There::Closed(HostFault::of(&error)),
+        // Nothing there is a symbolic link to a file that is made.
+        Err(error) => unseen(HostFault::of(&error)),
+    }
+}
+
+/// What is there by a path that the host does not look at for this reason.
+fn unseen(why: HostFault) -> There
+    ensures { result ≡ unseen_by why }
+{
+    match why {
+        HostFault::NotThere => There::Nothing,
+        why => There::Closed(why),
     }
 }
 
@@ -102,7 +118,9 @@ fn begin<R: Files<File = File> + AllocGlobal>(
     rt: &R,
     path: &str,
     old: Option<Metadata>,
-) -> Result<NewFile, HostFault> {
+) -> Result<NewFile, HostFault>
+    ensures { IfErr result (λ why. IsTrue (may_end_beginning why)) }
+{
     let Some(old) = old else {
         return NewFile::begin(rt, path, None);
     };

@@ -1,6 +1,6 @@
 //! The commands of `f11fs` that only read: what a path finds and what is printed is settled by `ods_shell`; here are the files of the host, the
-//! streams and the statuses. No clause covers what these calls print and write: `tests/fs` checks it on the built
-//! program.
+//! streams and the statuses. Clauses say who may read what, what two images differ in, why there is no volume, with which status a command ends,
+//! and that a text keeps what it had. No clause covers what is printed and written: `tests/fs` checks it on the built program.
 #![tactic(auto)]
 
 mod checking;
@@ -15,6 +15,7 @@ mod obeying;
 mod output;
 mod printing;
 mod progress;
+mod reading;
 mod rescue_folder;
 mod rescue_image;
 mod rescuing;
@@ -28,5 +29,5 @@ pub use looks::{Look, looks_like};
 pub use obeying::obey;
 pub use progress::Progress;
 pub use rescuing::rescue;
-pub use stop::{Stop, ended, send};
-pub use volume::{VolumeFault, say_extent, volume_at, volume_of};
+pub use stop::{Stop, WordFault, say_end, send, stop_about};
+pub use volume::{VolumeFault, open_volume, say_extent, volume_of};

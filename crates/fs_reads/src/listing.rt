@@ -1,73 +1,96 @@
 //! `ls`: the names in directories.
+ghost use Rattle.std.specs.Prelude.{◌≡◌, ◌&&◌, ◌||◌, ◌==◌, string_bytes, vec_len};
+ghost use Rattle.fs_reads.specs.Shown.{Extends};
+
 use crate::closed::{closed_to, stop_at_closed};
-use crate::stop::{Stop, send};
+use crate::stop::Stop;
 use fs_words::Words;
 use ods_mount::Mounted;
 use ods_paths::{Path, Versions, parse_path};
-use ods_shell::{Columns, Finding, PathFault, Status, find_open, ls_lines, ls_objects};
+use ods_shell::{Columns, FoundLines, PathFault, find_open, ls_lines, ls_objects};
+use std::alloc::{AllocError, Global};
 
-/// `ls`.
-pub(crate) fn ls<'a, R: AllocGlobal + Print + Eprint>(
-    rt: &R,
+/// Appends what `ls` shows.
+#[tactic(auto, using(crate::proofs::Growing::extends_pushed, crate::proofs::Growing::extends_on, crate::proofs::Growing::extends_same))]
+pub(crate) fn push_listings<'a>(
+    alloc: Global,
     volume: &Mounted,
     words: &Words<'a>,
     columns: Columns,
     below: bool,
-) -> Result<Status, Stop<'a>> {
+    text: &mut String,
+) -> Result<(), Stop<'a>>
+    ensures { Extends (string_bytes text.old) (string_bytes text.new) }
+{
     if words.paths.is_empty() {
-        return ls_path(rt, volume, "/", columns, below, words);
+        return push_listing(alloc, volume, "/", columns, below, words, text);
     }
     for path in &words.paths {
-        ls_path(rt, volume, *path, columns, below, words)?;
+        push_listing(alloc, volume, *path, columns, below, words, text)?;
     }
-    Ok(Status::Done)
+    Ok(())
 }
 
-/// `ls` of one path.
-fn ls_path<'a, R: AllocGlobal + Print + Eprint>(
-    rt: &R,
+/// Appends what `ls` shows of one path.
+#[tactic(auto, using(crate::proofs::Growing::extends_pushed, crate::proofs::Growing::extends_on, crate::proofs::Growing::extends_same))]
+fn push_listing<'a>(
+    alloc: Global,
     volume: &Mounted,
     path: &'a str,
     columns: Columns,
     below: bool,
     words: &Words<'_>,
-) -> Result<Status, Stop<'a>> {
+    text: &mut String,
+) -> Result<(), Stop<'a>>
+    ensures { Extends (string_bytes text.old) (string_bytes text.new) }
+{
     match parse_path(path.as_bytes()) {
         Ok(Path::Within(folder, files)) => {
             let mut folder = folder;
             folder.below = folder.below || below;
-            let closed = closed_to(rt, volume, words.user)?;
-            let found = find_open(
-                rt.alloc(),
-                volume,
-                &folder,
-                &files,
-                Versions::Every,
-                &closed,
-            )?;
+            let closed = closed_to(alloc, volume, words.user)?;
+            let found = find_open(alloc, volume, &folder, &files, Versions::Every, &closed)?;
             if is_nothing(&found, files.is_some()) {
                 return Err(Stop::Path(path, PathFault::Nothing));
             }
             let mut columns = columns;
             columns.headings = columns.headings || found.directories.len() > 1;
             columns.empty = files.is_none();
-            let text = if words.json {
-                ls_objects(rt.alloc(), volume, &found)?
-            } else {
-                ls_lines(rt.alloc(), volume, &found, columns)?
-            };
-            if !found.directories.is_empty() {
-                send(rt, text.as_str())?;
-            }
-            stop_at_closed(rt, &found.closed, words.user)
+            push_lines(alloc, volume, &found, columns, words.json, text)?;
+            stop_at_closed(alloc, &found.closed, words.user)
         }
         Ok(Path::File(_)) => Err(Stop::Path(path, PathFault::IsId)),
         Err(bad) => Err(Stop::Path(path, PathFault::Bad(bad))),
     }
 }
 
+/// Appends what was found, a line or an object each; nothing where no directory was.
+#[tactic(auto, using(crate::proofs::Growing::extends_pushed, crate::proofs::Growing::extends_on, crate::proofs::Growing::extends_same))]
+fn push_lines(
+    alloc: Global,
+    volume: &Mounted,
+    found: &FoundLines,
+    columns: Columns,
+    json: bool,
+    text: &mut String,
+) -> Result<(), AllocError>
+    ensures { Extends (string_bytes text.old) (string_bytes text.new) }
+{
+    if found.directories.is_empty() {
+        return Ok(());
+    }
+    let lines = if json {
+        ls_objects(alloc, volume, found)?
+    } else {
+        ls_lines(alloc, volume, found, columns)?
+    };
+    text.push_str(lines.as_str())
+}
+
 /// Whether a path finds nothing: no directory, or none of the files that are said; where a directory is closed something is there.
-pub(crate) fn is_nothing(found: &Finding, says_files: bool) -> bool {
+pub(crate) fn is_nothing(found: &FoundLines, says_files: bool) -> bool
+    ensures { result ≡ (vec_len found.now.closed == 0) && ((vec_len found.now.directories == 0) || (says_files && (vec_len found.now.lines == 0))) }
+{
     found.closed.is_empty()
         && (found.directories.is_empty() || says_files && found.lines.is_empty())
 }

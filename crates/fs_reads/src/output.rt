@@ -1,4 +1,8 @@
 //! What a command prints line by line: in pieces, so that a long list is not kept.
+ghost use Rattle.std.specs.Prelude.{◌≡◌, ◌<◌, ◌++◌, ◌⊎◌, [], true, false, IfOk, OnOk, string_bytes};
+ghost use Rattle.fs_reads.specs.Shown.{StaysSaid};
+ghost use Rattle.ods_shell.specs.declared.status.Status.{Status as Code};
+
 use crate::stop::{Stop, send};
 use ods_shell::{Status, number_object, text_object};
 use std::alloc::Global;
@@ -18,7 +22,9 @@ pub(crate) struct Output {
 
 impl Output {
     /// No lines yet.
-    pub fn new(alloc: Global, json: bool) -> Output {
+    pub fn new(alloc: Global, json: bool) -> Output
+        ensures { (result.is_empty ≡ true) × (string_bytes result.text ≡ []) × (result.json ≡ json) }
+    {
         Output {
             alloc,
             json,
@@ -28,7 +34,9 @@ impl Output {
     }
 
     /// Whether no line was printed.
-    pub fn is_empty(&self) -> bool {
+    pub fn is_empty(&self) -> bool
+        ensures { result ≡ self.now.is_empty }
+    {
         self.is_empty
     }
 
@@ -38,7 +46,10 @@ impl Output {
         rt: &R,
         name: &str,
         line: D,
-    ) -> Result<Status, Stop<'a>> {
+    ) -> Result<Status, Stop<'a>>
+        ensures said { OnOk result (self.new.is_empty ≡ false) }
+        ensures status { IfOk result (λ s. s ≡ Code.Done) }
+    {
         let text = format!(in self.alloc; "{line}")?;
         if self.json {
             let object = text_object(self.alloc, name, text.as_str())?;
@@ -56,7 +67,11 @@ impl Output {
         name: &str,
         more: u64,
         words: &str,
-    ) -> Result<Status, Stop<'a>> {
+    ) -> Result<Status, Stop<'a>>
+        ensures stays { OnOk result (StaysSaid self.old.is_empty self.new.is_empty) }
+        ensures said { OnOk result (0 < more → self.new.is_empty ≡ false) }
+        ensures status { IfOk result (λ s. s ≡ Code.Done) }
+    {
         if more == 0 {
             return Ok(Status::Done);
         }
@@ -69,7 +84,11 @@ impl Output {
     }
 
     /// Whole lines.
-    pub fn push<'a, R: Print>(&mut self, rt: &R, lines: &str) -> Result<Status, Stop<'a>> {
+    pub fn push<'a, R: Print>(&mut self, rt: &R, lines: &str) -> Result<Status, Stop<'a>>
+        ensures said { self.new.is_empty ≡ false }
+        ensures text { OnOk result ((string_bytes self.new.text ≡ string_bytes self.old.text ++ lines.now) ⊎ (string_bytes self.new.text ≡ [])) }
+        ensures status { IfOk result (λ s. s ≡ Code.Done) }
+    {
         self.is_empty = false;
         self.text.push_str(lines)?;
         if self.text.len() < PIECE {
@@ -79,7 +98,11 @@ impl Output {
     }
 
     /// What was not sent yet.
-    pub fn end<'a, R: Print>(&mut self, rt: &R) -> Result<Status, Stop<'a>> {
+    pub fn end<'a, R: Print>(&mut self, rt: &R) -> Result<Status, Stop<'a>>
+        ensures text { string_bytes self.new.text ≡ [] }
+        ensures same { self.new.is_empty ≡ self.old.is_empty }
+        ensures status { IfOk result (λ s. s ≡ Code.Done) }
+    {
         let sent = send(rt, self.text.as_str());
         self.text.clear();
         sent

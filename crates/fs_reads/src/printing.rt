@@ -1,14 +1,18 @@
 //! `cat`: files of a volume, written to standard output.
+ghost use Rattle.std.specs.Prelude.{◌≡◌, ◌⊎◌, true, IfErr, IfOk};
+ghost use Rattle.fs_reads.specs.{Ends.may_name, Named.AddsNamed};
+ghost use Rattle.fs_reads.specs.declared.stop.Stop.{Stop as End};
+ghost use Rattle.ods_shell.specs.declared.status.Status.{Status as Code};
+
 use crate::closed::{closed_to, say_closed};
-use crate::stop::Stop;
-use fs_host::{Noting, Shown};
+use crate::reading::{Unread, open_found};
+use crate::stop::{Stop, say_about};
+use fs_host::Noting;
 use fs_words::Words;
 use ods_base::Uic;
 use ods_mount::Mounted;
-use ods_request::{Right, permits};
-use ods_shell::{
-    Contents, Facts, FormFault, PathFault, Status, Target, Wanted, open_contents, open_targets,
-};
+use ods_paths::Versions;
+use ods_shell::{FormFault, Found, PathFault, Remark, Status, Wanted, find_path};
 use std::io;
 
 /// Who reads, and whether remarks that are no faults are left out.
@@ -20,7 +24,9 @@ pub(crate) struct Reader {
 
 impl Reader {
     /// The one that the words say.
-    pub fn of(words: &Words<'_>) -> Reader {
+    pub fn of(words: &Words<'_>) -> Reader
+        ensures { (result.user ≡ words.now.user) × (result.quiet ≡ words.now.quiet) }
+    {
         Reader {
             user: words.user,
             quiet: words.quiet,
@@ -35,40 +41,41 @@ pub(crate) fn cat<'a, R: AllocGlobal + Print + Eprint>(
     words: &Words<'a>,
     wanted: Wanted,
 ) -> Result<Status, Stop<'a>> {
-    let closed = closed_to(rt, volume, words.user)?;
+    let closed = closed_to(rt.alloc(), volume, words.user)?;
     let mut status = Status::Done;
     for path in &words.paths {
-        let mut targets = Vec::new(rt.alloc());
-        status = status.or(add_named(rt, volume, *path, &closed, words.user, &mut targets)?);
-        for target in &targets {
-            status = status.or(cat_file(rt, volume, target, wanted, Reader::of(words))?);
+        let mut files = Vec::new(rt.alloc());
+        status = status.or(add_named(rt, volume, *path, &closed, words.user, &mut files)?);
+        for found in &files {
+            status = status.or(cat_file(rt, volume, found, wanted, Reader::of(words))?);
         }
     }
     Ok(status)
 }
 
 /// Adds the files that a path names; a path that names none and a closed directory are said, and no fault of the command.
+#[tactic(auto, using(crate::proofs::Statuses::closed_may, crate::proofs::Statuses::path_may, crate::proofs::Statuses::path_fault))]
 pub(crate) fn add_named<'a, R: AllocGlobal + Eprint>(
     rt: &R,
     volume: &Mounted,
     path: &str,
     closed: &[u16],
     user: Option<Uic>,
-    all: &mut Vec<Target>,
-) -> Result<Status, Stop<'a>> {
-    match open_targets(rt.alloc(), volume, path, closed) {
+    all: &mut Vec<Found>,
+) -> Result<Status, Stop<'a>>
+    ensures named { IfOk result (AddsNamed volume.now.image volume.now.layout user closed.now path.now all.old.items all.new.items) }
+    ensures status { IfOk result (λ s. may_name s ≡ true) }
+    ensures err { IfErr result (λ stop. stop ≡ End.NoMemory) }
+{
+    match find_path(rt.alloc(), volume, path, Some(Versions::Highest), closed) {
         Ok((found, met)) => {
-            for target in found {
-                if all.push(target).is_err() {
-                    return Err(Stop::NoMemory);
-                }
-            }
+            let mut found = found;
+            all.append(&mut found)?;
             say_closed(rt, &met, user)
         }
         Err(PathFault::NoMemory) => Err(Stop::NoMemory),
         Err(fault) => {
-            let path = Shown(path);
-            let _ = eprintln!(rt; "f11fs: {path}: {fault}");
+            say_about(rt, path, fault);
             Ok(fault.status())
         }
     }
@@ -78,89 +85,50 @@ pub(crate) fn add_named<'a, R: AllocGlobal + Eprint>(
 pub(crate) fn cat_file<'a, R: AllocGlobal + Print + Eprint>(
     rt: &R,
     volume: &Mounted,
-    target: &Target,
+    found: &Found,
     wanted: Wanted,
     reader: Reader,
-) -> Result<Status, Stop<'a>> {
-    let path = target.path.as_str();
-    let Some(facts) = readable(rt, target, reader) else {
-        return Ok(Status::Refused);
-    };
-    match contents_of(rt, volume, path, facts, wanted, reader) {
-        Ok(contents) => {
+) -> Result<Status, Stop<'a>>
+    ensures { IfOk result (λ s. (s ≡ Code.Done) ⊎ (s ≡ Code.Refused)) }
+{
+    let path = found.path.as_str();
+    match open_found(rt.alloc(), volume, found, wanted, reader.user) {
+        Ok(got) => {
+            say_remark(rt, path, &got.remark, reader.quiet);
             let mut output = io::writer(rt);
             let mut noting = Noting::new(&mut output);
-            match contents.write_to(&mut noting) {
+            match got.contents.write_to(&mut noting) {
                 Ok(()) => Ok(Status::Done),
                 Err(_) => Err(Stop::Unwritten(noting.why())),
             }
         }
-        Err(fault) => refused(rt, path, fault),
+        Err(fault) => say_unread(rt, path, fault),
     }
 }
 
-/// What is got out of a file; what is to be remarked of it is said.
-pub(crate) fn contents_of<'a, R: AllocGlobal + Eprint>(
-    rt: &R,
-    volume: &'a Mounted,
-    path: &str,
-    facts: &Facts,
-    wanted: Wanted,
-    reader: Reader,
-) -> Result<Contents<'a>, FormFault> {
-    match open_contents(rt.alloc(), volume, facts.file.number, wanted) {
-        Ok(got) => {
-            if let Some(remark) = &got.remark {
-                if !reader.quiet {
-                    let _ = eprintln!(rt; "f11fs: {path}: {remark}");
-                }
-            }
-            Ok(got.contents)
-        }
-        Err(fault) => Err(fault),
-    }
-}
-
-/// What is known of a file that may be read. That it is no file, or may not be read, is said.
-pub(crate) fn readable<'a, R: Eprint>(
-    rt: &R,
-    target: &'a Target,
-    reader: Reader,
-) -> Option<&'a Facts> {
-    let path = target.path.as_str();
-    let Some(facts) = &target.facts else {
-        let _ = eprintln!(rt; "f11fs: {path}: no such file");
-        return None;
-    };
-    if !may_read(rt, path, facts, reader) {
-        return None;
-    }
-    Some(facts)
-}
-
-/// Whether a file may be read. That it may not is said.
-pub(crate) fn may_read<R: Eprint>(rt: &R, path: &str, facts: &Facts, reader: Reader) -> bool {
-    if let Some(user) = reader.user {
-        if !permits(&user, &facts.owner, facts.protection, Right::Read) {
-            let _ = eprintln!(rt;
-                "f11fs: {path}: denied to [{:o},{:o}]",
-                user.group, user.member
-            );
-            return false;
+/// Says what is to be remarked of what is got out of a file.
+pub(crate) fn say_remark<R: Eprint>(rt: &R, path: &str, remark: &Option<Remark>, quiet: bool) {
+    if let Some(remark) = remark {
+        if !quiet {
+            say_about(rt, path, *remark);
         }
     }
-    true
 }
 
-/// A file of which nothing is got out: its line, and how the command goes on.
-pub(crate) fn refused<'a, R: Eprint>(
+/// Says why nothing is got out of a file, and gives the status for that. Where memory is refused the command ends.
+pub(crate) fn say_unread<'a, R: Eprint>(
     rt: &R,
     path: &str,
-    fault: FormFault,
-) -> Result<Status, Stop<'a>> {
-    if fault == FormFault::NoMemory {
-        return Err(Stop::NoMemory);
+    fault: Unread,
+) -> Result<Status, Stop<'a>>
+    ensures ok { IfOk result (λ s. s ≡ Code.Refused) }
+    ensures err { IfErr result (λ stop. (stop ≡ End.NoMemory) × (fault ≡ Unread.Form FormFault.NoMemory)) }
+{
+    match fault {
+        Unread::Form(FormFault::NoMemory) => Err(Stop::NoMemory),
+        _ => {
+            say_about(rt, path, fault);
+            Ok(Status::Refused)
+        }
     }
-    let _ = eprintln!(rt; "f11fs: {path}: {fault}");
-    Ok(Status::Refused)
 }

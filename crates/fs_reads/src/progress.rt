@@ -1,4 +1,7 @@
 //! Progress of a command on standard error: how much of it is done, in a line that the next one is written over.
+ghost use Rattle.std.specs.Prelude.{◌≡◌, false};
+ghost use Rattle.fs_reads.specs.Shown.{IsUnseen};
+
 use std::time::{Clock, Instant};
 
 /// How many milliseconds of a command show nothing.
@@ -19,7 +22,9 @@ pub struct Progress {
 
 impl Progress {
     /// That of a command that begins; nothing is ever shown where none is wanted.
-    pub fn begin(clock: &impl Clock, is_wanted: bool) -> Progress {
+    pub fn begin(clock: &impl Clock, is_wanted: bool) -> Progress
+        ensures { is_wanted ≡ false → IsUnseen result }
+    {
         let start = if is_wanted {
             Instant::now(clock).ok()
         } else {
@@ -29,7 +34,9 @@ impl Progress {
     }
 
     /// That of a command whose progress nobody sees.
-    pub fn none() -> Progress {
+    pub fn none() -> Progress
+        ensures { IsUnseen result }
+    {
         Progress {
             start: None,
             next: FIRST,
@@ -37,7 +44,9 @@ impl Progress {
     }
 
     /// So many parts of all are done.
-    pub fn show<R: Clock + Eprint>(&mut self, rt: &R, done: u64, all: u64) {
+    pub fn show<R: Clock + Eprint>(&mut self, rt: &R, done: u64, all: u64)
+        ensures { IsUnseen self.old → self.new ≡ self.old }
+    {
         let Some(start) = &self.start else {
             return;
         };

@@ -1,7 +1,10 @@
 //! The folder of the host that a rescue writes to: one that is made, or one that is there and empty, and stays as it is.
-use crate::stop::Stop;
-use fs_host::{HostFault, Shown};
-use ods_shell::Status;
+ghost use Rattle.std.specs.Prelude.{◌≡◌, IfErr};
+ghost use Rattle.fs_reads.specs.{Ends.StopsWith, Folders.has_name, Folders.is_name};
+ghost use Rattle.ods_shell.specs.declared.status.Status.{Status as Code};
+
+use crate::stop::{Stop, WordFault};
+use fs_host::HostFault;
 use std::fs;
 use std::io::{ErrorKind, Read};
 use std::rt::Files;
@@ -10,28 +13,22 @@ use std::rt::Files;
 const PIECE: usize = 4096;
 
 /// Makes the folder, or takes one that is there and empty. With `only_tells` none is made.
-pub(crate) fn take_folder<'a, R: Files + AllocGlobal + Eprint>(
+pub(crate) fn take_folder<'a, R: Files + AllocGlobal>(
     rt: &R,
     folder: &'a str,
     only_tells: bool,
-) -> Result<Status, Stop<'a>> {
-    match taken(rt, folder, only_tells) {
-        Ok(true) => Ok(Status::Done),
-        Ok(false) | Err(HostFault::NotFolder) => {
-            let folder = Shown(folder);
-            let _ = eprintln!(rt; "f11fs: {folder}: an empty folder, or none, is wanted there");
-            Err(Stop::Said(Status::Host))
-        }
-        Err(why) => {
-            let folder = Shown(folder);
-            let _ = eprintln!(rt; "f11fs: {folder}: the folder cannot be made: {why}");
-            Err(Stop::Said(Status::Host))
-        }
+) -> Result<(), Stop<'a>>
+    ensures { IfErr result (λ stop. StopsWith stop Code.Host) }
+{
+    match make_folder(rt, folder, only_tells) {
+        Ok(true) => Ok(()),
+        Ok(false) | Err(HostFault::NotFolder) => Err(Stop::Word(folder, WordFault::NotEmpty)),
+        Err(why) => Err(Stop::Word(folder, WordFault::Unmade(why))),
     }
 }
 
-/// Whether there is a folder now that files can be written to, or there could be.
-fn taken<R: Files + AllocGlobal>(
+/// Makes the folder where none is there, and gives whether files can be written to it now. With `only_tells` none is made.
+fn make_folder<R: Files + AllocGlobal>(
     rt: &R,
     folder: &str,
     only_tells: bool,
@@ -67,11 +64,15 @@ fn is_empty<R: Files + AllocGlobal>(rt: &R, folder: &str) -> Result<bool, HostFa
 }
 
 /// Whether some of these names, each of which a zero ends, is one of a file.
-fn has_name(names: &[u8]) -> bool {
-    for name in names.split(|byte| *byte == 0) {
-        if !name.is_empty() && name != b".".as_slice() && name != b"..".as_slice() {
-            return true;
-        }
-    }
-    false
+fn has_name(names: &[u8]) -> bool
+    ensures { result ≡ has_name names.now }
+{
+    names.split(|byte| *byte == 0).any(|name| is_name(name))
+}
+
+/// Whether this is the name of a file: that of a folder itself and that of the one above it are none.
+fn is_name(name: &[u8]) -> bool
+    ensures { result ≡ is_name name.now }
+{
+    !name.is_empty() && name != b".".as_slice() && name != b"..".as_slice()
 }

@@ -1,4 +1,8 @@
 //! The image of a rescue, which may end within a block.
+ghost use Rattle.std.specs.Prelude.{◌≡◌, ◌<◌, IfErr, IfOk, MatchResult, Ok};
+ghost use Rattle.fs_reads.specs.Volumes.{IsNoVolume, IsNotRead};
+ghost use Rattle.fs_reads.specs.declared.volume.VolumeFault.{VolumeFault as Fault};
+
 use crate::stop::Stop;
 use crate::volume::{VolumeFault, no_volume, not_read, open_image, say_extent};
 use fs_host::{HostFault, Noting, read_host};
@@ -13,29 +17,34 @@ const BLOCK: u64 = 512;
 
 /// The volume in the image at this path, of so many blocks where a number is given; or else its whole blocks, and how many bytes stand
 /// behind them.
-pub(crate) fn whole_blocks<'a, R: Files<File = File> + AllocGlobal + Eprint>(
+pub(crate) fn read_whole_blocks<'a, R: Files<File = File> + AllocGlobal + Eprint>(
     rt: &R,
     path: &'a str,
     given: Option<u32>,
-) -> Result<(Image, u64), Stop<'a>> {
-    match whole_image(rt, path, given) {
+) -> Result<(Image, u64), Stop<'a>>
+    ensures rest { IfOk result (λ found. found.1 < 512) }
+    ensures err { IfErr result (λ stop. (fault : Fault) × IsNoVolume path.entry fault stop) }
+{
+    match read_whole_image(rt, path, given) {
         Ok(found) => Ok(found),
         Err(fault) => Err(no_volume(path, fault)),
     }
 }
 
 /// The same, with the fault.
-fn whole_image<R: Files<File = File> + AllocGlobal + Eprint>(
+fn read_whole_image<R: Files<File = File> + AllocGlobal + Eprint>(
     rt: &R,
     path: &str,
     given: Option<u32>,
-) -> Result<(Image, u64), VolumeFault> {
+) -> Result<(Image, u64), VolumeFault>
+    ensures { IfOk result (λ found. found.1 < 512) }
+{
     let found = match fs::metadata(rt, path) {
         Ok(found) => found,
         Err(error) => return Err(VolumeFault::Read(HostFault::of(&error))),
     };
     if !found.is_file() {
-        return stream_image(rt, path);
+        return read_stream(rt, path);
     }
     match open_image(rt, path, given) {
         Ok((image, extent)) => {
@@ -57,14 +66,16 @@ fn whole_image<R: Files<File = File> + AllocGlobal + Eprint>(
     let mut noting = Noting::new(&mut file);
     let image = Image::read_from(rt.alloc(), &mut noting.by_ref().take(whole));
     let why = noting.why();
-    taken(rt, path, image, rest, why)
+    with_rest(rt, path, image, rest, why)
 }
 
 /// The image of the whole blocks that a stream or a device gives.
-fn stream_image<R: Files<File = File> + AllocGlobal>(
+fn read_stream<R: Files<File = File> + AllocGlobal>(
     rt: &R,
     path: &str,
-) -> Result<(Image, u64), VolumeFault> {
+) -> Result<(Image, u64), VolumeFault>
+    ensures { IfOk result (λ found. found.1 < 512) }
+{
     let bytes = match read_host(rt, path, MAX_BYTES as u64 + BLOCK - 1) {
         Ok(bytes) => bytes,
         Err(HostFault::TooLarge) => return Err(VolumeFault::Image(ImageError::TooBig, None)),
@@ -74,17 +85,20 @@ fn stream_image<R: Files<File = File> + AllocGlobal>(
     let rest = bytes.len() as u64 % BLOCK;
     let mut whole = bytes.as_slice().take(bytes.len() as u64 - rest);
     let image = Image::read_from(rt.alloc(), &mut whole);
-    taken(rt, path, image, rest, HostFault::Unknown)
+    with_rest(rt, path, image, rest, HostFault::Unknown)
 }
 
-/// The image that was read, or why there is none.
-fn taken<R: Files<File = File> + AllocGlobal>(
+/// The image that was read, and how many bytes stand behind it; or why there is none.
+fn with_rest<R: Files<File = File> + AllocGlobal>(
     rt: &R,
     path: &str,
     image: Result<Image, ImageError>,
     rest: u64,
     why: HostFault,
-) -> Result<(Image, u64), VolumeFault> {
+) -> Result<(Image, u64), VolumeFault>
+    ensures ok { IfOk result (λ found. (image ≡ Ok found.0) × (found.1 ≡ rest)) }
+    ensures err { IfErr result (λ fault. IfErr image (λ error. IsNotRead error why fault)) }
+{
     match image {
         Ok(image) => Ok((image, rest)),
         Err(fault) => Err(not_read(rt, path, fault, why)),

@@ -1,18 +1,22 @@
 //! `rescue`: each file whose own chain is whole, copied out of an image that may be refused.
+ghost use Rattle.std.specs.Prelude.{◌≡◌, ◌⊎◌, IfOk};
+ghost use Rattle.fs_reads.specs.Ends.{StopsWith};
+ghost use Rattle.ods_shell.specs.declared.status.Status.{Status as Code};
 ghost use Rattle.ods_space.specs.Files.{IsLayoutOf};
 ghost use Rattle.ods_space.specs.Disks.{on};
 
 use crate::host_files::{Written, write_host};
 use crate::progress::Progress;
 use crate::rescue_folder::take_folder;
-use crate::rescue_image::whole_blocks;
-use crate::stop::{Stop, send, stop_at_own_output};
-use fs_host::{HostFault, Shown};
+use crate::rescue_image::read_whole_blocks;
+use crate::stop::{Stop, send, stop_about, stop_at_own_output};
+use fs_host::{HostFault, SaveFault, Shown};
 use fs_words::Words;
 use ods_base::FileId;
 use ods_check::{Finding, bad_headers, check_first};
 use ods_shell::{Contents, Rescued, Status, open_rescued, pair_object, text_object};
 use ods_space::{Disk, last_number};
+use std::alloc::Global;
 use std::collections::BTreeSet;
 use std::fs::File;
 use std::rt::Files;
@@ -51,7 +55,7 @@ pub fn rescue<'a, R: Files<File = File> + Clock + AllocGlobal + Print + Eprint>(
         json: words.json,
     };
     stop_at_own_output(rt, path)?;
-    let (image, rest) = whole_blocks(rt, path, words.blocks)?;
+    let (image, rest) = read_whole_blocks(rt, path, words.blocks)?;
     let mut status = Status::Done;
     if rest > 0 {
         say_rest(rt, path, rest, how.json)?;
@@ -89,7 +93,7 @@ fn rescue_all<'a, R: Files<File = File> + Clock + AllocGlobal + Print + Eprint>(
         status = status.or(rescue_file(rt, disk, number, how, &mut taken)?);
         progress.show(rt, u64::from(number), u64::from(last));
     }
-    for finding in bad_headers(rt.alloc(), disk, u32::MAX)?.kept() {
+    for finding in bad_headers(rt.alloc(), disk, u32::MAX)?.kept_lines() {
         if let Finding::BadHeader(number, why) = finding {
             let file = format!(in rt.alloc(); "file number {number}")?;
             let why = format!(in rt.alloc(); "is marked as used and has no header: {why}")?;
@@ -107,7 +111,9 @@ fn say_rest<'a, R: AllocGlobal + Print>(
     path: &str,
     rest: u64,
     json: bool,
-) -> Result<Status, Stop<'a>> {
+) -> Result<Status, Stop<'a>>
+    ensures { IfOk result (λ s. s ≡ Code.Done) }
+{
     let path = Shown(path);
     let line = format!(in rt.alloc();
         "{path}: {rest} bytes behind the last whole block are left\n"
@@ -128,7 +134,9 @@ fn say_fault<'a, R: AllocGlobal + Print>(
     path: &str,
     fault: &str,
     json: bool,
-) -> Result<Status, Stop<'a>> {
+) -> Result<Status, Stop<'a>>
+    ensures { IfOk result (λ s. s ≡ Code.Done) }
+{
     let line = if json {
         text_object(rt.alloc(), "fault", fault)?
     } else {
@@ -145,7 +153,9 @@ fn say_left<'a, R: AllocGlobal + Print>(
     why: &str,
     line: &str,
     json: bool,
-) -> Result<Status, Stop<'a>> {
+) -> Result<Status, Stop<'a>>
+    ensures { IfOk result (λ s. s ≡ Code.Done) }
+{
     if json {
         let object = pair_object(rt.alloc(), "left", what, "why", why)?;
         return send(rt, object.as_str());
@@ -162,6 +172,7 @@ fn rescue_file<'a, R: Files<File = File> + AllocGlobal + Print + Eprint>(
     taken: &mut BTreeSet<String>,
 ) -> Result<Status, Stop<'a>>
     requires { on IsLayoutOf disk.now }
+    ensures { IfOk result (λ s. (s ≡ Code.Done) ⊎ (s ≡ Code.Found)) }
 {
     match open_rescued(rt.alloc(), disk, number, how.text)? {
         Rescued::Nothing => Ok(Status::Done),
@@ -184,7 +195,9 @@ fn keep<'a, R: Files<File = File> + AllocGlobal + Print + Eprint>(
     name: String,
     contents: &Contents<'_>,
     taken: &mut BTreeSet<String>,
-) -> Result<Status, Stop<'a>> {
+) -> Result<Status, Stop<'a>>
+    ensures { IfOk result (λ s. s ≡ Code.Done) }
+{
     let name = if taken.contains(&name) {
         format!(in rt.alloc(); "{} #{},{}", name.as_str(), file.number, file.sequence)?
     } else {
@@ -196,7 +209,7 @@ fn keep<'a, R: Files<File = File> + AllocGlobal + Print + Eprint>(
     } else {
         let written = write_host(rt, contents, path.as_str(), false);
         if written != Written::Done {
-            return Err(not_written(rt, path.as_str(), written));
+            return Err(stop_unwritten(rt.alloc(), path.as_str(), written));
         }
         let line = if how.json {
             text_object(rt.alloc(), "rescued", name.as_str())?
@@ -217,7 +230,9 @@ fn tell<'a, R: AllocGlobal + Print>(
     file: FileId,
     path: &str,
     json: bool,
-) -> Result<Status, Stop<'a>> {
+) -> Result<Status, Stop<'a>>
+    ensures { IfOk result (λ s. s ≡ Code.Done) }
+{
     let from = format!(in rt.alloc(); "#{},{}", file.number, file.sequence)?;
     let line = if json {
         pair_object(rt.alloc(), "rescue", from.as_str(), "to", path)?
@@ -228,16 +243,17 @@ fn tell<'a, R: AllocGlobal + Print>(
     send(rt, line.as_str())
 }
 
-/// The line of a file that is not written.
-fn not_written<'a, R: Eprint>(rt: &R, path: &str, written: Written) -> Stop<'a> {
-    let path = Shown(path);
-    let _ = match written {
-        Written::Done => Ok(()),
-        Written::IsThere => eprintln!(rt; "f11fs: {path}: it is there"),
-        Written::Failed(HostFault::Left) => eprintln!(rt; "f11fs: {path}: {}", HostFault::Left),
-        Written::Unmade(why) | Written::Failed(why) => {
-            eprintln!(rt; "f11fs: {path}: writing failed: {why}")
+/// The end of a rescue that does not write a file.
+fn stop_unwritten<'a>(alloc: Global, path: &str, written: Written) -> Stop<'a>
+    ensures { StopsWith result Code.Host }
+{
+    match written {
+        Written::Done | Written::IsThere => {
+            stop_about(alloc, path, HostFault::IsThere, Status::Host)
         }
-    };
-    Stop::Said(Status::Host)
+        Written::Failed(HostFault::Left) => stop_about(alloc, path, HostFault::Left, Status::Host),
+        Written::Unmade(why) | Written::Failed(why) => {
+            stop_about(alloc, path, SaveFault::Write(why), Status::Host)
+        }
+    }
 }

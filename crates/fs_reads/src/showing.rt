@@ -1,61 +1,82 @@
 //! `stat`: what is known of files.
+ghost use Rattle.std.specs.Prelude.{ℕ, List, IfErr, IfOk, string_bytes};
+ghost use Rattle.ods_shell.specs.Ways.{CountAsClosed};
+ghost use Rattle.fs_reads.specs.{Ends.EndsPath, Named.AreOfPath, Shown.Extends};
+
 use crate::closed::{closed_to, stop_at_closed};
-use crate::stop::{Stop, send};
+use crate::stop::{Stop, stop_about};
 use fs_words::Words;
 use ods_mount::Mounted;
-use ods_shell::{Directory, PathFault, Status, Target, open_targets, stat_lines, stat_object};
+use ods_paths::Versions;
+use ods_shell::{
+    Directory, FormFault, Found, PathFault, Status, find_path, stat_lines, stat_object,
+};
 use ods_space::chain;
+use std::alloc::Global;
 
-/// `stat`.
-pub(crate) fn stat<'a, R: AllocGlobal + Print + Eprint>(
-    rt: &R,
+/// Appends what `stat` shows.
+#[tactic(auto, using(crate::proofs::Growing::extends_pushed, crate::proofs::Growing::extends_on, crate::proofs::Growing::extends_same))]
+pub(crate) fn push_stats<'a>(
+    alloc: Global,
     volume: &Mounted,
     words: &Words<'a>,
-) -> Result<Status, Stop<'a>> {
-    let closed = closed_to(rt, volume, words.user)?;
+    text: &mut String,
+) -> Result<(), Stop<'a>>
+    ensures { Extends (string_bytes text.old) (string_bytes text.new) }
+{
+    let closed = closed_to(alloc, volume, words.user)?;
     for path in &words.paths {
-        let (targets, met) = named(rt, volume, *path, &closed)?;
-        for target in &targets {
-            stat_file(rt, volume, target, words.json)?;
+        let (all, met) = found_at(alloc, volume, *path, &closed)?;
+        for found in &all {
+            push_stat(alloc, volume, found, words.json, text)?;
         }
-        stop_at_closed(rt, &met, words.user)?;
+        stop_at_closed(alloc, &met, words.user)?;
     }
-    Ok(Status::Done)
+    Ok(())
 }
 
-/// The files that a path names, and the closed directories on the way.
-fn named<'a, R: AllocGlobal>(
-    rt: &R,
+/// What a path names, and the closed directories on the way; the highest version where the path says none.
+fn found_at<'a>(
+    alloc: Global,
     volume: &Mounted,
     path: &'a str,
     closed: &[u16],
-) -> Result<(Vec<Target>, Vec<Directory>), Stop<'a>> {
-    match open_targets(rt.alloc(), volume, path, closed) {
+) -> Result<(Vec<Found>, Vec<Directory>), Stop<'a>>
+    ensures ok { IfOk result (λ r. (shut : List ℕ) → CountAsClosed closed.now r.1.items shut
+        → AreOfPath volume.now.image volume.now.layout shut path.entry.now r.0.items) }
+    ensures err { IfErr result (EndsPath path.entry) }
+{
+    match find_path(alloc, volume, path, Some(Versions::Highest), closed) {
         Ok(found) => Ok(found),
         Err(PathFault::NoMemory) => Err(Stop::NoMemory),
         Err(fault) => Err(Stop::Path(path, fault)),
     }
 }
 
-/// `stat` of one file.
-fn stat_file<'a, R: AllocGlobal + Print + Eprint>(
-    rt: &R,
+/// Appends what `stat` shows of one file.
+#[tactic(auto, using(crate::proofs::Growing::extends_pushed, crate::proofs::Growing::extends_on, crate::proofs::Growing::extends_same))]
+fn push_stat<'a>(
+    alloc: Global,
     volume: &Mounted,
-    target: &Target,
+    found: &Found,
     json: bool,
-) -> Result<Status, Stop<'a>> {
-    let path = target.path.as_str();
-    let Some(facts) = &target.facts else {
-        let _ = eprintln!(rt; "f11fs: {path}: no such file");
-        return Err(Stop::Said(Status::Refused));
+    text: &mut String,
+) -> Result<(), Stop<'a>>
+    ensures { Extends (string_bytes text.old) (string_bytes text.new) }
+{
+    let path = found.path.as_str();
+    let Some(facts) = &found.facts else {
+        return Err(stop_about(alloc, path, FormFault::NoSuchFile, Status::Refused));
     };
     if json {
-        let text = stat_object(rt.alloc(), path, facts)?;
-        return send(rt, text.as_str());
+        let object = stat_object(alloc, path, facts)?;
+        text.push_str(object.as_str())?;
+        return Ok(());
     }
-    let Ok(lbns) = chain(rt.alloc(), &volume.disk(), facts.file.number) else {
+    let Ok(lbns) = chain(alloc, &volume.disk(), facts.file.number) else {
         return Err(Stop::NoMemory);
     };
-    let text = stat_lines(rt.alloc(), path, facts, &lbns)?;
-    send(rt, text.as_str())
+    let lines = stat_lines(alloc, path, facts, &lbns)?;
+    text.push_str(lines.as_str())?;
+    Ok(())
 }

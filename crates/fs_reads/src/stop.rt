@@ -1,92 +1,214 @@
-//! Why a command stops, and the error line and exit status for that.
+//! Why a command ends before it is done: what is said of that on standard error, and the exit status. `say_end` alone says it.
+ghost use Rattle.std.specs.Prelude.{◌≡◌, ◌⊎◌, IfOk, IfErr, IfSome};
+ghost use Rattle.fs_reads.specs.Ends.{EndsWith, HasWordStatus, SaysLine, StopsWith, about_line};
+ghost use Rattle.fs_reads.specs.declared.stop.Stop.{Stop as End};
+ghost use Rattle.fs_reads.specs.declared.stop.Stop.TheVariants as ends;
+ghost use Rattle.ods_shell.specs.declared.status.Status.{Status as Code};
+
 use crate::volume::VolumeFault;
-use fs_host::{HostFault, Noting, Shown};
-use ods_base::write_bytes;
+use fs_host::{HostFault, Noting, SaveFault, Shown};
+use ods_base::{Uic, write_bytes};
 use ods_shell::{PathFault, Status};
-use std::alloc::AllocError;
+use std::alloc::{AllocError, Global};
+use std::fmt::Display;
 use std::os::unix::fs::{FileTypeExt, MetadataExt};
 use std::rt::Files;
 use std::{fs, io};
+use thiserror::Error;
 
-/// Why a command does not go on: the word that it is about, and the fault. Its line is still to be written.
-#[derive(Clone, Copy)]
+/// Why a command does not go on. What is said of it is still to be written.
+#[derive(Drop)]
 pub enum Stop<'a> {
     /// A path, and why it names nothing.
     Path(&'a str, PathFault),
-    /// Reading a file of the host failed, and nobody says why.
-    Read(&'a str),
-    /// Reading a file of the host failed for this reason.
-    Unread(&'a str, HostFault),
+    /// A word of the command, and what is wrong with it.
+    Word(&'a str, WordFault),
     /// The bytes at this path are no image.
     Image(&'a str, VolumeFault),
-    /// Writing to standard output failed, and nobody says why.
-    Write,
+    /// This user may not read the names of the directory with this number.
+    Closed(u16, Uic),
     /// Writing to standard output failed for this reason.
     Unwritten(HostFault),
+    /// The image is saved, and then writing to standard output failed for this reason.
+    SavedUnwritten(HostFault),
+    /// The host's clock says no time.
+    NoTime,
     /// The allocator refused memory.
     NoMemory,
-    /// The command goes no further, and its line is written.
-    Said(Status),
+    /// The command ends with these lines, and this status.
+    Lines(String, Status),
 }
 
 impl<'a> From<AllocError> for Stop<'a> {
+    ghost from_gives = { λ _ stop. stop ≡ ends.NoMemory };
+
     fn from(_error: AllocError) -> Stop<'a> {
         Stop::NoMemory
     }
 }
 
-/// How a command ended; the line of one that does not go on is written.
-pub fn ended<R: Eprint>(rt: &R, done: Result<Status, Stop<'_>>) -> Status {
-    match done {
-        Ok(status) => status,
-        Err(stop) => stopped(rt, stop),
+/// What is wrong with a word of a command.
+#[derive(Clone, Copy, Debug, PartialEq, Eq, Error)]
+pub enum WordFault {
+    /// Reading this file of the host failed.
+    #[error("reading failed: {0}")]
+    Unread(HostFault),
+    /// Standard output is appended to this image.
+    #[error("standard output is the image; send it elsewhere")]
+    OwnOutput,
+    /// Several files would be written to this file of the host.
+    #[error("no folder")]
+    NoFolder,
+    /// A folder with names, or something else, is there.
+    #[error("an empty folder, or none, is wanted there")]
+    NotEmpty,
+    /// The host does not make this folder.
+    #[error("the folder cannot be made: {0}")]
+    Unmade(HostFault),
+    /// The image is not locked, or not saved.
+    #[error("{0}")]
+    Unsaved(SaveFault),
+    /// The image would be saved, and is shorter than its volume.
+    #[error("the image is shorter than its volume; --force writes it whole")]
+    Short,
+    /// A file of commands is no text.
+    #[error("no UTF-8 text")]
+    NoText,
+    /// A file of commands has more bytes than this.
+    #[error("a file of commands has at most {0} bytes")]
+    ManyBytes(u64),
+    /// No label of a volume.
+    #[error("no label: 1 to 12 of A to Z, 0 to 9 and dots")]
+    NoLabel,
+    /// Standard input is put, and no path of the volume is said.
+    #[error("standard input wants a PATH")]
+    NoPath,
+    /// A file of the host with so many bytes, where the free blocks hold so many.
+    #[error("VolumeFull: it has {0} bytes, and the free blocks of the volume hold {1}")]
+    Large(u64, u64),
+    /// A stream with more bytes than the free blocks hold.
+    #[error("VolumeFull: it has more bytes than the {0} that the free blocks of the volume hold")]
+    LargeStream(u64),
+}
+
+impl WordFault {
+    /// The exit status of a command that ends so.
+    pub fn status(&self) -> Status
+        ensures { HasWordStatus self.now result }
+    {
+        match self {
+            WordFault::NoFolder
+            | WordFault::NoText
+            | WordFault::ManyBytes(_)
+            | WordFault::NoLabel
+            | WordFault::NoPath => Status::Words,
+            WordFault::Short | WordFault::Large(_, _) | WordFault::LargeStream(_) => {
+                Status::Refused
+            }
+            WordFault::Unread(_)
+            | WordFault::OwnOutput
+            | WordFault::NotEmpty
+            | WordFault::Unmade(_)
+            | WordFault::Unsaved(_) => Status::Host,
+        }
     }
 }
 
-/// The line of a command that does not go on, and its status.
-fn stopped<R: Eprint>(rt: &R, stop: Stop<'_>) -> Status {
+/// The end of a command with a line about something, and this status.
+pub fn stop_about<'a, D: Display + Drop>(
+    alloc: Global,
+    what: &str,
+    why: D,
+    status: Status,
+) -> Stop<'a>
+    ensures status { StopsWith result status ⊎ (result ≡ End.NoMemory) }
+    ensures line { IfSome (D.output why) (λ said. SaysLine (about_line what.now said) result) }
+{
+    let what = Shown(what);
+    match format!(in alloc; "{what}: {why}") {
+        Ok(line) => Stop::Lines(line, status),
+        Err(_) => Stop::NoMemory,
+    }
+}
+
+/// Says why a command ended before it was done, and gives the status of any command.
+pub fn say_end<R: Eprint>(rt: &R, done: Result<Status, Stop<'_>>) -> Status
+    ensures { EndsWith done.entry result }
+{
+    match done {
+        Ok(status) => status,
+        Err(stop) => say_stop(rt, &stop),
+    }
+}
+
+/// Says why a command does not go on, and gives its status.
+fn say_stop<R: Eprint>(rt: &R, stop: &Stop<'_>) -> Status
+    ensures { StopsWith stop.now result }
+{
     match stop {
         Stop::Path(path, fault) => {
-            let path = Shown(path);
-            let _ = eprintln!(rt; "f11fs: {path}: {fault}");
+            say_about(rt, *path, *fault);
             fault.status()
         }
-        Stop::Read(path) => {
-            let path = Shown(path);
-            let _ = eprintln!(rt; "f11fs: {path}: reading failed");
-            Status::Host
-        }
-        Stop::Unread(path, why) => {
-            let path = Shown(path);
-            let _ = eprintln!(rt; "f11fs: {path}: reading failed: {why}");
-            Status::Host
+        Stop::Word(word, fault) => {
+            say_about(rt, *word, *fault);
+            fault.status()
         }
         Stop::Image(path, fault) => {
-            say_refused(rt, path, fault);
+            say_refused(rt, *path, *fault);
             Status::Image
         }
-        Stop::Write => {
-            let _ = eprintln!(rt; "f11fs: writing failed");
+        Stop::Closed(number, user) => {
+            let _ = eprintln!(rt;
+                "f11fs: directory {number}: denied to [{:o},{:o}]",
+                user.group, user.member
+            );
+            Status::Refused
+        }
+        Stop::Unwritten(why) => {
+            say_unwritten(rt, *why);
             Status::Host
         }
-        Stop::Unwritten(why) => unwritten(rt, why),
+        Stop::SavedUnwritten(why) => {
+            let _ = eprintln!(rt; "f11fs: the image is saved; writing failed: {why}");
+            Status::Host
+        }
+        Stop::NoTime => {
+            let _ = eprintln!(rt; "f11fs: the host's clock says no time; --stamp does");
+            Status::Host
+        }
         Stop::NoMemory => {
             let _ = eprintln!(rt; "f11fs: no memory");
             Status::Host
         }
-        Stop::Said(status) => status,
+        Stop::Lines(lines, status) => {
+            say_lines(rt, lines.as_str());
+            *status
+        }
     }
 }
 
-/// The line where standard output takes no more; that whoever reads it wants no more is no matter.
-fn unwritten<R: Eprint>(rt: &R, why: HostFault) -> Status {
+/// Says each of these lines.
+pub(crate) fn say_lines<R: Eprint>(rt: &R, lines: &str) {
+    for line in lines.lines() {
+        let _ = eprintln!(rt; "f11fs: {line}");
+    }
+}
+
+/// Says something about a word, or about a file.
+pub(crate) fn say_about<R: Eprint, D: Display + Drop>(rt: &R, what: &str, why: D) {
+    let what = Shown(what);
+    let _ = eprintln!(rt; "f11fs: {what}: {why}");
+}
+
+/// Says that standard output takes no more; that whoever reads it wants no more is no matter.
+fn say_unwritten<R: Eprint>(rt: &R, why: HostFault) {
     if why != HostFault::NoReader {
         let _ = eprintln!(rt; "f11fs: writing failed: {why}");
     }
-    Status::Host
 }
 
-/// The line of an image that is refused: the name of the refusal, why it comes, and what one can do, or what the bytes look like.
+/// Says of an image that is refused the name of the refusal, why it comes, and what one can do, or what the bytes look like.
 fn say_refused<R: Eprint>(rt: &R, path: &str, fault: VolumeFault) {
     let path = Shown(path);
     let _ = match (fault.advice(), fault.look()) {
@@ -103,7 +225,9 @@ fn say_refused<R: Eprint>(rt: &R, path: &str, fault: VolumeFault) {
 }
 
 /// Writes a text to standard output.
-pub fn send<'a, R: Print>(rt: &R, text: &str) -> Result<Status, Stop<'a>> {
+pub fn send<'a, R: Print>(rt: &R, text: &str) -> Result<Status, Stop<'a>>
+    ensures { IfOk result (λ s. s ≡ Code.Done) }
+{
     let mut output = io::writer(rt);
     let mut noting = Noting::new(&mut output);
     match write_bytes(&mut noting, text.as_bytes()) {
@@ -113,19 +237,16 @@ pub fn send<'a, R: Print>(rt: &R, text: &str) -> Result<Status, Stop<'a>> {
 }
 
 /// Ends a command that prints where standard output is appended to the image itself.
-pub(crate) fn stop_at_own_output<'a, R: Files + Eprint>(
-    rt: &R,
-    image: &str,
-) -> Result<Status, Stop<'a>> {
+pub(crate) fn stop_at_own_output<'a, R: Files>(rt: &R, image: &'a str) -> Result<(), Stop<'a>>
+    ensures { IfErr result (λ stop. stop ≡ End.Word image.entry WordFault.OwnOutput) }
+{
     let (Ok(output), Ok(found)) = (fs::metadata(rt, "/proc/self/fd/1"), fs::metadata(rt, image))
     else {
-        return Ok(Status::Done);
+        return Ok(());
     };
     let is_image = output.dev() == found.dev() && output.ino() == found.ino();
     if !is_image || output.file_type().is_char_device() {
-        return Ok(Status::Done);
+        return Ok(());
     }
-    let image = Shown(image);
-    let _ = eprintln!(rt; "f11fs: {image}: standard output is the image; send it elsewhere");
-    Err(Stop::Said(Status::Host))
+    Err(Stop::Word(image, WordFault::OwnOutput))
 }

@@ -1,7 +1,12 @@
 //! The volume of an image in a file.
+ghost use Rattle.std.specs.Prelude.{◌≡◌, IfErr, IfOk, Ok, option_map};
+ghost use Rattle.ods_shell.specs.Remedies.{advice_words};
+ghost use Rattle.fs_reads.specs.{Advised.advice_for, Volumes.IsFaultOf, Volumes.IsNoVolume, Volumes.IsNotMounted, Volumes.IsNotOpened, Volumes.IsNotRead, Volumes.look_in};
+ghost use Rattle.fs_reads.specs.declared.volume.VolumeFault.{VolumeFault as Fault};
+
 use crate::looks::{Look, looks_like};
-use crate::stop::Stop;
-use fs_host::{Extent, HostFault, Noting, Shown, read_some, volume_in};
+use crate::stop::{Stop, WordFault, say_about};
+use fs_host::{Extent, HostFault, Noting, read_some, volume_in};
 use ods_base::{Coded, Image, ImageError};
 use ods_mount::{MountFault, Mounted, mount};
 use ods_shell::{Advice, remedy};
@@ -33,7 +38,9 @@ pub enum VolumeFault {
 
 impl VolumeFault {
     /// Why the refusal comes, and what one can do.
-    pub fn advice(&self) -> Option<Advice> {
+    pub fn advice(&self) -> Option<Advice>
+        ensures { option_map advice_words result ≡ advice_for self.now }
+    {
         match self {
             VolumeFault::Read(_) | VolumeFault::NoMemory => None,
             VolumeFault::Image(refusal, _) => remedy(refusal.name()),
@@ -42,7 +49,9 @@ impl VolumeFault {
     }
 
     /// What the bytes look like.
-    pub fn look(&self) -> Option<Look> {
+    pub fn look(&self) -> Option<Look>
+        ensures { result ≡ look_in self.now }
+    {
         match self {
             VolumeFault::Read(_) | VolumeFault::NoMemory => None,
             VolumeFault::Image(_, look) | VolumeFault::Volume(_, look) => *look,
@@ -56,7 +65,9 @@ pub(crate) fn open_image<R: Files<File = File> + AllocGlobal>(
     rt: &R,
     path: &str,
     given: Option<u32>,
-) -> Result<(Image, Option<Extent>), VolumeFault> {
+) -> Result<(Image, Option<Extent>), VolumeFault>
+    ensures { IfErr result IsNotOpened }
+{
     let mut file = match fs::open(rt, path) {
         Ok(file) => file,
         Err(error) => return Err(VolumeFault::Read(HostFault::of(&error))),
@@ -74,10 +85,7 @@ pub(crate) fn open_image<R: Files<File = File> + AllocGlobal>(
 /// Says of an image that it is shorter than its volume; and where `tells_behind` that it is longer, which is no fault.
 pub fn say_extent<R: Eprint>(rt: &R, path: &str, extent: Option<Extent>, tells_behind: bool) {
     match extent {
-        Some(extent) if tells_behind || extent.is_short() => {
-            let path = Shown(path);
-            let _ = eprintln!(rt; "f11fs: {path}: {extent}");
-        }
+        Some(extent) if tells_behind || extent.is_short() => { say_about(rt, path, extent) }
         _ => {}
     }
 }
@@ -88,7 +96,9 @@ pub(crate) fn not_read<R: Files<File = File> + AllocGlobal>(
     path: &str,
     fault: ImageError,
     why: HostFault,
-) -> VolumeFault {
+) -> VolumeFault
+    ensures { IsNotRead fault why result }
+{
     match fault {
         ImageError::ReadFailed => VolumeFault::Read(why),
         ImageError::NoMemory => VolumeFault::NoMemory,
@@ -114,33 +124,50 @@ pub(crate) fn look_at<R: Files<File = File> + AllocGlobal>(rt: &R, path: &str) -
 }
 
 /// The volume of an image that was read from this path.
+#[tactic(auto, using(crate::proofs::Mounting::not_mounted_by))]
 fn mount_image<R: Files<File = File> + AllocGlobal>(
     rt: &R,
     path: &str,
     image: Image,
-) -> Result<Mounted, VolumeFault> {
+) -> Result<Mounted, VolumeFault>
+    ensures ok { IfOk result (λ volume. volume.image ≡ image) }
+    ensures err { IfErr result (IsNotMounted image) }
+{
     match mount(rt.alloc(), image) {
         Ok(volume) => Ok(volume),
-        Err((_, MountFault::NoMemory)) => Err(VolumeFault::NoMemory),
-        Err((_, MountFault::NoHome)) => {
-            Err(VolumeFault::Volume(MountFault::NoHome, look_at(rt, path)))
-        }
-        Err((_, fault)) => Err(VolumeFault::Volume(fault, None)),
+        Err((_, fault)) => Err(not_mounted(rt, path, fault)),
+    }
+}
+
+/// Why an image that was read from this path is no sound volume, in the words of a mount.
+fn not_mounted<R: Files<File = File> + AllocGlobal>(
+    rt: &R,
+    path: &str,
+    fault: MountFault,
+) -> VolumeFault
+    ensures { IsFaultOf fault result }
+{
+    match fault {
+        MountFault::NoMemory => VolumeFault::NoMemory,
+        MountFault::NoHome => VolumeFault::Volume(fault, look_at(rt, path)),
+        _ => VolumeFault::Volume(fault, None),
     }
 }
 
 /// The volume of the image at this path, of so many blocks where a number is given; that an image is refused is said, and that it is shorter than
 /// its volume, or where `tells_behind` longer.
-pub fn volume_at<'a, R: Files<File = File> + AllocGlobal + Eprint>(
+pub fn open_volume<'a, R: Files<File = File> + AllocGlobal + Eprint>(
     rt: &R,
     path: &'a str,
     given: Option<u32>,
     tells_behind: bool,
-) -> Result<Mounted, Stop<'a>> {
+) -> Result<Mounted, Stop<'a>>
+    ensures { IfErr result (λ stop. (fault : Fault) × IsNoVolume path.entry fault stop) }
+{
     match open_image(rt, path, given) {
         Ok((image, extent)) => {
             say_extent(rt, path, extent, tells_behind);
-            mounted(rt, path, image)
+            mount_or_stop(rt, path, image)
         }
         Err(fault) => Err(no_volume(path, fault)),
     }
@@ -151,19 +178,25 @@ pub fn volume_of<'a, R: Files<File = File> + AllocGlobal>(
     rt: &R,
     path: &'a str,
     image: Result<Image, ImageError>,
-) -> Result<Mounted, Stop<'a>> {
+) -> Result<Mounted, Stop<'a>>
+    ensures ok { IfOk result (λ volume. image ≡ Ok volume.image) }
+    ensures err { IfErr result (λ stop. (fault : Fault) × IsNoVolume path.entry fault stop) }
+{
     match image {
-        Ok(image) => mounted(rt, path, image),
+        Ok(image) => mount_or_stop(rt, path, image),
         Err(fault) => Err(no_volume(path, not_read(rt, path, fault, HostFault::Unknown))),
     }
 }
 
 /// The volume of an image.
-fn mounted<'a, R: Files<File = File> + AllocGlobal>(
+fn mount_or_stop<'a, R: Files<File = File> + AllocGlobal>(
     rt: &R,
     path: &'a str,
     image: Image,
-) -> Result<Mounted, Stop<'a>> {
+) -> Result<Mounted, Stop<'a>>
+    ensures ok { IfOk result (λ volume. volume.image ≡ image) }
+    ensures err { IfErr result (λ stop. (fault : Fault) × (IsNotMounted image fault × IsNoVolume path.entry fault stop)) }
+{
     match mount_image(rt, path, image) {
         Ok(volume) => Ok(volume),
         Err(fault) => Err(no_volume(path, fault)),
@@ -171,9 +204,11 @@ fn mounted<'a, R: Files<File = File> + AllocGlobal>(
 }
 
 /// Why there is no volume at this path.
-pub(crate) fn no_volume<'a>(path: &'a str, fault: VolumeFault) -> Stop<'a> {
+pub(crate) fn no_volume<'a>(path: &'a str, fault: VolumeFault) -> Stop<'a>
+    ensures { IsNoVolume path.entry fault result }
+{
     match fault {
-        VolumeFault::Read(why) => Stop::Unread(path, why),
+        VolumeFault::Read(why) => Stop::Word(path, WordFault::Unread(why)),
         VolumeFault::NoMemory => Stop::NoMemory,
         fault => Stop::Image(path, fault),
     }

@@ -1,2 +1,13 @@
+pub mod Asked
 pub mod Options
 pub mod Days
+pub mod Users
+pub mod Values
+pub mod Names
+pub mod Saying
+pub mod Devices
+pub mod Found
+pub mod Lines
+pub mod Rules
+pub mod Kinds
+pub mod Hints

@@ -1,5 +1,5 @@
 -- Which options serve which commands.
-use Rattle.std.specs.Prelude.{Bool, true, false, ◌||◌}
+use Rattle.std.specs.Prelude.{ℕ, Bool, true, false, ◌||◌, List, [], ◌∷◌, codes}
 use Rattle.fs_words.specs.declared.options.Choice.{Choice}
 use Rattle.fs_words.specs.declared.options.Choice.TheVariants as option
 use Rattle.fs_words.specs.declared.verbs.Verb.{Verb}
@@ -76,3 +76,36 @@ option_serves option.User v = asks_rights v
 option_serves option.Quiet v = reads_volume v
 option_serves option.KeepGoing v = is_file_of_commands v
 option_serves option.Blocks v = reads_volume v
+
+-- how an option is written
+abbrev pub option_text : Choice → List ℕ
+option_text option.Out = codes "-o"
+option_text option.Backup = codes "--backup"
+option_text option.BreakLinks = codes "--break-links"
+option_text option.OnlyTells = codes "-n"
+option_text option.Force = codes "--force"
+option_text option.Json = codes "--json"
+option_text option.Stamp = codes "--stamp"
+option_text option.User = codes "-u"
+option_text option.Quiet = codes "-q"
+option_text option.KeepGoing = codes "--keep-going"
+option_text option.Blocks = codes "--blocks"
+
+-- an option that has a value
+abbrev pub has_value : Choice → Bool
+has_value option.Out = true
+has_value option.Stamp = true
+has_value option.User = true
+has_value option.Blocks = true
+has_value c = false
+
+-- what prints JSON only beside -n
+abbrev pub prints_plans : Verb → Bool
+prints_plans verb.Init = true
+prints_plans verb.Get = true
+prints_plans v = verb_changes v
+
+-- all options, in the order of the help
+abbrev pub options : List Choice
+options = option.Out ∷ option.Backup ∷ option.BreakLinks ∷ option.OnlyTells ∷ option.Force ∷ option.Json ∷ option.Stamp ∷ option.User ∷ option.Quiet
+    ∷ option.KeepGoing ∷ option.Blocks ∷ []

@@ -1,35 +1,45 @@
 //! Whether a stamp is a day of the calendar, and a time of that day.
 ghost use Rattle.std.specs.Prelude.{◌≡◌};
-ghost use Rattle.fs_words.specs.Days.{days_in, is_true_moment};
+ghost use Rattle.std.specs.{List.position, Str.bytes_eq};
+ghost use Rattle.fs_words.specs.Days.{days_in, is_true_moment, is_true_stamp, of_two};
 
 use ods_request::Stamp;
 
 /// The months of a stamp.
-const MONTHS: [&[u8]; 12] = [
-    b"JAN", b"FEB", b"MAR", b"APR", b"MAY", b"JUN", b"JUL", b"AUG", b"SEP", b"OCT", b"NOV", b"DEC",
+const MONTHS: [[u8; 3]; 12] = [
+    *b"JAN", *b"FEB", *b"MAR", *b"APR", *b"MAY", *b"JUN", *b"JUL", *b"AUG", *b"SEP", *b"OCT",
+    *b"NOV", *b"DEC",
 ];
 
 /// Whether a stamp is a true day of its month and a time of the day. Years 70 to 99 are 19YY, else 20YY.
-pub fn is_true_day(stamp: &Stamp) -> bool {
+pub fn is_true_day(stamp: &Stamp) -> bool
+    ensures { result ≡ is_true_stamp stamp.now }
+{
     let text = stamp.text();
-    let Some(place) = MONTHS.iter().position(|month| *month == &text[2..5]) else {
+    let Some(place) = place_among(&MONTHS, &text[2..5]) else {
         return false;
     };
-    let day = two(text[0], text[1]);
-    let year = two(text[5], text[6]);
-    let month = (place as u8).saturating_add(1);
     is_moment(
-        day,
-        month,
-        year,
+        two(text[0], text[1]),
+        (place as u8).saturating_add(1),
+        two(text[5], text[6]),
         two(text[7], text[8]),
         two(text[9], text[10]),
         two(text[11], text[12]),
     )
 }
 
-/// The number that two digits spell.
-fn two(tens: u8, ones: u8) -> u8 {
+/// The place of a month's letters among these.
+fn place_among(months: &[[u8; 3]], letters: &[u8]) -> Option<usize>
+    ensures { result ≡ position (λ m. bytes_eq m letters.now) months.now }
+{
+    months.iter().position(|month| month.as_slice() == letters)
+}
+
+/// The number of two digits.
+fn two(tens: u8, ones: u8) -> u8
+    ensures { result ≡ of_two tens ones }
+{
     let tens = tens.saturating_sub(b'0').saturating_mul(10);
     tens.saturating_add(ones.saturating_sub(b'0'))
 }

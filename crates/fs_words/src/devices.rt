@@ -1,29 +1,85 @@
 //! The sizes of volumes by the names of devices.
+ghost use Rattle.std.specs.Prelude.{◌≡◌, find, option_map};
+ghost use Rattle.std.specs.Str.{str_eq_ignore_ascii_case};
+ghost use Rattle.fs_words.specs.Devices.{device_size};
 
-/// The devices with the blocks of their volumes.
-const DEVICES: [(&str, u32); 13] = [
-    ("RX01", 494),
-    ("RX02", 988),
-    ("RX50", 800),
-    ("RK05", 4800),
-    ("RL01", 10_240),
-    ("RL02", 20_480),
-    ("RK06", 27_126),
-    ("RK07", 53_790),
-    ("RM03", 131_680),
-    ("RP04", 171_798),
-    ("RP06", 340_670),
-    ("RM05", 500_384),
-    ("RA81", 891_072),
+/// A device, with the blocks of its volumes.
+#[derive(Clone, Copy)]
+struct Device<'a> {
+    name: &'a str,
+    blocks: u32,
+}
+
+/// The devices.
+const DEVICES: [Device<'static>; 13] = [
+    Device {
+        name: "RX01",
+        blocks: 494,
+    },
+    Device {
+        name: "RX02",
+        blocks: 988,
+    },
+    Device {
+        name: "RX50",
+        blocks: 800,
+    },
+    Device {
+        name: "RK05",
+        blocks: 4800,
+    },
+    Device {
+        name: "RL01",
+        blocks: 10_240,
+    },
+    Device {
+        name: "RL02",
+        blocks: 20_480,
+    },
+    Device {
+        name: "RK06",
+        blocks: 27_126,
+    },
+    Device {
+        name: "RK07",
+        blocks: 53_790,
+    },
+    Device {
+        name: "RM03",
+        blocks: 131_680,
+    },
+    Device {
+        name: "RP04",
+        blocks: 171_798,
+    },
+    Device {
+        name: "RP06",
+        blocks: 340_670,
+    },
+    Device {
+        name: "RM05",
+        blocks: 500_384,
+    },
+    Device {
+        name: "RA81",
+        blocks: 891_072,
+    },
 ];
 
 /// How many blocks a volume on this device has. Small letters are capitals.
-pub fn device_blocks(name: &str) -> Option<u32> {
-    match DEVICES
+pub fn device_blocks(name: &str) -> Option<u32>
+    ensures { result ≡ device_size name.now }
+{
+    let devices: [Device<'static>; 13] = DEVICES;
+    blocks_among(&devices, name)
+}
+
+/// How many blocks a volume on the first device of this name has.
+fn blocks_among(devices: &[Device<'_>], name: &str) -> Option<u32>
+    ensures { result ≡ option_map (λ d. d.blocks) (find (λ d. str_eq_ignore_ascii_case d.name.now name.now) devices.now) }
+{
+    devices
         .iter()
-        .find(|(device, _)| device.eq_ignore_ascii_case(name))
-    {
-        Some((_, blocks)) => Some(*blocks),
-        None => None,
-    }
+        .find(|device| device.name.eq_ignore_ascii_case(name))
+        .map(|device| device.blocks)
 }

@@ -1,6 +1,9 @@
 //! The messages for words that lack a command or name an unknown one.
+ghost use Rattle.std.specs.Prelude.{◌++◌, IfOk, codes, if◌then◌else◌};
+ghost use Rattle.ods_words.specs.Telling.{IsWrong};
+
 use crate::verbs::{Verb, nearest};
-use crate::words::WordsFault;
+use ods_words::{WordsFault, say_wrong};
 use std::alloc::{AllocError, Global};
 
 /// How the words stand.
@@ -8,9 +11,11 @@ const USAGE: &str =
     "usage: f11fs [OPTIONS] IMAGE COMMAND [WORD..]\nf11fs --help names the commands";
 
 /// That words are wanting: all of them, or the command.
-pub(crate) fn wanting(alloc: Global, all: bool) -> Result<WordsFault, AllocError> {
+pub(crate) fn wanting(alloc: Global, all: bool) -> Result<WordsFault, AllocError>
+    ensures { IfOk result (IsWrong (if all then USAGE.now else codes "error: a command is wanting\n" ++ USAGE.now)) }
+{
     if all {
-        return Ok(WordsFault::Wrong(String::from_str(alloc, USAGE)?));
+        return say_wrong(alloc, USAGE);
     }
     Ok(WordsFault::Wrong(format!(in alloc; "error: a command is wanting\n{USAGE}")?))
 }
@@ -21,7 +26,7 @@ pub(crate) fn before_image(
     image: &str,
     word: &str,
 ) -> Result<WordsFault, AllocError> {
-    if Verb::named(image).is_some() {
+    if Verb::of_name(image).is_some() {
         return Ok(WordsFault::Wrong(format!(in alloc;
             "f11fs: '{word}' is no command; IMAGE stands first: f11fs {word} {image}"
         )?));

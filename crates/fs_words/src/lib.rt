@@ -1,25 +1,30 @@
 //! The words of `f11fs`: what the command line asks for, and the words of a line in a file of commands.
-//! No clause covers what words ask for: `tests/fs` checks it on the built program. Clauses say which options serve a
-//! command.
+//! Clauses say which options serve a command, and what the command asks for by what a parse found in the words. `tests/fs` checks the rest on the
+//! built program.
 #![tactic(auto)]
 
-mod change_words;
-mod command;
+mod actions;
+mod arguments;
+mod commands;
 mod days;
 mod devices;
+mod forms;
 mod help;
 mod hints;
 mod line;
+mod numbers;
 mod options;
-mod read_words;
+mod parse;
 mod said;
+mod users;
 mod verbs;
 mod words;
 
-pub use change_words::{Change, PutWords, Saving};
+pub use actions::{Action, Change, PutWords};
 pub use days::is_true_day;
 pub use devices::device_blocks;
 pub use line::{LineFault, line_words};
+pub use ods_words::WordsFault;
 pub use options::{Choice, serves};
 pub use verbs::Verb;
-pub use words::{Action, Words, WordsFault, parse_line, parse_words};
+pub use words::{Saving, Words, parse_line, parse_words};

@@ -1,4 +1,8 @@
 //! The words of a line, split as a shell splits them.
+ghost use Rattle.std.specs.Prelude.{◌≡◌, ◌++◌, ◌∷◌, ℕ, Bool, List, [], None, Some, IfErr, IfOk, OnOk, map};
+ghost use Rattle.std.specs.String.{string_bytes};
+ghost use Rattle.fs_words.specs.Lines.{behind_letter, is_blank, is_quote, letter_text, with_front, words_from, words_in};
+
 use std::alloc::{AllocError, Global};
 
 /// Why a line has no words.
@@ -11,6 +15,11 @@ pub enum LineFault {
 }
 
 impl From<AllocError> for LineFault {
+    ghost use Rattle.std.specs.Prelude.{◌≡◌};
+    ghost use Rattle.fs_words.specs.declared.line.LineFault.TheVariants.{NoMemory};
+
+    ghost from_gives = { λ _ e. e ≡ NoMemory };
+
     fn from(_error: AllocError) -> LineFault {
         LineFault::NoMemory
     }
@@ -25,57 +34,91 @@ enum Stand {
     Within,
     /// Behind this quote, which is not closed.
     Quoted(char),
+    /// In a remark.
+    Remark,
 }
 
 /// The words of a line, without its line feed or carriage return and line feed: spaces and tabs part them, what stands in `'` or `"` holds together, and `#` where a word would begin opens a remark.
-pub fn line_words(alloc: Global, line: &str) -> Result<Vec<String>, LineFault> {
+pub fn line_words(alloc: Global, line: &str) -> Result<Vec<String>, LineFault>
+    ensures words { IfOk result (λ v. words_in line.now ≡ Some (map (λ s. string_bytes s) v.items)) }
+    ensures open { IfErr result (λ e. e ≡ LineFault.Open → words_in line.now ≡ None) }
+{
     let mut words = Vec::new(alloc);
     let mut word = String::new(alloc);
     let mut stand = Stand::Between;
     for letter in line.chars() {
-        if stand == Stand::Between && letter == '#' {
-            return Ok(words);
+        stand = read_letter(alloc, &mut words, &mut word, stand, letter)?;
+    }
+    match stand {
+        Stand::Between | Stand::Remark => Ok(words),
+        Stand::Within => {
+            add(&mut words, word)?;
+            Ok(words)
         }
-        let next = after(stand, letter);
-        if next == Stand::Between {
-            if stand != Stand::Between {
-                let done = std::mem::replace(&mut word, String::new(alloc));
-                add(&mut words, done)?;
-            }
-        } else if is_said(stand, letter) {
+        Stand::Quoted(_) => Err(LineFault::Open),
+    }
+}
+
+/// Reads a character, which ends a word, or is one of the word or a quote. Where the next one stands.
+fn read_letter(
+    alloc: Global,
+    words: &mut Vec<String>,
+    word: &mut String,
+    stand: Stand,
+    letter: char,
+) -> Result<Stand, AllocError>
+    ensures { IfOk result (λ next. (rest : List ℕ)
+        → with_front (map (λ s. string_bytes s) words.old.items) (words_from stand (string_bytes word.old) (letter ∷ rest))
+        ≡ with_front (map (λ s. string_bytes s) words.new.items) (words_from next (string_bytes word.new) rest)) }
+{
+    match stand {
+        Stand::Remark => Ok(Stand::Remark),
+        Stand::Quoted(quote) if letter == quote => Ok(Stand::Within),
+        Stand::Quoted(quote) => {
             word.push(letter)?;
+            Ok(Stand::Quoted(quote))
         }
-        stand = next;
-    }
-    match stand {
-        Stand::Between => {}
-        Stand::Within => add(&mut words, word)?,
-        Stand::Quoted(_) => return Err(LineFault::Open),
-    }
-    Ok(words)
-}
-
-/// Where the next character stands.
-fn after(stand: Stand, letter: char) -> Stand {
-    match stand {
-        Stand::Quoted(quote) if letter != quote => stand,
-        Stand::Quoted(_) => Stand::Within,
-        _ if letter == '\'' || letter == '"' => Stand::Quoted(letter),
-        _ if letter == ' ' || letter == '\t' => Stand::Between,
-        _ => Stand::Within,
+        Stand::Between if letter == '#' => Ok(Stand::Remark),
+        Stand::Between if is_blank(letter) => Ok(Stand::Between),
+        Stand::Within if is_blank(letter) => {
+            let done = std::mem::replace(word, String::new(alloc));
+            add(words, done)?;
+            Ok(Stand::Between)
+        }
+        _ => read_in_word(word, letter),
     }
 }
 
-/// Whether the character is one of the word, and no quote that opens or closes.
-fn is_said(stand: Stand, letter: char) -> bool {
-    match stand {
-        Stand::Quoted(quote) => letter != quote,
-        _ => letter != '\'' && letter != '"',
+/// Reads a character of a word, which is no blank. Where the next one stands.
+fn read_in_word(word: &mut String, letter: char) -> Result<Stand, AllocError>
+    ensures stand { IfOk result (λ next. next ≡ behind_letter letter) }
+    ensures word { OnOk result (string_bytes word.new ≡ string_bytes word.old ++ letter_text letter) }
+{
+    if is_quote(letter) {
+        return Ok(Stand::Quoted(letter));
     }
+    word.push(letter)?;
+    Ok(Stand::Within)
+}
+
+/// Whether a character parts words.
+fn is_blank(letter: char) -> bool
+    ensures { result ≡ is_blank letter }
+{
+    letter == ' ' || letter == '\t'
+}
+
+/// Whether a character is a quote.
+fn is_quote(letter: char) -> bool
+    ensures { result ≡ is_quote letter }
+{
+    letter == '\'' || letter == '"'
 }
 
 /// Adds a word.
-fn add(words: &mut Vec<String>, word: String) -> Result<(), AllocError> {
+fn add(words: &mut Vec<String>, word: String) -> Result<(), AllocError>
+    ensures { OnOk result (words.new.items ≡ words.old.items ++ word ∷ []) }
+{
     match words.push(word) {
         Ok(()) => Ok(()),
         Err(_) => Err(AllocError),

@@ -1,10 +1,15 @@
 //! The options of `f11fs`: how each is said, what it does, and which commands it serves. The refusal of an option that does nothing for a command
 //! and the help of the command both come from here.
-ghost use Rattle.std.specs.Prelude.{◌≡◌};
-ghost use Rattle.fs_words.specs.Options.{option_serves};
+ghost use Rattle.std.specs.Prelude.{◌≡◌, false, is_some};
+ghost use Rattle.clap.specs.Simple.{new_rule};
+ghost use Rattle.clap.specs.Walk.{rule_of};
+ghost use Rattle.fs_words.specs.Options.{has_value, option_serves, option_text, prints_plans};
+ghost use Rattle.fs_words.specs.Rules.{choice_rule, hides, limited, spelled_as, valued};
 
+use crate::arguments::with_spelling;
 use crate::verbs::Verb;
 use clap::{Arg, ArgAction, value_parser};
+use ods_base::MAX_BLOCKS;
 use std::alloc::Global;
 
 /// An option that may stand before IMAGE or behind the command.
@@ -74,30 +79,17 @@ pub fn serves(choice: Choice, verb: Verb) -> bool
 }
 
 /// Whether `--json` does something for a command only beside `-n`: what it prints then is what would be done, and nothing else.
-pub fn prints_only_plans(verb: Verb) -> bool {
+pub fn prints_only_plans(verb: Verb) -> bool
+    ensures { result ≡ prints_plans verb }
+{
     verb.changes() || matches!(verb, Verb::Init | Verb::Get)
 }
 
 impl Choice {
-    /// The name that a parse has it by.
-    pub(crate) fn id<'a>(self) -> &'a str {
-        match self {
-            Choice::Out => "out",
-            Choice::Backup => "backup",
-            Choice::BreakLinks => "break_links",
-            Choice::OnlyTells => "only_tells",
-            Choice::Force => "force",
-            Choice::Json => "json",
-            Choice::Stamp => "stamp",
-            Choice::User => "user",
-            Choice::Quiet => "quiet",
-            Choice::KeepGoing => "keep_going",
-            Choice::Blocks => "blocks",
-        }
-    }
-
-    /// How it is written.
-    pub(crate) fn word<'a>(self) -> &'a str {
+    /// How it is written. A parse has it by this name.
+    pub(crate) fn word<'a>(self) -> &'a str
+        ensures { result.now ≡ option_text self }
+    {
         match self {
             Choice::Out => "-o",
             Choice::Backup => "--backup",
@@ -114,7 +106,9 @@ impl Choice {
     }
 
     /// The name of its value, where it has one.
-    pub(crate) fn value<'a>(self, verb: Option<Verb>) -> Option<&'a str> {
+    pub(crate) fn value<'a>(self, verb: Option<Verb>) -> Option<&'a str>
+        ensures { is_some result ≡ has_value self }
+    {
         match self {
             Choice::Out if verb == Some(Verb::Get) => Some("TARGET"),
             Choice::Out => Some("FILE"),
@@ -155,47 +149,56 @@ impl Choice {
     }
 
     /// The option, as a parse takes it; the help of a command that it does not serve leaves it out.
-    pub(crate) fn arg<'a>(self, alloc: Global, verb: Option<Verb>) -> Arg<'a> {
-        let is_hidden = match verb {
-            Some(verb) => !serves(self, verb),
-            None => false,
-        };
-        let arg = named(alloc, self.id(), self.help(verb), is_hidden);
-        with_value(with_word(arg, self), self, self.value(verb))
+    #[tactic(auto, unfolding(crate::specs::Rules::choice_rule))]
+    pub(crate) fn arg<'a>(self, alloc: Global, verb: Option<Verb>) -> Arg<'a>
+        ensures rule { rule_of result ≡ choice_rule self }
+        ensures local { result.global ≡ false }
+        ensures hidden { result.hide ≡ hides self verb }
+    {
+        let arg = new_option(alloc, self.word(), self.help(verb), is_hidden(self, verb));
+        with_value(arg, self, self.value(verb))
     }
 }
 
-/// An option of this name, with its help.
-fn named<'a>(alloc: Global, id: &'a str, help: &'a str, is_hidden: bool) -> Arg<'a> {
-    Arg::new(alloc, id).help(help).hide(is_hidden)
+/// Whether the help of a command leaves an option out.
+fn is_hidden(choice: Choice, verb: Option<Verb>) -> bool
+    ensures { result ≡ hides choice verb }
+{
+    match verb {
+        Some(verb) => !serves(choice, verb),
+        None => false,
+    }
 }
 
-/// An option with its letter or its word.
-fn with_word<'a>(arg: Arg<'a>, choice: Choice) -> Arg<'a> {
-    match choice {
-        Choice::Out => arg.short('o'),
-        Choice::OnlyTells => arg.short('n'),
-        Choice::User => arg.short('u'),
-        Choice::Quiet => arg.short('q'),
-        Choice::Backup => arg.long("backup"),
-        Choice::BreakLinks => arg.long("break-links"),
-        Choice::Force => arg.long("force"),
-        Choice::Json => arg.long("json"),
-        Choice::Stamp => arg.long("stamp"),
-        Choice::KeepGoing => arg.long("keep-going"),
-        Choice::Blocks => arg.long("blocks"),
-    }
+/// An option that is written so, with its help.
+fn new_option<'a>(alloc: Global, option: &'a str, help: &'a str, is_hidden: bool) -> Arg<'a>
+    ensures rule { rule_of result ≡ spelled_as option.entry.now (new_rule option.entry.now) }
+    ensures local { result.global ≡ false }
+    ensures hidden { result.hide ≡ is_hidden }
+    ensures help { result.help ≡ Some help.entry }
+{
+    with_spelling(Arg::new(alloc, option).help(help).hide(is_hidden), option)
 }
 
 /// An option with its value, where it has one.
-fn with_value<'a>(arg: Arg<'a>, choice: Choice, value: Option<&'a str>) -> Arg<'a> {
+fn with_value<'a>(arg: Arg<'a>, choice: Choice, value: Option<&'a str>) -> Arg<'a>
+    ensures rule { rule_of result ≡ valued choice (is_some value.entry) (rule_of arg.entry) }
+    ensures same { result ≡ record arg.entry { action = result.action; val_names = result.val_names; value_parser = result.value_parser } }
+{
     match value {
-        Some(value) if choice == Choice::Blocks => {
-            arg.value_name(value)
-                .value_parser(value_parser!(u32).range(1..=1_048_576))
-        }
-        Some(value) => arg.value_name(value),
+        Some(value) => with_limit(arg.value_name(value), choice),
         None => arg.action(ArgAction::SetTrue),
+    }
+}
+
+/// An option with the limits of its number, where it has such.
+fn with_limit<'a>(arg: Arg<'a>, choice: Choice) -> Arg<'a>
+    ensures rule { rule_of result ≡ limited choice (rule_of arg.entry) }
+    ensures same { result ≡ record arg.entry { value_parser = result.value_parser } }
+{
+    match choice {
+        Choice::Blocks => { arg.value_parser(value_parser!(u32).range(1..=i64::from(MAX_BLOCKS))) }
+        _ => arg,
     }
 }
 

@@ -1,7 +1,11 @@
-//! The options before and behind the command, and how a word names a user.
-use crate::words::WordsFault;
+//! What the words say of the options that may stand before IMAGE or behind the command.
+ghost use Rattle.std.specs.Prelude.{◌≡◌, ◌++◌, IfOk, codes, map};
+ghost use Rattle.ods_words.specs.Telling.{IsWrong};
+ghost use Rattle.fs_words.specs.{Options.option_text, Saying.IsFlag, Saying.IsSetAmong, Saying.paths_among, Saying.text_among, Saying.text_said, Values.value_of};
+
+use crate::options::Choice;
 use clap::ArgMatches;
-use ods_base::Uic;
+use ods_words::WordsFault;
 use std::alloc::{AllocError, Global};
 
 /// The options before the command, where there were any words before it, and those behind it. What stands behind it counts where both say something.
@@ -13,43 +17,40 @@ pub(crate) struct Said<'b, 'm, 'a> {
 
 impl<'b, 'm, 'a> Said<'b, 'm, 'a> {
     /// Whether an option without a value was said.
-    pub fn flag(&self, id: &str) -> bool {
-        is_said(self.before, id) || is_said(self.own, id)
+    pub fn flag(&self, choice: Choice) -> bool
+        ensures { IsFlag self.now (option_text choice) result }
+    {
+        is_said(self.before, choice.word()) || is_said(self.own, choice.word())
     }
 
     /// The value of an option.
-    pub fn text(&self, id: &str) -> Option<&'a str> {
-        match text_in(self.own, id) {
+    pub fn text(&self, choice: Choice) -> Option<&'a str>
+        ensures { value_of result ≡ text_said self.now (option_text choice) }
+    {
+        match text_in(self.own, choice.word()) {
             Some(text) => Some(text),
-            None => text_in(self.before, id),
+            None => text_in(self.before, choice.word()),
         }
     }
 
-    /// The values of the words of this kind behind the command.
-    pub fn texts(&self, alloc: Global, id: &str) -> Result<Vec<&'a str>, AllocError> {
-        let mut texts = Vec::new(alloc);
-        if let Some(own) = self.own {
-            if let Some(given) = own.get_strs(id) {
-                texts.extend_from_slice(given)?;
-            }
-        }
-        Ok(texts)
-    }
-
-    /// The value of an option that has a number; a parse has looked that it is one.
-    pub fn number(&self, id: &str) -> Option<u32> {
-        match self.text(id) {
-            Some(text) => match text.parse::<u32>() {
-                Ok(number) => Some(number),
-                Err(_) => None,
-            },
-            None => None,
+    /// The paths behind the command.
+    pub fn paths(&self, alloc: Global) -> Result<Vec<&'a str>, AllocError>
+        ensures { IfOk result (λ paths. map (λ s. s.now) paths.items ≡ paths_among self.now.own) }
+    {
+        let Some(own) = self.own else {
+            return Ok(Vec::new(alloc));
+        };
+        match own.get_strs("path") {
+            Some(given) => Vec::from_slice(alloc, given),
+            None => Ok(Vec::new(alloc)),
         }
     }
 }
 
 /// Whether an option without a value is among these.
-fn is_said(matches: Option<&ArgMatches<'_>>, id: &str) -> bool {
+fn is_said(matches: Option<&ArgMatches<'_>>, id: &str) -> bool
+    ensures { IsSetAmong matches.entry id.now result }
+{
     match matches {
         Some(matches) => matches.get_flag(id),
         None => false,
@@ -57,7 +58,9 @@ fn is_said(matches: Option<&ArgMatches<'_>>, id: &str) -> bool {
 }
 
 /// The value of an option among these.
-fn text_in<'a>(matches: Option<&ArgMatches<'a>>, id: &str) -> Option<&'a str> {
+fn text_in<'a>(matches: Option<&ArgMatches<'a>>, id: &str) -> Option<&'a str>
+    ensures { value_of result ≡ text_among matches.entry id.now }
+{
     match matches {
         Some(matches) => matches.get_str(id),
         None => None,
@@ -65,30 +68,8 @@ fn text_in<'a>(matches: Option<&ArgMatches<'a>>, id: &str) -> Option<&'a str> {
 }
 
 /// That a word is not what it should be.
-pub(crate) fn wrong(alloc: Global, word: &str, why: &str) -> Result<WordsFault, AllocError> {
+pub(crate) fn wrong(alloc: Global, word: &str, why: &str) -> Result<WordsFault, AllocError>
+    ensures { IfOk result (IsWrong (codes "error: '" ++ word.now ++ codes "' " ++ why.now)) }
+{
     Ok(WordsFault::Wrong(format!(in alloc; "error: '{word}' {why}")?))
-}
-
-/// The user that a text says, as `[1,2]` or `1,2`, in octal.
-pub(crate) fn user_of(text: &str) -> Option<Uic> {
-    let within = match text.strip_prefix('[') {
-        Some(rest) => rest.strip_suffix(']')?,
-        None => text,
-    };
-    let (group, member) = within.split_once(',')?;
-    Some(Uic {
-        group: octal(group)?,
-        member: octal(member)?,
-    })
-}
-
-/// The number that octal digits spell, at most 377.
-fn octal(digits: &str) -> Option<u8> {
-    if !digits.as_bytes().iter().all(|digit| digit.is_ascii_digit()) {
-        return None;
-    }
-    match u8::from_str_radix(digits, 8) {
-        Ok(number) => Some(number),
-        Err(_) => None,
-    }
 }

@@ -1,6 +1,8 @@
-//! The names of the commands, and which one a wrong name is near to.
-ghost use Rattle.std.specs.Prelude.{◌≡◌};
-ghost use Rattle.fs_words.specs.Options.{verb_changes};
+//! The commands, and which one a wrong name is near to.
+ghost use Rattle.std.specs.Prelude.{◌≡◌, ◌++◌, ◌∷◌, [], IfOk, List, find};
+ghost use Rattle.std.specs.Str.{bytes_eq};
+ghost use Rattle.fs_words.specs.declared.verbs.Verb.{Verb};
+ghost use Rattle.fs_words.specs.{Hints.IsClosest, Hints.IsNear, Hints.changes_to, Hints.habit_named, Hints.most_changes, Names.verb_named, Names.verb_text, Options.verb_changes, Values.value_of};
 
 use std::alloc::{AllocError, Global};
 
@@ -69,30 +71,11 @@ pub(crate) const VERBS: [Verb; 18] = [
     Verb::Init,
 ];
 
-/// What other programs call these commands.
-const HABITS: [(&str, &str); 12] = [
-    ("dir", "ls"),
-    ("list", "ls"),
-    ("type", "cat"),
-    ("show", "cat"),
-    ("extract", "get"),
-    ("copy", "cp"),
-    ("move", "mv"),
-    ("rename", "mv"),
-    ("del", "rm"),
-    ("delete", "rm"),
-    ("diff", "cmp"),
-    ("fsck", "check"),
-];
-
 impl Verb {
-    /// The command of this name.
-    pub(crate) fn named(word: &str) -> Option<Verb> {
-        VERBS.iter().find(|verb| verb.name() == word).copied()
-    }
-
-    /// Its name.
-    pub(crate) fn name<'a>(self) -> &'a str {
+    /// Its name; that of a file of commands is the option that says one.
+    pub(crate) fn name<'a>(self) -> &'a str
+        ensures { result.now ≡ verb_text self }
+    {
         match self {
             Verb::Ls => "ls",
             Verb::Find => "find",
@@ -116,6 +99,13 @@ impl Verb {
         }
     }
 
+    /// The command of this name. No name says a file of commands.
+    pub(crate) fn of_name(word: &str) -> Option<Verb>
+        ensures { result ≡ verb_named word.now }
+    {
+        first_named(&VERBS, word)
+    }
+
     /// Whether it changes a volume.
     pub fn changes(self) -> bool
         ensures { result ≡ verb_changes self }
@@ -127,25 +117,133 @@ impl Verb {
     }
 }
 
+/// Whether the command has this name.
+fn has_name(verb: Verb, word: &str) -> bool
+    ensures { result ≡ bytes_eq (verb_text verb) word.now }
+{
+    verb.name() == word
+}
+
+/// The first of these commands that has this name.
+fn first_named(verbs: &[Verb], word: &str) -> Option<Verb>
+    ensures { result ≡ find (λ v. bytes_eq (verb_text v) word.now) verbs.now }
+{
+    let mut verbs = verbs;
+    while let Some((verb, later)) = verbs.split_first() {
+        if has_name(*verb, word) {
+            return Some(*verb);
+        }
+        verbs = later;
+    }
+    None
+}
+
 /// The name of the command that this word is near to: what another program calls it, or the name that takes the fewest changes of a letter, at most
 /// one where the word has up to four letters, else two.
-pub(crate) fn nearest(alloc: Global, word: &str) -> Result<Option<&'static str>, AllocError> {
-    if let Some((_, name)) = HABITS.iter().find(|(habit, _)| *habit == word) {
-        return Ok(Some(*name));
+pub(crate) fn nearest(alloc: Global, word: &str) -> Result<Option<&'static str>, AllocError>
+    ensures { IfOk result (λ near. IsNear word.now (value_of near)) }
+{
+    if let Some(name) = habit_of(word) {
+        return Ok(Some(name));
     }
-    let mut fewest = if word.len() <= 4 { 1 } else { 2 };
-    let mut found = None;
     // A longer word is near to none, and takes no time.
     if word.len() > 16 {
         return Ok(None);
     }
-    for verb in &VERBS {
-        let name = verb.name();
-        let changes = strsim::osa_distance(alloc, word, name)?;
-        if changes < fewest || (changes == fewest && found.is_none()) {
-            fewest = changes;
-            found = Some(name);
-        }
+    match closest(alloc, word, &VERBS)? {
+        Some(verb) => Ok(Some(verb.name())),
+        None => Ok(None),
+    }
+}
+
+/// The name of the command that another program calls by this word.
+fn habit_of(word: &str) -> Option<&'static str>
+    ensures { value_of result ≡ habit_named word.now }
+{
+    if word == "dir" {
+        return Some("ls");
+    }
+    if word == "list" {
+        return Some("ls");
+    }
+    if word == "type" {
+        return Some("cat");
+    }
+    if word == "show" {
+        return Some("cat");
+    }
+    if word == "extract" {
+        return Some("get");
+    }
+    if word == "copy" {
+        return Some("cp");
+    }
+    if word == "move" {
+        return Some("mv");
+    }
+    if word == "rename" {
+        return Some("mv");
+    }
+    if word == "del" {
+        return Some("rm");
+    }
+    if word == "delete" {
+        return Some("rm");
+    }
+    if word == "diff" {
+        return Some("cmp");
+    }
+    if word == "fsck" {
+        return Some("check");
+    }
+    None
+}
+
+/// The first of these commands whose name takes the fewest changes of a letter, where they are few.
+fn closest(alloc: Global, word: &str, verbs: &[Verb]) -> Result<Option<Verb>, AllocError>
+    ensures { IfOk result (IsClosest word.now verbs.now) }
+{
+    let mut found = None;
+    for verb in verbs {
+        found = closer(alloc, word, found, *verb)?;
     }
     Ok(found)
+}
+
+/// The closest command, where one more is looked at.
+fn closer(
+    alloc: Global,
+    word: &str,
+    found: Option<Verb>,
+    verb: Verb,
+) -> Result<Option<Verb>, AllocError>
+    ensures { IfOk result (λ next. (front : List Verb) → IsClosest word.now front found → IsClosest word.now (front ++ verb ∷ []) next) }
+{
+    let changes = changes_to(alloc, word, verb)?;
+    let Some(other) = found else {
+        if most_changes(word) < changes {
+            return Ok(None);
+        }
+        return Ok(Some(verb));
+    };
+    let fewest = changes_to(alloc, word, other)?;
+    if changes < fewest {
+        return Ok(Some(verb));
+    }
+    Ok(Some(other))
+}
+
+/// How many changes of a letter make a word the name of a command.
+fn changes_to(alloc: Global, word: &str, verb: Verb) -> Result<usize, AllocError>
+    ensures { IfOk result (λ changes. changes ≡ changes_to word.now verb) }
+{
+    let changes = strsim::osa_distance(alloc, word, verb.name())?;
+    Ok(changes)
+}
+
+/// How many changes of a letter a word near to a name has at most.
+fn most_changes(word: &str) -> usize
+    ensures { result ≡ most_changes word.now }
+{
+    if word.len() <= 4 { 1 } else { 2 }
 }

@@ -2,9 +2,12 @@
 //! image whole or not at all.
 #![tactic(auto)]
 
+ghost use Rattle.std.specs.Prelude.{IfOk};
+ghost use Rattle.host_caller.specs.Putting.{IsPut};
+
 use anyhow::{Context, bail};
 use fs_host::{Locked, hold_streams, stamp_of_now};
-use ods_base::{DIRECTORY_TYPE, FileId, Uic, parse_name, print_name};
+use ods_base::{DIRECTORY_TYPE, FileId, MAX_BYTES, Uic, parse_name, print_name};
 use ods_filing::{Filing, NewFile, put_file};
 use ods_mount::{Mounted, is_directory_file, mount};
 use ods_records::{text_attributes, text_to_records};
@@ -62,14 +65,16 @@ fn list(rt: &(impl Print + AllocGlobal), volume: &Mounted) -> anyhow::Result<()>
 }
 
 /// The volume with the text under this name. Refused, the volume is let go, and nothing is saved.
-fn put(alloc: Global, volume: Mounted, name: &str, stamp: Stamp) -> anyhow::Result<Mounted> {
+fn put(alloc: Global, volume: Mounted, name: &str, stamp: Stamp) -> anyhow::Result<Mounted>
+    ensures { IfOk result (IsPut TEXT.now name.now stamp MASTER (record { image = volume.image; layout = volume.layout; user = USER })) }
+{
     let (name, _) = parse_name(name.as_bytes())?;
     if name.ext() == DIRECTORY_TYPE {
         bail!("DIR is the type of directories");
     }
     let records = text_to_records(alloc, TEXT)?;
     let length = records.bytes.len() as u64;
-    if length >= 512 * 1_048_576 {
+    if length >= MAX_BYTES as u64 {
         bail!("the text is too long");
     }
     let file = NewFile {

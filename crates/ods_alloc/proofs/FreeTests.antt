@@ -1,9 +1,13 @@
 -- What passes the tests of free blocks and free numbers, and what does not.
-use Rattle.std.proofs.Common.{◌≡◌, ℕ, ◌<◌, ◌≤◌, true, false, nat_le, nat_lt, List, length, IsTrue}
+use Rattle.std.proofs.Common.{◌≡◌, ℕ, ◌^◌, ◌<◌, ◌≤◌, subst, true, false, nat_le, nat_lt, List, [], ◌∷◌, length, take, IsTrue, arith}
+use Rattle.std.specs.List.{Contains, range_with_len}
+use Rattle.std.proofs.lemmas.List.Elements.{All-contains, All-take, filter_passes}
 use Rattle.std.proofs.lemmas.Bool.{and_left, and_parts, and_right, leb-true, le-ltb, lt-leb, ltb-true, not-true}
 use Rattle.ods_header.specs.Header.{sequence_of}
 use Rattle.ods_space.specs.Layout.{VolumeLayout, header_at, last_number, is_in_use}
-use Rattle.ods_space.specs.Free.{is_free_block, is_free_number, is_open_number}
+use Rattle.ods_space.specs.Free.{free_blocks, is_free_block, is_free_number, is_open_number}
+use Rattle.ods_alloc.specs.Extend.{last_of}
+use Rattle.ods_alloc.proofs.Fields.{last_in}
 use Rattle.ods_alloc.specs.Scan.{NonePasses, is_clear}
 
 -- a free block is one of the image
@@ -12,6 +16,18 @@ free_inside I L lbn free = ltb-true lbn (length I) (and_parts (nat_lt lbn (lengt
 
 pub not_free_past : (I : List (List ℕ)) (L : VolumeLayout) (lbn : ℕ) → length I ≤ lbn → is_free_block I L lbn ≡ false
 not_free_past I L lbn past = and_left _ _ (le-ltb lbn (length I) past)
+
+-- the last of some lowest free blocks is one of the image
+pub lowest_few : (I : List (List ℕ)) (L : VolumeLayout) (blocks : List ℕ) → blocks ≡ take (length blocks) (free_blocks I L) → length I ≤ 2 ^ 20 → last_of 0 blocks < 2 ^ 20
+unfolding free_blocks
+lowest_few I L [] is few = omega arith
+lowest_few I L (x ∷ xs) is few =
+    let free : is_free_block I L (last_of x xs) ≡ true =
+    All-contains (λ y. is_free_block I L y ≡ true) (take (length (x ∷ xs)) (free_blocks I L)) (last_of x xs)
+    (All-take (λ y. is_free_block I L y ≡ true) (length (x ∷ xs)) (free_blocks I L) (filter_passes (is_free_block I L) (range_with_len 0 (length I))))
+    (subst (λ l. Contains l (last_of x xs)) is (last_in x xs)) in
+    let inside = free_inside I L (last_of x xs) free in
+    omega (arith, inside, few)
 
 -- what is known of a number that is open up to another one
 pub record IsOpenNumber (I : List (List ℕ)) (L : VolumeLayout) (most m : ℕ) : Type 0 where

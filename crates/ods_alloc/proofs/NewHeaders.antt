@@ -122,23 +122,6 @@ one_made I K d e L first segment numbers runs k lbn c places rises within inside
           ap (λ J. block_at J at) now ∙ put_other I d lbn c at other ∙ before.others at (λ p. gone (p.0, Contains-append_left (take k numbers) (x ∷ []) p.0 p.1, p.2));
     }
 
--- what a bounded part of the runs is
-pub piece_is : (rs : List Run) (at most from to : ℕ) → from ≡ min (length rs) at → to ≡ from + min most (length rs - from) → take (to - from) (drop from rs) ≡ take most (drop at rs)
-piece_is rs at most from to is end = elim (cases_lt at (length rs)) [
-  | inl inside ↦
-      let start : from ≡ at = omega arith in
-      let size : length (drop at rs) ≡ length rs - at = length-drop at rs in
-      elim (cases_lt most (length rs - at)) [
-        | inl few ↦ let count : to - from ≡ most = omega arith in ap (λ n. take n (drop from rs)) count ∙ ap (λ n. take most (drop n rs)) start
-        | inr many ↦ ap (λ n. take (to - from) (drop n rs)) start ∙ take_all (to - from) (drop at rs) (omega arith) ∙ sym (take_all most (drop at rs) (omega arith))
-      ]
-  | inr past ↦
-      let start : from ≡ length rs = omega arith in
-      let none : drop from rs ≡ [] = drop_all from rs (omega arith) in
-      let nothing : drop at rs ≡ [] = drop_all at rs past in
-      ap (take (to - from)) none ∙ take_all (to - from) [] (omega arith) ∙ sym (ap (take most) nothing ∙ take_all most [] (omega arith))
-]
-
 -- a header that is read through a draft
 pub header_read : (I : List (List ℕ)) (d : Changes) (L : VolumeLayout) (n lbn : ℕ) (b : List ℕ) → lbn < length I → place_of L n ≡ Some lbn → b ≡ seen_at I d lbn → b ≡ header_at (applied I d) L n
 header_read I d L n lbn b inside found is = is ∙ sym (ap (λ o. option_map_or (block_at (applied I d)) o []) found ∙ block_at-applied I d lbn inside)

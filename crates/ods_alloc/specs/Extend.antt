@@ -78,7 +78,7 @@ abbrev pub IsBookkeeping : VolumeLayout → List ℕ → ℕ → Type 0
 IsBookkeeping L numbers lbn = IsIndexBitmap L lbn ⊎ IsStorageBitmap L lbn ⊎ IsHeaderPlace L numbers lbn
 
 -- The bits of both bitmaps, as far as they cover blocks and numbers: these blocks are taken, or given back, and these numbers are used, or free.
-pub record TakesBits (I : List (List ℕ)) (L : VolumeLayout) (blocks numbers : List ℕ) (J : List (List ℕ)) : Type 0 where
+pub record AllocatesBits (I : List (List ℕ)) (L : VolumeLayout) (blocks numbers : List ℕ) (J : List (List ℕ)) : Type 0 where
   pub storage : (lbn : ℕ) → IsTrue (is_covered L lbn) → storage_bit J L lbn ≡ (storage_bit I L lbn && not (is_one_of blocks lbn))
   pub index_bits : (n : ℕ) → is_in_use J L.home n ≡ (is_in_use I L.home n || is_one_of numbers n)
 
@@ -113,7 +113,7 @@ pub record Extends (I : List (List ℕ)) (L : VolumeLayout) (n : ℕ) (others al
   -- where no new one follows, the last header names the volume that it named
   pub last_volume : numbers ≡ [] → next_volume_of (header_at J L (last_of n others)) ≡ next_volume_of (header_at I L (last_of n others))
   pub sequences : All (λ m. sequence_of (header_at J L m) ≡ sequence_of (header_at I L m) + 1) numbers
-  pub bits : TakesBits I L blocks (n ∷ numbers) J
+  pub bits : AllocatesBits I L blocks (n ∷ numbers) J
   pub only : ChangesOnly I L (n ∷ others ++ numbers) J
 
 -- n has the chain of these headers behind its first, and of these blocks, once its index bit is set

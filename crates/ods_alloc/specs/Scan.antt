@@ -1,7 +1,8 @@
 -- How bitmaps are scanned: by words of 64 bits, from a number to the least one that passes a test.
-use Rattle.std.specs.Prelude.{◌≡◌, ℕ, ◌<◌, ◌≤◌, Bool, true, false, not, List}
+use Rattle.std.specs.Prelude.{◌≡◌, ℕ, ◌+◌, ◌<◌, ◌≤◌, Bool, true, false, not, List, [], ◌∷◌}
 use Rattle.ods_header.specs.declared.home.Home.{Home}
 use Rattle.ods_space.specs.Layout.{is_in_use}
+use Rattle.ods_alloc.specs.Extend.{last_of}
 
 -- no number from a on and below b passes
 abbrev pub NonePasses : (ℕ → Bool) → ℕ → ℕ → Type 0
@@ -20,3 +21,8 @@ is_clear I h n = not (is_in_use I h n)
 -- no number from a on passes
 abbrev pub NoneIsNext : (ℕ → Bool) → ℕ → Type 0
 NoneIsNext test a = (k : ℕ) → a ≤ k → test k ≡ false
+
+-- where a scan goes on that has found these: behind the last of them, or at 0
+abbrev pub start_behind : List ℕ → ℕ
+start_behind [] = 0
+start_behind (x ∷ xs) = last_of x xs + 1

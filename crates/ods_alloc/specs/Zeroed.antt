@@ -5,7 +5,7 @@ use Rattle.ods_base.specs.Block.{zeros}
 use Rattle.ods_base.specs.Image.{block_at}
 use Rattle.ods_header.specs.Pointing.{IsWithRuns}
 use Rattle.ods_space.specs.Layout.{VolumeLayout, header_at}
-use Rattle.ods_alloc.specs.Extend.{IsHeaderPlace, IsStorageBitmap, TakesBits, cut}
+use Rattle.ods_alloc.specs.Extend.{IsHeaderPlace, IsStorageBitmap, AllocatesBits, cut}
 
 -- J is I with zeros at these of its blocks, and no other block changes
 pub record IsZeroed (I : List (List ℕ)) (blocks : List ℕ) (J : List (List ℕ)) : Type 0 where
@@ -18,5 +18,5 @@ pub record AppendsBlocks (I : List (List ℕ)) (L : VolumeLayout) (end : ℕ) (b
   pub size : length K ≡ length I
   pub zeroed : All (λ lbn. block_at K lbn ≡ zeros) blocks
   pub last : IsWithRuns (header_at I L end) (cut blocks) (header_at K L end)
-  pub bits : TakesBits I L blocks [] K
+  pub bits : AllocatesBits I L blocks [] K
   pub others : (lbn : ℕ) → ¬ IsStorageBitmap L lbn → ¬ IsHeaderPlace L (end ∷ []) lbn → ¬ Contains blocks lbn → block_at K lbn ≡ block_at I lbn

@@ -1,7 +1,7 @@
 //! Free blocks: how many there are, and the lowest of them, picked for a file that grows. A stretch of 64 is one step.
-ghost use Rattle.std.specs.Prelude.{◌≡◌, ◌^◌, ◌<◌, ◌≤◌, length, take, IfOk, IfErr, IfSome, IfNone};
+ghost use Rattle.std.specs.Prelude.{◌≡◌, ◌+◌, ◌^◌, ◌<◌, ◌≤◌, length, drop, take, IfOk, IfErr, IfSome, IfNone};
 ghost use Rattle.ods_space.specs.{Files.IsLayoutOf, Free.is_free_block, Free.free_blocks};
-ghost use Rattle.ods_alloc.specs.{Scan.IsNext, Scan.NoneIsNext, Faults.IsShort, Counts.ShowsNone, Counts.free_in, Counts.counts_of};
+ghost use Rattle.ods_alloc.specs.{Extend.last_of, Scan.IsNext, Scan.NoneIsNext, Scan.start_behind, Faults.IsShort, Counts.ShowsNone, Counts.free_in, Counts.counts_of};
 ghost use Rattle.ods_space.specs.Disks.{on, seen};
 
 use crate::words::{first_in, free_word, has_none, later_word};
@@ -42,6 +42,18 @@ fn next_free(disk: &Disk<'_>, counts: &[u32], from: u32) -> Option<u32>
     None
 }
 
+/// The LBN behind the last of these blocks, or 0 where there is none.
+fn start_behind(blocks: &[u32]) -> u32
+    requires { last_of 0 blocks.now < 2 ^ 20 }
+    ensures { result ≡ start_behind blocks.now }
+{
+    let count = blocks.len();
+    if count == 0 {
+        return 0;
+    }
+    blocks[count - 1] + 1
+}
+
 /// The lowest free blocks, ascending. The refusal is VolumeFull where fewer blocks are free, and otherwise NoMemory.
 pub fn pick_blocks(
     alloc: Global,
@@ -54,11 +66,32 @@ pub fn pick_blocks(
     ensures ok { IfOk result (λ blocks. (blocks.items ≡ take count (seen free_blocks disk.now)) × (count ≤ length (seen free_blocks disk.now))) }
     ensures err { IfErr result (IsShort SpaceFault.VolumeFull (length (seen free_blocks disk.now)) count) }
 {
-    if counts.total() < count {
+    pick_blocks_behind(alloc, disk, counts, &[], count)
+}
+
+/// The lowest free blocks behind these, which are the lowest themselves, ascending. The search goes on behind the last of them. The
+/// refusal is VolumeFull where fewer blocks are free, and otherwise NoMemory.
+pub fn pick_blocks_behind(
+    alloc: Global,
+    disk: &Disk<'_>,
+    counts: &FreeCounts,
+    lowest: &[u32],
+    count: u32,
+) -> Result<Vec<u32>, SpaceFault>
+    requires layout { on IsLayoutOf disk.now }
+    requires counts { counts.now ≡ seen counts_of disk.now }
+    requires lowest { lowest.now ≡ take (length lowest.now) (seen free_blocks disk.now) }
+    ensures ok { IfOk result (λ blocks. (blocks.items ≡ take count (drop (length lowest.now) (seen free_blocks disk.now)))
+        × (length lowest.now + count ≤ length (seen free_blocks disk.now))) }
+    ensures err { IfErr result (IsShort SpaceFault.VolumeFull (length (seen free_blocks disk.now)) (length lowest.now + count)) }
+{
+    if (counts.total() as usize) < lowest.len() + count as usize {
         return Err(SpaceFault::VolumeFull);
     }
+    // An image has at most 2 ^ 20 blocks.
+    let _ = disk.image.len();
     let mut blocks = Vec::new(alloc);
-    let mut from = 0;
+    let mut from = start_behind(lowest);
     for _k in 0..count {
         let Some(lbn) = next_free(disk, counts.as_slice(), from) else {
             return Err(SpaceFault::VolumeFull);

@@ -8,25 +8,26 @@ ghost use Rattle.ods_alloc.specs.{Ends.IsHeaderAt, Extend.IsWellPlaced, Extend.c
 ghost use Rattle.ods_space.specs.Disks.{on};
 
 use crate::bitmap::mark_blocks;
-use crate::runs::runs_of_blocks;
 use crate::zero::zero_runs;
 use ods_base::Block;
-use ods_header::append_runs;
+use ods_header::{Run, append_runs};
 use ods_space::{Disk, Draft};
 use std::alloc::{AllocError, Global};
 
-/// The draft by which INDEXF.SYS gets these blocks behind its own: they become zeros and are marked as taken, and its last
-/// header, which is this one, gets pointers to them. No other block changes. The refusal is for want of memory alone.
+/// The draft by which INDEXF.SYS gets these blocks, whose runs these are, behind its own: they become zeros and are marked as taken, and
+/// its last header, which is this one, gets pointers to them. No other block changes. The refusal is for want of memory alone.
 pub fn grow_index(
     alloc: Global,
     disk: &Disk<'_>,
     end: u16,
     last: &Block,
     blocks: &[u32],
+    runs: &[Run],
 ) -> Result<Draft, AllocError>
     requires layout { on IsLayoutOf disk.now }
     requires places { IsWellPlaced disk.now.layout.now }
     requires last { on IsHeaderAt disk.now end last.now }
+    requires runs { runs.now ≡ cut blocks.now }
     requires room { length (cut blocks.now) ≤ room_of last.now / 2 }
     requires inside { All (λ b. b < length disk.now.image.now) blocks.now }
     requires apart { (b : ℕ) → Contains blocks.now b → ¬ Contains disk.now.layout.now.index b × ¬ Contains disk.now.layout.now.bitmap b }
@@ -36,12 +37,10 @@ pub fn grow_index(
 {
     // An image has fewer blocks than a pointer can say.
     let _ = disk.image.len();
-    let runs = runs_of_blocks(alloc, blocks)?;
     let mut draft = Draft::new(alloc);
-    let all = runs.as_slice();
-    zero_runs(all, &mut draft)?;
+    zero_runs(runs, &mut draft)?;
     let place = disk.layout.place(end).unwrap();
-    draft.set(place, append_runs(last, all))?;
+    draft.set(place, append_runs(last, runs))?;
     mark_blocks(disk, blocks, false, &mut draft)?;
     draft.makes_image(disk.image);
     Ok(draft)

@@ -121,7 +121,7 @@ pub fn pick_open_numbers(
 }
 
 /// The greatest number for which INDEXF.SYS may ever have a header.
-fn greatest_number(layout: &Layout) -> u16
+pub fn greatest_number(layout: &Layout) -> u16
     ensures { result ≡ greatest_of layout.now.home }
 {
     let home = layout.home();

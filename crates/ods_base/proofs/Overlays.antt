@@ -67,10 +67,6 @@ index-push [] (suc k) = refl
 index-push (x ∷ xs) zero = refl
 index-push (x ∷ xs) (suc k) = index-push xs k
 
--- the seats go on
-pub reached_none : (size : ℕ) (P : List ℕ) → HasReached size P P
-reached_none size P = record { few = λ n enough few. few; count = refl; same = λ k. refl }
-
 pub reached_more : (size : ℕ) (P Q : List ℕ) → length Q < size → HasReached size P Q → HasReached size P (Q ++ 0 ∷ [])
 reached_more size P Q room reached = record {
   few = λ n enough few. let more = length_push Q 0 in omega arith;

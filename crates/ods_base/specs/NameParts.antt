@@ -1,13 +1,7 @@
 -- How the text of a name falls apart, and what its parts spell.
-use Rattle.std.specs.Prelude.{◌≡◌, ◌≢◌, ℕ, ◌<◌, ◌≤◌, List, ◌∷◌, ◌++◌, length, slice_index}
+use Rattle.std.specs.Prelude.{◌≡◌, ◌≢◌, ℕ, ◌<◌, List, ◌∷◌, ◌++◌, length, slice_index}
 use Rattle.std.specs.List.{All}
 use Rattle.ods_base.specs.Name.{part_text}
-
--- the place n is that of the first c, or the end where there is none
-pub record IsPlace (c : ℕ) (xs : List ℕ) (n : ℕ) : Type 0 where
-  pub within : n ≤ length xs
-  pub before : (k : ℕ) → k < n → slice_index xs k ≢ c
-  pub found : n < length xs → slice_index xs n ≡ c
 
 -- A text falls into the name, the type, and what stands behind the type: the first `.` ends the name, and the first `;` behind it the type.
 pub record FallsInto (text name ext behind : List ℕ) : Type 0 where

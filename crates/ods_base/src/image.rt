@@ -36,8 +36,14 @@ impl Model for Image {
     ghost invariant = { λ i. IsImage (blocks_of i.kept) };
 }
 
-/// The bytes of the largest image: 1,048,576 blocks.
+/// The blocks of the largest image.
+pub const MAX_BLOCKS: u32 = 1_048_576;
+
+/// The bytes of the largest image.
 pub const MAX_BYTES: usize = 536_870_912;
+
+/// How many bytes are asked for in one read, and handed to one write: an image of a floppy is some 4 calls of the system then.
+pub const PIECE: usize = 65_536;
 
 impl Image {
     /// The image of these bytes. Too many bytes are found before a last block that is not whole. Bytes that are whole

@@ -2,13 +2,13 @@
 ghost use Rattle.std.specs.Prelude.{◌≡◌, ◌<◌, ◌≤◌, ℕ, List, length, IfOk, IsOkAnd};
 ghost use Rattle.std.specs.Fmt.{decimal};
 ghost use Rattle.std.specs.List.{All};
-ghost use Rattle.ods_base.specs.{Name.RadName, Name.Spells, Name.IsVersionText, Name.rad50_char, Name.rad50_codes, NameParts.FallsInto, NameParts.IsPart, NameParts.IsPlace, declared.name.Pick.Pick};
+ghost use Rattle.ods_base.specs.{Name.RadName, Name.Spells, Name.IsVersionText, Name.rad50_char, Name.rad50_codes, NameParts.FallsInto, NameParts.IsPart, declared.name.Pick.Pick};
 
 use crate::{Name, NameFault, Pick};
-use std::str;
+use ods_text::{place_of, read_small};
 
-/// The highest version that there is.
-const LAST_VERSION: u16 = 32_767;
+/// The highest version that a file has.
+pub const LAST_VERSION: u16 = 32_767;
 
 /// The name that a text spells, as `A.TXT;1`, and the version that it picks: the one given, the
 /// lowest by `;-1`, the highest by `;0` or where there is none. A `NameFault` where the text is no name.
@@ -40,13 +40,6 @@ fn split(text: &[u8]) -> Result<(&[u8], &[u8], &[u8]), NameFault>
     let rest = &text[dot + 1..];
     let end = place_of(b';', rest);
     Ok((&text[..dot], &rest[..end], &rest[end..]))
-}
-
-/// The place of the first `byte`, or the length where there is none.
-pub fn place_of(byte: u8, bytes: &[u8]) -> usize
-    ensures { IsPlace byte bytes.now result }
-{
-    bytes.iter().position(|b| *b == byte).unwrap_or(bytes.len())
 }
 
 /// The codes of a part, the name or the type, with spaces behind those of its characters.
@@ -108,14 +101,8 @@ fn parse_number(digits: &[u8]) -> Result<u16, NameFault>
     ensures ok { IfOk result (λ version. (1 ≤ version) × (version ≤ 32767) × (digits.now ≡ decimal version)) }
     ensures only { (version : ℕ) → 1 ≤ version → version ≤ 32767 → digits.now ≡ decimal version → result ≡ Ok version }
 {
-    let [b'1'..=b'9', ..] = digits else {
-        return Err(NameFault);
-    };
-    let Ok(text) = str::from_utf8(digits) else {
-        return Err(NameFault);
-    };
-    match text.parse::<u16>() {
-        Ok(version) if version <= LAST_VERSION => Ok(version),
+    match read_small(digits) {
+        Some(version) if 1 <= version && version <= LAST_VERSION => Ok(version),
         _ => Err(NameFault),
     }
 }

@@ -4,13 +4,10 @@ ghost use Rattle.std.specs.List.{All};
 ghost use Rattle.std.specs.Io.KnownBytes.{Consumes, IsAtEnd, Keeps};
 ghost use Rattle.ods_base.specs.{Block.IsBlock, Image.IsImage, Image.IsNoReading, Image.ReadsBehind, Image.image_bytes};
 
-use crate::image::MAX_BYTES;
+use crate::image::{MAX_BYTES, PIECE};
 use crate::{Block, Image, ImageError};
 use std::alloc::{AllocError, Global};
 use std::io::Read;
-
-/// How many bytes are asked for in one read.
-const PIECE: usize = 65_536;
 
 impl Image {
     /// The image of all that the reader gives: at most 536,870,913 bytes are taken from it. A read of
@@ -21,7 +18,7 @@ impl Image {
             × MatchResult result (λ image. IsImage image × (image_bytes image ≡ bytes) × IsAtEnd (R.remaining reader.new))
             (IsNoReading bytes (R.remaining reader.new)) }
     {
-        let mut piece = zeroed(alloc, PIECE)?;
+        let mut piece = zeroed_bytes(alloc, PIECE)?;
         let mut blocks = Vec::new(alloc);
         read_blocks(reader, &mut piece, &mut blocks)?;
         Ok(Image::alone(blocks))
@@ -82,7 +79,7 @@ fn read_once<R: Read>(
 }
 
 /// This many bytes to read into.
-fn zeroed(alloc: Global, count: usize) -> Result<Vec<u8>, AllocError>
+fn zeroed_bytes(alloc: Global, count: usize) -> Result<Vec<u8>, AllocError>
     ensures { IfOk result (λ bytes. vec_len bytes ≡ count) }
 {
     vec![in alloc; 0; count]

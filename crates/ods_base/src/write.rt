@@ -3,12 +3,10 @@ ghost use Rattle.std.specs.Prelude.{◌≡◌, ◌+◌, ◌^◌, ◌<◌, ◌≤
 ghost use Rattle.std.specs.Io.KnownBytes.{Appends};
 ghost use Rattle.ods_base.specs.Image.{image_bytes, TookBytes};
 
+use crate::image::PIECE;
 use crate::{Block, Image, WriteFault};
 use arrayvec::ArrayVec;
 use std::io::Write;
-
-/// How many bytes are handed to one write.
-const PIECE: usize = 65_536;
 
 impl Image {
     /// Writes the bytes of all blocks, in order, by its own loop over `write`. A write of 0 bytes is one
@@ -39,8 +37,9 @@ fn hold_back(piece: &mut ArrayVec<u8, PIECE>, block: &Block)
     let _ = piece.try_extend_from_slice(block.bytes());
 }
 
-/// Writes a piece, where `before` bytes went out already, and says how many have then.
-fn write_piece<W: Write>(writer: &mut W, piece: &[u8], before: u64) -> Result<u64, WriteFault>
+/// Writes all of a piece, as [`write_bytes`] does, where `before` bytes went out already, and says how many have then. A fault counts those before
+/// too.
+pub fn write_piece<W: Write>(writer: &mut W, piece: &[u8], before: u64) -> Result<u64, WriteFault>
     requires { before + length piece.now < 2 ^ 64 }
     ensures ok { IfOk result (λ after. (after ≡ before + length piece.now)
         × Appends (W.contents writer.old) (W.contents writer.new) piece.now) }

@@ -1,12 +1,14 @@
 -- The volume with which a request goes on is as good as the volume: the request wants the same of it, and a step of it is a step of the volume.
-use Rattle.std.proofs.Common.{◌≡◌, ◌≢◌, ℕ, ◌≤◌, refl, ap, sym, ◌∙◌, subst, List, [], length, None, arith, inl, inr}
+use Rattle.std.proofs.Common.{◌≡◌, ◌≢◌, ℕ, ◌+◌, ◌≤◌, refl, ap, sym, ◌∙◌, subst, List, [], length, drop, take, None, arith, inl, inr}
 use Rattle.std.specs.Prelude.{◌⊎◌}
 use Rattle.std.specs.List.{Contains}
+use Rattle.std.proofs.lemmas.List.{length-drop, length-take}
 use Rattle.ods_base.specs.Image.{IsImage}
 use Rattle.ods_base.specs.declared.file_id.Uic.{Uic}
 use Rattle.ods_header.specs.Header.{sequence_of}
-use Rattle.ods_space.specs.Layout.{VolumeLayout, header_at, with_places}
+use Rattle.ods_space.specs.Layout.{VolumeLayout, greatest_number, header_at, last_number, with_places}
 use Rattle.ods_space.specs.Files.{IsFile}
+use Rattle.ods_space.specs.Free.{free_blocks}
 use Rattle.ods_mount.specs.Faults.{contents_of}
 use Rattle.ods_mount.specs.Sound.{IsSoundBy}
 use Rattle.ods_request.specs.declared.requests.Request.{Request}
@@ -15,16 +17,17 @@ use Rattle.ods_request.specs.Catalogue.{Catalogue}
 use Rattle.ods_state.specs.Contents.{ShowsBy}
 use Rattle.ods_state.specs.IndexGrowth.{CanGrowIndex, GrowsIndex, IsGrownFor, IsNoMap, WantsTheSame}
 use Rattle.ods_state.specs.Served.{IsStepOf}
-use Rattle.ods_state.specs.Wants.{HasHeaders, Wants, index_blocks, index_growth, lack_of, taken_numbers}
+use Rattle.ods_state.specs.Wants.{HasHeaders, Wants, index_blocks, index_growth, lack_of, allocated_numbers}
 use Rattle.ods_state.proofs.GrownMoves.{no_places}
-use Rattle.ods_state.proofs.GrowthTakes.{is_enough}
+use Rattle.ods_state.proofs.GrowthAllocates.{is_enough}
 use Rattle.ods_state.proofs.IndexGrown as index_grown
 use Rattle.ods_state.proofs.IndexGrown.{is_longer, longer}
 use Rattle.ods_state.proofs.IndexSound as index_sound
-use Rattle.ods_state.proofs.IndexTakes as takes
-use Rattle.ods_state.proofs.IndexTakes.{HadThese, can_grow, so_many_places}
+use Rattle.ods_state.proofs.IndexAllocates as takes
+use Rattle.ods_state.proofs.IndexAllocates.{HadThese, can_grow, so_many_places}
 use Rattle.ods_state.proofs.StepBehind as behind
 use Rattle.ods_change.specs.Beginning.{IsBegun}
+use Rattle.ods_change.specs.Taking.{HasPlaces}
 
 -- What a request wants that lacks nothing, and these are the blocks that INDEXF.SYS gets for it.
 pub record IsAsked (I : List (List ℕ)) (L : VolumeLayout) (r : Request) (headers old : List ℕ) (count : ℕ) (places : List ℕ) : Type 0 where
@@ -48,17 +51,27 @@ pub record IsKept (I : List (List ℕ)) (L : VolumeLayout) (headers old : List �
   pub has : (n : ℕ) → 3 ≤ n → HasHeaders I L n headers old → HasHeaders K M n headers old
   pub contents : (n : ℕ) → 3 ≤ n → HasHeaders I L n headers old → contents_of K old ≡ contents_of I old
 
--- what INDEXF.SYS can grow by
-pub can_begin : {I : List (List ℕ)} {L : VolumeLayout} (headers : List ℕ) (count : ℕ) {places : List ℕ} → IsSoundBy I L → lack_of I L headers count ≡ None → places ≡ index_blocks I L headers count
+-- INDEXF.SYS can grow by such blocks, as far as it may have so many
+pub can_grow_by : {I : List (List ℕ)} {L : VolumeLayout} (count growth : ℕ) {places : List ℕ} → IsSoundBy I L → HasPlaces I L count growth places → last_number L + growth ≤ greatest_number L.home
     → CanGrowIndex I L places
-can_begin {I = I} {L = L} headers count S enough are = subst (CanGrowIndex I L) (sym are) (can_grow I L S headers count enough)
+can_grow_by {I = I} {L = L} count growth {places = places} S has most =
+    let behind : List ℕ = drop count (free_blocks I L) in
+    let enough = has.enough in
+    let size = S.index_bitmap_size in
+    let long : length places ≡ growth = omega (arith, enough, ap length has.are, length-take growth behind, length-drop count (free_blocks I L)) in
+    record {
+      before = count;
+      free = has.are ∙ ap (λ k. take k behind) (sym long);
+      fits = omega (arith, long, most, size);
+      room = has.room;
+    }
 
 module _ {I : List (List ℕ)} {L : VolumeLayout} {r : Request} {headers old : List ℕ} {count : ℕ} {places : List ℕ} (q : IsAsked I L r headers old count places) where
   abbrev X : List ℕ
   X = index_blocks I L headers count
 
   -- where INDEXF.SYS gets no block
-  still : X ≡ [] → index_growth L (taken_numbers I L headers count) ≡ 0
+  still : X ≡ [] → index_growth L (allocated_numbers I L headers count) ≡ 0
   still none = sym (so_many_places I L headers count (is_enough I L headers count q.enough)) ∙ ap length none
 
   kept_same : X ≡ [] → IsKept I L headers old count I L

@@ -16,20 +16,20 @@ use Rattle.ods_request.specs.Faults.{first_of, on_file}
 use Rattle.ods_request.specs.declared.requests.Request.TheVariants.{Enter}
 use Rattle.ods_request.specs.declared.rights.Right.TheVariants as right
 use Rattle.ods_state.specs.Contents.{file_of}
-use Rattle.ods_state.specs.Wants.{HasHeaders, index_blocks, index_growth, lack_of, taken_blocks, taken_numbers}
+use Rattle.ods_state.specs.Wants.{HasHeaders, index_blocks, index_growth, lack_of, allocated_blocks, allocated_numbers}
 use Rattle.ods_state.proofs.Chains.{first_in}
 use Rattle.ods_look.specs.Opening.{IsDirectoryAt, IsOpenDirectory, Rows, file_shown}
 use Rattle.ods_change.specs.declared.entry.NewEntry.{NewEntry}
-use Rattle.ods_change.specs.Entering.{IsEntryFor, IsTakenFor}
+use Rattle.ods_change.specs.Entering.{IsEntryFor, IsAllocatedFor}
 use Rattle.ods_change.proofs.Begun.{IsAsked, IsKept}
 use Rattle.ods_change.proofs.GrowingChain.{has_headers}
 use Rattle.ods_change.proofs.GrowingDirectory.{wants}
 
 -- what the directory takes it takes still, whatever its headers are said to be
 pub taken_then : {I : List (List ℕ)} {L : VolumeLayout} {headers old : List ℕ} {K : List (List ℕ)} {M : VolumeLayout} (k : IsKept I L headers old 1 K M) {n : ℕ} {blocks numbers : List ℕ}
-    → HasHeaders K M n headers old → blocks ≡ taken_blocks I L 1 → numbers ≡ taken_numbers I L headers 1 → IsTakenFor K M n blocks numbers
+    → HasHeaders K M n headers old → blocks ≡ allocated_blocks I L 1 → numbers ≡ allocated_numbers I L headers 1 → IsAllocatedFor K M n blocks numbers
 taken_then {I = I} {L = L} {headers = headers} {old = old} {K = K} {M = M} k {n = n} {blocks = blocks} {numbers = numbers} has b ns hs bs other =
-    subst (λ l. (blocks ≡ taken_blocks K M 1) × (numbers ≡ taken_numbers K M l 1) × (lack_of K M l 1 ≡ None) × (index_growth M (taken_numbers K M l 1) ≡ 0)) same
+    subst (λ l. (blocks ≡ allocated_blocks K M 1) × (numbers ≡ allocated_numbers K M l 1) × (lack_of K M l 1 ≡ None) × (index_growth M (allocated_numbers K M l 1) ≡ 0)) same
     (b ∙ sym k.wants.blocks, ns ∙ sym k.wants.numbers, k.wants.enough, k.wants.no_growth)
   where
     same : headers ≡ hs

@@ -29,7 +29,7 @@ use Rattle.ods_state.specs.Made.{AreMade, AreZeroed}
 use Rattle.ods_state.specs.Moves.{new_attributes}
 use Rattle.ods_state.specs.Served.{IsRefusalOf, IsShortOf, IsStepOf}
 use Rattle.ods_state.specs.Version.{PastIsSpent}
-use Rattle.ods_state.specs.Wants.{lack_of, taken_blocks, taken_numbers}
+use Rattle.ods_state.specs.Wants.{lack_of, allocated_blocks, allocated_numbers}
 use Rattle.ods_state.specs.Growth.{IsGrowth, IsTaking}
 use Rattle.ods_state.proofs.GrowthMade as growth
 use Rattle.ods_state.proofs.GrownContents.{grown_file, new_contents, so_many_blocks}
@@ -61,7 +61,7 @@ module _ (I : List (List ℕ)) (L : VolumeLayout) (who : Uic) (name : RadName) (
 -- ---- the step
 
 module _ {I J : List (List ℕ)} {L : VolumeLayout} (S : IsSoundBy I L) (who : Uic) (name : RadName) (three : length name.words ≡ 3) (version count : ℕ) (few : count ≤ 65535) (stamp : List ℕ)
-    (n : ℕ) (high : 6 ≤ n) (word : n ≤ 65535) (first : slice_get (taken_numbers I L [] 0) 0 ≡ Some n) (numbers : List ℕ) (t : IsTaking I L n [] [] count numbers)
+    (n : ℕ) (high : 6 ≤ n) (word : n ≤ 65535) (first : slice_get (allocated_numbers I L [] 0) 0 ≡ Some n) (numbers : List ℕ) (t : IsTaking I L n [] [] count numbers)
     (b : List ℕ) (h : IsNewHeaderFor who L.home.protection (new_id I L n) name version count stamp b) (m : IsMadeFile I L n b count numbers J) where
   abbrev K : List (List ℕ)
   K = m.ready
@@ -70,7 +70,7 @@ module _ {I J : List (List ℕ)} {L : VolumeLayout} (S : IsSoundBy I L) (who : U
   id = new_id I L n
 
   abbrev blocks : List ℕ
-  blocks = taken_blocks I L count
+  blocks = allocated_blocks I L count
 
   abbrev c : List ℕ
   c = header_at J L n
@@ -78,7 +78,7 @@ module _ {I J : List (List ℕ)} {L : VolumeLayout} (S : IsSoundBy I L) (who : U
   g : IsGrowth I J L n [] [] count numbers
   g = growth.grows I K J L S n [] [] count numbers t m.is_ready m.extended
 
-  made : AreMade (disk I L) (disk J L) [] (taken_numbers I L [] count)
+  made : AreMade (disk I L) (disk J L) [] (allocated_numbers I L [] count)
   made = growth.made I K J L S n [] [] count numbers t m.is_ready m.extended
 
   -- the header that has grown says of the file what was written

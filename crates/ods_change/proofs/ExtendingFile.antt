@@ -23,7 +23,7 @@ use Rattle.ods_request.specs.Steps.{after, answer_of, file_at, grown, no_file, z
 use Rattle.ods_state.specs.Change.{disk}
 use Rattle.ods_state.specs.Contents.{body_of, file_of, ShowsBy}
 use Rattle.ods_state.specs.Served.{IsRefusalOf, IsShortOf, IsStepOf}
-use Rattle.ods_state.specs.Wants.{HasHeaders, Lacks, lack_of, taken_blocks}
+use Rattle.ods_state.specs.Wants.{HasHeaders, Lacks, lack_of, allocated_blocks}
 use Rattle.ods_state.proofs.GrownContents.{grown_contents, grown_file}
 use Rattle.ods_state.proofs.GrownMoves.{grown_taken, grown_touches, sequences_rise}
 use Rattle.ods_state.proofs.GrownShown.{grown_is_put}
@@ -90,7 +90,7 @@ module _ {I : List (List ℕ)} {L : VolumeLayout} (S : IsSoundBy I L) {who : Uic
     unfolding after
     extend_is_shown C shown = grown_is_put S g.grown id refl o.file.0 o.file.1 C (grown (file_at C id) count) shown
         (grown_file S g.grown id (grown (file_at C id) count) refl (g.first.sequence ∙ o.file.1)
-        (file_grown n (header_at I L n) (header_at J L n) (contents_of I old) (contents_of J (old ++ taken_blocks I L count)) count above o.kind g.first (grown_contents S g.grown g.zeroed)
+        (file_grown n (header_at I L n) (header_at J L n) (contents_of I old) (contents_of J (old ++ allocated_blocks I L count)) count above o.kind g.first (grown_contents S g.grown g.zeroed)
         ∙ ap (λ f. grown f count) (sym (there C shown))))
 
     -- the Extend that is not refused is made by that

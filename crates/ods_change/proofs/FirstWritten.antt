@@ -11,23 +11,23 @@ use Rattle.ods_alloc.proofs.FreeTests.{IsFreeNumber, free_inside, free_number}
 use Rattle.ods_alloc.proofs.NewHeaders.{free_has_place}
 use Rattle.ods_alloc.proofs.Places.{place_in_index, place_inside}
 use Rattle.ods_mount.specs.Sound.{IsSoundBy}
-use Rattle.ods_state.specs.Wants.{taken_blocks}
+use Rattle.ods_state.specs.Wants.{allocated_blocks}
 use Rattle.ods_state.specs.Growth.{IsFirstFor, IsReady, IsTaking}
 use Rattle.ods_state.proofs.Bookkeeping.{well_placed}
-use Rattle.ods_state.proofs.GrowthReady.{taken_not_index}
-use Rattle.ods_state.proofs.OpenNumbers.{taken_number_is_free}
-use Rattle.ods_state.proofs.Taken.{taken_block_is_free}
+use Rattle.ods_state.proofs.GrowthReady.{allocated_not_index}
+use Rattle.ods_state.proofs.OpenNumbers.{allocated_number_is_free}
+use Rattle.ods_state.proofs.Taken.{allocated_block_is_free}
 
 -- a taken block is one of the volume's
-pub taken_inside : (I : List (List ℕ)) (L : VolumeLayout) (count y : ℕ) → Contains (taken_blocks I L count) y → y < length I
-taken_inside I L count y c = free_inside I L y (taken_block_is_free I L count y c)
+pub taken_inside : (I : List (List ℕ)) (L : VolumeLayout) (count y : ℕ) → Contains (allocated_blocks I L count) y → y < length I
+taken_inside I L count y c = free_inside I L y (allocated_block_is_free I L count y c)
 
 -- Z is I but for the taken blocks, and K is Z with c as header n, whose place is x
 pub record IsWritten (I Z K : List (List ℕ)) (L : VolumeLayout) (n x count : ℕ) (c : List ℕ) : Type 0 where
   pub sound : IsSoundBy I L
   pub place : place_of L n ≡ Some x
   pub long : length Z ≡ length I
-  pub elsewhere : (y : ℕ) → ¬ Contains (taken_blocks I L count) y → block_at Z y ≡ block_at I y
+  pub elsewhere : (y : ℕ) → ¬ Contains (allocated_blocks I L count) y → block_at Z y ≡ block_at I y
   pub is : K ≡ slice_set Z x c
 
 module _ {I Z K : List (List ℕ)} {L : VolumeLayout} {n x count : ℕ} {c : List ℕ} (w : IsWritten I Z K L n x count c) where
@@ -35,8 +35,8 @@ module _ {I Z K : List (List ℕ)} {L : VolumeLayout} {n x count : ℕ} {c : Lis
   inside = place_inside (length I) L n x (record { index = w.sound.layout.index.whole.inside; bitmap = w.sound.layout.bitmap.whole.inside; places = well_placed I L w.sound }) w.place
 
   -- the header stands in none of the blocks that are taken
-  apart : (y : ℕ) → Contains (taken_blocks I L count) y → y ≢ x
-  apart y own e = taken_not_index I L w.sound count y (1 + L.home.index_bitmap_size + n) own ((place_in_index L n x (well_placed I L w.sound) w.place).1 ∙ ap Some (sym e))
+  apart : (y : ℕ) → Contains (allocated_blocks I L count) y → y ≢ x
+  apart y own e = allocated_not_index I L w.sound count y (1 + L.home.index_bitmap_size + n) own ((place_in_index L n x (well_placed I L w.sound) w.place).1 ∙ ap Some (sym e))
 
   beside : (y : ℕ) → y ≢ x → block_at K y ≡ block_at Z y
   beside y ne = ap (λ J. block_at J y) w.is ∙ get_or-set_other Z x y c [] ne
@@ -46,7 +46,7 @@ module _ {I Z K : List (List ℕ)} {L : VolumeLayout} {n x count : ℕ} {c : Lis
       let long = w.long in let low = inside in
       ap (λ o. option_map_or (block_at K) o []) w.place ∙ ap (λ J. block_at J x) w.is ∙ get_or-set_same Z x c [] (omega arith)
 
-  pub taken_written : (y : ℕ) → Contains (taken_blocks I L count) y → block_at K y ≡ block_at Z y
+  pub taken_written : (y : ℕ) → Contains (allocated_blocks I L count) y → block_at K y ≡ block_at Z y
   taken_written y own = beside y (apart y own)
 
   pub is_ready : (headers : List ℕ) → IsFirstFor headers (header_at I L n) c n → IsReady I K L n headers count
@@ -61,7 +61,7 @@ pub first_place : (I : List (List ℕ)) (L : VolumeLayout) (n count : ℕ) (numb
 first_place I L n count numbers t = by (place_of L n) refl
   where
     free : IsFreeNumber I L n
-    free = free_number I L n (taken_number_is_free I L [] count n t.no_growth (subst (λ xs. Contains xs n) t.all (0, omega arith, refl)))
+    free = free_number I L n (allocated_number_is_free I L [] count n t.no_growth (subst (λ xs. Contains xs n) t.all (0, omega arith, refl)))
 
     by : (o : Option ℕ) → place_of L n ≡ o → is_some o ≡ true
     by (Some x) e = refl

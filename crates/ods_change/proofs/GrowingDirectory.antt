@@ -33,7 +33,7 @@ use Rattle.ods_request.specs.Steps.{after, put, file_at, no_file, with_body}
 use Rattle.ods_state.specs.Contents.{body_of, file_of, ShowsBy}
 use Rattle.ods_state.specs.Change.{disk}
 use Rattle.ods_state.specs.Served.{IsRefusalOf, IsShortOf, IsStepOf}
-use Rattle.ods_state.specs.Wants.{Lacks, Wants, index_growth, lack_for, lack_of, room_in, taken_blocks, taken_numbers}
+use Rattle.ods_state.specs.Wants.{Lacks, Wants, index_growth, lack_for, lack_of, room_in, allocated_blocks, allocated_numbers}
 use Rattle.ods_state.proofs.Grown.{own_blocks, own_contents}
 use Rattle.ods_state.proofs.GrownMoves.{grown_taken, grown_touches, sequences_rise}
 use Rattle.ods_state.proofs.GrownShown.{grown_is_put}
@@ -43,13 +43,13 @@ use Rattle.ods_state.proofs.GrowthChain.{kept_chain, ready_chain}
 use Rattle.ods_state.proofs.GrowthMade.{grows as grows_to, made as headers_made, filled as blocks_filled}
 use Rattle.ods_state.proofs.Bookkeeping.{well_placed}
 use Rattle.ods_state.proofs.GrowthReady.{header_stays, ready_layout}
-use Rattle.ods_state.proofs.GrowthTakes.{can_extend, is_enough}
+use Rattle.ods_state.proofs.GrowthAllocates.{can_extend, is_enough}
 use Rattle.ods_state.proofs.Served.{carried_is_step, refused_for_memory}
 use Rattle.ods_state.proofs.Wanted.{may_take, none_lacks}
 use Rattle.ods_look.specs.Opening.{file_shown}
 use Rattle.ods_look.proofs.FileBodies.{directory_body}
 use Rattle.ods_change.specs.declared.entry.NewEntry.{NewEntry}
-use Rattle.ods_change.specs.Entering.{IsEntryFor, IsTakenFor}
+use Rattle.ods_change.specs.Entering.{IsEntryFor, IsAllocatedFor}
 use Rattle.ods_change.proofs.AttributesReplaced.{HasOtherAttributes}
 use Rattle.ods_change.proofs.AttributesReplaced as header_change
 use Rattle.ods_change.proofs.BehindBlocks.{slot_behind, written_behind}
@@ -57,7 +57,7 @@ use Rattle.ods_change.proofs.GrowingChain.{blocks_before, chain_before, headers_
 use Rattle.ods_change.proofs.EnteredAt.{entered_at, mark_moves, names_entered, names_then_in}
 use Rattle.ods_change.proofs.Marks.{marked_is}
 use Rattle.ods_change.proofs.ReadyDirectory.{header_ready, block_ready, is_ready}
-use Rattle.ods_change.proofs.TakingBlocks.{by_numbers}
+use Rattle.ods_change.proofs.AllocatingBlocks.{by_numbers}
 
 -- with a header that says the same, a file is the same
 same_file : (n : ℕ) (b c : List ℕ) (blocks : List (List ℕ)) → SaysTheSame b c → file_of n c blocks ≡ file_of n b blocks
@@ -77,17 +77,17 @@ same_file n b c blocks s = λ i. record {
 -- What directory n, with these headers, writes and takes for this entry: the new block x, the first header c at y with the count of blocks, and numbers for headers.
 pub record IsGrowing (I : List (List ℕ)) (L : VolumeLayout) (n : ℕ) (new : NewEntry) (headers : List ℕ) (x y count : ℕ) (c numbers : List ℕ) : Type 0 where
   pub place : place_of L n ≡ Some y
-  pub taken : taken_blocks I L 1 ≡ x ∷ []
+  pub taken : allocated_blocks I L 1 ≡ x ∷ []
   pub counted : count ≡ length new.opened.blocks + 1
   pub size : length (attributes_of (header_at I L n)) ≡ 32
   pub changed : IsWithAttributes (header_at I L n) (marked (attributes_of (header_at I L n)) new.slot.mark count) c
   pub fields : KeepsOtherFields (header_at I L n) (marked (attributes_of (header_at I L n)) new.slot.mark count) c
-  pub fresh : numbers ≡ taken_numbers I L headers 1
+  pub fresh : numbers ≡ allocated_numbers I L headers 1
   pub enough : lack_of I L headers 1 ≡ None
-  pub no_growth : index_growth L (taken_numbers I L headers 1) ≡ 0
+  pub no_growth : index_growth L (allocated_numbers I L headers 1) ≡ 0
 
 -- where nothing is lacking, one block is taken
-pub one_taken : (I : List (List ℕ)) (L : VolumeLayout) (headers : List ℕ) → lack_of I L headers 1 ≡ None → length (taken_blocks I L 1) ≡ 1
+pub one_taken : (I : List (List ℕ)) (L : VolumeLayout) (headers : List ℕ) → lack_of I L headers 1 ≡ None → length (allocated_blocks I L 1) ≡ 1
 one_taken I L headers enough = let fits = (is_enough I L headers 1 enough).blocks in omega (arith, length-take 1 (free_blocks I L))
 
 pub only_one : (xs : List ℕ) (d : ℕ) → length xs ≡ 1 → xs ≡ get_or xs 0 d ∷ []
@@ -138,7 +138,7 @@ module _ {I : List (List ℕ)} {L : VolumeLayout} (S : IsSoundBy I L) {who : Uic
   b = with_bytes zeros 0 new.bytes
 
   -- there is what the directory takes
-  pub taking : (numbers : List ℕ) → numbers ≡ taken_numbers I L headers 1 → lack_of I L headers 1 ≡ None → index_growth L (taken_numbers I L headers 1) ≡ 0 → IsTaking I L n headers old 1 numbers
+  pub taking : (numbers : List ℕ) → numbers ≡ allocated_numbers I L headers 1 → lack_of I L headers 1 ≡ None → index_growth L (allocated_numbers I L headers 1) ≡ 0 → IsTaking I L n headers old 1 numbers
   taking numbers are enough still = record { above = above_maps n (header_at I L n) e.own.is.kind; before = inl (e.own.file.0, wants.0); all = ap (λ l. headers ++ l) are; enough = enough; no_growth = still }
 
   -- what it lacks, of so many headers and that room in the last, or want of memory, is why the Enter is refused
@@ -154,7 +154,7 @@ module _ {I : List (List ℕ)} {L : VolumeLayout} (S : IsSoundBy I L) {who : Uic
     abbrev place : place_of L n ≡ Some y
     place = d.place
 
-    abbrev taken : taken_blocks I L 1 ≡ x ∷ []
+    abbrev taken : allocated_blocks I L 1 ≡ x ∷ []
     taken = d.taken
 
     abbrev counted : count ≡ length new.opened.blocks + 1
@@ -188,13 +188,13 @@ module _ {I : List (List ℕ)} {L : VolumeLayout} (S : IsSoundBy I L) {who : Uic
     ready = is_ready S b e.own.is.held.file.valid place taken w others
 
     -- the chain can grow
-    pub chain_ready : IsImage I → {M : List (List ℕ)} {ns bs blocks : List ℕ} → K ≡ M → ns ≡ others → bs ≡ old → blocks ≡ taken_blocks I L 1
+    pub chain_ready : IsImage I → {M : List (List ℕ)} {ns bs blocks : List ℕ} → K ≡ M → ns ≡ others → bs ≡ old → blocks ≡ allocated_blocks I L 1
         → IsLayoutOf M L × IsWellPlaced L × IsChain (with_in_use M L.home n) L n ns bs × CanExtend M L n ns blocks numbers
     chain_ready image {M = M} {ns = ns} {bs = bs} {blocks = blocks} here first before block =
         subst (λ l. IsLayoutOf M L × IsWellPlaced L × IsChain (with_in_use M L.home n) L n ns bs × CanExtend M L n ns l numbers) (sym block)
-        (subst (λ l. IsLayoutOf M L × IsWellPlaced L × IsChain (with_in_use M L.home n) L n ns l × CanExtend M L n ns (taken_blocks I L 1) numbers) (sym before)
-        (subst (λ l. IsLayoutOf M L × IsWellPlaced L × IsChain (with_in_use M L.home n) L n l old × CanExtend M L n l (taken_blocks I L 1) numbers) (sym first)
-        (subst (λ X. IsLayoutOf X L × IsWellPlaced L × IsChain (with_in_use X L.home n) L n others old × CanExtend X L n others (taken_blocks I L 1) numbers) here (
+        (subst (λ l. IsLayoutOf M L × IsWellPlaced L × IsChain (with_in_use M L.home n) L n ns l × CanExtend M L n ns (allocated_blocks I L 1) numbers) (sym before)
+        (subst (λ l. IsLayoutOf M L × IsWellPlaced L × IsChain (with_in_use M L.home n) L n l old × CanExtend M L n l (allocated_blocks I L 1) numbers) (sym first)
+        (subst (λ X. IsLayoutOf X L × IsWellPlaced L × IsChain (with_in_use X L.home n) L n others old × CanExtend X L n others (allocated_blocks I L 1) numbers) here (
           ready_layout I K L S n headers old 1 numbers t ready,
           well_placed I L S,
           ready_chain I K L S n headers old 1 numbers t ready image,
@@ -214,7 +214,7 @@ module _ {I : List (List ℕ)} {L : VolumeLayout} (S : IsSoundBy I L) {who : Uic
         subst (λ X. (header_at X L n ≡ c) × ((m : ℕ) → m ≢ n → header_at X L m ≡ header_at I L m)) here
         (header_ready S b e.own.is.held.file.valid place taken w, header_stays I K L S n headers old 1 numbers t ready)
 
-    module _ (J : List (List ℕ)) (ext : Extends K L n others old (taken_blocks I L 1) numbers J) where
+    module _ (J : List (List ℕ)) (ext : Extends K L n others old (allocated_blocks I L 1) numbers J) where
       g : IsGrowth I J L n headers old 1 numbers
       g = grows_to I K J L S n headers old 1 numbers t ready ext
 
@@ -222,7 +222,7 @@ module _ {I : List (List ℕ)} {L : VolumeLayout} (S : IsSoundBy I L) {who : Uic
       filled = blocks_filled I K J L S n headers old 1 numbers t ready ext x (subst (λ bs. Contains bs x) (sym taken) (zero, omega arith, refl))
 
       abbrev all : List ℕ
-      all = old ++ taken_blocks I L 1
+      all = old ++ allocated_blocks I L 1
 
       abbrev now : List (List ℕ)
       now = written (grown new.opened.blocks new.slot) new.slot.at new.bytes
@@ -235,9 +235,9 @@ module _ {I : List (List ℕ)} {L : VolumeLayout} (S : IsSoundBy I L) {who : Uic
 
       long_then : length all ≡ count
       long_then =
-          let one : length (taken_blocks I L 1) ≡ 1 = ap length taken in
+          let one : length (allocated_blocks I L 1) ≡ 1 = ap length taken in
           let before : length new.opened.blocks ≡ length old = ap length e.own.is.contents ∙ length-map old (block_at I) in
-          omega (arith, length-append old (taken_blocks I L 1))
+          omega (arith, length-append old (allocated_blocks I L 1))
 
       -- the header in K, and what it says in J
       same : SaysTheSame c (header_at J L n)
@@ -298,19 +298,19 @@ module _ {I : List (List ℕ)} {L : VolumeLayout} (S : IsSoundBy I L) {who : Uic
       })
 
     -- so each growth of that chain makes the Enter
-    pub enter_behind : IsImage I → {M J : List (List ℕ)} {ns bs blocks : List ℕ} → K ≡ M → ns ≡ others → bs ≡ old → blocks ≡ taken_blocks I L 1 → Extends M L n ns bs blocks numbers J
+    pub enter_behind : IsImage I → {M J : List (List ℕ)} {ns bs blocks : List ℕ} → K ≡ M → ns ≡ others → bs ≡ old → blocks ≡ allocated_blocks I L 1 → Extends M L n ns bs blocks numbers J
         → IsStepOf I L who request (Entered new.version) J L
     enter_behind image {M = M} {J = J} {ns = ns} {bs = bs} {blocks = blocks} here first before block ext =
         enter_grown J
-        (subst (λ X. Extends X L n others old (taken_blocks I L 1) numbers J) (sym here)
-        (subst (λ l. Extends M L n l old (taken_blocks I L 1) numbers J) first
-        (subst (λ l. Extends M L n ns l (taken_blocks I L 1) numbers J) before
+        (subst (λ X. Extends X L n others old (allocated_blocks I L 1) numbers J) (sym here)
+        (subst (λ l. Extends M L n l old (allocated_blocks I L 1) numbers J) first
+        (subst (λ l. Extends M L n ns l (allocated_blocks I L 1) numbers J) before
         (subst (λ l. Extends M L n ns bs l numbers J) block ext)))) image
 
 -- a directory grows so by what its Enter finds and takes
 pub growing : {I : List (List ℕ)} {L : VolumeLayout} {who : Uic} {dir : FileId} {name : RadName} {given : Option ℕ} {file : FileId} {new : NewEntry}
     (e : IsEntryFor I L who dir name given file new) (grows : new.slot.grows ≡ true) (blocks numbers fresh : List ℕ) (x y count : ℕ) (c : List ℕ)
-    → IsTakenFor I L dir.number blocks numbers → x ≡ get_or blocks 0 0 → fresh ≡ numbers → place_of L dir.number ≡ Some y → count ≡ length new.opened.blocks + 1
+    → IsAllocatedFor I L dir.number blocks numbers → x ≡ get_or blocks 0 0 → fresh ≡ numbers → place_of L dir.number ≡ Some y → count ≡ length new.opened.blocks + 1
     → length (attributes_of new.opened.header.now) ≡ 32 → IsWithAttributes new.opened.header.now (marked (attributes_of new.opened.header.now) new.slot.mark count) c
     → KeepsOtherFields new.opened.header.now (marked (attributes_of new.opened.header.now) new.slot.mark count) c
     → IsGrowing I L dir.number new (dir.number ∷ e.own.is.held.others) x y count c fresh
@@ -319,7 +319,7 @@ growing {I = I} {L = L} {dir = dir} {new = new} e grows blocks numbers fresh x y
     let got = taken headers e.own.is.lbns (e.own.is.held.others, refl, e.own.is.held.whole) in
     record {
       place = place;
-      taken = only_one (taken_blocks I L 1) 0 (one_taken I L headers got.2) ∙ ap (λ z. z ∷ []) (ap (λ l. get_or l 0 0) (sym got.0) ∙ sym first);
+      taken = only_one (allocated_blocks I L 1) 0 (one_taken I L headers got.2) ∙ ap (λ z. z ∷ []) (ap (λ l. get_or l 0 0) (sym got.0) ∙ sym first);
       counted = counted;
       size = subst (λ h. length (attributes_of h) ≡ 32) e.own.is.header size;
       changed = subst (λ h. IsWithAttributes h (marked (attributes_of h) new.slot.mark count) c) e.own.is.header changed;

@@ -1,11 +1,11 @@
 pub mod ChainEnds
 pub mod KnownEnds
 pub mod NewBodies
-pub mod TakenNumbers
+pub mod AllocatedNumbers
 pub mod CreatingFile
 pub mod FirstWritten
 pub mod NewHeaders
-pub mod TakingBlocks
+pub mod AllocatingBlocks
 pub mod Writing
 pub mod AttributesReplaced
 pub mod SettingUser
@@ -27,6 +27,7 @@ pub mod ReadyToGrow
 pub mod HeldByFiles
 pub mod Deleting
 pub mod Begun
+pub mod MoreHeaders
 pub mod BegunFiles
 pub mod BegunDirectories
 pub mod StillLayout

@@ -9,17 +9,17 @@ use Rattle.ods_header.specs.Header.{IsValidHeader}
 use Rattle.ods_header.proofs.AttributesSet.{attributes_are_other}
 use Rattle.ods_space.specs.Layout.{VolumeLayout, header_at, place_of}
 use Rattle.ods_mount.specs.Sound.{IsSoundBy}
-use Rattle.ods_state.specs.Wants.{taken_blocks}
+use Rattle.ods_state.specs.Wants.{allocated_blocks}
 use Rattle.ods_state.specs.Growth.{IsReady}
 use Rattle.ods_state.proofs.OtherFront.{kept_first}
 use Rattle.ods_change.proofs.FirstWritten.{IsWritten, header_written, is_ready as first_ready, taken_inside, taken_written}
 
 module _ {I : List (List ℕ)} {L : VolumeLayout} (S : IsSoundBy I L) {n x y : ℕ} {new c : List ℕ} (b : List ℕ) (valid : IsValidHeader (header_at I L n) n) (place : place_of L n ≡ Some y)
-    (taken : taken_blocks I L 1 ≡ x ∷ []) (w : IsWithAttributes (header_at I L n) new c) where
+    (taken : allocated_blocks I L 1 ≡ x ∷ []) (w : IsWithAttributes (header_at I L n) new c) where
   abbrev K : List (List ℕ)
   K = slice_set (slice_set I x b) y c
 
-  own : Contains (taken_blocks I L 1) x
+  own : Contains (allocated_blocks I L 1) x
   own = subst (λ bs. Contains bs x) (sym taken) (zero, omega arith, refl)
 
   written : IsWritten I (slice_set I x b) K L n y 1 c
@@ -27,7 +27,7 @@ module _ {I : List (List ℕ)} {L : VolumeLayout} (S : IsSoundBy I L) {n x y : �
     sound = S;
     place = place;
     long = length-set I x b;
-    elsewhere = λ z far. get_or-set_other I x z b [] (λ e. far (subst (Contains (taken_blocks I L 1)) (sym e) own));
+    elsewhere = λ z far. get_or-set_other I x z b [] (λ e. far (subst (Contains (allocated_blocks I L 1)) (sym e) own));
     is = refl;
   }
 

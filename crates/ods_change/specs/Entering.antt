@@ -18,7 +18,7 @@ use Rattle.ods_request.specs.declared.rights.Right.TheVariants as right
 use Rattle.ods_space.specs.Draft.{Changes, applied}
 use Rattle.ods_state.specs.Change.{IsAnsweredBy}
 use Rattle.ods_state.specs.Served.{IsStepOf, IsRefusalOf}
-use Rattle.ods_state.specs.Wants.{HasHeaders, index_growth, lack_of, taken_blocks, taken_numbers}
+use Rattle.ods_state.specs.Wants.{HasHeaders, index_growth, lack_of, allocated_blocks, allocated_numbers}
 use Rattle.ods_look.specs.Opening.{IsOpenDirectory}
 use Rattle.ods_change.specs.declared.beginning.Drafted.{Drafted}
 use Rattle.ods_change.specs.declared.entry.NewEntry.{NewEntry}
@@ -72,6 +72,6 @@ abbrev pub IsOwnGrowing : NewEntry → Result Drafted Refusal → Type 0
 IsOwnGrowing new result = MatchResult result (λ d. IsEntering new.disk.image.now new.disk.layout.now new.dir new (applied new.disk.image.now d.draft) (with_places new.disk.layout.now d.places.items)) (IsWhyNotEntering new.disk.image.now new.disk.layout.now new.dir new)
 
 -- directory n takes this block, and these numbers for its headers, for each of which INDEXF.SYS has a block
-abbrev pub IsTakenFor : List (List ℕ) → VolumeLayout → ℕ → List ℕ → List ℕ → Type 0
-IsTakenFor I L n blocks numbers = (headers old : List ℕ) → HasHeaders I L n headers old
-    → (blocks ≡ taken_blocks I L 1) × (numbers ≡ taken_numbers I L headers 1) × (lack_of I L headers 1 ≡ None) × (index_growth L (taken_numbers I L headers 1) ≡ 0)
+abbrev pub IsAllocatedFor : List (List ℕ) → VolumeLayout → ℕ → List ℕ → List ℕ → Type 0
+IsAllocatedFor I L n blocks numbers = (headers old : List ℕ) → HasHeaders I L n headers old
+    → (blocks ≡ allocated_blocks I L 1) × (numbers ≡ allocated_numbers I L headers 1) × (lack_of I L headers 1 ≡ None) × (index_growth L (allocated_numbers I L headers 1) ≡ 0)

@@ -14,10 +14,10 @@ use Rattle.ods_alloc.specs.Extend.{cut}
 use Rattle.ods_state.specs.Change.{disk}
 use Rattle.ods_state.specs.Contents.{ShowsBy}
 use Rattle.ods_state.specs.Made.{AreMade, AreZeroed}
-use Rattle.ods_state.specs.Wants.{HasHeaders, index_growth, lack_of, taken_blocks, taken_numbers}
+use Rattle.ods_state.specs.Wants.{HasHeaders, index_growth, lack_of, allocated_blocks, allocated_numbers}
 use Rattle.ods_state.specs.Growth.{IsGrowth}
 use Rattle.ods_look.specs.Opening.{IsFileId, file_shown}
-use Rattle.ods_change.specs.declared.taking.Taken.{Taken}
+use Rattle.ods_change.specs.declared.growing.Growing.{Growing}
 
 -- the file is plain and none of the reserved ones, and the user may extend it by so many blocks
 pub record IsExtensible (I : List (List ℕ)) (L : VolumeLayout) (who : Uic) (id : FileId) (count : ℕ) : Type 0 where
@@ -46,18 +46,18 @@ abbrev pub SaysGrown : List ℕ → List ℕ → Type 0
 SaysGrown b c = SaysWith (not_contiguous (user_char_of b)) b c
 
 -- file n has these headers and blocks, and this is what it takes to get `count` more; INDEXF.SYS has a block for each of the numbers
-pub record IsWanted (I : List (List ℕ)) (L : VolumeLayout) (n : ℕ) (headers old : List ℕ) (count : ℕ) (t : Taken) : Type 0 where
+pub record IsWanted (I : List (List ℕ)) (L : VolumeLayout) (n : ℕ) (headers old : List ℕ) (count : ℕ) (g : Growing) : Type 0 where
   pub file : IsFile I L n
   pub has : HasHeaders I L n headers old
-  pub blocks : t.blocks.items ≡ taken_blocks I L count
-  pub runs : t.runs.items ≡ cut t.blocks.items
-  pub numbers : t.numbers.items ≡ taken_numbers I L headers count
+  pub blocks : g.blocks.items ≡ allocated_blocks I L count
+  pub runs : g.runs.items ≡ cut g.blocks.items
+  pub numbers : g.numbers.items ≡ allocated_numbers I L headers count
   pub enough : lack_of I L headers count ≡ None
-  pub no_growth : index_growth L (taken_numbers I L headers count) ≡ 0
+  pub no_growth : index_growth L (allocated_numbers I L headers count) ≡ 0
 
 -- J is I with file n grown: its new blocks are zeros, its headers are as they are to be, and the first keeps all that it said but for UC.CON
 pub record IsGrownBy (I : List (List ℕ)) (L : VolumeLayout) (n : ℕ) (headers old : List ℕ) (count : ℕ) (numbers : List ℕ) (J : List (List ℕ)) : Type 0 where
   pub grown : IsGrowth I J L n headers old count numbers
-  pub made : AreMade (disk I L) (disk J L) headers (taken_numbers I L headers count)
+  pub made : AreMade (disk I L) (disk J L) headers (allocated_numbers I L headers count)
   pub zeroed : AreZeroed (disk I L) (disk J L) count
   pub first : SaysGrown (header_at I L n) (header_at J L n)

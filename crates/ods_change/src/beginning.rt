@@ -1,16 +1,21 @@
 //! The start of a request that takes blocks: where its new headers need it, INDEXF.SYS grows first, in the draft and in
-//! the layout.
-ghost use Rattle.std.specs.Prelude.{◌≡◌, IfOk, unwrap_or};
+//! the layout. It may grow for files to come, too.
+ghost use Rattle.std.specs.Prelude.{◌≡◌, ◌+◌, ◌-◌, ◌≤◌, length, take, IfOk, IfErr, MatchResult, unwrap_or};
+ghost use Rattle.ods_alloc.specs.Counts.{counts_of};
+ghost use Rattle.ods_header.specs.Header.{room_of};
 ghost use Rattle.ods_mount.specs.Sound.{IsSoundBy};
-ghost use Rattle.ods_space.specs.Draft.{applied};
-ghost use Rattle.ods_state.specs.IndexGrowth.{CanGrowIndex};
-ghost use Rattle.ods_change.specs.Beginning.{IsBegun};
-ghost use Rattle.ods_space.specs.Disks.{on};
+ghost use Rattle.ods_space.specs.{Draft.applied, Files.IsLayoutOf, Free.free_blocks, Layout.greatest_number, Layout.last_number};
+ghost use Rattle.ods_state.specs.Wants.{index_end};
+ghost use Rattle.ods_change.specs.{Beginning.IsBegun, IndexGrown.IsDraftOfHeaders, IndexGrown.IsWhyNoHeaders, Taking.HasPlaces, Taking.IsWhyNoPlaces};
+ghost use Rattle.ods_space.specs.Disks.{header_on, on, seen};
 
-use crate::taking::index_end;
-use ods_alloc::grow_index;
-use ods_space::{Disk, Draft, Layout};
-use std::alloc::{AllocError, Global};
+use ods_alloc::{
+    ChainEnd, FreeCounts, SpaceFault, greatest_number, grow_index, pick_blocks_behind,
+    runs_of_blocks,
+};
+use ods_request::Refusal;
+use ods_space::{Disk, Draft, Layout, header_block, last_number};
+use std::alloc::Global;
 
 /// What a request that takes blocks makes: what changes of the volume, and the blocks, as LBNs, that INDEXF.SYS gets behind its own.
 #[derive(Drop)]
@@ -34,43 +39,94 @@ impl Drafted {
     }
 }
 
-/// The draft that a request goes on with, and the layout, where it is another than that of the volume.
-#[derive(Drop)]
-pub(crate) struct Begun {
-    pub layout: Option<Layout>,
-    pub draft: Draft,
-}
-
-/// The volume where INDEXF.SYS has got these blocks; where there are none, it is as it was.
-pub(crate) fn begin(alloc: Global, disk: &Disk<'_>, places: &[u32]) -> Result<Begun, AllocError>
+/// The volume where INDEXF.SYS has got so many blocks, which are the lowest free ones behind these, and these are the lowest themselves: the
+/// draft by which it gets them, and the layout then. Where it gets none, the layout is none, and the volume is as it was.
+pub(crate) fn begin(
+    alloc: Global,
+    disk: &Disk<'_>,
+    counts: &FreeCounts,
+    lowest: &[u32],
+    growth: u32,
+) -> Result<(Drafted, Option<Layout>), Refusal>
     requires sound { on IsSoundBy disk.now }
-    requires can { on CanGrowIndex disk.now places.now }
-    ensures { IfOk result (λ b. on IsBegun disk.now places.now (applied disk.now.image.now b.draft) (unwrap_or b.layout disk.now.layout.now)) }
+    requires counts { counts.now ≡ seen counts_of disk.now }
+    requires lowest { lowest.now ≡ take (length lowest.now) (seen free_blocks disk.now) }
+    requires most { last_number disk.now.layout.now + growth ≤ greatest_number disk.now.layout.now.home }
+    ensures ok { IfOk result (λ b. on HasPlaces disk.now (length lowest.now) growth b.0.places.items) }
+    ensures begun { IfOk result (λ b. on IsBegun disk.now b.0.places.items (applied disk.now.image.now b.0.draft) (unwrap_or b.1 disk.now.layout.now)) }
+    ensures err { IfErr result (on IsWhyNoPlaces disk.now (length lowest.now) growth) }
 {
     // The blocks of an image have bytes.
     let _ = disk.image.len();
-    if places.is_empty() {
-        return Ok(Begun {
-            layout: None,
-            draft: Draft::new(alloc),
-        });
+    if growth == 0 {
+        let still = Drafted::still(alloc, Draft::new(alloc));
+        return Ok((still, None));
     }
+    let places = match pick_blocks_behind(alloc, disk, counts, lowest, growth) {
+        Ok(places) => places,
+        Err(SpaceFault::NoMemory) => return Err(Refusal::NoMemory),
+        Err(_) => return Err(Refusal::HeadersFull),
+    };
+    let runs = match runs_of_blocks(alloc, &places) {
+        Ok(runs) => runs,
+        Err(_) => return Err(Refusal::NoMemory),
+    };
     let end = index_end(disk);
-    let draft = grow_index(alloc, disk, end.number, end.last, places)?;
-    let mut grown = disk.layout.copy()?;
-    grown.grow(places);
-    Ok(Begun {
-        layout: Some(grown),
-        draft,
-    })
+    let room = end.room as usize / 2;
+    if room < runs.as_slice().len() {
+        return Err(Refusal::HeadersFull);
+    }
+    let draft = match grow_index(alloc, disk, end.number, end.last, &places, &runs) {
+        Ok(draft) => draft,
+        Err(_) => return Err(Refusal::NoMemory),
+    };
+    let mut grown = match disk.layout.copy() {
+        Ok(layout) => layout,
+        Err(_) => return Err(Refusal::NoMemory),
+    };
+    grown.grow(&places);
+    Ok((Drafted { draft, places }, Some(grown)))
 }
 
-/// The layout that a request goes on with.
-pub(crate) fn layout_then<'a>(grown: &'a Option<Layout>, layout: &'a Layout) -> &'a Layout
-    ensures { result.now ≡ unwrap_or grown.now layout.now }
+/// Where the chain of INDEXF.SYS ends.
+fn index_end<'a>(disk: &Disk<'a>) -> ChainEnd<'a>
+    requires { on IsLayoutOf disk.now }
+    ensures number { result.number ≡ seen index_end disk.now }
+    ensures last { result.last.now ≡ header_on disk.now (seen index_end disk.now) }
+    ensures room { result.room ≡ room_of (header_on disk.now (seen index_end disk.now)) }
 {
-    match grown {
-        Some(grown) => grown,
-        None => layout,
+    let _ = disk.image.len();
+    let first = header_block(disk, 1).unwrap();
+    ChainEnd::of(disk, 1, first)
+}
+
+/// How many headers more INDEXF.SYS may ever get.
+fn headers_left(layout: &Layout) -> u32
+    ensures { result ≡ greatest_number layout.now.home - last_number layout.now }
+{
+    greatest_number(layout).saturating_sub(last_number(layout)) as u32
+}
+
+/// The draft by which INDEXF.SYS gets headers for so many files more, all at once: the lowest free blocks, behind its own. It gets no more
+/// than it may ever have, and no more than its last header has room for.
+pub fn grow_headers(
+    alloc: Global,
+    disk: &Disk<'_>,
+    counts: &FreeCounts,
+    count: u32,
+) -> Result<Drafted, Refusal>
+    requires sound { on IsSoundBy disk.now }
+    requires counts { counts.now ≡ seen counts_of disk.now }
+    ensures { MatchResult result (λ d. IsDraftOfHeaders disk.now count d.draft d.places.items)
+        (on IsWhyNoHeaders disk.now count) }
+{
+    // The blocks of an image have bytes.
+    let _ = disk.image.len();
+    if headers_left(disk.layout) < count {
+        return Err(Refusal::HeadersFull);
+    }
+    match begin(alloc, disk, counts, &[], count) {
+        Ok((drafted, _layout)) => Ok(drafted),
+        Err(refusal) => Err(refusal),
     }
 }

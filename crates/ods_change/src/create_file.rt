@@ -6,13 +6,13 @@ ghost use Rattle.ods_header.specs.Header.{sequence_of};
 ghost use Rattle.ods_mount.specs.Sound.{IsSoundBy};
 ghost use Rattle.ods_request.specs.{declared.answers.Answer.TheVariants.Created, declared.requests.Request.TheVariants.Create};
 ghost use Rattle.ods_space.specs.Draft.{applied};
-ghost use Rattle.ods_state.specs.{Growth.IsNewFirst, Growth.IsTaking, Moves.new_attributes, Outcome.CanBeAsked, Served.IsRefusalOf, Wants.taken_blocks};
+ghost use Rattle.ods_state.specs.{Growth.IsNewFirst, Growth.IsTaking, Moves.new_attributes, Outcome.CanBeAsked, Served.IsRefusalOf, Wants.allocated_blocks};
 ghost use Rattle.ods_change.specs.Creating.{IsMadeFile, IsNewHeaderFor, new_id};
 ghost use Rattle.ods_space.specs.Disks.{drafted, header_drafted, header_on, on, seen};
 ghost use Rattle.ods_change.specs.Steps.{IsDraftFor};
 
-use crate::beginning::{Begun, Drafted, begin, layout_then};
-use crate::taking::take;
+use crate::beginning::Drafted;
+use crate::growing::Growing;
 use ods_alloc::{ChainEnd, FreeCounts, extend_from, zero_runs};
 use ods_base::{Block, DIRECTORY_TYPE, FileId, Name, Uic};
 use ods_directory::with_mark;
@@ -43,41 +43,28 @@ pub fn create(
     if count > 65535 {
         return Err(Refusal::BadCount);
     }
-    let taken = match take(alloc, disk, counts, 0, HEADER_ROOM as u32, count) {
-        Ok(taken) => taken,
+    let (growing, begun) = match Growing::begin(alloc, disk, counts, 0, HEADER_ROOM as u32, count) {
+        Ok(begun) => begun,
         Err(refusal) => return Err(refusal),
     };
     // A name has three words, and the blocks of an image have bytes.
     let _ = name.words();
     let _ = disk.image.len();
-    let numbers = taken.numbers.as_slice();
+    let numbers = growing.numbers.as_slice();
     let file = new_id(disk, numbers[0]);
     let protection = disk.layout.home().protection;
     let header = new_header(file, who, protection, &name, version, count, &stamp);
-    let blocks = taken.blocks.as_slice();
-    let runs = taken.runs.as_slice();
+    let blocks = growing.blocks.as_slice();
+    let runs = growing.runs.as_slice();
     let others = &numbers[1..];
-    let begun = match begin(alloc, disk, &taken.places) {
-        Ok(begun) => begun,
-        Err(_) => return Err(Refusal::NoMemory),
-    };
-    let Begun {
-        layout: grown,
-        draft,
-    } = begun;
-    let then = layout_then(&grown, disk.layout);
+    let Drafted { draft, places } = begun;
+    let then = growing.layout_then(disk.layout);
     let later = Disk {
         image: disk.image,
         layout: then,
     };
     match new_file(&later, draft, file.number, header, blocks, runs, others) {
-        Ok(draft) => Ok((
-            Drafted {
-                draft,
-                places: taken.places,
-            },
-            file,
-        )),
+        Ok(draft) => Ok((Drafted { draft, places }, file)),
         Err(_) => Err(Refusal::NoMemory),
     }
 }
@@ -107,7 +94,7 @@ fn new_file(
     requires sound { drafted IsSoundBy disk.now draft }
     requires image { IsImage (applied disk.now.image.now draft) }
     requires taking { drafted IsTaking disk.now draft number [] [] (length blocks.now) others.now }
-    requires lowest { blocks.now ≡ taken_blocks (applied disk.now.image.now draft) disk.now.layout.now (length blocks.now) }
+    requires lowest { blocks.now ≡ allocated_blocks (applied disk.now.image.now draft) disk.now.layout.now (length blocks.now) }
     requires runs { runs.now ≡ cut blocks.now }
     requires header { IsNewFirst (header_drafted disk.now draft number) header number }
     ensures { IfOk result (λ made. drafted IsMadeFile disk.now draft number header (length blocks.now) others.now (applied disk.now.image.now made)) }

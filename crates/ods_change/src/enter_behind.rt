@@ -4,13 +4,13 @@ ghost use Rattle.ods_alloc.specs.{Counts.counts_of, Ends.IsEndOf, Extend.cut};
 ghost use Rattle.ods_base.specs.Image.{IsImage};
 ghost use Rattle.ods_mount.specs.Sound.{IsSoundBy};
 ghost use Rattle.ods_space.specs.Draft.{applied};
-ghost use Rattle.ods_change.specs.{Entering.IsEntering, Entering.IsOwnGrowing, Entering.IsOwnEntry, Entering.IsSomeEntry, Entering.IsTakenFor};
+ghost use Rattle.ods_change.specs.{Entering.IsEntering, Entering.IsOwnGrowing, Entering.IsOwnEntry, Entering.IsSomeEntry, Entering.IsAllocatedFor};
 ghost use Rattle.ods_space.specs.Disks.{drafted, on, seen};
 
-use crate::beginning::{Begun, Drafted, begin, layout_then};
+use crate::beginning::Drafted;
 use crate::drafts::marked_header;
 use crate::entry::NewEntry;
-use crate::taking::take;
+use crate::growing::Growing;
 use ods_alloc::{ChainEnd, FreeCounts, extend_from};
 use ods_base::{Block, FileId};
 use ods_directory::{DirBlocks, put_entry};
@@ -34,21 +34,14 @@ pub(crate) fn enter_behind(
     let disk = &entry.disk;
     let dir = entry.dir;
     let end = ChainEnd::of(disk, dir.number, entry.opened.header);
-    let taken = match take(alloc, disk, counts, end.headers, end.room, 1) {
-        Ok(taken) => taken,
+    let (growing, begun) = match Growing::begin(alloc, disk, counts, end.headers, end.room, 1) {
+        Ok(begun) => begun,
         Err(refusal) => return Err(refusal),
     };
     // The blocks of an image have bytes.
     let _ = disk.image.len();
-    let begun = match begin(alloc, disk, &taken.places) {
-        Ok(begun) => begun,
-        Err(_) => return Err(Refusal::NoMemory),
-    };
-    let Begun {
-        layout: index,
-        draft,
-    } = begun;
-    let then = layout_then(&index, disk.layout);
+    let Drafted { draft, places } = begun;
+    let then = growing.layout_then(disk.layout);
     let later = Disk {
         image: disk.image,
         layout: then,
@@ -59,14 +52,11 @@ pub(crate) fn enter_behind(
         dir,
         entry,
         &end,
-        &taken.blocks,
-        &taken.numbers,
-        &taken.runs,
+        &growing.blocks,
+        &growing.numbers,
+        &growing.runs,
     ) {
-        Ok(draft) => Ok(Drafted {
-            draft,
-            places: taken.places,
-        }),
+        Ok(draft) => Ok(Drafted { draft, places }),
         Err(_) => Err(Refusal::NoMemory),
     }
 }
@@ -87,7 +77,7 @@ fn with_block(
     requires entry { drafted IsSomeEntry disk.now draft dir entry.now }
     requires grows { entry.now.slot.grows ≡ true }
     requires end { drafted IsEndOf disk.now draft dir.number end.now }
-    requires taken { drafted IsTakenFor disk.now draft dir.number blocks.now numbers.now }
+    requires taken { drafted IsAllocatedFor disk.now draft dir.number blocks.now numbers.now }
     requires runs { runs.now ≡ cut blocks.now }
     ensures { IfOk result (λ made. drafted IsEntering disk.now draft dir entry.now (applied disk.now.image.now made) disk.now.layout.now) }
 {

@@ -10,9 +10,9 @@ ghost use Rattle.ods_change.specs.{Extending.IsExtensible, Extending.IsGrownBy, 
 ghost use Rattle.ods_space.specs.Disks.{drafted, header_drafted, header_on, on, seen};
 ghost use Rattle.ods_change.specs.Steps.{IsDraftFor, IsKnownThen};
 
-use crate::beginning::{Begun, Drafted, begin, layout_then};
+use crate::beginning::Drafted;
+use crate::growing::Growing;
 use crate::known_end::{grown_end, known_end};
-use crate::taking::{Taken, take};
 use ods_alloc::{ChainEnd, FreeCounts, extend_from, zero_runs};
 use ods_base::{Block, FileId, Uic};
 use ods_header::without_contiguous;
@@ -55,24 +55,24 @@ fn is_bad_count(count: u32) -> bool
 
 /// This draft with more changes, by which a file whose chain ends so takes these blocks and numbers. The blocks become zeros, and the
 /// first header says no more that the file's blocks are contiguous.
-fn grown(
+fn grow_file(
     disk: &Disk<'_>,
     mut draft: Draft,
     number: u16,
     first: &Block,
     end: &ChainEnd<'_>,
-    taken: &Taken,
+    growing: &Growing,
 ) -> Result<Draft, AllocError>
     requires sound { drafted IsSoundBy disk.now draft }
     requires image { IsImage (applied disk.now.image.now draft) }
     requires above { 5 < number }
     requires first { first.now ≡ header_drafted disk.now draft number }
     requires end { drafted IsEndOf disk.now draft number end.now }
-    requires wanted { (headers : List ℕ) × (old : List ℕ) × (count : ℕ) × drafted IsWanted disk.now draft number headers old count taken.now }
-    ensures { IfOk result (λ made. (headers old : List ℕ) (count : ℕ) → drafted IsWanted disk.now draft number headers old count taken.now
-        → drafted IsGrownBy disk.now draft number headers old count taken.now.numbers.items (applied disk.now.image.now made)) }
+    requires wanted { (headers : List ℕ) × (old : List ℕ) × (count : ℕ) × drafted IsWanted disk.now draft number headers old count growing.now }
+    ensures { IfOk result (λ made. (headers old : List ℕ) (count : ℕ) → drafted IsWanted disk.now draft number headers old count growing.now
+        → drafted IsGrownBy disk.now draft number headers old count growing.now.numbers.items (applied disk.now.image.now made)) }
 {
-    zero_runs(&taken.runs, &mut draft)?;
+    zero_runs(&growing.runs, &mut draft)?;
     let lbn = disk.layout.place(number).unwrap();
     let header = without_contiguous(first);
     draft.set(lbn, header)?;
@@ -83,9 +83,9 @@ fn grown(
         number,
         &header,
         end,
-        &taken.blocks,
-        &taken.numbers,
-        &taken.runs,
+        &growing.blocks,
+        &growing.numbers,
+        &growing.runs,
         draft,
     )?;
     Ok(grown)
@@ -116,33 +116,22 @@ pub fn extend(
         Err(refusal) => return Err(refusal),
     };
     let end = known_end(disk, file.number, first, known);
-    let taken = match take(alloc, disk, counts, end.headers, end.room, count) {
-        Ok(taken) => taken,
+    let (growing, begun) = match Growing::begin(alloc, disk, counts, end.headers, end.room, count) {
+        Ok(begun) => begun,
         Err(refusal) => return Err(refusal),
     };
     // The blocks of an image have bytes.
     let _ = disk.image.len();
-    let begun = match begin(alloc, disk, &taken.places) {
-        Ok(begun) => begun,
-        Err(_) => return Err(Refusal::NoMemory),
-    };
-    let Begun {
-        layout: index,
-        draft,
-    } = begun;
-    let then = layout_then(&index, disk.layout);
+    let Drafted { draft, places } = begun;
+    let then = growing.layout_then(disk.layout);
     let later = Disk {
         image: disk.image,
         layout: then,
     };
-    match grown(&later, draft, file.number, first, &end, &taken) {
+    match grow_file(&later, draft, file.number, first, &end, &growing) {
         Ok(draft) => {
-            let end = grown_end(&end, file.number, count, &taken.numbers);
-            let drafted = Drafted {
-                draft,
-                places: taken.places,
-            };
-            Ok((drafted, end))
+            let end = grown_end(&end, file.number, count, &growing.numbers);
+            Ok((Drafted { draft, places }, end))
         }
         Err(_) => Err(Refusal::NoMemory),
     }

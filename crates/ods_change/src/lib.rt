@@ -11,11 +11,11 @@ mod enter_name;
 mod enter_within;
 mod entry;
 mod extend_file;
+mod growing;
 mod known_end;
-mod taking;
 mod truncate_file;
 
-pub use beginning::Drafted;
+pub use beginning::{Drafted, grow_headers};
 pub use block_changes::{remove, set_user, write};
 pub use create_file::create;
 pub use delete_file::delete;

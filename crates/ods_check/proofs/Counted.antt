@@ -40,19 +40,6 @@ last_at ys b = let e : length ys ≡ length ys + 0 = omega arith in ap (slice_ge
 still_at : (ys : List ℕ) (b k c : ℕ) → slice_get ys k ≡ Some c → slice_get (ys ++ b ∷ []) k ≡ Some c
 still_at ys b k c at = slice_get-append_left ys (b ∷ []) k (slice_get_within ys k c at) ∙ at
 
-pub counting_none : (xs set : List ℕ) (stamp : ℕ) (counted : List ℕ) → ((b : ℕ) → slice_index counted b < stamp) → IsCounting xs set stamp 0 counted 0
-counting_none xs set stamp counted low = record {
-  ys = [];
-  size = refl;
-  few = omega arith;
-  each = λ k b at. absurd (let within = slice_get_within [] k b at in omega arith);
-  all = λ j b less. absurd (omega arith);
-  once = λ i j b at. absurd (let within = slice_get_within [] i b at in omega arith);
-  stamped = λ k b at. absurd (let within = slice_get_within [] k b at in omega arith);
-  only = λ b e. absurd (let less = low b in omega arith);
-  low = λ b. let less = low b in omega arith;
-}
-
 module _ (xs set : List ℕ) (stamp i b : ℕ) (old new : List ℕ) (count : ℕ) (w : IsCounting xs set stamp i old count) (at : slice_get xs i ≡ Some b) where
   here : (j c : ℕ) → j ≡ i → slice_get xs j ≡ Some c → c ≡ b
   here j c e at_j = let same : Some c ≡ Some b = sym at_j ∙ ap (slice_get xs) e ∙ at in cc

@@ -1,8 +1,7 @@
 -- The lines of directories, and the files that they name.
-use Rattle.std.proofs.Common.{◌≡◌, ◌≢◌, ◌⊎◌, ◌<◌, ℕ, Bool, true, false, List, [], length, map, slice_get, Some, not, inl, inr, refl, sym, ap, ◌∙◌, subst, arith}
+use Rattle.std.proofs.Common.{◌≡◌, ◌≢◌, ◌⊎◌, ◌+◌, ◌-◌, ◌*◌, ◌<◌, ◌≤◌, ℕ, Bool, true, false, cond, List, [], length, map, slice_get, Some, not, inl, inr, refl, sym, ap, ◌∙◌, subst, arith}
 use Rattle.std.specs.List.{All, Contains}
-use Rattle.std.specs.Prelude.{MatchBool, slice_index_or}
-use Rattle.std.proofs.lemmas.List.{length-map}
+use Rattle.std.specs.Prelude.{MatchBool, slice_index_or, ◌==◌, min}
 use Rattle.std.proofs.lemmas.List.Elements.{All-contains_itself}
 use Rattle.std.proofs.lemmas.Option.{slice_get_within, get_or_from_slice_get, slice_get-get_or}
 use Rattle.ods_base.specs.Image.{block_at}
@@ -11,7 +10,7 @@ use Rattle.ods_base.specs.declared.listed.Listed.{Listed}
 use Rattle.ods_base.specs.declared.file_id.FileId.{FileId}
 use Rattle.ods_header.specs.Header.{sequence_of}
 use Rattle.ods_directory.specs.Entry.{Entry, IsGoodEntry, used_entries}
-use Rattle.ods_directory.specs.Mark.{mark_in}
+use Rattle.ods_directory.specs.Mark.{mark_in, end_block, end_byte}
 use Rattle.ods_directory.specs.Names.{AreDistinct, IsDirectory, HasBadEntry, HasTwins, names_of}
 use Rattle.ods_space.specs.Layout.{VolumeLayout, header_at}
 use Rattle.ods_space.specs.Chain.{index_for}
@@ -28,7 +27,7 @@ use Rattle.ods_check.specs.declared.finding.Finding.{Finding}
 use Rattle.ods_check.specs.declared.finding.Finding.TheVariants.{NamesNone}
 use Rattle.ods_check.specs.Sets.{IsSetOf}
 use Rattle.ods_directory.specs.Hidden.{HasHidden}
-use Rattle.ods_check.specs.Findings.{IsRead, IsHiding, HasName, AreNames, IsIdOfFile, IsNumberOf, NamesAt, NamesFile, IsLostFile, id_at}
+use Rattle.ods_check.specs.Findings.{IsWholeDirectory, IsRead, IsHiding, HasName, AreNames, IsIdOfFile, IsNumberOf, NamesAt, NamesFile, IsLostFile, id_at}
 use Rattle.ods_check.proofs.StillTold.{TellsLine}
 use Rattle.ods_check.proofs.Noting.{set_as}
 
@@ -62,16 +61,21 @@ pub whether_alike : (es : List Entry) (b : Bool) → MatchBool b (HasTwins es) (
 whether_alike es true h = h
 whether_alike es false distinct = none_alike es distinct
 
--- what was found of the blocks and the mark at hand is so of those of the file
-pub moved : (P : List (List ℕ) → ℕ → Type 0) (I J : List (List ℕ)) (xs ys : List ℕ) (attributes at_hand : List ℕ) (mark count : ℕ) → (J ≡ I) → (ys ≡ xs) → (at_hand ≡ attributes)
-    → count ≡ length (map (block_at J) ys) → mark ≡ mark_in at_hand count → P (map (block_at J) ys) mark → P (map (block_at I) xs) (mark_in attributes (length xs))
-moved P I J xs ys attributes at_hand mark count same_image same_list same_attributes count_is mark_is found =
-    let size : count ≡ length xs = count_is ∙ length-map ys (block_at J) ∙ ap length same_list in
-    let end : mark ≡ mark_in attributes (length xs) = mark_is ∙ ap (λ l. mark_in l count) same_attributes ∙ ap (mark_in attributes) size in
-    let Q : ℕ → Type 0 = λ m. P (map (block_at J) ys) m in
-    let R : List ℕ → Type 0 = λ l. P (map (block_at J) l) (mark_in attributes (length xs)) in
-    let S : List (List ℕ) → Type 0 = λ K. P (map (block_at K) xs) (mark_in attributes (length xs)) in
-    subst S same_image (subst R same_list (subst Q end found))
+-- the mark is cut to the blocks
+pub mark_inside : (attributes : List ℕ) (count : ℕ) → mark_in attributes count ≤ 512 * count
+mark_inside attributes count = by_end (end_block attributes == 0)
+  where
+    by_end : (z : Bool) → cond z 0 (min ((end_block attributes - 1) * 512 + end_byte attributes) (512 * count)) ≤ 512 * count
+    by_end true = omega arith
+    by_end false = omega arith
+
+-- what was found of the blocks and the mark at hand is so of those of the directory
+pub moved : (P : List (List ℕ) → ℕ → Type 0) (I J : List (List ℕ)) (L : VolumeLayout) (d : ℕ) (xs ys : List ℕ) (mark : ℕ) → IsWholeDirectory I L d xs mark → J ≡ I → ys ≡ xs → P (map (block_at J) ys) mark → P (contents_of I xs) (mark_at I L d xs)
+moved P I J L d xs ys mark whole same_image same_list found =
+    let Q : ℕ → Type 0 = λ m. P (contents_of I xs) m in
+    let R : List ℕ → Type 0 = λ l. P (map (block_at J) l) mark in
+    let S : List (List ℕ) → Type 0 = λ K. P (map (block_at K) xs) mark in
+    subst Q whole.end (subst S same_image (subst R same_list found))
 
 module _ (I : List (List ℕ)) (L : VolumeLayout) where
   -- a number that has no line
@@ -158,6 +162,11 @@ module _ (I : List (List ℕ)) (L : VolumeLayout) where
 
   pub read_plain : (n : ℕ) → ¬ IsDirectoryFile I L n → IsRead I L n
   read_plain n other = record { whole = λ directory. absurd (other directory); good = λ t. other t.0; distinct = λ t. other t.0 }
+
+  -- a number without a whole chain is read just where it is no directory
+  pub unread : (n : ℕ) (b : Bool) → MatchBool b (IsDirectoryFile I L n) (¬ IsDirectoryFile I L n) → (IsDirectoryFile I L n → (blocks : List ℕ) → ¬ HasBlocks I L n blocks) → MatchBool (not b) (IsRead I L n) (¬ IsRead I L n)
+  unread n true directory none = not_read n directory (none directory)
+  unread n false other none = read_plain n other
 
   -- a directory is read
   pub read_good : (n : ℕ) (blocks : List ℕ) → HasBlocks I L n blocks → IsDirectory (contents_of I blocks) (mark_at I L n blocks) → IsRead I L n

@@ -15,21 +15,8 @@ use Rattle.ods_check.specs.Lists.{Adds, AreDistinct}
 use Rattle.ods_check.specs.Faults.{TellsPair, SharesBefore, AreOthers, IsOneMore}
 use Rattle.ods_check.proofs.Adding.{adds_most}
 use Rattle.ods_check.proofs.Counted.{last_or}
-use Rattle.ods_check.proofs.Turning.{at_place, distinct_one, distinct_append}
+use Rattle.ods_check.proofs.Turning.{AreBelow, distinct_push}
 use Rattle.ods_check.proofs.Pairs.{told_pair_still}
-
--- each of these is below n
-abbrev pub AreBelow : ℕ → List ℕ → Type 0
-AreBelow n xs = (i x : ℕ) → slice_get xs i ≡ Some x → x < n
-
--- a list with a greater number behind it has none twice
-distinct_push : (xs : List ℕ) (n : ℕ) → AreBelow n xs → AreDistinct xs → AreDistinct (xs ++ n ∷ [])
-distinct_push xs n below once =
-    distinct_append xs (n ∷ []) once (distinct_one n) (λ i j x at also.
-    let P : ℕ → Type 0 = λ y. y ≡ n in
-    let is : x ≡ n = at_place P (n ∷ []) j x (All-cons P n [] refl (All-nil P)) also in
-    let low = below i x at in
-    omega arith)
 
 module _ (I : List (List ℕ)) (L : VolumeLayout) where
   -- as many lines as are kept stay told

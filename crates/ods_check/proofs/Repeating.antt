@@ -15,9 +15,6 @@ IsThereBefore start xs i b = (k : ℕ) × (k < i) × (slice_get xs k ≡ Some b)
 abbrev pub IsWithThere : List ℕ → List ℕ → List ℕ → ℕ → List ℕ → Type 0
 IsWithThere old start xs i set = IsSetOf (λ b. (has old b ≡ true) ⊎ IsThereBefore start xs i b) set
 
-pub there_none : (old start xs : List ℕ) → IsWithThere old start xs 0 old
-there_none old start xs = set_same (IsThereBefore start xs 0) old (λ b t. let low = t.1 in omega arith)
-
 -- one number more
 pub there_more : (old start xs once : List ℕ) (i b : ℕ) (there : Bool) (set new : List ℕ) → slice_get xs i ≡ Some b → IsWithFirst start xs i once → there ≡ has once b → IsWithThere old start xs i set
     → IsSetOf (λ x. (has set x ≡ true) ⊎ ((there ≡ true) × (x ≡ b))) new → IsWithThere old start xs (i + 1) new

@@ -1,5 +1,5 @@
 -- Lines that are told in turn, none twice.
-use Rattle.std.proofs.Common.{Bool, true, false, cond, ◌⊎◌, inl, inr, ◌≡◌, ℕ, ◌+◌, ◌-◌, ◌<◌, ◌≤◌, arith, length, get_or, slice_get, Some, List, [], ◌∷◌, ◌++◌, sym, ap, ◌∙◌, subst, append_assoc}
+use Rattle.std.proofs.Common.{Bool, true, false, cond, ◌⊎◌, inl, inr, refl, ◌≡◌, ℕ, ◌+◌, ◌-◌, ◌<◌, ◌≤◌, arith, length, get_or, slice_get, Some, List, [], ◌∷◌, ◌++◌, sym, ap, ◌∙◌, subst, append_assoc}
 use Rattle.std.proofs.lemmas.Bool.{cases_lt}
 use Rattle.std.proofs.lemmas.List.{append-nil, length-append, get_or_append_left, get_or-append-add}
 use Rattle.std.proofs.lemmas.List.Elements.{All-nil, All-cons, All-append}
@@ -47,6 +47,19 @@ distinct_append xs ys one two apart i j x at also = elim (of_append xs ys i x at
 -- what all have is had by the one in this place
 pub at_place : {X : Type 0} (P : X → Type 0) (xs : List X) (i : ℕ) (x : X) → All P xs → slice_get xs i ≡ Some x → P x
 at_place P xs i x all at = subst P (get_or_from_slice_get xs i x x at) (all i x (slice_get_within xs i x at))
+
+-- each of these is below n
+abbrev pub AreBelow : ℕ → List ℕ → Type 0
+AreBelow n xs = (i x : ℕ) → slice_get xs i ≡ Some x → x < n
+
+-- a list with a greater number behind it has none twice
+pub distinct_push : (xs : List ℕ) (n : ℕ) → AreBelow n xs → AreDistinct xs → AreDistinct (xs ++ n ∷ [])
+distinct_push xs n below once =
+    distinct_append xs (n ∷ []) once (distinct_one n) (λ i j x at also.
+    let P : ℕ → Type 0 = λ y. y ≡ n in
+    let is : x ≡ n = at_place P (n ∷ []) j x (All-cons P n [] refl (All-nil P)) also in
+    let low = below i x at in
+    omega arith)
 
 module _ {X : Type 0} (turn : X → ℕ) where
   pub turn_none : (a b : ℕ) (xs : List X × ℕ) → AddsInTurn turn a b xs xs

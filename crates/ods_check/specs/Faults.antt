@@ -10,7 +10,8 @@ use Rattle.ods_check.specs.declared.fault_line.IndexFault.TheVariants.{TooShort,
 use Rattle.ods_check.specs.declared.fault_line.FaultLine.{FaultLine}
 use Rattle.ods_check.specs.declared.fault_line.FaultLine.TheVariants.{Plain, Shared, Index}
 use Rattle.ods_check.specs.Lists.{AreDistinct}
-use Rattle.ods_check.specs.Lines.{Share, IsElsewhere, IsIndexFault}
+use Rattle.ods_mount.specs.Checks.{IsElsewhere}
+use Rattle.ods_check.specs.Lines.{Share, IsIndexFault}
 
 -- a line has this fault in the mount's words
 abbrev pub Tells : List FaultLine → MountFault → Type 0

@@ -1,5 +1,5 @@
 -- What a mount does not refuse, of a volume that has a layout, sound or not: what each finding says, and that all of a kind are told.
-use Rattle.std.specs.Prelude.{◌≡◌, ◌≢◌, ℕ, ◌+◌, ◌-◌, ◌*◌, ◌<◌, ◌==◌, IsTrue, Bool, true, false, List, [], length, slice_get, Some, if◌then◌else◌}
+use Rattle.std.specs.Prelude.{◌≡◌, ◌≢◌, ℕ, ◌+◌, ◌-◌, ◌*◌, ◌^◌, ◌<◌, ◌≤◌, ◌==◌, IsTrue, Bool, true, false, List, [], length, slice_get, Some, if◌then◌else◌}
 use Rattle.std.specs.List.{All, Contains}
 use Rattle.ods_base.specs.declared.file_id.FileId.{FileId}
 use Rattle.ods_base.specs.declared.listed.Listed.{Listed}
@@ -54,6 +54,14 @@ pub record IsHeldByNone (I : List (List ℕ)) (L : VolumeLayout) (b : ℕ) : Typ
 -- the ID of header n: its number, and the sequence number that it has
 abbrev pub id_at : List (List ℕ) → VolumeLayout → ℕ → FileId
 id_at I L n = record { number = n; sequence = sequence_of (header_at I L n) }
+
+-- File d is a directory that has these blocks, and this is its end mark, not past them.
+pub record IsWholeDirectory (I : List (List ℕ)) (L : VolumeLayout) (d : ℕ) (blocks : List ℕ) (mark : ℕ) : Type 0 where
+  pub file : IsDirectoryFile I L d
+  pub has : HasBlocks I L d blocks
+  pub few : length blocks < 2 ^ 32
+  pub end : mark ≡ mark_at I L d blocks
+  pub within : mark ≤ 512 * length blocks
 
 -- If file d is a directory, its chain is whole, and it has neither a bad entry nor two of one name.
 pub record IsRead (I : List (List ℕ)) (L : VolumeLayout) (d : ℕ) : Type 0 where

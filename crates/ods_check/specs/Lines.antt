@@ -8,6 +8,7 @@ use Rattle.ods_space.specs.Free.{is_free_block}
 use Rattle.ods_mount.specs.declared.fault.MountFault.{MountFault}
 use Rattle.ods_mount.specs.declared.fault.MountFault.TheVariants.{BadIndex, DoublyUsed}
 use Rattle.ods_mount.specs.Faults.{IsTrueOf, FaultIsTrue}
+use Rattle.ods_mount.specs.Checks.{IsElsewhere}
 use Rattle.ods_check.specs.Lists.{AreDistinct}
 use Rattle.ods_check.specs.declared.fault_line.IndexFault.{IndexFault}
 use Rattle.ods_check.specs.declared.fault_line.IndexFault.TheVariants.{TooShort, Misplaced, OtherHome, FreePlace, HeldPlace}
@@ -39,10 +40,6 @@ pub record AreSharing (I : List (List ℕ)) (L : VolumeLayout) (m n b count : �
   pub blocks : List ℕ
   pub are : AreShared I L m n blocks
   pub size : count ≡ length blocks
-
--- INDEXF.SYS does not map the index bitmap and headers 1 to 16 from VBN 3 on: not this one of their blocks, counted from 0
-abbrev pub IsElsewhere : VolumeLayout → ℕ → Type 0
-IsElsewhere L i = (i < L.home.index_bitmap_size + 16) × (slice_get L.index (2 + i) ≢ Some (L.home.index_bitmap_lbn + i))
 
 -- LBN k is a place of a home block below the one in force
 abbrev pub IsLowerPlace : List (List ℕ) → ℕ → Type 0

@@ -1,6 +1,6 @@
 -- Lists to which what is found is added.
-use Rattle.std.specs.Prelude.{◌≡◌, ℕ, ◌-◌, ◌<◌, ◌≤◌, List, ◌++◌, length, take, slice_get, Some}
-use Rattle.std.specs.List.{All}
+use Rattle.std.specs.Prelude.{◌≡◌, ℕ, ◌-◌, ◌<◌, ◌≤◌, List, ◌++◌, length, map, take, slice_get, Some}
+use Rattle.std.specs.List.{All, Contains}
 
 -- The list is the old one with more behind it, each of which has P. Beside a list stands at most how many of it are kept, which stays.
 pub record Adds {X : Type 0} (P : X → Type 0) (old new : List X × ℕ) : Type 0 where
@@ -18,6 +18,14 @@ pub record AddsInTurn {X : Type 0} (turn : X → ℕ) (a b : ℕ) (old new : Lis
   pub is : new ≡ (old.0 ++ more, old.1)
   pub turns : All (λ x. (a ≤ turn x) × (turn x < b)) more
   pub once : AreDistinct more
+
+-- The list is the old one with the lines of numbers behind it: of all that are so, and of each once.
+pub record AddsEach {X : Type 0} (Is : ℕ → Type 0) (line : ℕ → X) (old new : List X × ℕ) : Type 0 where
+  pub numbers : List ℕ
+  pub is : new ≡ (old.0 ++ map line numbers, old.1)
+  pub each : All Is numbers
+  pub all : (n : ℕ) → Is n → Contains numbers n
+  pub once : AreDistinct numbers
 
 -- These are the first lines of a list, at most so many, and so many more are in it.
 pub record IsCut {X : Type 0} (kept : List X) (more most : ℕ) (whole : List X) : Type 0 where

@@ -6,20 +6,25 @@ ghost use Rattle.ods_check.specs.declared.finding.Finding.{Finding as Line};
 ghost use Rattle.ods_check.specs.Findings.{IsFound, FindsAll, TellsHeader};
 ghost use Rattle.ods_space.specs.Disks.{on};
 
-use crate::ends::push_ends;
+use crate::ends::PastEnds;
 use crate::headers::push_bad_headers;
-use crate::hidden::push_hidden;
-use crate::lost_headers::push_lost_headers;
+use crate::hidden::Hiding;
+use crate::lost_headers::{LostHeaders, reached_headers};
 use crate::naming::push_naming;
-use crate::unheld::push_unheld;
+use crate::sweep::push_each;
+use crate::unheld::{Unheld, held_blocks};
 use crate::{Finding, Told};
 use ods_space::Disk;
 use std::alloc::{AllocError, Global};
 
-/// What a mount does not refuse, of a volume with this layout, sound or not: each number in use that has no valid header, each valid
-/// extension header that no file has, each block that is marked used and that no file holds, each name that names no file, each file
-/// above 5 that no name names, where these are wanted, each file that ends past its blocks, and each directory with used entries behind
-/// its end. Each finding is so, and each thing of these kinds is found; the first ones, at most `most`, are kept. Of a file whose chain is
+/// What a mount does not refuse, of a volume with this layout, sound or not:
+///
+/// - each number in use that has no valid header, and each valid extension header that no file has;
+/// - each block that is marked used and that no file holds;
+/// - each name that names no file, and, where these are wanted, each file above 5 that no name names;
+/// - each file that ends past its blocks, and each directory with used entries behind its end.
+///
+/// Each finding is so, and each thing of these kinds is found; the first ones, at most `most`, are kept. Of a file whose chain is
 /// not whole no blocks are known, and of a directory whose entries are not good and distinct no names.
 pub fn findings(
     alloc: Global,
@@ -34,11 +39,13 @@ pub fn findings(
 {
     let mut found = Told::new(alloc, most);
     push_bad_headers(disk, &mut found)?;
-    push_lost_headers(alloc, disk, &mut found)?;
-    push_unheld(alloc, disk, &mut found)?;
+    let reached = reached_headers(alloc, disk)?;
+    push_each(alloc, disk, &LostHeaders { reached }, &mut found)?;
+    let held = held_blocks(alloc, disk)?;
+    push_each(alloc, disk, &Unheld { held }, &mut found)?;
     push_naming(alloc, disk, with_lost, &mut found)?;
-    push_ends(disk, &mut found)?;
-    push_hidden(alloc, disk, &mut found)?;
+    push_each(alloc, disk, &PastEnds, &mut found)?;
+    push_each(alloc, disk, &Hiding, &mut found)?;
     Ok(found)
 }
 

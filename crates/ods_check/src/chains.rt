@@ -10,15 +10,17 @@ ghost use Rattle.ods_space.specs.Disks.{header_on, on};
 
 use crate::add::push_if;
 use crate::counting::{new_counted, put_stamp};
+use crate::directory::end_mark;
+use crate::numbers::file_end;
 use crate::shared_headers::{header_numbers, shared_headers};
 use crate::sharing::first_in;
 use crate::{FaultLine, IndexFault, Told};
-use ods_directory::{DirBlocks, has_bad_entry, has_twins, mark_of};
+use ods_directory::{has_bad_entry, has_twins};
 use ods_header::attributes;
 use ods_mount::{
     FileBlocks, MountFault, NumberSet, chain_fault, is_directory_file, is_loose_place,
 };
-use ods_space::{Disk, chain, check_chain, first_header, is_free};
+use ods_space::{Disk, chain, check_chain, is_free, primary_header};
 use std::alloc::{AllocError, Global};
 
 /// Adds the faults of each file.
@@ -57,7 +59,7 @@ fn push_each_file(
     ensures once { OnOk result (AddsInTurn turn_of (file_turn 0) (pair_turn 0 0) faults.old faults.new) }
     ensures files { OnOk result ((n : ℕ) → on TellsFile disk.now faults.new.0 n) }
 {
-    for number in 0..disk.layout.home().max_files as u32 + 1 {
+    for number in 0..file_end(disk) {
         push_file(alloc, disk, home_lbn, number as u16, shared, stamps, faults)?;
     }
     Ok(())
@@ -83,7 +85,7 @@ fn push_file(
     ensures file { OnOk result (on TellsFile disk.now faults.new.0 number) }
     ensures stamps { OnOk result (IsStamped disk.now.image.now stamps.new (2 * number + 2)) }
 {
-    let Some(first) = first_header(disk, number) else {
+    let Some(first) = primary_header(disk, number) else {
         return Ok(());
     };
     push_sharing(alloc, disk, number, shared, faults)?;
@@ -237,10 +239,8 @@ fn push_names(
     if !is_directory_file(disk, number) {
         return Ok(());
     }
-    // An image has few blocks, and so has a chain.
-    let _ = disk.image.len();
+    let mark = end_mark(disk, number, attributes, lbns);
     let blocks = FileBlocks::new(disk.image, lbns);
-    let mark = mark_of(attributes, blocks.count());
     let bad = has_bad_entry(&blocks, mark);
     push_if(
         faults,

@@ -1,31 +1,49 @@
 //! Files that end past their blocks.
-ghost use Rattle.std.specs.Prelude.{◌≡◌, ◌*◌, ◌<◌, ℕ, length, OnOk, MatchBool};
-ghost use Rattle.std.specs.List.{Contains};
+ghost use Rattle.std.specs.Prelude.{◌*◌, ◌<◌, length, MatchBool};
 ghost use Rattle.ods_space.specs.Files.{IsLayoutOf};
-ghost use Rattle.ods_check.specs.{Lists.Adds, Findings.IsFound, Findings.IsEndPast, Findings.id_at, Findings.end_of};
-ghost use Rattle.ods_space.specs.Disks.{on, seen};
+ghost use Rattle.ods_check.specs.Findings.{IsEndPast, end_of};
+ghost use Rattle.ods_space.specs.Disks.{on};
 
-use crate::add::push_if;
+use crate::Finding;
 use crate::ids::id_of;
-use crate::{Finding, Told};
+use crate::numbers::file_end;
+use crate::sweep::Sought;
 use ods_directory::mark_of;
 use ods_header::attributes;
 use ods_mount::is_directory_file;
-use ods_space::{Disk, block_count, first_header};
-use std::alloc::AllocError;
+use ods_space::{Disk, block_count, primary_header};
+use std::alloc::{AllocError, Global};
 
-/// Adds each file above 2, and no directory, that ends past its blocks.
-pub(crate) fn push_ends(disk: &Disk<'_>, findings: &mut Told<Finding>) -> Result<(), AllocError>
-    requires { on IsLayoutOf disk.now }
-    ensures adds { OnOk result (Adds (on IsFound disk.now) findings.old findings.new) }
-    ensures all { OnOk result ((n : ℕ) → on IsEndPast disk.now n → Contains findings.new.0 (Finding.EndPast (seen id_at disk.now n))) }
-{
-    for number in 0..disk.layout.home().max_files as u32 + 1 {
-        let file = id_of(disk, number as u16);
-        let past = ends_past(disk, number as u16);
-        push_if(findings, Finding::EndPast(file), past)?;
+/// Files above 2, and no directories, that end past their blocks.
+#[derive(Drop)]
+pub(crate) struct PastEnds;
+
+impl Sought for PastEnds {
+    ghost use Rattle.std.specs.Prelude.{⊤};
+    ghost use Rattle.ods_check.specs.Findings.{IsEndPast, id_at};
+    ghost use Rattle.ods_check.specs.declared.finding.Finding.{Finding};
+
+    type Line = Finding;
+
+    ghost most = { 65536 };
+
+    ghost fits = { λ _ _ _. ⊤ };
+
+    ghost is = { λ _. IsEndPast };
+
+    ghost line_of = { λ I L n. Finding.EndPast (id_at I L n) };
+
+    fn end(&self, disk: &Disk<'_>) -> u32 {
+        file_end(disk)
     }
-    Ok(())
+
+    fn holds(&self, _alloc: Global, disk: &Disk<'_>, number: u32) -> Result<bool, AllocError> {
+        Ok(ends_past(disk, number as u16))
+    }
+
+    fn line(&self, disk: &Disk<'_>, number: u32) -> Finding {
+        Finding::EndPast(id_of(disk, number as u16))
+    }
 }
 
 /// Whether this is a file above 2, and no directory, that ends past its blocks.
@@ -36,7 +54,7 @@ fn ends_past(disk: &Disk<'_>, number: u16) -> bool
     if number < 3 {
         return false;
     }
-    let Some(first) = first_header(disk, number) else {
+    let Some(first) = primary_header(disk, number) else {
         return false;
     };
     if is_directory_file(disk, number) {

@@ -10,7 +10,8 @@ ghost use Rattle.ods_space.specs.Disks.{on};
 use crate::chains::push_files;
 use crate::index_faults::push_index;
 use crate::sharing::push_shared;
-use crate::system::{push_formats, push_system};
+use crate::sweep::push_each;
+use crate::system::{LeftAside, push_system};
 use crate::{FaultLine, Told};
 use ods_base::Image;
 use ods_mount::{MountFault, check_image, read_layout};
@@ -32,15 +33,20 @@ pub struct Checked {
 pub const MOST_LINES: u32 = 10_000;
 
 /// Every fault of an image, and its layout where it has one. A sound image has none. Where there is no layout it is the one that a
-/// mount answers. Where there is one these are told, and each line is true: each reason why the index is bad, a storage bitmap that
-/// is too short, no master directory, each header whose pointers have another format, each file with no chain or a header of another
-/// file's, of each chain that names blocks which the image lacks one of these, each block of a whole chain that is marked free, each
-/// directory with a bad entry, each with two names that are one, and each pair of files with whole chains that share blocks, with the first
-/// of these and how many they are, and so each file that holds blocks twice. No line is told twice.
+/// mount answers. Where there is one these are told, and each line is true and told once:
 ///
-/// A sound image costs a mount. Any other costs a few walks over all its chains; and each file that has a block of one before it costs
-/// a walk over the chains of all files before it, and four bytes for each block of the image, which it lets go again. So the time is
-/// at most that of as many walks over all chains as lines are kept.
+/// - each reason why the index is bad, a storage bitmap that is too short, and no master directory;
+/// - each header whose pointers have another format;
+/// - each file with no chain, or with a header of another file's;
+/// - one block for each chain that names blocks which the image lacks;
+/// - each block of a whole chain that is marked free;
+/// - each directory with a bad entry, and each with two names that are one;
+/// - each pair of files with whole chains that share blocks, with the first of these and how many they are; a file that holds blocks twice
+///   is such a pair with itself.
+///
+/// A sound image costs a mount. Any other costs a few walks over all its chains. Each file that has a block of one before it costs a walk over
+/// the chains of all files before it, and for that time four bytes for each block of the image. So the time is at most that of as many walks
+/// over all chains as lines are kept.
 pub fn check_all(alloc: Global, image: &Image) -> Result<Checked, AllocError>
     ensures true_of { IfOk result (λ c. All (λ line. FaultIsTrue image.now (fault_of line)) c.faults.0) }
     ensures lines { IfOk result (λ c. All (LineIsTrue image.now) c.faults.0) }
@@ -71,20 +77,7 @@ pub fn check_all(alloc: Global, image: &Image) -> Result<Checked, AllocError>
 pub(crate) fn is_memory(fault: &MountFault) -> bool
     ensures { MatchBool result (fault.now ≡ MountFault.NoMemory) (fault.now ≢ MountFault.NoMemory) }
 {
-    match fault {
-        MountFault::NoMemory => true,
-        MountFault::NoHome => false,
-        MountFault::UnsupportedMap(_) => false,
-        MountFault::BadChain(_) => false,
-        MountFault::OutsideVolume(_, _) => false,
-        MountFault::BadIndex => false,
-        MountFault::BadStorageMap => false,
-        MountFault::BadMaster => false,
-        MountFault::DoublyUsed(_, _, _) => false,
-        MountFault::MarkedFree(_, _) => false,
-        MountFault::BadDirectory(_) => false,
-        MountFault::DuplicateName(_) => false,
-    }
+    matches!(fault, MountFault::NoMemory)
 }
 
 /// The faults of an image that is not sound, of which one is known.
@@ -141,7 +134,7 @@ fn tell(known: MountFault, faults: &mut Told<FaultLine>) -> Result<(), AllocErro
     if faults.is_full() {
         return Ok(());
     }
-    if is_told(known, faults.kept()) {
+    if is_told(known, faults.kept_lines()) {
         return Ok(());
     }
     faults.push(FaultLine::Plain(known))?;
@@ -181,8 +174,8 @@ fn pair_of(fault: MountFault) -> Option<(u16, u16)> {
     }
 }
 
-/// Adds the faults of a volume with this layout that its index, its system files, the format of its headers and each file by itself show,
-/// and the pairs of files that hold the same blocks.
+/// Adds the faults of a volume with this layout: those that its index, its system files, the format of its headers and each file by itself
+/// show, and the pairs of files that hold the same blocks.
 fn push_all(
     alloc: Global,
     disk: &Disk<'_>,
@@ -199,9 +192,9 @@ fn push_all(
     ensures others { OnOk result (on AreOthers disk.now faults.new others.new.0) }
     ensures most { OnOk result (others.new.1 ≡ others.old.1) }
 {
-    push_index(disk, home_lbn, faults)?;
+    push_index(alloc, disk, home_lbn, faults)?;
     push_system(disk, faults)?;
-    push_formats(disk, faults)?;
+    push_each(alloc, disk, &LeftAside, faults)?;
     push_files(alloc, disk, home_lbn, faults)?;
     push_shared(alloc, disk, faults, others)?;
     Ok(())

@@ -5,6 +5,7 @@ ghost use Rattle.ods_space.specs.Layout.{is_in_use};
 ghost use Rattle.ods_check.specs.{Lists.Adds, Findings.IsWithout, Findings.IsFound, Findings.TellsHeader};
 ghost use Rattle.ods_space.specs.Disks.{header_on, on};
 
+use crate::numbers::header_end;
 use crate::{Finding, NoHeader, Told};
 use ods_header::{HeaderFault, read_header};
 use ods_space::{Disk, header_block, in_use};
@@ -18,8 +19,7 @@ pub(crate) fn push_bad_headers(
     ensures adds { OnOk result (Adds (on IsFound disk.now) findings.old findings.new) }
     ensures all { OnOk result ((n : ℕ) → n < 65536 → on TellsHeader disk.now n findings.new.0) }
 {
-    let last = (4096 * disk.layout.home().index_bitmap_size as u32).min(65535);
-    for number in 0..last + 1 {
+    for number in 0..header_end(disk) {
         push_bad_header(disk, number as u16, findings)?;
     }
     Ok(())

@@ -1,39 +1,52 @@
 //! Extension headers that no file reaches.
-ghost use Rattle.std.specs.Prelude.{◌≡◌, ◌⊎◌, ◌*◌, ◌≤◌, ℕ, List, true, length, MatchBool, IfOk, OnOk};
-ghost use Rattle.std.specs.List.{Contains};
+ghost use Rattle.std.specs.Prelude.{◌≡◌, ◌⊎◌, ◌*◌, ◌≤◌, ℕ, List, true, length, MatchBool, IfOk};
 ghost use Rattle.ods_space.specs.{Chain.IsChain, Files.IsLayoutOf};
 ghost use Rattle.ods_mount.specs.Tables.{has};
-ghost use Rattle.ods_check.specs.{Lists.Adds, Sets.IsSetOf, Findings.HasAsHeader, Findings.IsFound, Findings.IsLostHeader, Findings.id_at};
-ghost use Rattle.ods_space.specs.Disks.{on, seen};
+ghost use Rattle.ods_check.specs.{Sets.IsSetOf, Findings.HasAsHeader, Findings.IsLostHeader};
+ghost use Rattle.ods_space.specs.Disks.{on};
 
-use crate::add::push_if;
+use crate::Finding;
 use crate::ids::id_of;
-use crate::{Finding, Told};
+use crate::numbers::{file_end, header_end};
+use crate::sweep::Sought;
 use ods_header::{is_valid_header, segment};
 use ods_mount::NumberSet;
 use ods_space::{ChainFault, ChainHeaders, Disk, check_chain, header_block, in_use};
 use std::alloc::{AllocError, Global};
 
-/// Adds each valid extension header that no file has.
-pub(crate) fn push_lost_headers(
-    alloc: Global,
-    disk: &Disk<'_>,
-    findings: &mut Told<Finding>,
-) -> Result<(), AllocError>
-    requires { on IsLayoutOf disk.now }
-    ensures adds { OnOk result (Adds (on IsFound disk.now) findings.old findings.new) }
-    ensures all { OnOk result ((n : ℕ) → on IsLostHeader disk.now n → Contains findings.new.0 (Finding.LostHeader (seen id_at disk.now n))) }
-{
-    let reached = reached_headers(alloc, disk)?;
-    // The blocks of an image have bytes, so no header has a greater number than a word.
-    let _ = disk.image.len();
-    let last = (4096 * disk.layout.home().index_bitmap_size as u32).min(65535);
-    for number in 0..last + 1 {
-        let file = id_of(disk, number as u16);
-        let lost = is_lost_header(disk, &reached, number as u16);
-        push_if(findings, Finding::LostHeader(file), lost)?;
+/// Valid extension headers that no file has.
+#[derive(Drop)]
+pub(crate) struct LostHeaders {
+    /// The headers of all files that have a chain.
+    pub reached: NumberSet,
+}
+
+impl Sought for LostHeaders {
+    ghost use Rattle.std.specs.Prelude.{ℕ};
+    ghost use Rattle.ods_check.specs.{Sets.IsSetOf, Findings.HasAsHeader, Findings.IsLostHeader, Findings.id_at};
+    ghost use Rattle.ods_check.specs.declared.finding.Finding.{Finding};
+
+    type Line = Finding;
+
+    ghost most = { 65536 };
+
+    ghost fits = { λ s I L. IsSetOf (λ n. (m : ℕ) × HasAsHeader I L m n) s.reached };
+
+    ghost is = { λ _. IsLostHeader };
+
+    ghost line_of = { λ I L n. Finding.LostHeader (id_at I L n) };
+
+    fn end(&self, disk: &Disk<'_>) -> u32 {
+        header_end(disk)
     }
-    Ok(())
+
+    fn holds(&self, _alloc: Global, disk: &Disk<'_>, number: u32) -> Result<bool, AllocError> {
+        Ok(is_lost_header(disk, &self.reached, number as u16))
+    }
+
+    fn line(&self, disk: &Disk<'_>, number: u32) -> Finding {
+        Finding::LostHeader(id_of(disk, number as u16))
+    }
 }
 
 /// Whether this is a valid extension header that no file has. `reached` has the headers of all files.
@@ -51,13 +64,13 @@ fn is_lost_header(disk: &Disk<'_>, reached: &NumberSet, number: u16) -> bool
 }
 
 /// The headers of all files that have a chain.
-fn reached_headers(alloc: Global, disk: &Disk<'_>) -> Result<NumberSet, AllocError>
+pub(crate) fn reached_headers(alloc: Global, disk: &Disk<'_>) -> Result<NumberSet, AllocError>
     requires { on IsLayoutOf disk.now }
     ensures { IfOk result (IsSetOf (λ n. (m : ℕ) × on HasAsHeader disk.now m n)) }
 {
     // The number of a header is a word.
     let mut reached = NumberSet::new(alloc, 65536)?;
-    for number in 0..disk.layout.home().max_files as u32 + 1 {
+    for number in 0..file_end(disk) {
         note_headers(disk, number as u16, &mut reached);
     }
     Ok(reached)

@@ -1,16 +1,14 @@
 //! The names of a directory that is whole and good.
-ghost use Rattle.std.specs.Prelude.{◌≡◌, ◌<◌, ◌^◌, ℕ, length, IfOk};
-ghost use Rattle.ods_header.specs.Header.{attributes_of};
-ghost use Rattle.ods_space.specs.{Files.HasBlocks, Files.IsLayoutOf};
-ghost use Rattle.ods_mount.specs.Faults.{IsDirectoryFile};
+ghost use Rattle.std.specs.Prelude.{IfOk};
+ghost use Rattle.ods_space.specs.Files.{IsLayoutOf};
 ghost use Rattle.ods_check.specs.Findings.{AreNames};
-ghost use Rattle.ods_space.specs.Disks.{header_on, on};
+ghost use Rattle.ods_space.specs.Disks.{on};
 
+use crate::directory::whole_directory;
 use ods_base::Listed;
-use ods_directory::{DirBlocks, Verdict, check, entries, mark_of};
-use ods_header::attributes;
-use ods_mount::{FileBlocks, is_directory_file};
-use ods_space::{ChainFault, Disk, chain, first_header};
+use ods_directory::{Verdict, check, entries};
+use ods_mount::FileBlocks;
+use ods_space::Disk;
 use std::alloc::{AllocError, Global};
 
 /// The names of a directory with a whole chain and good entries. Any other number has none.
@@ -22,40 +20,13 @@ pub(crate) fn names_of(
     requires { on IsLayoutOf disk.now }
     ensures { IfOk result (λ lines. on AreNames disk.now number lines.items) }
 {
-    let Some(first) = first_header(disk, number) else {
+    let Some(directory) = whole_directory(alloc, disk, number)? else {
         return Ok(Vec::new(alloc));
     };
-    if !is_directory_file(disk, number) {
-        return Ok(Vec::new(alloc));
-    }
-    match chain(alloc, disk, number) {
-        Ok(lbns) => names_in(alloc, disk, number, &attributes(first), &lbns),
-        Err(ChainFault::NoMemory) => Err(AllocError),
-        Err(ChainFault::BadChain) => Ok(Vec::new(alloc)),
-        Err(ChainFault::OutsideVolume(_)) => Ok(Vec::new(alloc)),
-    }
-}
-
-/// The names of a directory that has these blocks, where its entries are good and distinct. `attributes` are those of its header.
-fn names_in(
-    alloc: Global,
-    disk: &Disk<'_>,
-    number: u16,
-    attributes: &[u8; 32],
-    lbns: &[u32],
-) -> Result<Vec<Listed>, AllocError>
-    requires whole { on HasBlocks disk.now number lbns.now }
-    requires directory { on IsDirectoryFile disk.now number }
-    requires attributes { attributes.now ≡ attributes_of (header_on disk.now number) }
-    ensures { IfOk result (λ lines. on AreNames disk.now number lines.items) }
-{
-    // An image has few blocks, and so has a chain.
-    let _ = disk.image.len();
-    let blocks = FileBlocks::new(disk.image, lbns);
-    let mark = mark_of(attributes, blocks.count());
-    match check(alloc, &blocks, mark) {
+    let blocks = FileBlocks::new(disk.image, &directory.lbns);
+    match check(alloc, &blocks, directory.mark) {
         Ok(Verdict::Good) => {
-            let lines = entries(alloc, &blocks, mark)?;
+            let lines = entries(alloc, &blocks, directory.mark)?;
             Ok(lines)
         }
         Ok(Verdict::BadEntry) => Ok(Vec::new(alloc)),

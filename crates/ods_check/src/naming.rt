@@ -7,13 +7,14 @@ ghost use Rattle.ods_mount.specs.Tables.{has};
 ghost use Rattle.ods_check.specs.{Lists.Adds, Sets.IsSetOf, Findings.IsFound, Findings.HasName, Findings.NamesFile, Findings.NamesAt, Findings.IsNumberOf, Findings.IsIdOfFile, Findings.IsNamingNone, Findings.IsLostFile, Findings.id_at};
 ghost use Rattle.ods_space.specs.Disks.{on, seen};
 
-use crate::add::push_if;
 use crate::ids::id_of;
 use crate::names::names_of;
+use crate::numbers::file_end;
+use crate::sweep::{Sought, push_each};
 use crate::{Finding, Told};
 use ods_base::{FileId, Listed};
 use ods_mount::NumberSet;
-use ods_space::{Disk, first_header, sequence};
+use ods_space::{Disk, primary_header, sequence};
 use std::alloc::{AllocError, Global};
 
 /// Adds each name that names no file, and each file above 5 that no name names, where these are wanted.
@@ -30,32 +31,49 @@ pub(crate) fn push_naming(
 {
     // The number of a file is a word.
     let mut named = NumberSet::new(alloc, 65536)?;
-    for number in 0..disk.layout.home().max_files as u32 + 1 {
+    for number in 0..file_end(disk) {
         push_names(alloc, disk, number as u16, &mut named, findings)?;
     }
     if !with_lost {
         return Ok(());
     }
-    push_lost_files(disk, &named, findings)?;
+    push_each(alloc, disk, &LostFiles { named }, findings)?;
     Ok(())
 }
 
-/// Adds each file above 5 that no name names. `named` has the files that are named.
-fn push_lost_files(
-    disk: &Disk<'_>,
-    named: &NumberSet,
-    findings: &mut Told<Finding>,
-) -> Result<(), AllocError>
-    requires { IsSetOf (λ n. (d : ℕ) × on NamesFile disk.now d n) named.now }
-    ensures adds { OnOk result (Adds (on IsFound disk.now) findings.old findings.new) }
-    ensures all { OnOk result ((n : ℕ) → on IsLostFile disk.now n → Contains findings.new.0 (Finding.LostFile (seen id_at disk.now n))) }
-{
-    for number in 0..disk.layout.home().max_files as u32 + 1 {
-        let file = id_of(disk, number as u16);
-        let lost = is_lost(disk, named, number as u16);
-        push_if(findings, Finding::LostFile(file), lost)?;
+/// Files above 5 that no name names.
+#[derive(Drop)]
+struct LostFiles {
+    /// The files that are named.
+    named: NumberSet,
+}
+
+impl Sought for LostFiles {
+    ghost use Rattle.std.specs.Prelude.{ℕ};
+    ghost use Rattle.ods_check.specs.{Sets.IsSetOf, Findings.NamesFile, Findings.IsLostFile, Findings.id_at};
+    ghost use Rattle.ods_check.specs.declared.finding.Finding.{Finding};
+
+    type Line = Finding;
+
+    ghost most = { 65536 };
+
+    ghost fits = { λ s I L. IsSetOf (λ n. (d : ℕ) × NamesFile I L d n) s.named };
+
+    ghost is = { λ _. IsLostFile };
+
+    ghost line_of = { λ I L n. Finding.LostFile (id_at I L n) };
+
+    fn end(&self, disk: &Disk<'_>) -> u32 {
+        file_end(disk)
     }
-    Ok(())
+
+    fn holds(&self, _alloc: Global, disk: &Disk<'_>, number: u32) -> Result<bool, AllocError> {
+        Ok(is_lost(disk, &self.named, number as u16))
+    }
+
+    fn line(&self, disk: &Disk<'_>, number: u32) -> Finding {
+        Finding::LostFile(id_of(disk, number as u16))
+    }
 }
 
 /// Whether this is a file above 5 that no name names.
@@ -66,7 +84,7 @@ fn is_lost(disk: &Disk<'_>, named: &NumberSet, number: u16) -> bool
     if number <= 5 {
         return false;
     }
-    match first_header(disk, number) {
+    match primary_header(disk, number) {
         Some(_) => !named.contains(number as u32),
         None => false,
     }
@@ -142,7 +160,7 @@ fn push_line(
 fn is_id_of_file(disk: &Disk<'_>, file: FileId) -> bool
     ensures { MatchBool result (on IsIdOfFile disk.now file) (¬ on IsIdOfFile disk.now file) }
 {
-    match first_header(disk, file.number) {
+    match primary_header(disk, file.number) {
         Some(_) => sequence(disk, file.number) == file.sequence,
         None => false,
     }

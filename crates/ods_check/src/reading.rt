@@ -1,15 +1,14 @@
 //! Whether the names of directories can be read.
-ghost use Rattle.std.specs.Prelude.{◌≡◌, IfOk, MatchBool};
-ghost use Rattle.ods_header.specs.Header.{attributes_of};
-ghost use Rattle.ods_space.specs.Files.{HasBlocks, IsLayoutOf};
-ghost use Rattle.ods_mount.specs.Faults.{IsDirectoryFile};
+ghost use Rattle.std.specs.Prelude.{IfOk, MatchBool};
+ghost use Rattle.ods_space.specs.Files.{IsLayoutOf};
 ghost use Rattle.ods_check.specs.Findings.{IsRead, AreAllRead};
-ghost use Rattle.ods_space.specs.Disks.{header_on, on};
+ghost use Rattle.ods_space.specs.Disks.{on};
 
-use ods_directory::{DirBlocks, Verdict, check, mark_of};
-use ods_header::attributes;
-use ods_mount::{FileBlocks, is_directory_file};
-use ods_space::{ChainFault, Disk, chain, first_header};
+use crate::directory::{is_directory, whole_directory};
+use crate::numbers::file_end;
+use ods_directory::{Verdict, check};
+use ods_mount::FileBlocks;
+use ods_space::Disk;
 use std::alloc::{AllocError, Global};
 
 /// Whether each directory has a whole chain, and neither a bad entry nor two of one name: whether all their names are read.
@@ -17,7 +16,7 @@ pub fn are_all_read(alloc: Global, disk: &Disk<'_>) -> Result<bool, AllocError>
     requires { on IsLayoutOf disk.now }
     ensures { IfOk result (λ read. MatchBool read (on AreAllRead disk.now) (¬ on AreAllRead disk.now)) }
 {
-    for number in 0..disk.layout.home().max_files as u32 + 1 {
+    for number in 0..file_end(disk) {
         let read = is_read(alloc, disk, number as u16)?;
         if !read {
             return Ok(false);
@@ -31,38 +30,11 @@ fn is_read(alloc: Global, disk: &Disk<'_>, number: u16) -> Result<bool, AllocErr
     requires { on IsLayoutOf disk.now }
     ensures { IfOk result (λ read. MatchBool read (on IsRead disk.now number) (¬ on IsRead disk.now number)) }
 {
-    let Some(first) = first_header(disk, number) else {
-        return Ok(true);
+    let Some(directory) = whole_directory(alloc, disk, number)? else {
+        return Ok(!is_directory(disk, number));
     };
-    if !is_directory_file(disk, number) {
-        return Ok(true);
-    }
-    match chain(alloc, disk, number) {
-        Ok(lbns) => is_good(alloc, disk, number, &attributes(first), &lbns),
-        Err(ChainFault::NoMemory) => Err(AllocError),
-        Err(ChainFault::BadChain) => Ok(false),
-        Err(ChainFault::OutsideVolume(_)) => Ok(false),
-    }
-}
-
-/// Whether the entries of a directory that has these blocks are good and distinct. `attributes` are those of its header.
-fn is_good(
-    alloc: Global,
-    disk: &Disk<'_>,
-    number: u16,
-    attributes: &[u8; 32],
-    lbns: &[u32],
-) -> Result<bool, AllocError>
-    requires whole { on HasBlocks disk.now number lbns.now }
-    requires directory { on IsDirectoryFile disk.now number }
-    requires attributes { attributes.now ≡ attributes_of (header_on disk.now number) }
-    ensures { IfOk result (λ read. MatchBool read (on IsRead disk.now number) (¬ on IsRead disk.now number)) }
-{
-    // An image has few blocks, and so has a chain.
-    let _ = disk.image.len();
-    let blocks = FileBlocks::new(disk.image, lbns);
-    let mark = mark_of(attributes, blocks.count());
-    match check(alloc, &blocks, mark) {
+    let blocks = FileBlocks::new(disk.image, &directory.lbns);
+    match check(alloc, &blocks, directory.mark) {
         Ok(Verdict::Good) => Ok(true),
         Ok(Verdict::BadEntry) => Ok(false),
         Ok(Verdict::Twice) => Ok(false),

@@ -5,6 +5,7 @@ ghost use Rattle.ods_space.specs.{Chain.IsChain, Files.IsLayoutOf};
 ghost use Rattle.ods_check.specs.{Lists.AreDistinct, Sets.IsSetOf, Findings.HasAsHeader, Marks.AreHeaders, Marks.IsOfTwo};
 ghost use Rattle.ods_space.specs.Disks.{on};
 
+use crate::numbers::file_end;
 use crate::repeats::insert_twice;
 use ods_mount::NumberSet;
 use ods_space::{ChainFault, ChainHeaders, Disk, check_chain};
@@ -18,7 +19,7 @@ pub(crate) fn shared_headers(alloc: Global, disk: &Disk<'_>) -> Result<NumberSet
     // The number of a header is a word.
     let mut once = NumberSet::new(alloc, 65536)?;
     let mut twice = NumberSet::new(alloc, 65536)?;
-    for number in 0..disk.layout.home().max_files as u32 + 1 {
+    for number in 0..file_end(disk) {
         note_headers(alloc, disk, number as u16, &mut once, &mut twice)?;
     }
     Ok(twice)

@@ -1,19 +1,21 @@
 //! Blocks that two files share, and those that one file holds twice.
 ghost use Rattle.std.specs.Prelude.{◌≡◌, ◌⊎◌, ◌*◌, ◌+◌, ◌<◌, ◌≤◌, ℕ, [], Some, true, false, slice_get, slice_index, length, OnOk, IfSome, IfNone};
-ghost use Rattle.std.specs.List.{Contains};
+ghost use Rattle.std.specs.List.{All, Contains};
 ghost use Rattle.ods_space.specs.Files.{HasBlocks, IsLayoutOf};
 ghost use Rattle.ods_mount.specs.{Tables.has};
-ghost use Rattle.ods_check.specs.{Lists.Adds, Lists.AddsInTurn, Lists.AreDistinct, Lists.IsFull, Sets.IsSetOf, Findings.HasBlock, Holders.IsBefore, Holders.IsStamped, Lines.IsLineOf, Faults.TellsPair, Faults.AreOthers, Faults.IsOneMore, Marks.HasShared, Marks.IsFirstIn, Turns.turn_of, Turns.pair_turn, Turns.last_turn};
+ghost use Rattle.ods_check.specs.{Lists.Adds, Lists.AddsInTurn, Lists.AreDistinct, Lists.IsFull, Sets.IsSetOf, Findings.HasBlock, Holders.noted, Holders.IsBefore, Holders.IsStamped, Lines.IsLineOf, Faults.TellsPair, Faults.AreOthers, Faults.IsOneMore, Marks.HasShared, Marks.IsFirstIn, Turns.turn_of, Turns.pair_turn, Turns.last_turn};
 ghost use Rattle.ods_space.specs.Disks.{on};
 
 use crate::before::Before;
 use crate::counting::count_of;
 use crate::holders::{insert_holders, note_holder};
+use crate::numbers::file_end;
 use crate::repeats::{insert_new, insert_twice};
 use crate::unheld::insert_all;
+use crate::whole_chain::whole_chain;
 use crate::{FaultLine, Told};
 use ods_mount::NumberSet;
-use ods_space::{ChainFault, Disk, chain};
+use ods_space::Disk;
 use std::alloc::{AllocError, Global};
 
 /// Adds each pair of files with whole chains that share blocks, and each such file that holds blocks twice, with the first of these
@@ -35,7 +37,7 @@ pub(crate) fn push_shared(
     ensures most { OnOk result (others.new.1 ≡ others.old.1) }
 {
     let mut before = Before::first(alloc, disk)?;
-    for number in 0..disk.layout.home().max_files as u32 + 1 {
+    for number in 0..file_end(disk) {
         push_shared_of(alloc, disk, number as u16, &mut before, faults, others)?;
     }
     Ok(())
@@ -58,12 +60,10 @@ fn push_shared_of(
     ensures others { OnOk result ((others.new ≡ others.old) ⊎ on IsOneMore disk.now faults.old number others.old others.new) }
     ensures before { OnOk result (on IsBefore disk.now (IsFull faults.new) (number + 1) before.new) }
 {
-    match chain(alloc, disk, number) {
-        Ok(lbns) => push_shared_blocks(alloc, disk, number, &lbns, before, faults, others),
-        Err(ChainFault::NoMemory) => Err(AllocError),
-        Err(ChainFault::BadChain) => Ok(()),
-        Err(ChainFault::OutsideVolume(_)) => Ok(()),
-    }
+    let Some(lbns) = whole_chain(alloc, disk, number)? else {
+        return Ok(());
+    };
+    push_shared_blocks(alloc, disk, number, &lbns, before, faults, others)
 }
 
 /// Adds each pair of this file, which has these blocks, with one before it and with itself, and notes the blocks.
@@ -96,10 +96,26 @@ fn push_shared_blocks(
         &mut before.stamps,
         faults,
     )?;
-    if !faults.is_full() {
-        note_holder(&mut before.holders, lbns, number)?;
-    }
+    note_unless_full(&mut before.holders, lbns, number, faults)?;
     Ok(())
+}
+
+/// Notes a file as one that holds these blocks, unless as many lines are kept as may be.
+fn note_unless_full(
+    lists: &mut [Vec<u16>],
+    lbns: &[u32],
+    number: u16,
+    faults: &Told<FaultLine>,
+) -> Result<(), AllocError>
+    requires { All (λ b. b < length lists.old) lbns.now }
+    ensures noted { OnOk result (¬ IsFull faults.now → (j b : ℕ) → slice_get lbns.now j ≡ Some b → Contains (noted lists.new b) number) }
+    ensures kept { OnOk result ((b m : ℕ) → Contains (noted lists.old b) m → Contains (noted lists.new b) m) }
+    ensures size { length lists.new ≡ length lists.old }
+{
+    if faults.is_full() {
+        return Ok(());
+    }
+    note_holder(lists, lbns, number)
 }
 
 /// Adds each pair of this file, which has these blocks, with one before it, or, where no more lines are kept, the file to the others.
@@ -184,15 +200,11 @@ fn push_pair(
     ensures told { OnOk result (on TellsPair disk.now faults.new.0 one other) }
     ensures stamps { IsStamped disk.now.image.now stamps.new (65536 * other + one + 1) }
 {
-    match chain(alloc, disk, one) {
-        Ok(lbns) => {
-            let stamp = 65_536 * u64::from(other) + u64::from(one) + 1;
-            push_common(disk, one, other, &lbns, own, stamps, stamp, faults)
-        }
-        Err(ChainFault::NoMemory) => Err(AllocError),
-        Err(ChainFault::BadChain) => Ok(()),
-        Err(ChainFault::OutsideVolume(_)) => Ok(()),
-    }
+    let Some(lbns) = whole_chain(alloc, disk, one)? else {
+        return Ok(());
+    };
+    let stamp = 65_536 * u64::from(other) + u64::from(one) + 1;
+    push_common(disk, one, other, &lbns, own, stamps, stamp, faults)
 }
 
 /// Adds that this file holds blocks twice, where it does. `is_new` says that no block of it was met before.

@@ -1,15 +1,17 @@
 //! Faults of the volume as a whole: its storage bitmap, its master directory, and headers of another format.
-ghost use Rattle.std.specs.Prelude.{◌≡◌, ℕ, ◌+◌, OnOk, MatchBool};
+ghost use Rattle.std.specs.Prelude.{◌+◌, OnOk, MatchBool};
 ghost use Rattle.ods_space.specs.Files.{IsLayoutOf};
 ghost use Rattle.ods_mount.specs.Faults.{IsTrueOf};
-ghost use Rattle.ods_check.specs.{Lists.Adds, Lists.AddsInTurn, Lines.IsLineOf, Faults.Tells, Turns.turn_of, Turns.volume_turn, Turns.file_turn};
+ghost use Rattle.ods_check.specs.{Lists.Adds, Lists.AddsInTurn, Lines.IsLineOf, Faults.Tells, Turns.turn_of, Turns.volume_turn};
 ghost use Rattle.ods_space.specs.Disks.{on};
 
 use crate::add::push_if;
+use crate::numbers::header_end;
+use crate::sweep::Sought;
 use crate::{FaultLine, Told};
 use ods_mount::{MountFault, has_other_format};
-use ods_space::{Disk, first_header, in_use};
-use std::alloc::AllocError;
+use ods_space::{Disk, in_use, primary_header};
+use std::alloc::{AllocError, Global};
 
 /// Adds that the storage bitmap is too short, and that there is no master directory, where it is so.
 pub(crate) fn push_system(disk: &Disk<'_>, faults: &mut Told<FaultLine>) -> Result<(), AllocError>
@@ -42,28 +44,43 @@ fn is_short(disk: &Disk<'_>) -> bool
 fn lacks_master(disk: &Disk<'_>) -> bool
     ensures { MatchBool result (on IsTrueOf disk.now MountFault.BadMaster) (¬ on IsTrueOf disk.now MountFault.BadMaster) }
 {
-    match first_header(disk, 4) {
+    match primary_header(disk, 4) {
         Some(_) => false,
         None => true,
     }
 }
 
-/// Adds each header that is left aside for the format of its pointers alone.
-pub(crate) fn push_formats(disk: &Disk<'_>, faults: &mut Told<FaultLine>) -> Result<(), AllocError>
-    ensures adds { OnOk result (Adds (on IsLineOf disk.now) faults.old faults.new) }
-    ensures once { OnOk result (AddsInTurn turn_of (volume_turn + 2) (file_turn 0) faults.old faults.new) }
-    ensures all { OnOk result ((n : ℕ) → on IsTrueOf disk.now (MountFault.UnsupportedMap n) → Tells faults.new.0 (MountFault.UnsupportedMap n)) }
-{
-    // The blocks of an image have bytes, so no header has a greater number than a word.
-    let _ = disk.image.len();
-    let last = (4096 * disk.layout.home().index_bitmap_size as u32).min(65535);
-    for k in 0..last {
-        let number = (k + 1) as u16;
-        let is_left = is_left_aside(disk, number);
-        let other = FaultLine::Plain(MountFault::UnsupportedMap(number));
-        push_if(faults, other, is_left)?;
+/// Headers that are left aside for the format of their pointers alone.
+#[derive(Drop)]
+pub(crate) struct LeftAside;
+
+impl Sought for LeftAside {
+    ghost use Rattle.std.specs.Prelude.{⊤};
+    ghost use Rattle.ods_mount.specs.declared.fault.MountFault.{MountFault};
+    ghost use Rattle.ods_check.specs.declared.fault_line.FaultLine.{FaultLine};
+    ghost use Rattle.ods_mount.specs.Faults.{IsTrueOf};
+
+    type Line = FaultLine;
+
+    ghost most = { 65536 };
+
+    ghost fits = { λ _ _ _. ⊤ };
+
+    ghost is = { λ _ I L n. IsTrueOf I L (MountFault.UnsupportedMap n) };
+
+    ghost line_of = { λ _ _ n. FaultLine.Plain (MountFault.UnsupportedMap n) };
+
+    fn end(&self, disk: &Disk<'_>) -> u32 {
+        header_end(disk)
     }
-    Ok(())
+
+    fn holds(&self, _alloc: Global, disk: &Disk<'_>, number: u32) -> Result<bool, AllocError> {
+        Ok(is_left_aside(disk, number as u16))
+    }
+
+    fn line(&self, _disk: &Disk<'_>, number: u32) -> FaultLine {
+        FaultLine::Plain(MountFault::UnsupportedMap(number as u16))
+    }
 }
 
 /// Whether the header of this number is in use, and right but for the format of its pointers.

@@ -56,7 +56,7 @@ impl<T: Copy> Told<T> {
     }
 
     /// The lines that are kept.
-    pub fn kept(&self) -> &[T]
+    pub fn kept_lines(&self) -> &[T]
         ensures { result.now ≡ take self.now.1 self.now.0 }
     {
         self.kept.as_slice()

@@ -1,33 +1,52 @@
 //! Blocks that are marked used, and that no file holds.
 ghost use Rattle.std.specs.Prelude.{◌≡◌, ◌⊎◌, ◌*◌, ◌<◌, ◌≤◌, ℕ, true, Some, slice_get, length, MatchBool, IfOk, OnOk};
-ghost use Rattle.std.specs.List.{All, Contains};
+ghost use Rattle.std.specs.List.{All};
 ghost use Rattle.ods_space.specs.Files.{IsLayoutOf};
 ghost use Rattle.ods_mount.specs.Tables.{has};
-ghost use Rattle.ods_check.specs.{Lists.Adds, Sets.IsSetOf, Findings.HasBlock, Findings.IsFound, Findings.IsHeldByNone, Findings.IsMarkedUsed};
+ghost use Rattle.ods_check.specs.{Sets.IsSetOf, Findings.HasBlock, Findings.IsHeldByNone, Findings.IsMarkedUsed};
 ghost use Rattle.ods_space.specs.Disks.{on};
 
-use crate::add::push_if;
-use crate::{Finding, Told};
+use crate::Finding;
+use crate::numbers::file_end;
+use crate::sweep::Sought;
+use crate::whole_chain::whole_chain;
 use ods_mount::{NumberSet, is_home_place};
-use ods_space::{ChainFault, Disk, chain, is_free};
+use ods_space::{Disk, is_free};
 use std::alloc::{AllocError, Global};
 
-/// Adds each block that is marked used, that no file holds, and that is no place of a home block.
-pub(crate) fn push_unheld(
-    alloc: Global,
-    disk: &Disk<'_>,
-    findings: &mut Told<Finding>,
-) -> Result<(), AllocError>
-    requires { on IsLayoutOf disk.now }
-    ensures adds { OnOk result (Adds (on IsFound disk.now) findings.old findings.new) }
-    ensures all { OnOk result ((b : ℕ) → on IsHeldByNone disk.now b → Contains findings.new.0 (Finding.HeldByNone b)) }
-{
-    let held = held_blocks(alloc, disk)?;
-    for lbn in 0..disk.image.len() {
-        let unheld = is_unheld(disk, &held, lbn);
-        push_if(findings, Finding::HeldByNone(lbn), unheld)?;
+/// Blocks that are marked used, that no file holds, and that are no places of a home block.
+#[derive(Drop)]
+pub(crate) struct Unheld {
+    /// The blocks that files with whole chains hold.
+    pub held: NumberSet,
+}
+
+impl Sought for Unheld {
+    ghost use Rattle.std.specs.Prelude.{ℕ};
+    ghost use Rattle.ods_check.specs.{Sets.IsSetOf, Findings.HasBlock, Findings.IsHeldByNone};
+    ghost use Rattle.ods_check.specs.declared.finding.Finding.{Finding};
+
+    type Line = Finding;
+
+    ghost most = { 4294967296 };
+
+    ghost fits = { λ s I L. IsSetOf (λ b. (m : ℕ) × HasBlock I L m b) s.held };
+
+    ghost is = { λ _. IsHeldByNone };
+
+    ghost line_of = { λ _ _. Finding.HeldByNone };
+
+    fn end(&self, disk: &Disk<'_>) -> u32 {
+        disk.image.len()
     }
-    Ok(())
+
+    fn holds(&self, _alloc: Global, disk: &Disk<'_>, number: u32) -> Result<bool, AllocError> {
+        Ok(is_unheld(disk, &self.held, number))
+    }
+
+    fn line(&self, _disk: &Disk<'_>, number: u32) -> Finding {
+        Finding::HeldByNone(number)
+    }
 }
 
 /// Whether the block is marked used, no file holds it, and it is no place of a home block. `held` has what files hold.
@@ -50,12 +69,12 @@ fn is_marked_used(disk: &Disk<'_>, lbn: u32) -> bool
 }
 
 /// The blocks that files with whole chains hold.
-fn held_blocks(alloc: Global, disk: &Disk<'_>) -> Result<NumberSet, AllocError>
+pub(crate) fn held_blocks(alloc: Global, disk: &Disk<'_>) -> Result<NumberSet, AllocError>
     requires { on IsLayoutOf disk.now }
     ensures { IfOk result (IsSetOf (λ b. (m : ℕ) × on HasBlock disk.now m b)) }
 {
     let mut held = NumberSet::new(alloc, disk.image.len())?;
-    for number in 0..disk.layout.home().max_files as u32 + 1 {
+    for number in 0..file_end(disk) {
         note_blocks(alloc, disk, number as u16, &mut held)?;
     }
     Ok(held)
@@ -73,15 +92,11 @@ fn note_blocks(
     ensures with { OnOk result (IsSetOf (λ b. (has held.old b ≡ true) ⊎ on HasBlock disk.now number b) held.new) }
     ensures room { length held.new ≡ length held.old }
 {
-    match chain(alloc, disk, number) {
-        Ok(lbns) => {
-            insert_all(&lbns, held);
-            Ok(())
-        }
-        Err(ChainFault::NoMemory) => Err(AllocError),
-        Err(ChainFault::BadChain) => Ok(()),
-        Err(ChainFault::OutsideVolume(_)) => Ok(()),
-    }
+    let Some(lbns) = whole_chain(alloc, disk, number)? else {
+        return Ok(());
+    };
+    insert_all(&lbns, held);
+    Ok(())
 }
 
 /// Puts all these numbers into the set.

@@ -4,7 +4,7 @@ use Rattle.std.specs.Prelude.{All, Result, IfOk, slice_index_or}
 use Rattle.std.specs.declared.vec.Vec.{Vec}
 use Rattle.std.specs.declared.alloc.Global.{Global}
 use Rattle.std.specs.declared.alloc.AllocError.{AllocError}
-use Rattle.ods_share.specs.declared.script.Script.{Script}
+use Rattle.ods_ask.specs.declared.script.Script.{Script}
 use Rattle.ods_share.specs.Scripts.{CanBeRun}
 use Rattle.ods_script.specs.Numbered.{AreCommandsOf}
 use Rattle.ods_cli.specs.ScriptText.{AreScriptsOf, EachParsed}

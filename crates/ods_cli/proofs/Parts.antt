@@ -51,8 +51,3 @@ pub part_cut : (whole : List ℕ) (old mid new : Option (List ℕ)) (xs ys : Lis
 part_cut whole old mid new xs ys f left cut =
     let P : List ℕ → Type 0 = λ l. IsCut old new l f in
     subst P left.parts (cut_second old mid new left.front (xs ++ ys) f left.sent (cut_first mid new xs ys f cut))
-
--- nothing is left
-pub none_left : (whole : List ℕ) (old new : Option (List ℕ)) → HasLeft whole old new [] → Appends old new whole
-none_left whole old new left =
-    let P : List ℕ → Type 0 = λ l. Appends old new l in subst P (sym (append-nil left.front) ∙ left.parts) left.sent

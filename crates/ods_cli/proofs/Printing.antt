@@ -6,15 +6,15 @@ use Rattle.std.specs.String.{string_bytes}
 use Rattle.std.specs.declared.alloc.Global.{Global}
 use Rattle.std.specs.declared.vec.Vec.{Vec}
 use Rattle.ods_share.specs.declared.keeping.Ended.{Ended}
-use Rattle.ods_share.specs.declared.outcome.Outcome.{Outcome}
-use Rattle.ods_share.specs.declared.outcome.Reply.{Reply}
-use Rattle.ods_share.specs.declared.script.Command.{Command}
-use Rattle.ods_share.specs.declared.script.Script.{Script}
+use Rattle.ods_ask.specs.declared.outcome.Outcome.{Outcome}
+use Rattle.ods_ask.specs.declared.outcome.Reply.{Reply}
+use Rattle.ods_ask.specs.declared.script.Command.{Command}
+use Rattle.ods_ask.specs.declared.script.Script.{Script}
 use Rattle.ods_share.specs.Keeping.{EachEnded, IsEnded}
 use Rattle.ods_share.specs.Scripts.{EachOutcome, IsOutcome, all_saw}
 use Rattle.ods_share.specs.Settles.{Calls}
-use Rattle.ods_script.specs.declared.printed.Printed.{Printed}
-use Rattle.ods_script.specs.Printing.{ArePrinted}
+use Rattle.ods_cli.specs.declared.printed.Printed.{Printed}
+use Rattle.ods_cli.specs.Printing.{ArePrinted}
 use Rattle.ods_script.specs.Texts.{session_text, sessions_text}
 use Rattle.ods_cli.specs.Printed.{calls_kept, printed_of, printed_text, session_line}
 use Rattle.ods_cli.specs.Serve.{calls_in}

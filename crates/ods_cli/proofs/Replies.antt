@@ -12,13 +12,6 @@ use Rattle.ods_cli.specs.declared.fault.ServeFault.TheVariants as fault
 use Rattle.ods_cli.specs.Reply.{AreImageBytes, IsReply, IsReplyFault}
 use Rattle.ods_cli.specs.Run.{EndsRun}
 
--- whatever was refused, at most one byte too many was read
-pub most_read : (bytes : List ℕ) (rest : Option (List ℕ)) (e : ImageError) → IsNoReading bytes rest e → length bytes ≤ 2 ^ 29 + 1
-most_read bytes rest NotWholeBlocks why = omega (arith, why.0)
-most_read bytes rest TooBig why = omega (arith, why)
-most_read bytes rest ReadFailed why = omega (arith, why)
-most_read bytes rest NoMemory why = why
-
 -- so it is where there is an image
 pub most_of_image : (bytes : List ℕ) (rest : Option (List ℕ)) (I : List (List ℕ)) → AreImageBytes bytes rest I → length bytes ≤ 2 ^ 29 + 1
 most_of_image bytes rest I spelled = omega (arith, length-concat I spelled.image.blocks, spelled.image.size, ap length spelled.bytes_are)

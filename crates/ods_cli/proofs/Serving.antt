@@ -12,10 +12,10 @@ use Rattle.ods_share.specs.Keeping.{EachEnded}
 use Rattle.ods_share.specs.Scripts.{all_saw}
 use Rattle.ods_share.specs.Settles.{Calls, IsSettled, AreLengths}
 use Rattle.ods_share.specs.declared.keeping.Ended.{Ended}
-use Rattle.ods_share.specs.declared.script.Script.{Script}
+use Rattle.ods_ask.specs.declared.script.Script.{Script}
 use Rattle.ods_share.specs.declared.settlement.Report.{Report}
-use Rattle.ods_script.specs.declared.printed.Printed.{Printed}
-use Rattle.ods_script.specs.Printing.{ArePrinted}
+use Rattle.ods_cli.specs.declared.printed.Printed.{Printed}
+use Rattle.ods_cli.specs.Printing.{ArePrinted}
 use Rattle.ods_cli.specs.Reply.{AreImageBytes, IsReplyFault}
 use Rattle.ods_cli.specs.Serve.{AreSound, AreRefused, EndsServe, EndsWriting, IsFaultOf, IsRefusedWith, IsReportFault, IsServedTo, IsServingFault, IsSoundImage, IsUntouched, Wrote, totals_text, wrote}
 use Rattle.ods_cli.specs.Printed.{calls_kept, printed_of, printed_text}

@@ -9,4 +9,5 @@ pub mod Serve
 pub mod Sample
 pub mod ScriptText
 pub mod Printed
+pub mod Printing
 pub mod Writing

@@ -4,7 +4,7 @@ use Rattle.std.specs.Fmt.{decimal}
 use Rattle.std.specs.String.{string_bytes}
 use Rattle.ods_share.specs.declared.keeping.Ended.{Ended}
 use Rattle.ods_share.specs.Settles.{Calls}
-use Rattle.ods_script.specs.declared.printed.Printed.{Printed}
+use Rattle.ods_cli.specs.declared.printed.Printed.{Printed}
 use Rattle.ods_cli.specs.declared.sessions.Said.{Said}
 
 -- the list of calls of each session

@@ -4,8 +4,8 @@ use Rattle.std.specs.declared.vec.Vec.{Vec}
 use Rattle.std.specs.declared.alloc.Global.{Global}
 use Rattle.std.specs.declared.alloc.AllocError.{AllocError}
 use Rattle.std.specs.Io.KnownBytes.{IsAtEnd}
-use Rattle.ods_share.specs.declared.script.Command.{Command}
-use Rattle.ods_share.specs.declared.script.Script.{Script}
+use Rattle.ods_ask.specs.declared.script.Command.{Command}
+use Rattle.ods_ask.specs.declared.script.Script.{Script}
 use Rattle.ods_share.specs.Scripts.{CanBeRun}
 use Rattle.ods_script.specs.Numbered.{AreCommandsOf}
 use Rattle.ods_cli.specs.declared.script_text.ScriptFault.{ScriptFault}

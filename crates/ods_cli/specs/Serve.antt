@@ -11,8 +11,8 @@ use Rattle.ods_mount.specs.Faults.{FaultIsTrue}
 use Rattle.ods_mount.specs.Sound.{IsSoundBy}
 use Rattle.ods_request.specs.declared.answers.Entry.{Entry}
 use Rattle.ods_state.specs.Version.{State, IsLawful, IsVersionBy}
-use Rattle.ods_share.specs.declared.script.Script.{Script}
-use Rattle.ods_share.specs.declared.outcome.Outcome.{Outcome}
+use Rattle.ods_ask.specs.declared.script.Script.{Script}
+use Rattle.ods_ask.specs.declared.outcome.Outcome.{Outcome}
 use Rattle.ods_share.specs.declared.settlement.Report.{Report}
 use Rattle.ods_share.specs.Scripts.{EachOutcome, all_saw}
 use Rattle.ods_share.specs.Settles.{Calls, AreCalls, AreLengths, IsSettled}

@@ -8,12 +8,13 @@ ghost use Rattle.ods_cli.specs.{Printed.said_text, Serve.EndsServe, Serve.EndsWr
 
 use crate::ServeFault;
 use crate::reply::NoImage;
-use crate::sessions::{Said, serve_all, unserved};
+use crate::sessions::{Said, serve_all, serve_none};
 use crate::sound::sound_image;
 use crate::writing::write_said;
 use ods_base::{Image, write_bytes};
 use ods_request::Stamp;
 use ods_share::{Gate, Report, Script};
+use ods_views::MOST_SESSIONS;
 use std::alloc::Global;
 use std::io::{Read, Write};
 use std::sync::Wait;
@@ -28,7 +29,7 @@ pub struct Options {
     pub stamp: Stamp,
 }
 
-/// Serves at most 8 scripts on the image that a reader gives, each as a session in a thread of its own, and answers how many requests
+/// Serves at most 8 scripts on the image that a reader gives, each as a session in a thread of its own. It answers how many requests
 /// were accepted, in all and of each session. The replies and the totals are written first, and last the image as it is then, if
 /// there is a writer for it. Where the bytes are no sound image, the line of that refusal is written and nothing else. With no script no
 /// image is kept but the one that was read.
@@ -44,7 +45,7 @@ pub fn serve<I: Read, W: Write, O: Write, G: Gate + Sync, R: Threads + Wait + Sy
 ) -> Result<Report, ServeFault>
     requires low { 1 ≤ options.limit }
     requires high { options.limit ≤ 65536 }
-    requires few { length scripts.now ≤ 8 }
+    requires few { length scripts.now ≤ MOST_SESSIONS }
     requires can { All (λ s. CanBeRun s.commands.items) scripts.now }
     ensures ends { (bytes : List ℕ) × Consumes (I.remaining reader.old) (I.remaining reader.new) bytes
         × EndsServe options.stamp scripts.now options.limit bytes (I.remaining reader.new) (record { old = W.contents replies.old; new = W.contents replies.new })
@@ -55,7 +56,7 @@ pub fn serve<I: Read, W: Write, O: Write, G: Gate + Sync, R: Threads + Wait + Sy
     match sound_image(alloc, reader)? {
         Ok(mounted) => {
             if scripts.is_empty() {
-                let said = unserved(alloc, &mounted, scripts)?;
+                let said = serve_none(alloc, &mounted, scripts)?;
                 return deliver(said, mounted.image(), replies, out);
             }
             let served = serve_all(rt, alloc, mounted, scripts, options, gate)?;
@@ -83,7 +84,7 @@ fn deliver<W: Write, O: Write>(
     replies: &mut W,
     out: &mut Option<O>,
 ) -> Result<Report, ServeFault>
-    requires { length said.printed.items ≤ 8 }
+    requires { length said.printed.items ≤ MOST_SESSIONS }
     ensures ends { EndsWriting said.report (said_text said) image.now
         (record { old = W.contents replies.old; new = W.contents replies.new }) (wrote O.contents out.old out.new) result }
     ensures report { IfOk result (λ r. r ≡ said.report) }

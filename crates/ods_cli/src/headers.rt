@@ -5,7 +5,7 @@ ghost use Rattle.std.specs.Io.KnownBytes.{Consumes};
 ghost use Rattle.ods_cli.specs.{HeaderReply.IsImageReply, HeaderRun.EndsHeaderRun, Reply.IsReply, Reply.IsReplyFault};
 
 use crate::ServeFault;
-use crate::reply::{Reply, read_image, refused, send};
+use crate::reply::{Reply, read_image, refusal_line, send};
 use ods_base::{Coded, Image};
 use ods_header::{LineFault, find_home, header_line};
 use std::alloc::{AllocError, Global};
@@ -52,17 +52,17 @@ fn reply_about(alloc: Global, image: &Image, number: u16) -> Result<Reply, Serve
 {
     let home = match find_home(image) {
         Ok((_, home)) => home,
-        Err(fault) => return Ok(missing(refused(alloc, fault.code(), fault.name())?)),
+        Err(fault) => return Ok(missing(refusal_line(alloc, fault.code(), fault.name())?)),
     };
     match header_line(alloc, image, &home, number) {
-        Ok(line) => Ok(found(line)?),
+        Ok(line) => Ok(header_reply(line)?),
         Err(LineFault::NoMemory) => Err(ServeFault::NoMemory),
-        Err(fault) => Ok(missing(refused(alloc, fault.code(), fault.name())?)),
+        Err(fault) => Ok(missing(refusal_line(alloc, fault.code(), fault.name())?)),
     }
 }
 
 /// The reply with a header's line.
-fn found(mut line: String) -> Result<Reply, AllocError>
+fn header_reply(mut line: String) -> Result<Reply, AllocError>
     ensures { IfOk result (λ reply. (reply.found ≡ true) × (string_bytes reply.text ≡ string_bytes line ++ 10 ∷ [])) }
 {
     line.push('\n')?;

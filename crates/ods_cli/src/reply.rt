@@ -42,14 +42,14 @@ pub(crate) fn read_image<R: Read>(
         Err(ImageError::NoMemory) => Err(ServeFault::NoMemory),
         Err(refusal) => {
             let number = refusal.code();
-            let line = refused(alloc, number, refusal.name())?;
+            let line = refusal_line(alloc, number, refusal.name())?;
             Ok(Err(NoImage { number, line }))
         }
     }
 }
 
 /// The line of a refusal that carries nothing.
-pub(crate) fn refused(alloc: Global, number: u16, name: &str) -> Result<String, AllocError>
+pub(crate) fn refusal_line(alloc: Global, number: u16, name: &str) -> Result<String, AllocError>
     ensures { IfOk result (λ line. string_bytes line ≡ refusal_line number name.now) }
 {
     let line = format!(in alloc; "NO {number} {name}\n")?;

@@ -5,6 +5,7 @@ ghost use Rattle.ods_share.specs.Scripts.{CanBeRun};
 ghost use Rattle.ods_script.specs.Numbered.{AreCommandsOf};
 ghost use Rattle.ods_cli.specs.ScriptText.{IsScriptOf, IsTextOf, IsScriptFault, AreScriptsOf, EachParsed};
 
+use ods_base::PIECE;
 use ods_script::parse_script;
 use ods_share::Script;
 use std::alloc::{AllocError, Global};
@@ -13,10 +14,6 @@ use std::thread::{Threads, map_vec};
 
 /// How many bytes a script has at most.
 const MOST_BYTES: usize = 1_048_576;
-
-/// How many bytes are asked for in one read: a script of the most bytes is some 16 calls of the system then, where pieces of 4 KiB
-/// would be 256, one script behind another.
-const PIECE_BYTES: usize = 65_536;
 
 /// Why a script is not read.
 #[derive(Clone, Copy, Debug, PartialEq, Eq)]
@@ -46,7 +43,7 @@ pub fn read_script<R: Read>(alloc: Global, reader: &mut R) -> Result<Script, Scr
     ensures read { (bytes : List ℕ) × Consumes (R.remaining reader.old) (R.remaining reader.new) bytes
         × MatchResult result (λ s. IsScriptOf bytes (R.remaining reader.new) s.commands.items) (IsScriptFault bytes) }
 {
-    let mut piece = [0u8; PIECE_BYTES];
+    let mut piece = [0u8; PIECE];
     let text = read_text(alloc, reader, &mut piece)?;
     Ok(parse_script(alloc, text.as_slice())?)
 }
@@ -56,7 +53,7 @@ pub fn read_script_text<R: Read>(alloc: Global, reader: &mut R) -> Result<Vec<u8
     ensures { (bytes : List ℕ) × Consumes (R.remaining reader.old) (R.remaining reader.new) bytes
         × MatchResult result (λ text. IsTextOf bytes (R.remaining reader.new) text.items) (IsScriptFault bytes) }
 {
-    let mut piece = [0u8; PIECE_BYTES];
+    let mut piece = [0u8; PIECE];
     read_text(alloc, reader, &mut piece)
 }
 

@@ -3,18 +3,19 @@ ghost use Rattle.std.specs.Prelude.{◌≡◌, ◌≤◌, ℕ, List, [], All, le
 ghost use Rattle.std.specs.String.{string_bytes};
 ghost use Rattle.ods_space.specs.Free.{free_blocks, free_numbers};
 ghost use Rattle.ods_share.specs.{Keeping.EachEnded, Scripts.CanBeRun, Scripts.all_saw, Settles.AreLengths, Settles.IsSettled};
-ghost use Rattle.ods_script.specs.Printing.{ArePrinted};
+ghost use Rattle.ods_cli.specs.Printing.{ArePrinted};
 ghost use Rattle.ods_cli.specs.Serve.{IsServedTo, IsServingFault, IsReportFault, totals_text};
 ghost use Rattle.ods_cli.specs.Printed.{calls_kept, printed_of, said_text};
 
 use crate::ServeFault;
 use crate::engine::Options;
+use crate::printed::Printed;
 use ods_alloc::{free_count, number_count};
 use ods_mount::Mounted;
-use ods_script::Printed;
 use ods_share::{
     Call, Ended, Gate, Report, RunFault, Script, SettleFault, run_keeping, settle_mounted,
 };
+use ods_views::MOST_SESSIONS;
 use ods_volume::Volume;
 use std::alloc::{AllocError, Global};
 use std::sync::Wait;
@@ -39,7 +40,7 @@ pub(crate) struct Served {
 }
 
 /// What comes of a run with no script: nothing changes, so it needs no desk, and no image but the mounted one.
-pub(crate) fn unserved(
+pub(crate) fn serve_none(
     alloc: Global,
     mounted: &Mounted,
     scripts: &[Script],
@@ -47,7 +48,7 @@ pub(crate) fn unserved(
     requires { length scripts.now ≡ 0 }
     ensures none { IfOk result (λ s. s.report.entries ≡ 0) }
     ensures served { (stamp : List ℕ) (limit : ℕ) → IfOk result (λ s. IsServedTo stamp scripts.now limit mounted.now.image mounted.now.image s.report (said_text s)) }
-    ensures few { IfOk result (λ s. length s.printed.items ≤ 8) }
+    ensures few { IfOk result (λ s. length s.printed.items ≤ MOST_SESSIONS) }
 {
     let disk = mounted.disk();
     let blocks = free_count(&disk);
@@ -77,10 +78,10 @@ pub(crate) fn serve_all<G: Gate + Sync, R: Threads + Wait + Sync>(
     requires low { 1 ≤ options.limit }
     requires high { options.limit ≤ 65536 }
     requires some { 1 ≤ length scripts.now }
-    requires few { length scripts.now ≤ 8 }
+    requires few { length scripts.now ≤ MOST_SESSIONS }
     requires can { All (λ s. CanBeRun s.commands.items) scripts.now }
     ensures ok { IfOk result (λ s. IsServedTo options.stamp scripts.now options.limit mounted.image s.volume.image s.said.report (said_text s.said)) }
-    ensures few { IfOk result (λ s. length s.said.printed.items ≤ 8) }
+    ensures few { IfOk result (λ s. length s.said.printed.items ≤ MOST_SESSIONS) }
     ensures limit { IfOk result (λ s. s.said.report.entries ≤ options.limit) }
     ensures err { IfErr result (IsServingFault options.stamp scripts.now mounted.image options.limit) }
 {
@@ -88,31 +89,31 @@ pub(crate) fn serve_all<G: Gate + Sync, R: Threads + Wait + Sync>(
         return Err(ServeFault::NoMemory);
     };
     match run_keeping::<Printed, G, R>(rt, alloc, volume, scripts, options.stamp, gate) {
-        Ok((volume, ended)) => settled(alloc, volume, scripts, ended),
+        Ok((volume, ended)) => settle(alloc, volume, scripts, ended),
         Err(RunFault::NoMemory) => Err(ServeFault::NoMemory),
         Err(RunFault::NoThread) => Err(ServeFault::NoThread),
     }
 }
 
 /// What is said of the run, where the volume's list is that of the sessions.
-fn settled(
+fn settle(
     alloc: Global,
     volume: Volume,
     scripts: &[Script],
     ended: Vec<Ended<Printed>>,
 ) -> Result<Served, ServeFault>
     requires some { 1 ≤ length scripts.now }
-    requires few { length scripts.now ≤ 8 }
+    requires few { length scripts.now ≤ MOST_SESSIONS }
     requires count { vec_len ended ≡ length scripts.now }
     ensures ok { (stamp : List ℕ) → EachEnded ArePrinted volume.mounted stamp (all_saw []) (length volume.entries ≡ volume.limit) scripts.now ended.items →
         IfOk result (λ s. IsServedTo stamp scripts.now volume.limit volume.mounted s.volume.image s.said.report (said_text s.said)) }
-    ensures few { IfOk result (λ s. length s.said.printed.items ≤ 8) }
+    ensures few { IfOk result (λ s. length s.said.printed.items ≤ MOST_SESSIONS) }
     ensures limit { IfOk result (λ s. s.said.report.entries ≤ volume.limit) }
     ensures err { (stamp : List ℕ) → EachEnded ArePrinted volume.mounted stamp (all_saw []) (length volume.entries ≡ volume.limit) scripts.now ended.items →
         IfErr result (IsServingFault stamp scripts.now volume.mounted volume.limit) }
 {
     volume.is_lawful();
-    let (calls, printed) = parted(alloc, ended)?;
+    let (calls, printed) = part_sessions(alloc, ended)?;
     let report = report_of(alloc, &volume, calls)?;
     let totals = print_totals(
         alloc,
@@ -141,7 +142,7 @@ fn report_of(alloc: Global, volume: &Volume, calls: Vec<Vec<Call>>) -> Result<Re
 }
 
 /// The calls of each session, and what each printed.
-fn parted(
+fn part_sessions(
     alloc: Global,
     ended: Vec<Ended<Printed>>,
 ) -> Result<(Vec<Vec<Call>>, Vec<Printed>), AllocError>

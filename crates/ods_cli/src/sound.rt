@@ -5,7 +5,7 @@ ghost use Rattle.std.specs.Io.KnownBytes.{Consumes};
 ghost use Rattle.ods_cli.specs.{ImageLines.fault_line, Reply.IsReplyFault, Serve.AreSound, Serve.AreRefused, Serve.IsSoundImage, Serve.IsFaultOf};
 
 use crate::ServeFault;
-use crate::reply::{NoImage, read_image, refused};
+use crate::reply::{NoImage, read_image, refusal_line};
 use ods_base::{Coded, Image};
 use ods_mount::{MountFault, Mounted, mount};
 use std::alloc::Global;
@@ -22,13 +22,13 @@ pub(crate) fn sound_image<R: Read>(
         (IsReplyFault bytes) }
 {
     match read_image(alloc, reader)? {
-        Ok(image) => mounted(alloc, image),
+        Ok(image) => mount_image(alloc, image),
         Err(no_image) => Ok(Err(no_image)),
     }
 }
 
 /// The image mounted, or the fault that it has.
-fn mounted(alloc: Global, image: Image) -> Result<Result<Mounted, NoImage>, ServeFault>
+fn mount_image(alloc: Global, image: Image) -> Result<Result<Mounted, NoImage>, ServeFault>
     ensures ok { IfOk result (λ found. MatchResult found (λ m. (m.image ≡ image) × IsSoundImage image) (λ n. IsFaultOf image n.number (string_bytes n.line))) }
     ensures err { IsOkUnless result ServeFault.NoMemory }
 {
@@ -65,7 +65,7 @@ fn faulty(alloc: Global, fault: MountFault) -> Result<String, ServeFault>
         MountFault::NoHome
         | MountFault::BadIndex
         | MountFault::BadStorageMap
-        | MountFault::BadMaster => refused(alloc, number, name)?,
+        | MountFault::BadMaster => refusal_line(alloc, number, name)?,
         MountFault::NoMemory => return Err(ServeFault::NoMemory),
     };
     Ok(line)

@@ -2,14 +2,12 @@
 ghost use Rattle.std.specs.Prelude.{◌≡◌, ◌==◌, ◌≤◌, IfOk, IfSome, length, vec_len};
 ghost use Rattle.ods_cli.specs.Runs.{IsHeaderNumber, IsLimit};
 
-use clap::error::ErrorKind;
 use clap::{Arg, ArgMatches, Command, Error, value_parser};
 use ods_request::Stamp;
+use ods_views::MOST_SESSIONS;
+use ods_words::{WordsFault, tell_error};
 use std::alloc::{AllocError, Global};
 use std::convert::AsStr;
-
-/// How many scripts there are at most.
-const MOST_SCRIPTS: usize = 8;
 
 /// How many requests are accepted where no limit is given.
 const LIMIT: u32 = 4096;
@@ -36,33 +34,16 @@ pub struct Words<'a> {
     pub is_bare: bool,
 }
 
-/// Why the words ask for nothing.
-#[derive(Debug, Drop)]
-pub enum WordsFault {
-    /// The help was asked for; this is its text, with its last line feed.
-    Help(String),
-    /// The words are wrong; this is one line that says how, with no line feed.
-    Wrong(String),
-    /// The allocator refused memory.
-    NoMemory,
-}
-
-impl From<AllocError> for WordsFault {
-    fn from(_error: AllocError) -> WordsFault {
-        WordsFault::NoMemory
-    }
-}
-
 /// What the words after the program's name ask for.
 pub fn parse_words<'a, S: AsStr>(alloc: Global, words: &'a [S]) -> Result<Words<'a>, WordsFault>
     ensures header { IfOk result (λ words. IfSome words.header IsHeaderNumber) }
     ensures limit { IfOk result (λ words. IsLimit words.limit) }
-    ensures scripts { IfOk result (λ words. vec_len words.scripts ≤ 8) }
+    ensures scripts { IfOk result (λ words. vec_len words.scripts ≤ MOST_SESSIONS) }
     ensures bare { IfOk result (λ found. found.is_bare ≡ (length words.now == 0)) }
 {
     match matches(alloc, words) {
         Ok(matches) => found_words(alloc, &matches, words.is_empty()),
-        Err(error) => Err(told(alloc, &error)?),
+        Err(error) => Err(tell_error(alloc, &error)?),
     }
 }
 
@@ -74,7 +55,7 @@ fn found_words<'a>(
 ) -> Result<Words<'a>, WordsFault>
     ensures header { IfOk result (λ words. IfSome words.header IsHeaderNumber) }
     ensures limit { IfOk result (λ words. IsLimit words.limit) }
-    ensures scripts { IfOk result (λ words. vec_len words.scripts ≤ 8) }
+    ensures scripts { IfOk result (λ words. vec_len words.scripts ≤ MOST_SESSIONS) }
     ensures bare { IfOk result (λ words. words.is_bare ≡ is_bare) }
 {
     let scripts = script_paths(alloc, matches)?;
@@ -118,7 +99,7 @@ fn limit(matches: &ArgMatches<'_>) -> u32
 
 /// The paths of the scripts.
 fn script_paths<'a>(alloc: Global, matches: &ArgMatches<'a>) -> Result<Vec<&'a str>, AllocError>
-    ensures { IfOk result (λ paths. vec_len paths ≤ 8) }
+    ensures { IfOk result (λ paths. vec_len paths ≤ MOST_SESSIONS) }
 {
     match matches.get_strs("script") {
         Some(given) => first_paths(alloc, given),
@@ -128,11 +109,11 @@ fn script_paths<'a>(alloc: Global, matches: &ArgMatches<'a>) -> Result<Vec<&'a s
 
 /// At most 8 paths. Clap has refused more.
 fn first_paths<'a>(alloc: Global, given: &[&'a str]) -> Result<Vec<&'a str>, AllocError>
-    ensures { IfOk result (λ paths. vec_len paths ≤ 8) }
+    ensures { IfOk result (λ paths. vec_len paths ≤ MOST_SESSIONS) }
 {
     let mut paths = Vec::new(alloc);
     for path in given {
-        if paths.len() < MOST_SCRIPTS {
+        if paths.len() < MOST_SESSIONS {
             paths.push(*path)?;
         }
     }
@@ -164,7 +145,7 @@ fn image<'a>(alloc: Global) -> Arg<'a> {
 fn scripts<'a>(alloc: Global) -> Arg<'a> {
     Arg::new(alloc, "script")
         .value_name("SCRIPT")
-        .num_args(0..=MOST_SCRIPTS)
+        .num_args(0..=MOST_SESSIONS)
         .help("Scripts, at most 8, each of at most 1,048,576 bytes, served side by side")
 }
 
@@ -222,16 +203,3 @@ An id is number,sequence or $, the file that was last made, found or removed: CR
 
 The status is 0; 1 where the image or the header is refused; 2 for wrong words or scripts that are too large; 3 where
 reading, writing, memory or a thread failed; 4 where the volume's list is not that of the sessions.";
-
-/// What is to be said where clap found no words of the program's.
-fn told(alloc: Global, error: &Error) -> Result<WordsFault, AllocError> {
-    match error.kind() {
-        ErrorKind::OutOfMemory => Ok(WordsFault::NoMemory),
-        ErrorKind::DisplayHelp => Ok(WordsFault::Help(format!(in alloc; "{error}")?)),
-        _ => {
-            let text = format!(in alloc; "{error}")?;
-            let line = text.as_str().lines().next().unwrap_or("error: wrong words");
-            Ok(WordsFault::Wrong(String::from_str(alloc, line)?))
-        }
-    }
-}

@@ -4,14 +4,15 @@ ghost use Rattle.std.specs.Io.KnownBytes.{Appends};
 ghost use Rattle.ods_cli.specs.{Printed.printed_session, Printed.printed_text, Printed.said_text, Printed.session_line, Writing.IsCut};
 
 use crate::ServeFault;
+use crate::printed::Printed;
 use crate::sessions::Said;
 use ods_base::write_bytes;
-use ods_script::Printed;
+use ods_views::MOST_SESSIONS;
 use std::io::Write;
 
 /// Writes the replies of each session, and then the totals.
 pub(crate) fn write_said<W: Write>(writer: &mut W, said: &Said) -> Result<(), ServeFault>
-    requires { length said.now.printed.items ≤ 8 }
+    requires { length said.now.printed.items ≤ MOST_SESSIONS }
     ensures ok { OnOk result (Appends (W.contents writer.old) (W.contents writer.new) (said_text said.now)) }
     ensures err { IfErr result (IsCut (W.contents writer.old) (W.contents writer.new) (said_text said.now)) }
 {
@@ -21,7 +22,7 @@ pub(crate) fn write_said<W: Write>(writer: &mut W, said: &Said) -> Result<(), Se
 
 /// Writes for each session, in order, the line `session k`, with k from 1, and what it printed.
 fn write_sessions<W: Write>(writer: &mut W, sessions: &[Printed]) -> Result<(), ServeFault>
-    requires { length sessions.now ≤ 8 }
+    requires { length sessions.now ≤ MOST_SESSIONS }
     ensures ok { OnOk result (Appends (W.contents writer.old) (W.contents writer.new) (printed_text 1 sessions.now)) }
     ensures err { IfErr result (IsCut (W.contents writer.old) (W.contents writer.new) (printed_text 1 sessions.now)) }
 {
@@ -37,7 +38,7 @@ fn write_sessions<W: Write>(writer: &mut W, sessions: &[Printed]) -> Result<(), 
 
 /// Writes the line `session k` and what the session printed.
 fn write_session<W: Write>(writer: &mut W, number: u8, session: &Printed) -> Result<(), ServeFault>
-    requires { number ≤ 8 }
+    requires { number ≤ MOST_SESSIONS }
     ensures ok { OnOk result (Appends (W.contents writer.old) (W.contents writer.new) (printed_session number session.now)) }
     ensures err { IfErr result (IsCut (W.contents writer.old) (W.contents writer.new) (printed_session number session.now)) }
 {
@@ -47,7 +48,7 @@ fn write_session<W: Write>(writer: &mut W, number: u8, session: &Printed) -> Res
 
 /// The line of a session, whose number has one digit.
 fn line_of(number: u8) -> [u8; 10]
-    requires { number ≤ 8 }
+    requires { number ≤ MOST_SESSIONS }
     ensures { result ≡ session_line number }
 {
     let mut line = *b"session 0\n";

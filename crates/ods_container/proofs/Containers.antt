@@ -51,18 +51,6 @@ holds_whole I S n image is size =
     let P : ℕ → Type 0 = λ s. HoldsVolume (image_bytes I) s I [] n in
     subst P (sym is) (record { image = image; count = refl; volume = volume_whole I image; behind = behind_whole I image; size = size ∙ sym long })
 
--- the bytes behind the end of a volume, where that is behind theirs too
-pub behind_end : (bytes : List ℕ) (S end : ℕ) → end ≡ min (length bytes) (512 * S) → take (length bytes - end) (drop end bytes) ≡ bytes_behind bytes S
-behind_end bytes S end is =
-    let long = length-drop end bytes in
-    take_all (length bytes - end) (drop end bytes) (omega arith) ∙ elim (cases_lt (length bytes) (512 * S)) [
-      | inl past ↦
-          let at : length bytes ≤ end = omega arith in
-          let beyond : length bytes ≤ 512 * S = omega arith in
-          drop_all end bytes at ∙ sym (drop_all (512 * S) bytes beyond)
-      | inr within ↦ ap (λ n. drop n bytes) (omega arith)
-    ]
-
 -- what holds the volume of these bytes and this size
 pub holds_as : (a b : List ℕ) (s t : ℕ) (I : List (List ℕ)) (rest : List ℕ) (n : ℕ) → a ≡ b → s ≡ t → HoldsVolume a s I rest n → HoldsVolume b t I rest n
 holds_as a b s t I rest n same size holds =

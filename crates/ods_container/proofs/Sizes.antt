@@ -7,23 +7,6 @@ use Rattle.ods_header.specs.Header.{IsValidHeader, runs_of}
 use Rattle.ods_space.specs.Layout.{VolumeLayout, header_at, is_in_use, last_number}
 use Rattle.ods_container.specs.Size.{EndBelow, IsMappedBelow, AreMappedBelow, IsSaid, control_block, map_blocks, size_in}
 
--- one pointer more ends at S or before
-pub one_more_ends : (b : List ℕ) (S k : ℕ) (run : Run) → ((j : ℕ) (r : Run) → j < k → slice_get (runs_of b) j ≡ Some r → r.lbn + r.count ≤ S) → slice_get (runs_of b) k ≡ Some run → run.lbn + run.count ≤ S →
-    (j : ℕ) (r : Run) → j < k + 1 → slice_get (runs_of b) j ≡ Some r → r.lbn + r.count ≤ S
-one_more_ends b S k run before here ends j r low at = elim (cases_lt j k) [
-  | inl less ↦ before j r less at
-  | inr more ↦
-      let e : k ≡ j = omega arith in
-      let found : Some run ≡ Some r = sym here ∙ ap (slice_get (runs_of b)) e ∙ at in
-      let is : run ≡ r = cc in
-      let P : Run → Type 0 = λ q. q.lbn + q.count ≤ S in
-      subst P is ends
-]
-
--- all pointers do
-pub all_end : (b : List ℕ) (S k : ℕ) → length (runs_of b) ≤ k → ((j : ℕ) (r : Run) → j < k → slice_get (runs_of b) j ≡ Some r → r.lbn + r.count ≤ S) → EndBelow b S
-all_end b S k all before j r at = let within = slice_get_within (runs_of b) j r at in before j r (omega arith) at
-
 -- a valid header in use, but 3, maps only blocks below S where its pointers end there
 pub mapped_by : (I : List (List ℕ)) (L : VolumeLayout) (S n : ℕ) (b : List ℕ) (r : Bool) → b ≡ header_at I L n → n ≢ 3 → IsTrue (is_in_use I L.home n) → IsValidHeader b n →
     MatchBool r (EndBelow b S) (¬ EndBelow b S) → MatchBool r (IsMappedBelow I L S n) (¬ IsMappedBelow I L S n)

@@ -6,8 +6,8 @@ ghost use Rattle.ods_container.specs.Container.{IsContained, IsNotContained, IsR
 
 use crate::filling::first_blocks;
 use crate::reading::read_all;
-use crate::size::{MOST_BLOCKS, believed_size};
-use ods_base::{Image, ImageError, MAX_BYTES};
+use crate::size::believed_size;
+use ods_base::{Image, ImageError, MAX_BLOCKS, MAX_BYTES};
 use std::alloc::{AllocError, Global};
 use std::io::Read;
 
@@ -69,7 +69,7 @@ fn of_bytes(alloc: Global, mut bytes: Vec<u8>, given: Option<u32>) -> Result<Con
     ensures ok { IfOk result (λ c. IsContained bytes.items given c.image c.behind.items c.length) }
     ensures err { IfErr result (IsNotContained bytes.items given) }
 {
-    let begun = bytes.len().div_ceil(512).min(MOST_BLOCKS as usize) as u32;
+    let begun = bytes.len().div_ceil(512).min(MAX_BLOCKS as usize) as u32;
     let Ok(seen) = first_blocks(alloc, &mut bytes, begun) else {
         return Err(ImageError::NoMemory);
     };
@@ -90,7 +90,7 @@ fn size_of(alloc: Global, seen: &Image, size: u64, given: Option<u32>) -> Result
     ensures err { IfErr result (λ e. (bytes : List ℕ) → length bytes ≡ size → IsSeen bytes seen.now → IsNotContained bytes given e) }
 {
     if let Some(count) = given {
-        if MOST_BLOCKS < count {
+        if MAX_BLOCKS < count {
             return Err(ImageError::TooBig);
         }
         return Ok(count);

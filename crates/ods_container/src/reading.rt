@@ -3,15 +3,12 @@ ghost use Rattle.std.specs.Prelude.{◌≡◌, ◌<◌, ◌≤◌, ℕ, List, le
 ghost use Rattle.std.specs.Io.KnownBytes.{Consumes, IsAtEnd, Keeps};
 ghost use Rattle.ods_container.specs.Container.{AreAll, AreNotRead};
 
-use ods_base::ImageError;
+use ods_base::{ImageError, PIECE};
 use std::alloc::Global;
 use std::io::Read;
 
 /// The most bytes of a file that are read: those of the largest image, and 65,536 behind it.
 pub const MOST_BYTES: usize = 536_936_448;
-
-/// How many bytes are asked for in one read.
-const PIECE: usize = 65_536;
 
 /// All that a reader gives, to its end. A read that fails is not tried again.
 pub(crate) fn read_all<R: Read>(alloc: Global, reader: &mut R) -> Result<Vec<u8>, ImageError>

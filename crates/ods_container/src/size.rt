@@ -4,14 +4,11 @@ ghost use Rattle.ods_header.specs.Header.{IsLaidOut};
 ghost use Rattle.ods_space.specs.{Disks.on, Files.IsLayoutOf};
 ghost use Rattle.ods_container.specs.Size.{IsSaid, IsBelieved, IsMappedBelow, AreMappedBelow, EndBelow, SaysSize, SaysNone, size_word as word_of_size};
 
-use ods_base::{Block, Image, word};
+use ods_base::{Block, Image, MAX_BLOCKS, word};
 use ods_header::{is_valid_header, pointer_at, pointer_count};
 use ods_mount::{MountFault, read_layout};
 use ods_space::{Disk, header_block, in_use, last_number};
 use std::alloc::{AllocError, Global};
-
-/// The most blocks that a volume may have.
-pub(crate) const MOST_BLOCKS: u32 = 1_048_576;
 
 /// The size in blocks that the volume of this image says itself, where it is believed. The image may be longer or shorter. The error is
 /// for memory.
@@ -83,7 +80,7 @@ fn said_on(disk: &Disk<'_>) -> Option<u32>
     let block = disk.image.block(bitmap[0]);
     let at = size_word(count);
     let size = 65_536 * word(block, at) as u32 + word(block, at + 1) as u32;
-    if size == 0 || MOST_BLOCKS < size {
+    if size == 0 || MAX_BLOCKS < size {
         return None;
     }
     if size.div_ceil(4_096) as usize != count || block.byte(3) as usize != count % 256 {

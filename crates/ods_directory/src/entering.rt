@@ -5,13 +5,12 @@ ghost use Rattle.std.specs.FinMap.{insert};
 ghost use Rattle.ods_base.specs.{Name.IsName, Name.key_of, Names.IsEntered};
 ghost use Rattle.ods_directory.specs.{declared.first.Kind.TheVariants.Empty, Entry.entry_at, Entry.entry_bytes, Entering.next_version, Entering.pick_of, Faults.IsEnterFault, First.IsFirst, Mark.IsSlot, Mark.grown, Mark.written, Names.IsDirectory, Names.names_of, Search.IsFound};
 
-use crate::entry::LAST_VERSION;
 use crate::first::{First, Kind};
 use crate::scan::{Pass, scan};
 use crate::search::{Found, Search};
 use crate::slots::slot_in;
 use crate::{DirBlocks, DirFault, Slot};
-use ods_base::{Block, FileId, Name, Pick};
+use ods_base::{Block, FileId, LAST_VERSION, Name, Pick};
 
 /// The version that is entered, its position, and the bytes to be written there: the version given, or else the
 /// highest and one more. Where the slot grows, a block of zeros comes behind the others first.

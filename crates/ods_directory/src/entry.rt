@@ -4,13 +4,10 @@ ghost use Rattle.ods_base.specs.Names.{is_of, version_of};
 ghost use Rattle.ods_directory.specs.Entry.{entry_in, is_used, is_good};
 
 use crate::place::ENTRY_WORDS;
-use ods_base::{Block, FileId, Name, word};
+use ods_base::{Block, FileId, LAST_VERSION, Name, word};
 
 /// How many words spell three characters in Radix-50.
 const WORDS: u16 = 64_000;
-
-/// The greatest version.
-pub const LAST_VERSION: u16 = 32_767;
 
 /// Whether entry `k` of the block names a file.
 pub fn is_used(block: &Block, k: usize) -> bool

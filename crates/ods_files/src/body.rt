@@ -9,7 +9,7 @@ use crate::{CopyFault, FileFault, Form};
 use ods_base::Image;
 use ods_directory::mark_of;
 use ods_header::attributes;
-use ods_space::{Disk, chain, first_header};
+use ods_space::{Disk, chain, primary_header};
 use std::alloc::{AllocError, Global};
 use std::io::Write;
 use std::marker::Model;
@@ -48,7 +48,7 @@ impl<'a> FileBody<'a> {
     {
         // An image has few blocks, and so has a chain.
         let _ = disk.image.len();
-        let Some(first) = first_header(disk, number) else {
+        let Some(first) = primary_header(disk, number) else {
             return Err(FileFault::NoSuchFile);
         };
         match chain(alloc, disk, number) {

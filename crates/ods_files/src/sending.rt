@@ -7,12 +7,9 @@ ghost use Rattle.ods_mount.specs.Faults.{contents_of};
 ghost use Rattle.ods_files.specs.Sending.{IsSending};
 
 use arrayvec::ArrayVec;
-use ods_base::{Block, Image, WriteFault, write_bytes};
+use ods_base::{Block, Image, PIECE, WriteFault, write_piece};
 use std::alloc::AllocError;
 use std::io::Write;
-
-/// How many bytes are handed to one write.
-const PIECE: usize = 65_536;
 
 /// Writes the first `size` bytes of the blocks at these LBNs, by its own loop over `write`. A fault says how many bytes the writer took
 /// before.
@@ -45,7 +42,7 @@ pub(crate) fn send_first<W: Write>(
             Err(fault) => return Err(fault),
         };
     }
-    match send_piece(writer, &piece, written) {
+    match write_piece(writer, &piece, written) {
         Ok(_) => Ok(()),
         Err(fault) => Err(fault),
     }
@@ -91,7 +88,7 @@ fn make_room<W: Write>(
     if piece.len() <= PIECE - 512 {
         return Ok(before);
     }
-    match send_piece(writer, piece, before) {
+    match write_piece(writer, piece, before) {
         Ok(after) => {
             piece.clear();
             Ok(after)
@@ -108,22 +105,6 @@ fn hold_back(piece: &mut ArrayVec<u8, PIECE>, block: &Block, count: usize)
     ensures long { length (take count block.now) ≡ count }
 {
     let _ = piece.try_extend_from_slice(&block.bytes()[..count]);
-}
-
-/// Writes a piece, where `before` bytes went out already, and says how many have then.
-fn send_piece<W: Write>(writer: &mut W, piece: &[u8], before: u64) -> Result<u64, WriteFault>
-    requires { before + length piece.now < 2 ^ 64 }
-    ensures ok { IfOk result (λ after. (after ≡ before + length piece.now)
-        × Appends (W.contents writer.old) (W.contents writer.new) piece.now) }
-    ensures err { IfErr result (λ fault. (count : ℕ) × (count ≤ length piece.now) × (fault.written ≡ before + count)
-        × Appends (W.contents writer.old) (W.contents writer.new) (take count piece.now)) }
-{
-    match write_bytes(writer, piece) {
-        Ok(()) => Ok(before + piece.len() as u64),
-        Err(fault) => Err(WriteFault {
-            written: before + fault.written,
-        }),
-    }
 }
 
 /// Puts the first `size` bytes of the blocks at these LBNs behind these. After an `Err` some of them may be there.

@@ -51,9 +51,6 @@ filled ys here is = by (cases)
 abbrev pub so_far : List ℕ → ℕ → ℕ → List (List ℕ)
 so_far bytes count k = map (block_with bytes) (range_with_len 0 k) ++ replicate (count - k) zeros
 
-pub none_so_far : (bytes : List ℕ) (count : ℕ) → replicate count zeros ≡ so_far bytes count 0
-none_so_far bytes count = ap (λ n. replicate n zeros) (omega arith)
-
 pub all_so_far : (bytes : List ℕ) → so_far bytes (block_count bytes) (block_count bytes) ≡ blocks_with bytes
 all_so_far bytes =
     let none : block_count bytes - block_count bytes ≡ 0 = omega arith in

@@ -1,6 +1,6 @@
 -- A request on a volume, by the catalogues that its blocks show.
 use Rattle.std.proofs.Common.{◌≡◌, ℕ, refl, ap, sym, ◌∙◌, subst, List, is_some}
-use Rattle.std.specs.Prelude.{Result, Ok, Err, IfOk, OnErr}
+use Rattle.std.specs.Prelude.{Result, Ok, Err, IfOk, OnOk, OnErr}
 use Rattle.std.specs.FinSet as set
 use Rattle.std.specs.FinMap as map
 use Rattle.ods_base.specs.declared.file_id.Uic.{Uic}
@@ -12,11 +12,11 @@ use Rattle.ods_request.specs.declared.refusals.Refusal.{Refusal}
 use Rattle.ods_request.specs.Catalogue.{Catalogue}
 use Rattle.ods_request.proofs.FrameLaws.{created_new}
 use Rattle.ods_state.specs.Contents.{ShowsBy}
-use Rattle.ods_volume.specs.Changing.{IsStep}
+use Rattle.ods_volume.specs.Changing.{HasMoreHeaders, IsStep}
 use Rattle.ods_volume.proofs.OtherPast.{with_past, other_past}
 use Rattle.ods_volume.proofs.Stepped.{stepped}
 use Rattle.ods_mount.specs.Sound.{IsSoundBy}
-use Rattle.ods_filing.specs.Filed.{Filed, IsDone, IsRefusedFor, IsRefusedNow}
+use Rattle.ods_filing.specs.Filed.{Filed, HasGrown, IsDone, IsRefusedFor, IsRefusedNow}
 
 -- blocks that show a catalogue show each one with the same files and the same protection
 pub same_shown : (J : List (List ℕ)) (M : VolumeLayout) (C D : Catalogue) → ShowsBy J M D → C.files ≡ D.files → C.default ≡ D.default → ShowsBy J M C
@@ -54,10 +54,15 @@ are_done D E sound who r (Ok a) made = is_done D E sound who r a made
 are_done D E sound who r (Err f) made = tt
 
 -- a volume that stayed is that of its user
-pub stays_filed : (D E : Disk) (who : Uic) (result : Result Answer Refusal) → OnErr result (E ≡ D) → OnErr result (filed E who ≡ filed D who)
+pub stays_filed : {A : Type 0} (D E : Disk) (who : Uic) (result : Result A Refusal) → OnErr result (E ≡ D) → OnErr result (filed E who ≡ filed D who)
 stays_filed D E who (Ok a) same = tt
 stays_filed D E who (Err f) same = ap (λ d. filed d who) same
 
 -- a request that is refused leaves the volume on which that is its refusal
 pub refused_now : (reason : Refusal) (old new : Filed) (r : Request) → new ≡ old → IsRefusedFor old r reason → IsRefusedNow new reason
 refused_now reason old new r same refused = (r, subst (λ f. IsRefusedFor f r reason) (sym same) refused)
+
+-- INDEXF.SYS of a user's volume has grown
+pub has_grown : {A : Type 0} (D E : Disk) (who : Uic) (count : ℕ) (result : Result A Refusal) → OnOk result (HasMoreHeaders D count E) → OnOk result (HasGrown (filed D who) count (filed E who))
+has_grown D E who count (Ok a) more = record { headers = more; user = refl }
+has_grown D E who count (Err f) more = tt

@@ -1,8 +1,9 @@
 -- A mounted volume that requests change one after another, and what one of them does to it.
-use Rattle.std.specs.Prelude.{◌≡◌, ℕ, true, false, List, Some}
+use Rattle.std.specs.Prelude.{◌≡◌, ℕ, ◌-◌, true, false, List, length, Some}
 use Rattle.std.specs.FinSet as set
 use Rattle.ods_base.specs.declared.file_id.FileId.{FileId}
 use Rattle.ods_base.specs.declared.file_id.Uic.{Uic}
+use Rattle.ods_space.specs.Free.{free_numbers}
 use Rattle.ods_space.specs.Layout.{Disk, VolumeLayout}
 use Rattle.ods_request.specs.declared.requests.Request.{Request}
 use Rattle.ods_request.specs.declared.answers.Answer.{Answer}
@@ -13,6 +14,7 @@ use Rattle.ods_request.specs.Table.{creates}
 use Rattle.ods_state.specs.Contents.{ShowsBy, IsCatalogueOf}
 use Rattle.ods_state.specs.Moves.{Moves, ChangesOnlyTouched}
 use Rattle.ods_state.specs.Served.{IsRefusalOf}
+use Rattle.ods_volume.specs.Changing.{HasMoreHeaders, IsWhyNoMore}
 
 -- what contracts see of it: the image now with its layout, and the user that asks
 pub record Filed : Type 0 where
@@ -42,6 +44,19 @@ pub record IsDone (old : Filed) (r : Request) (a : Answer) (new : Filed) : Type 
   pub moves : Moves (disk_at old) r a (disk_at new)
   pub elsewhere : ChangesOnlyTouched (disk_at old) r (disk_at new)
   pub user : new.user ≡ old.user
+
+-- how many headers INDEXF.SYS lacks for so many files to come, of one header each
+abbrev pub lacking : Filed → ℕ → ℕ
+lacking f files = files - length (free_numbers f.image f.layout)
+
+-- INDEXF.SYS has got headers for so many files more, and nothing else was done: the blocks show the catalogues that they showed, and the user is the same.
+pub record HasGrown (old : Filed) (count : ℕ) (new : Filed) : Type 0 where
+  pub headers : HasMoreHeaders (disk_at old) count (disk_at new)
+  pub user : new.user ≡ old.user
+
+-- why it cannot get them: there is no memory, or what it takes is not there
+abbrev pub IsWhyNotGrown : Filed → ℕ → Refusal → Type 0
+IsWhyNotGrown f count reason = IsWhyNoMore (disk_at f) count reason
 
 -- why a request is refused: its first fault, or what the volume lacks, or want of memory
 abbrev pub IsRefusedFor : Filed → Request → Refusal → Type 0

@@ -1,15 +1,22 @@
--- Lists of requests on a volume, one after another, and what they leave of it.
-use Rattle.std.specs.Prelude.{◌≡◌, ◌⊎◌, List, [], ◌∷◌, Some}
+-- Lists of what is asked of a volume, one after another, and what they leave of it.
+use Rattle.std.specs.Prelude.{◌≡◌, ◌⊎◌, ℕ, List, [], ◌∷◌, Option, Some}
 use Rattle.std.specs.List.{All}
 use Rattle.std.specs.FinSet as set
+use Rattle.ods_base.specs.declared.file_id.FileId.{FileId}
 use Rattle.ods_base.specs.declared.file_id.Uic.{Uic}
+use Rattle.ods_base.specs.Name.{RadName}
 use Rattle.ods_request.specs.declared.answers.Answer.{Answer}
 use Rattle.ods_request.specs.declared.requests.Request.{Request}
-use Rattle.ods_request.specs.declared.requests.Request.TheVariants.{Create, Extend, Write, SetUser}
+use Rattle.ods_request.specs.declared.requests.Request.TheVariants.{Create, Extend, Enter, Write, SetUser}
 use Rattle.ods_request.specs.Catalogue.{Catalogue}
 use Rattle.ods_request.specs.Steps.{step}
 use Rattle.ods_state.specs.Contents.{ShowsBy}
-use Rattle.ods_filing.specs.Filed.{Filed, IsDone}
+use Rattle.ods_filing.specs.Filed.{Filed, HasGrown, IsDone}
+
+-- what is asked of a volume: a request, or so many headers more for files to come
+pub data Deed : Type 0 where
+  Asks : Request → Deed
+  Grows : ℕ → Deed
 
 -- the request is accepted, with some answer
 abbrev pub IsObeyed : Filed → Request → Filed → Type 0
@@ -19,16 +26,31 @@ IsObeyed old r new = (a : Answer) × IsDone old r a new
 abbrev pub IsAsked : Filed → Request → Filed → Type 0
 IsAsked old r new = (new ≡ old) ⊎ IsObeyed old r new
 
--- These requests, one after another, each accepted, lead from the old volume to the new one.
-abbrev pub Leads : Filed → List Request → Filed → Type 0
-Leads old [] new = new ≡ old
-Leads old (r ∷ rs) new = (mid : Filed) × IsObeyed old r mid × Leads mid rs new
+-- it is done: the request is accepted, or INDEXF.SYS has got the headers, and the blocks show the catalogues that they showed
+abbrev pub IsDeed : Filed → Deed → Filed → Type 0
+IsDeed old (Asks r) new = IsObeyed old r new
+IsDeed old (Grows count) new = HasGrown old count new
 
--- The new volume is what some requests of the old one's user, one after another, each accepted and of an allowed kind, leave of the old one.
+-- These, one after another, each done, lead from the old volume to the new one.
+abbrev pub Leads : Filed → List Deed → Filed → Type 0
+Leads old [] new = new ≡ old
+Leads old (d ∷ ds) new = (mid : Filed) × IsDeed old d mid × Leads mid ds new
+
+-- requests of this kind make files and enter them
+abbrev pub MakesFiles : (Request → Type 0) → Type 0
+MakesFiles Allows = ((name : RadName) (version blocks : ℕ) (stamp : List ℕ) → Allows (Create name version blocks stamp))
+    × ((dir : FileId) (name : RadName) (version : Option ℕ) (file : FileId) → Allows (Enter dir name version file))
+
+-- a request may be asked for if the kind allows it; and headers for files to come, if it allows that files are made and entered
+abbrev pub Permits : (Request → Type 0) → Deed → Type 0
+Permits Allows (Asks r) = Allows r
+Permits Allows (Grows count) = MakesFiles Allows
+
+-- The new volume is what some requests of the old one's user, one after another, each accepted and of an allowed kind, leave of the old one. Where such requests make files and enter them, headers for these may be asked for between.
 pub record IsLed (Allows : Request → Type 0) (old new : Filed) : Type 0 where
-  pub requests : List Request
-  pub allowed : All Allows requests
-  pub leads : Leads old requests new
+  pub deeds : List Deed
+  pub allowed : All (Permits Allows) deeds
+  pub leads : Leads old deeds new
 
 -- what is asked for where a file is put: a new file, its blocks and its attributes
 abbrev pub Fills : Request → Type 0
@@ -47,7 +69,13 @@ abbrev pub AreSteps : Catalogue → Uic → List Request → Catalogue → Type 
 AreSteps C who [] D = D ≡ C
 AreSteps C who (r ∷ rs) D = (a : Answer) × (M : Catalogue) × (step (forgetful C) who r a ≡ Some M) × AreSteps M who rs D
 
--- Requests that lead from one volume to another lead from each catalogue that the old blocks show, step by step, to one that the new blocks show.
+-- the requests of a list; headers for files to come are no step of a catalogue
+abbrev pub requests_in : List Deed → List Request
+requests_in [] = []
+requests_in (Asks r ∷ ds) = r ∷ requests_in ds
+requests_in (Grows count ∷ ds) = requests_in ds
+
+-- What leads from one volume to another leads from each catalogue that the old blocks show, request by request, to one that the new blocks show.
 abbrev pub ListsAreSteps : Type 0
-ListsAreSteps = (old new : Filed) (requests : List Request) → Leads old requests new
-    → (C : Catalogue) → ShowsBy old.image old.layout C → (D : Catalogue) × AreSteps C old.user requests D × ShowsBy new.image new.layout D
+ListsAreSteps = (old new : Filed) (deeds : List Deed) → Leads old deeds new
+    → (C : Catalogue) → ShowsBy old.image old.layout C → (D : Catalogue) × AreSteps C old.user (requests_in deeds) D × ShowsBy new.image new.layout D

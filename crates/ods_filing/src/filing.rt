@@ -1,9 +1,9 @@
 //! Requests of a user on a sound volume.
-ghost use Rattle.std.specs.Prelude.{◌≡◌, length, IfOk, IfErr, OnErr};
+ghost use Rattle.std.specs.Prelude.{◌≡◌, length, IfOk, IfErr, OnOk, OnErr};
 ghost use Rattle.ods_space.specs.{Disks.on, Free.free_blocks};
 ghost use Rattle.ods_mount.specs.Sound.{IsSoundBy};
 ghost use Rattle.ods_state.specs.{Outcome.CanBeAsked, Served.IsRefusalOf};
-ghost use Rattle.ods_filing.specs.Filed.{for_another, IsDone};
+ghost use Rattle.ods_filing.specs.Filed.{for_another, HasGrown, IsDone, IsWhyNotGrown, lacking};
 
 use ods_base::Uic;
 use ods_mount::Mounted;
@@ -50,6 +50,19 @@ impl Filing {
     {
         let _ = self.sound.disk();
         self.sound.request(self.user, request)
+    }
+
+    /// Headers for so many files to come, of one header each: INDEXF.SYS gets those that it lacks, all at once, so that its last header gets as few
+    /// pointers for them as it can. Who makes many files asks for this first: each by itself would take a pointer. Refused, it changes nothing.
+    pub fn make_ready(&mut self, files: u32) -> Result<(), Refusal>
+        // The blocks show the catalogues that they showed, and nothing else is done.
+        ensures grown { OnOk result (HasGrown self.old (lacking self.old files) self.new) }
+        // There is no memory, or what it takes is not there, which is HeadersFull.
+        ensures refused { IfErr result (IsWhyNotGrown self.old (lacking self.old files)) }
+        ensures unchanged { OnErr result (self.new ≡ self.old) }
+    {
+        let lacking = files.saturating_sub(self.sound.number_count());
+        self.sound.grow_index(lacking)
     }
 
     /// From now on requests are those of another user.

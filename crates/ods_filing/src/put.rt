@@ -10,7 +10,7 @@ ghost use Rattle.ods_filing.specs.Put.{Heading, IsAdded, block_count, blocks_wit
 
 use crate::Filing;
 use crate::slices::{block_of, blocks_for};
-use ods_base::{FileId, Name};
+use ods_base::{FileId, MAX_BLOCKS, Name};
 use ods_request::{Answer, Refusal, Request, Stamp};
 
 /// A file to be put: the name, version and date that its header gets, its 32 bytes of user attributes, and its bytes.
@@ -26,9 +26,6 @@ pub struct NewFile<'a> {
 
 /// How many blocks one request asks for at most.
 const MOST: usize = 65_535;
-
-/// As many blocks as an image has at most.
-const MOST_BLOCKS: usize = 1_048_576;
 
 /// Makes a file of the user, of this many blocks of zeros, of which one request asks for.
 fn make(filing: &mut Filing, file: &NewFile<'_>, blocks: usize) -> Result<FileId, Refusal>
@@ -86,7 +83,7 @@ fn extend_to(filing: &mut Filing, id: FileId, first: usize, count: usize) -> Res
 
 /// Writes the bytes into the blocks of a new file, which has as many as they take.
 fn fill(filing: &mut Filing, id: FileId, bytes: &[u8]) -> Result<(), Refusal>
-    requires { block_count bytes.now ≤ MOST_BLOCKS }
+    requires { block_count bytes.now ≤ MAX_BLOCKS }
     ensures ok { OnOk result ((old : Filed) (heading : Heading) → IsAdded old heading id (Plain (replicate 32 0) (zero_blocks (block_count bytes.now))) filing.old
         → IsAdded old heading id (Plain (replicate 32 0) (blocks_with bytes.now)) filing.new) }
     ensures led { OnOk result (IsLed Fills filing.old filing.new) }
@@ -116,7 +113,7 @@ pub fn put_file(filing: &mut Filing, file: &NewFile<'_>) -> Result<FileId, Refus
     ensures err { IfErr result (λ f. IsRefusedNow filing.new f ⊎ ((f ≡ Refusal.VolumeFull) × (2 ^ 20 < block_count file.now.bytes.now))) }
 {
     let count = blocks_for(file.bytes);
-    if count > MOST_BLOCKS {
+    if count > MAX_BLOCKS as usize {
         return Err(Refusal::VolumeFull);
     }
     let first = count.min(MOST);

@@ -5,8 +5,8 @@ use Rattle.ods_base.specs.declared.file_id.Uic.{Uic}
 use Rattle.ods_header.specs.declared.header.Header.{Header}
 
 -- the fields of the first header of a new file: no characteristics, no next header, no pointer
-abbrev pub first_header : FileId → Uic → ℕ → List ℕ → List ℕ → Header
-first_header file owner protection attributes ident = record {
+abbrev pub primary_header : FileId → Uic → ℕ → List ℕ → List ℕ → Header
+primary_header file owner protection attributes ident = record {
   file = file;
   owner = owner;
   protection = protection;

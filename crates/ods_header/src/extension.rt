@@ -26,7 +26,7 @@ pub fn extension_block(
     ensures made { (f : List ℕ) → header_of f ≡ first.now → IsExtensionOf f result }
     ensures rest { AreZeros result (102 + 4 * length runs.now) 510 }
 {
-    let pointers = copied(runs);
+    let pointers = copy_runs(runs);
     let header = Header {
         file,
         owner: first.owner,
@@ -47,7 +47,7 @@ pub fn extension_block(
 }
 
 /// These runs, in a header's own memory.
-fn copied(runs: &[Run]) -> ArrayVec<Run, HEADER_POINTERS>
+fn copy_runs(runs: &[Run]) -> ArrayVec<Run, HEADER_POINTERS>
     requires { length runs.now ≤ 102 }
     ensures { result.items ≡ runs.now }
 {

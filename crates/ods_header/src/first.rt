@@ -1,7 +1,7 @@
 //! First headers of new files.
 ghost use Rattle.std.specs.Prelude.{◌≡◌};
 ghost use Rattle.ods_base.specs.Block.{IsBlock};
-ghost use Rattle.ods_header.specs.{First.first_header, Header.IsValidHeader, Header.header_of, Writing.AreZeros};
+ghost use Rattle.ods_header.specs.{First.primary_header, Header.IsValidHeader, Header.header_of, Writing.AreZeros};
 
 use crate::header::HEADER_ROOM;
 use crate::{Header, write_header};
@@ -19,7 +19,7 @@ pub fn first_block(
 ) -> Block
     ensures block { IsBlock result }
     ensures valid { IsValidHeader result file.number }
-    ensures fields { header_of result ≡ first_header file owner protection attributes ident }
+    ensures fields { header_of result ≡ primary_header file owner protection attributes ident }
     ensures rest { AreZeros result 102 510 }
 {
     let header = Header {

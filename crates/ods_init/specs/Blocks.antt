@@ -6,7 +6,7 @@ use Rattle.ods_base.specs.Block.{byte, word, has_bit, with_bytes, zeros}
 use Rattle.ods_header.specs.declared.header.Header.{Header}
 use Rattle.ods_header.specs.Header.{IsValidHeader, header_of, runs_of, blocks_of}
 use Rattle.ods_header.specs.Home.{IsHome, home_of}
-use Rattle.ods_header.specs.First.{first_header}
+use Rattle.ods_header.specs.First.{primary_header}
 use Rattle.ods_header.specs.Writing.{AreZeros}
 use Rattle.ods_request.specs.Steps.{word_bytes, new_ident}
 use Rattle.ods_init.specs.declared.places.Places.{Places}
@@ -62,7 +62,7 @@ reserved_ident (Some d) name = new_ident name 1 d.stamp
 abbrev pub reserved_header : Blueprint → ℕ → Header
 reserved_header W n =
     let attributes = reserved_attributes W.details n (count_of W.places n) in
-    let first = first_header (record { number = n; sequence = n }) W.owner protection attributes (reserved_ident W.details (reserved_name n)) in
+    let first = primary_header (record { number = n; sequence = n }) W.owner protection attributes (reserved_ident W.details (reserved_name n)) in
     record first { user_char = reserved_characteristics W.details n }
 
 -- b is that header: valid, with these fields, and as few pointers as there can be name the blocks of the file

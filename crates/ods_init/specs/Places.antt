@@ -55,6 +55,6 @@ first_of p n = if n == 1 then 0 else if n == 2 then p.control else p.master
 abbrev pub count_of : Places → ℕ → ℕ
 count_of p n = if n == 1 then p.control else if n == 2 then 1 + p.map_blocks else if n == 4 then 1 else 0
 
--- how many files a volume of so many blocks gets where nothing is said
+-- For how many files beside the five a volume of so many blocks has headers ready where nothing is said: one for each 16 blocks, and no more than INDEXF.SYS may have by one header.
 abbrev pub default_of : ℕ → ℕ
-default_of blocks = min (blocks / 40 * 10) 26089
+default_of blocks = min (blocks / 16) 26089

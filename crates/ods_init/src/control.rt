@@ -8,8 +8,9 @@ use ods_base::{Block, set_word};
 /// The most blocks of a bitmap for which the control block has two words each.
 const MOST_COUNTED: u32 = 126;
 
-/// The storage control block: how many blocks the bitmap has, in a byte the low one of that count, for each the count of free blocks and the first of them, and the size of
-/// the volume, the high word first. Where the bitmap has more than 126 blocks, nothing stands between.
+/// The storage control block. The low byte of the count of the bitmap's blocks comes first. For each of these blocks the count of free
+/// blocks follows, and the first of them. The size of the volume is last, its high word first. Where the bitmap has more than 126 blocks,
+/// nothing stands between.
 pub fn control_block(blocks: u32, places: Places) -> Block
     requires map { places.map_blocks ≤ 256 }
     requires master { places.master < 2 ^ 20 }

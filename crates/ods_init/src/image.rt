@@ -13,14 +13,11 @@ use crate::master::master_directory;
 use crate::places::places_of;
 use crate::reserved::header_block;
 use crate::{Blueprint, Details, InitFault, NewVolume};
-use ods_base::{Block, Image};
+use ods_base::{Block, Image, MAX_BLOCKS};
 use std::alloc::{AllocError, Global};
 
 /// The fewest blocks of a volume.
 const LEAST_BLOCKS: u32 = 40;
-
-/// The most blocks of a volume, which is what an image may have.
-const MOST_BLOCKS: u32 = 1_048_576;
 
 /// The image of a sound new volume of five reserved files, and a master directory that names them.
 pub fn init(alloc: Global, volume: &NewVolume) -> Result<Image, InitFault>
@@ -31,7 +28,7 @@ pub fn init(alloc: Global, volume: &NewVolume) -> Result<Image, InitFault>
     if volume.blocks < LEAST_BLOCKS {
         return Err(InitFault::TooSmall);
     }
-    if volume.blocks > MOST_BLOCKS {
+    if volume.blocks > MAX_BLOCKS {
         return Err(InitFault::TooLarge);
     }
     let Some(places) = places_of(volume) else {

@@ -1,6 +1,6 @@
 //! The parameters of a new volume, and why no volume can be made of them.
-ghost use Rattle.std.specs.Prelude.{◌≡◌};
-ghost use Rattle.ods_init.specs.Places.{default_of};
+ghost use Rattle.std.specs.Prelude.{◌≡◌, ◌≤◌, ◌^◌};
+ghost use Rattle.ods_init.specs.Places.{HasRoom, default_of};
 
 use crate::Label;
 use ods_base::Uic;
@@ -39,9 +39,11 @@ pub enum InitFault {
     NoMemory,
 }
 
-/// How many files a volume of so many blocks gets where nothing is said: 10 for each 40 blocks, and at most the 26,089 for which there is always room.
+/// For how many files beside the five a volume of so many blocks has headers ready where nothing is said: one for each 16 blocks, and at most
+/// the 26,089 that INDEXF.SYS may have by one header. They leave room for the rest in each volume.
 pub fn default_files(blocks: u32) -> u32
-    ensures { result ≡ default_of blocks }
+    ensures default { result ≡ default_of blocks }
+    ensures room { 40 ≤ blocks → blocks ≤ 2 ^ 20 → HasRoom blocks result }
 {
-    (blocks / 40 * 10).min(26_089)
+    (blocks / 16).min(26_089)
 }

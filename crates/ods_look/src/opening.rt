@@ -12,14 +12,14 @@ use ods_base::{Block, FileId, Uic};
 use ods_directory::{DirBlocks, mark_of};
 use ods_header::{attributes, file_sequence, is_directory, owner, protection};
 use ods_request::{Refusal, Right, permits};
-use ods_space::{Disk, first_header, locate_whole};
+use ods_space::{Disk, locate_whole, primary_header};
 
 /// The first header of the file with this ID.
 pub fn named_header<'a>(disk: &Disk<'a>, file: FileId) -> Option<&'a Block>
     ensures some { IfSome result (λ block. on IsFileId disk.now file × (block.now ≡ header_on disk.now file.number)) }
     ensures none { IfNone result (¬ on IsFileId disk.now file) }
 {
-    let block = first_header(disk, file.number)?;
+    let block = primary_header(disk, file.number)?;
     if file_sequence(block) == file.sequence {
         Some(block)
     } else {

@@ -34,11 +34,15 @@ pub record IsWellIndexed (L : VolumeLayout) (home : ℕ) : Type 0 where
   pub place : (i : ℕ) → i < L.home.index_bitmap_size + 16 → slice_get L.index (2 + i) ≡ Some (L.home.index_bitmap_lbn + i)
   pub home_block : (slice_get L.index 0 ≡ Some home) ⊎ (slice_get L.index 1 ≡ Some home)
 
+-- INDEXF.SYS does not map the index bitmap and headers 1 to 16 from VBN 3 on: not this one of their blocks, counted from 0
+abbrev pub IsElsewhere : VolumeLayout → ℕ → Type 0
+IsElsewhere L i = (i < L.home.index_bitmap_size + 16) × (slice_get L.index (2 + i) ≢ Some (L.home.index_bitmap_lbn + i))
+
 -- INDEXF.SYS maps too little, or not the index bitmap and headers 1 to 16 from VBN 3 on, or not the home block, which is at this LBN, as VBN 1 or 2
 abbrev pub IsBadlyIndexed : VolumeLayout → ℕ → Type 0
 IsBadlyIndexed L home =
     (length L.index < L.home.index_bitmap_size + 18)
-    ⊎ ((i : ℕ) × (i < L.home.index_bitmap_size + 16) × (slice_get L.index (2 + i) ≢ Some (L.home.index_bitmap_lbn + i)))
+    ⊎ ((i : ℕ) × IsElsewhere L i)
     ⊎ ((slice_get L.index 0 ≢ Some home) × (slice_get L.index 1 ≢ Some home))
 
 -- no place of a home block below this LBN is free

@@ -1,7 +1,7 @@
-//! What INDEXF.SYS maps: the index bitmap, headers 1 to 16 and the home block.
-ghost use Rattle.std.specs.Prelude.{◌≡◌, ◌≢◌, Some, slice_get, MatchBool, OnOk, IfErr};
+//! What INDEXF.SYS maps: the index bitmap, headers 1 to 16 and the home block. A layout alone decides it.
+ghost use Rattle.std.specs.Prelude.{◌≡◌, ◌≢◌, ◌<◌, ◌+◌, ℕ, Some, length, slice_get, MatchBool, OnOk, IfErr, IfNone, IfSome};
 ghost use Rattle.ods_header.specs.Home.{IsHomeAt};
-ghost use Rattle.ods_mount.specs.{Faults.IsTrueOf, Checks.IsWellIndexed, Checks.IsBadlyIndexed, Checks.NoPlaceIsFree};
+ghost use Rattle.ods_mount.specs.{Faults.IsTrueOf, Checks.IsWellIndexed, Checks.IsBadlyIndexed, Checks.IsElsewhere, Checks.NoPlaceIsFree};
 ghost use Rattle.ods_space.specs.Disks.{on};
 
 use crate::MountFault;
@@ -25,21 +25,48 @@ pub fn check_index(disk: &Disk<'_>, home_lbn: u32) -> Result<(), MountFault>
 fn is_well_indexed(layout: &Layout, home_lbn: u32) -> bool
     ensures { MatchBool result (IsWellIndexed layout.now home_lbn) (IsBadlyIndexed layout.now home_lbn) }
 {
+    if is_index_short(layout) || is_other_home(layout, home_lbn) {
+        return false;
+    }
+    match first_misplaced(layout) {
+        None => true,
+        Some(_) => false,
+    }
+}
+
+/// Whether INDEXF.SYS has fewer blocks than boot block, home block, index bitmap and headers 1 to 16 take.
+pub fn is_index_short(layout: &Layout) -> bool
+    ensures { MatchBool result
+        (length layout.now.index < layout.now.home.index_bitmap_size + 18)
+        (¬ (length layout.now.index < layout.now.home.index_bitmap_size + 18)) }
+{
+    layout.index().len() < layout.home().index_bitmap_size as usize + 18
+}
+
+/// Whether INDEXF.SYS has the home block neither as VBN 1 nor as VBN 2.
+pub fn is_other_home(layout: &Layout, home_lbn: u32) -> bool
+    ensures { MatchBool result
+        ((slice_get layout.now.index 0 ≢ Some home_lbn) × (slice_get layout.now.index 1 ≢ Some home_lbn))
+        (¬ ((slice_get layout.now.index 0 ≢ Some home_lbn) × (slice_get layout.now.index 1 ≢ Some home_lbn))) }
+{
+    let index = layout.index();
+    !is_at(index, 0, home_lbn as u64) && !is_at(index, 1, home_lbn as u64)
+}
+
+/// The first block of the index bitmap and of headers 1 to 16 that INDEXF.SYS maps elsewhere, counted from 0.
+pub fn first_misplaced(layout: &Layout) -> Option<u32>
+    ensures some { IfSome result (λ i. IsElsewhere layout.now i × ((k : ℕ) → k < i → ¬ IsElsewhere layout.now k)) }
+    ensures few { IfSome result (λ i. i < 65536 + 16) }
+    ensures none { IfNone result ((i : ℕ) → ¬ IsElsewhere layout.now i) }
+{
     let index = layout.index();
     let first = layout.home().index_bitmap_lbn as u64;
-    let size = layout.home().index_bitmap_size as usize;
-    if index.len() < size + 18 {
-        return false;
-    }
-    if !is_at(index, 0, home_lbn as u64) && !is_at(index, 1, home_lbn as u64) {
-        return false;
-    }
-    for i in 0..size + 16 {
-        if !is_at(index, 2 + i, first + i as u64) {
-            return false;
+    for i in 0..layout.home().index_bitmap_size as u32 + 16 {
+        if !is_at(index, 2 + i as usize, first + i as u64) {
+            return Some(i);
         }
     }
-    true
+    None
 }
 
 /// Whether INDEXF.SYS maps this LBN as this block, counted from 0.

@@ -23,7 +23,7 @@ pub use check::{check_image, mount};
 pub use directory::{check_directory, is_directory_file};
 pub use fault::MountFault;
 pub use formats::has_other_format;
-pub use index::check_index;
+pub use index::{check_index, first_misplaced, is_index_short, is_other_home};
 pub use laws::sound_has_no_fault;
 pub use layout::{chain_fault, read_layout};
 pub use mounted::Mounted;

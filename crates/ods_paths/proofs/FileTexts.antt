@@ -1,12 +1,12 @@
 -- The parts of a text of files.
-use Rattle.std.proofs.Common.{◌≡◌, ◌↔◌, ℕ, ◌+◌, ◌-◌, ◌⊎◌, List, [], length, take, drop, Bool, true, false, Some, None, Option, refl, sym, ap, ◌∙◌, subst, arith}
+use Rattle.std.proofs.Common.{◌≡◌, ◌↔◌, ℕ, ◌+◌, ◌-◌, ◌⊎◌, List, length, take, drop, Bool, false, Option, sym, ap, ◌∙◌, subst, arith}
 use Rattle.std.specs.Bool.{IsTrue}
 use Rattle.std.specs.List.{position_or_len, before_first, after_first}
 use Rattle.std.proofs.lemmas.List.{take_all, drop_all, take_rest}
 use Rattle.ods_paths.specs.declared.versions.Versions.{Versions}
-use Rattle.ods_paths.specs.Numbers.{IsTheOne, is, Has, Lacks}
+use Rattle.ods_text.specs.Cuts.{is, Has, Lacks}
 use Rattle.ods_paths.specs.Patterns.{IsPattern, has_wildcard, capitals}
-use Rattle.ods_paths.specs.Paths.{Files, SpellsFiles, IsVersions, IsDotted, name_text, kind_text, full_name, begins_version}
+use Rattle.ods_paths.specs.Paths.{SpellsFiles, IsVersions, IsDotted, name_text, kind_text, begins_version}
 
 -- a text that lacks the byte stands before it as a whole, and nothing behind it
 pub whole_before : (c : ℕ) (text : List ℕ) → Lacks c text → text ≡ before_first (is c) text

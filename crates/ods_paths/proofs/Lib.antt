@@ -1,10 +1,8 @@
 pub mod Bounds
 pub mod FileTexts
 pub mod FirstRow
-pub mod Firsts
 pub mod Ids
 pub mod ListingOrder
-pub mod Numerals
 pub mod OneMeaning
 pub mod PathTexts
 pub mod PlaceTexts

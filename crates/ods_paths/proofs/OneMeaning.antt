@@ -1,22 +1,24 @@
 -- A text says one thing at most, and a text that is bad says nothing.
-use Rattle.std.proofs.Common.{◌≡◌, ◌≢◌, ℕ, ◌<◌, ◌≤◌, List, [], ◌∷◌, length, get_or, drop, Bool, true, false, Option, Some, None, refl, sym, ap, ◌∙◌, subst, arith, inl, inr}
+use Rattle.std.proofs.Common.{◌≡◌, ◌≢◌, ℕ, List, [], length, get_or, drop, true, false, Option, Some, None, refl, sym, ap, ◌∙◌, subst, arith, inl, inr}
 use Rattle.std.specs.Prelude.{codes}
 use Rattle.std.specs.List.{All, before_first, after_first, slice_split}
 use Rattle.std.proofs.lemmas.List.Elements.{All-head}
 use Rattle.ods_base.specs.declared.file_id.FileId.{FileId}
 use Rattle.ods_paths.specs.declared.bad.BadPath.{BadPath}
 use Rattle.ods_paths.specs.declared.bad.BadPath.TheVariants as bad
-use Rattle.ods_paths.specs.Numbers.{IsId, IsChoice, IsOctal, is, Has, Lacks}
-use Rattle.ods_paths.specs.Paths.{Place, Master, Numbered, Named, Folder, Files, Said, File, Within, Says, SpellsFiles, SpellsPlace, SpellsNumbers, SpellsFolder, SpellsSomeFiles, IsMaster, IsStep, place_text, folder_text, files_text, separator_of, begins_id, IsClosed}
-use Rattle.ods_paths.specs.Bad.{IsBad, IsBadFiles, IsBadWithin}
-use Rattle.ods_paths.proofs.Numerals.{one_number}
+use Rattle.ods_text.specs.Cuts.{is, Has}
+use Rattle.ods_text.specs.Numbers.{IsOctal}
+use Rattle.ods_paths.specs.Numbers.{IsId, IsChoice}
+use Rattle.ods_paths.specs.Paths.{Place, Master, Numbered, Named, Folder, Files, Said, File, Within, Says, SpellsFiles, SpellsPlace, SpellsFolder, SpellsSomeFiles, IsMaster, IsStep, place_text, folder_text, files_text, separator_of, begins_id}
+use Rattle.ods_paths.specs.Bad.{IsBad, IsBadFiles}
+use Rattle.ods_text.proofs.Numerals.{one_number, wide}
 use Rattle.ods_paths.proofs.VersionTexts.{same_versions}
 use Rattle.ods_paths.proofs.PlaceTexts.{zeros_lack}
 
 same_id : (text : List ℕ) (f g : FileId) → IsId text f → IsId text g → f ≡ g
 same_id text f g p q =
-    let number : f.number ≡ g.number = one_number (before_first (is 44) text) f.number g.number p.1 q.1 in
-    let sequence : f.sequence ≡ g.sequence = one_number (after_first (is 44) text) f.sequence g.sequence p.2 q.2 in
+    let number : f.number ≡ g.number = one_number (before_first (is 44) text) f.number g.number (wide _ _ p.1) (wide _ _ q.1) in
+    let sequence : f.sequence ≡ g.sequence = one_number (after_first (is 44) text) f.sequence g.sequence (wide _ _ p.2) (wide _ _ q.2) in
     λ i. record { number = number i; sequence = sequence i }
 
 -- `*` is no octal number

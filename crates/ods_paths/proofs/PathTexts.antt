@@ -1,10 +1,9 @@
 -- What texts of paths say, from their parts.
-use Rattle.std.proofs.Common.{◌≡◌, ◌≢◌, ℕ, ◌<◌, ◌⊎◌, ◌==◌, ◌||◌, List, [], ◌∷◌, length, Bool, true, false, Option, Some, None, Result, Ok, Err, MatchResult, refl, sym, ap, ◌∙◌, subst, arith}
+use Rattle.std.proofs.Common.{◌≡◌, ◌≢◌, ℕ, ◌<◌, ◌==◌, List, [], ◌∷◌, length, true, false, Result, Ok, Err, MatchResult, refl, sym, ap, ◌∙◌, subst, arith}
 use Rattle.std.specs.List.{before_first, after_first, before_last, after_last}
 use Rattle.ods_paths.specs.declared.bad.BadPath.{BadPath}
 use Rattle.ods_paths.specs.declared.bad.BadPath.TheVariants as bad
-use Rattle.ods_paths.specs.declared.paths.Path.{Path}
-use Rattle.ods_paths.specs.Numbers.{is, Has, Lacks}
+use Rattle.ods_text.specs.Cuts.{is, Has, Lacks}
 use Rattle.ods_paths.specs.Paths.{Said, File, Within, Says, IsWithin, begins_id, IsClosed, separator_of, folder_text, files_text}
 use Rattle.ods_paths.specs.Bad.{IsBad, IsBadFiles, IsBadWithin, IsBadPart}
 

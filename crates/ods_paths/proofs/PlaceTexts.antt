@@ -1,10 +1,11 @@
 -- Where texts of directories begin.
-use Rattle.std.proofs.Common.{◌≡◌, ◌≢◌, ℕ, ◌-◌, ◌<◌, ◌==◌, List, [], ◌∷◌, length, take, Bool, true, false, Option, Some, None, cond, refl, sym, ap, ◌∙◌, subst, arith, inl, inr, map}
+use Rattle.std.proofs.Common.{◌≡◌, ◌≢◌, ℕ, ◌-◌, ◌<◌, ◌==◌, List, [], ◌∷◌, length, take, Bool, true, false, Option, Some, None, cond, refl, sym, ap, ◌∙◌, subst, arith, inl, inr}
 use Rattle.std.specs.Prelude.{codes, if◌then◌else◌}
-use Rattle.std.specs.List.{All, position_or_len, before_first, after_first, slice_split}
+use Rattle.std.specs.List.{All, before_first, after_first, slice_split}
 use Rattle.std.proofs.lemmas.Bool.{eqb-true}
-use Rattle.ods_paths.specs.Numbers.{IsTheOne, IsChoice, is, Has, Lacks}
-use Rattle.ods_paths.specs.Patterns.{capitals}
+use Rattle.ods_text.specs.Cuts.{is, Has, Lacks}
+use Rattle.ods_text.specs.One.{IsTheOne}
+use Rattle.ods_paths.specs.Numbers.{IsChoice}
 use Rattle.ods_paths.specs.Paths.{Place, Master, Numbered, Named, Folder, SpellsPlace, SpellsNumbers, SpellsFolder, IsMaster, IsStep, has_dots, place_text}
 
 pub some_text : (b : Bool) (text : List ℕ) → b ≡ (length text == 0) → b ≡ false → text ≢ []

@@ -1,20 +1,22 @@
 -- The versions that texts choose.
-use Rattle.std.proofs.Common.{◌≡◌, ◌≢◌, ℕ, ◌<◌, ◌≤◌, ◌⊎◌, List, [], ◌∷◌, get_or, length, Option, Some, None, refl, sym, ap, ◌∙◌, subst, arith, inl, inr}
+use Rattle.std.proofs.Common.{◌≡◌, ◌≢◌, ℕ, ◌<◌, ◌≤◌, List, [], ◌∷◌, get_or, length, Option, Some, None, refl, sym, ap, ◌∙◌, subst, arith}
 use Rattle.std.specs.Prelude.{codes}
 use Rattle.std.specs.List.{position_or_len, after_first}
 use Rattle.ods_paths.specs.declared.versions.Versions.{Versions}
 use Rattle.ods_paths.specs.declared.versions.Versions.TheVariants.{Exact, Highest, Lowest, Every}
-use Rattle.ods_paths.specs.Numbers.{IsTheOne, IsNumber, IsVersion, IsExact}
+use Rattle.ods_text.specs.Numbers.{IsSmallNumber}
+use Rattle.ods_text.specs.One.{IsTheOne}
+use Rattle.ods_paths.specs.Numbers.{IsVersion, IsExact}
 use Rattle.ods_paths.specs.Paths.{IsVersions, begins_version}
-use Rattle.ods_paths.proofs.Numerals.{one_number, zero_only, number_begins}
+use Rattle.ods_text.proofs.Numerals.{one_number, zero_only, number_begins, wide}
 
 -- a text begins with one byte
 clash : {A : Type 0} (text : List ℕ) (a b : ℕ) (xs ys : List ℕ) → text ≡ a ∷ xs → text ≡ b ∷ ys → a < b → A
 clash text a b xs ys p q less = let e : a ≡ b = cc in absurd (omega (arith, e, less))
 
 -- a version is not 0
-none_below : {A : Type 0} (text : List ℕ) (n : ℕ) → text ≡ codes "0" → IsNumber text n → 1 ≤ n → A
-none_below text n e p low = absurd (omega (arith, zero_only text n e p, low))
+none_below : {A : Type 0} (text : List ℕ) (n : ℕ) → text ≡ codes "0" → IsSmallNumber text n → 1 ≤ n → A
+none_below text n e p low = absurd (omega (arith, zero_only text n e (wide _ _ p), low))
 
 only_highest : (text : List ℕ) → text ≡ codes "0" → (y : Versions) → IsVersion text y → y ≡ Highest
 only_highest text e Highest p = refl
@@ -26,8 +28,8 @@ pub highest_version : (text : List ℕ) → text ≡ codes "0" → IsTheOne (IsV
 highest_version text e = (e, only_highest text e)
 
 -- a text that begins otherwise is no number
-no_number : (text : List ℕ) (n : ℕ) → text ≢ codes "0" → get_or text 0 0 < 49 → IsNumber text n → ⊥
-no_number text n ne low p = let begins = number_begins text n p ne in absurd (omega (arith, begins.1, low))
+no_number : (text : List ℕ) (n : ℕ) → text ≢ codes "0" → get_or text 0 0 < 49 → IsSmallNumber text n → ⊥
+no_number text n ne low p = let begins = number_begins text n (wide _ _ p) ne in absurd (omega (arith, begins.1, low))
 
 only_lowest : (text : List ℕ) → text ≢ codes "0" → text ≡ codes "-1" → (y : Versions) → IsVersion text y → y ≡ Lowest
 only_lowest text ne e Highest p = absurd (ne p)
@@ -62,13 +64,10 @@ given_version text (Some v) ne other star one =
       λ y p. one.1 y (is_exact text ne other star y p),
     )
 
-pub no_exact : (text : List ℕ) → IsTheOne (IsNumber text) None → IsTheOne (IsExact text) None
+pub no_exact : (text : List ℕ) → IsTheOne (IsSmallNumber text) None → IsTheOne (IsExact text) None
 no_exact text none = λ y p. none p.0 p.2
 
-pub not_exact : (text : List ℕ) (n : ℕ) → IsTheOne (IsNumber text) (Some n) → (1 ≤ n → n ≤ 32767 → ⊥) → IsTheOne (IsExact text) None
-not_exact text n one out = λ y p. let same : p.0 ≡ n = one.1 p.0 p.2 in out (omega (arith, same, p.3)) (omega (arith, same, p.4))
-
-pub the_exact : (text : List ℕ) (n : ℕ) → IsTheOne (IsNumber text) (Some n) → 1 ≤ n → n ≤ 32767 → IsTheOne (IsExact text) (Some (Exact n))
+pub the_exact : (text : List ℕ) (n : ℕ) → IsTheOne (IsSmallNumber text) (Some n) → 1 ≤ n → n ≤ 32767 → IsTheOne (IsExact text) (Some (Exact n))
 the_exact text n one low high = ((n, refl, one.0, low, high), λ y p. p.1 ∙ ap Exact (one.1 p.0 p.2))
 
 only_none : (text : List ℕ) → position_or_len begins_version text ≡ length text → (y : Option Versions) → IsVersions text y → y ≡ None
@@ -98,7 +97,7 @@ same_version text Every v p q = sym (only_every text (λ e. clash text 42 48 [] 
 same_version text (Exact n) Highest p q = only_highest text q (Exact n) p
 same_version text (Exact n) Lowest p q = only_lowest text (λ e. clash text 45 48 (49 ∷ []) [] q e (omega arith)) q (Exact n) p
 same_version text (Exact n) Every p q = only_every text (λ e. clash text 42 48 [] [] q e (omega arith)) (λ e. clash text 42 45 [] (49 ∷ []) q e (omega arith)) q (Exact n) p
-same_version text (Exact m) (Exact n) p q = ap Exact (one_number text m n p.0 q.0)
+same_version text (Exact m) (Exact n) p q = ap Exact (one_number text m n (wide _ _ p.0) (wide _ _ q.0))
 
 pub same_versions : (text : List ℕ) (u v : Option Versions) → IsVersions text u → IsVersions text v → u ≡ v
 same_versions text None v p q = sym (only_none text p v q)

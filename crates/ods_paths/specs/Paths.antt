@@ -3,7 +3,8 @@ use Rattle.std.specs.Prelude.{◌≡◌, ◌≢◌, ℕ, ◌-◌, ◌<◌, ◌==
 use Rattle.std.specs.List.{All, position_or_len, before_first, after_first, before_last, after_last, slice_split, ends_with}
 use Rattle.ods_base.specs.declared.file_id.FileId.{FileId}
 use Rattle.ods_paths.specs.declared.versions.Versions.{Versions}
-use Rattle.ods_paths.specs.Numbers.{is, Has, Lacks, IsId, IsVersion, IsChoice}
+use Rattle.ods_text.specs.Cuts.{is, Has, Lacks}
+use Rattle.ods_paths.specs.Numbers.{IsId, IsVersion, IsChoice}
 use Rattle.ods_paths.specs.Patterns.{IsPattern, has_wildcard, capitals}
 
 -- where a path begins: the master directory, the directories of groups and members, or those that patterns name, each within the one before

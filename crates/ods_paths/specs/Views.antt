@@ -1,5 +1,5 @@
 -- What paths say, without the places of their texts in memory.
-use Rattle.std.specs.Prelude.{ℕ, List, map, Option, Some, None}
+use Rattle.std.specs.Prelude.{map, Option, Some, None}
 use Rattle.std.specs.List.{slice_split}
 use Rattle.ods_paths.specs.declared.files.Files.{Files}
 use Rattle.ods_paths.specs.declared.folders.Folder.{Folder}
@@ -7,7 +7,7 @@ use Rattle.ods_paths.specs.declared.folders.Place.{Place}
 use Rattle.ods_paths.specs.declared.folders.Place.TheVariants as the_place
 use Rattle.ods_paths.specs.declared.paths.Path.{Path}
 use Rattle.ods_paths.specs.declared.paths.Path.TheVariants as the_path
-use Rattle.ods_paths.specs.Numbers.{is}
+use Rattle.ods_text.specs.Cuts.{is}
 use Rattle.ods_paths.specs.Patterns.{capitals}
 use Rattle.ods_paths.specs.Paths as says
 

@@ -1,11 +1,12 @@
 //! The part of a path that names files.
 ghost use Rattle.std.specs.Prelude.{◌≡◌, ◌↔◌, ◌⊎◌, false, IsTrue, MatchResult};
 ghost use Rattle.std.specs.List.{before_first, after_first};
-ghost use Rattle.ods_paths.specs.{Numbers.IsTheOne, Numbers.IsFirst, Numbers.Has, Numbers.is, Patterns.has_wildcard as wild, Paths.SpellsFiles, Paths.IsVersions, Paths.begins_version, Bad.IsBadFiles, Views.files};
+ghost use Rattle.ods_text.specs.{Cuts.IsFirst, Cuts.Has, Cuts.is, One.IsTheOne};
+ghost use Rattle.ods_paths.specs.{Patterns.has_wildcard as wild, Paths.SpellsFiles, Paths.IsVersions, Paths.begins_version, Bad.IsBadFiles, Views.files};
 
-use crate::cuts::{cut_at, has_byte};
 use crate::versions::read_version;
 use crate::{BadPath, Versions, has_wildcard, is_pattern};
+use ods_text::{cut_at, has_byte};
 
 /// The most characters of a name, and of a type.
 const NAME_SIZE: usize = 9;

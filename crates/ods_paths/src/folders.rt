@@ -1,11 +1,12 @@
 //! The part of a path that names directories.
 ghost use Rattle.std.specs.Prelude.{◌≡◌, ◌↔◌, IsTrue, if◌then◌else◌, MatchOption};
 ghost use Rattle.std.specs.List.{All, slice_split};
-ghost use Rattle.ods_paths.specs.{Numbers.IsTheOne, Numbers.is, Paths.Folder as Folder_said, Paths.SpellsFolder, Paths.SpellsPlace, Paths.Place as Place_said, Paths.IsStep, Paths.IsMaster, Paths.Master as Master_said, Paths.Numbered as Numbered_said, Views.folder, Views.place as place_of};
+ghost use Rattle.ods_text.specs.{Cuts.is, One.IsTheOne};
+ghost use Rattle.ods_paths.specs.{Paths.Folder as Folder_said, Paths.SpellsFolder, Paths.SpellsPlace, Paths.Place as Place_said, Paths.IsStep, Paths.IsMaster, Paths.Master as Master_said, Paths.Numbered as Numbered_said, Views.folder, Views.place as place_of};
 
-use crate::cuts::cut_at;
 use crate::is_pattern;
-use crate::numbers::{is_text, read_choice};
+use crate::numbers::read_choice;
+use ods_text::{cut_at, is_text};
 
 /// The most characters of a name.
 const NAME_SIZE: usize = 9;
@@ -72,7 +73,7 @@ fn read_place(separator: u8, text: &[u8]) -> Option<Place<'_>>
             let Some(member) = read_choice(back) else {
                 return None;
             };
-            Some(numbered(group, member))
+            Some(numbered_place(group, member))
         }
         None => {
             if !are_steps(separator, text) {
@@ -84,7 +85,7 @@ fn read_place(separator: u8, text: &[u8]) -> Option<Place<'_>>
 }
 
 /// The directories of a group and a member; of 0 and 0 the master directory.
-fn numbered(group: Option<u8>, member: Option<u8>) -> Place<'static>
+fn numbered_place(group: Option<u8>, member: Option<u8>) -> Place<'static>
     ensures { place_of result ≡ (if IsMaster group member then Master_said else Numbered_said group member) }
 {
     match (group, member) {

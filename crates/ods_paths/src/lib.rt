@@ -2,7 +2,6 @@
 #![tactic(auto)]
 
 mod bad;
-mod cuts;
 mod files;
 mod folders;
 mod laws;
@@ -23,5 +22,5 @@ pub use numbers::numbered_name;
 pub use order::{Shown, compare, is_listing_order};
 pub use paths::{Path, parse_path};
 pub use patterns::{has_wildcard, is_pattern};
-pub use picking::{Span, picked};
+pub use picking::{Span, choose_span};
 pub use versions::Versions;

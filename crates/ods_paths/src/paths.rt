@@ -1,13 +1,13 @@
 //! What the text of a path says.
 ghost use Rattle.std.specs.Prelude.{◌∷◌, MatchResult};
-ghost use Rattle.ods_paths.specs.{Numbers.IsTheOne, Numbers.IsId, Paths.Says, Paths.IsWithin, Bad.IsBad, Bad.IsBadWithin, Views.said};
+ghost use Rattle.ods_text.specs.One.{IsTheOne};
+ghost use Rattle.ods_paths.specs.{Numbers.IsId, Paths.Says, Paths.IsWithin, Bad.IsBad, Bad.IsBadWithin, Views.said};
 
-use crate::cuts::{cut_at, cut_last};
 use crate::files::read_files;
 use crate::folders::read_folder;
-use crate::numbers::read_number;
 use crate::{BadPath, Files, Folder};
 use ods_base::FileId;
+use ods_text::{cut_at, cut_last, read_small};
 
 /// What a path says: a file by its ID, or a directory and, where they are said, files in it.
 #[derive(Clone, Copy)]
@@ -32,14 +32,14 @@ pub fn parse_path(text: &[u8]) -> Result<Path<'_>, BadPath>
         return Ok(Path::File(file));
     }
     if *first == b'[' {
-        return bracketed(rest);
+        return parse_bracketed(rest);
     }
     let (folder, files) = cut_last(b'/', text);
     within(b'/', folder, files)
 }
 
 /// What the text of a path says that begins with `[`, from what stands behind that.
-fn bracketed(rest: &[u8]) -> Result<Path<'_>, BadPath>
+fn parse_bracketed(rest: &[u8]) -> Result<Path<'_>, BadPath>
     ensures { MatchResult result (λ p. Says (91 ∷ rest.now) (said p)) (IsBad (91 ∷ rest.now)) }
 {
     let Some((folder, files)) = cut_at(b']', rest) else {
@@ -74,10 +74,10 @@ fn read_id(text: &[u8]) -> Option<FileId>
     let Some((front, back)) = cut_at(b',', text) else {
         return None;
     };
-    let Some(number) = read_number(front) else {
+    let Some(number) = read_small(front) else {
         return None;
     };
-    let Some(sequence) = read_number(back) else {
+    let Some(sequence) = read_small(back) else {
         return None;
     };
     if number == 0 {

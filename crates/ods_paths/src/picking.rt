@@ -22,7 +22,7 @@ impl Span {
 }
 
 /// The range of versions of which the choice picks those that are at hand.
-pub fn picked(choice: Versions, versions: &[u16]) -> Span
+pub fn choose_span(choice: Versions, versions: &[u16]) -> Span
     ensures { AreFromTo choice versions.now result.low result.high }
 {
     match choice {

@@ -1,10 +1,9 @@
 //! Which versions of a name a path chooses.
-ghost use Rattle.ods_paths.specs.Numbers.{IsTheOne, IsVersion, IsExact};
+ghost use Rattle.ods_text.specs.One.{IsTheOne};
+ghost use Rattle.ods_paths.specs.Numbers.{IsVersion, IsExact};
 
-use crate::numbers::{is_text, read_number};
-
-/// The highest version that there is.
-const LAST_VERSION: u16 = 32_767;
+use ods_base::LAST_VERSION;
+use ods_text::{is_text, read_small};
 
 /// Which versions of a name are chosen.
 #[derive(Clone, Copy, Debug, PartialEq, Eq)]
@@ -39,7 +38,7 @@ pub(crate) fn read_version(text: &[u8]) -> Option<Versions>
 fn read_exact(text: &[u8]) -> Option<Versions>
     ensures { IsTheOne (IsExact text.now) result }
 {
-    let Some(version) = read_number(text) else {
+    let Some(version) = read_small(text) else {
         return None;
     };
     if version == 0 || LAST_VERSION < version {

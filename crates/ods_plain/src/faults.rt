@@ -3,7 +3,7 @@ ghost use Rattle.std.specs.Prelude.{◌≡◌};
 ghost use Rattle.ods_request.specs.Faults.{first_of as first_refusal, fault_of, is_map as is_map_file, is_reserved as is_reserved_file};
 
 use crate::catalogue::Catalogue;
-use ods_base::{FileId, Name, Uic};
+use ods_base::{FileId, LAST_VERSION, Name, Uic};
 use ods_request::{Refusal, Request, Right};
 
 /// The first of these refusals whose condition holds.
@@ -60,7 +60,10 @@ impl Catalogue {
         };
         let by_name = match version {
             Some(version) => (found.has(name, version), Refusal::NameTaken),
-            None => (found.last_version(name) >= 32_767, Refusal::VersionsFull),
+            None => (
+                found.last_version(name) >= LAST_VERSION,
+                Refusal::VersionsFull,
+            ),
         };
         first_of(&[
             (self.file(file).is_none(), Refusal::NoSuchFile),

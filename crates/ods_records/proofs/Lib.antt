@@ -1,6 +1,6 @@
 pub mod EndSet
 pub mod FirstFault
-pub mod FormTexts
+pub mod Forming
 pub mod LineEnds
 pub mod LinesBack
 pub mod PlainTexts

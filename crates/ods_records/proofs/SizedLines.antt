@@ -37,21 +37,3 @@ left_at : (bytes : List ℕ) (at : ℕ) → at < length bytes → without_cr (dr
 left_at bytes at inside =
     ap without_cr (drop-cons bytes at 0 inside ∙ ap (λ (k : ℕ). get_or bytes at 0 ∷ drop k bytes) (sym (add-one at)))
     ∙ ap (λ (b : ℕ). cond ((get_or bytes at 0 == 13) && (b == 10)) (without_cr (drop (at + 1) bytes)) (get_or bytes at 0 ∷ without_cr (drop (at + 1) bytes))) (get_or-drop (at + 1) bytes 0 0 ∙ ap (λ (k : ℕ). get_or bytes k 0) (omega arith))
-
--- a CR before an LF goes
-pub stream_less : (bytes text : List ℕ) (at : ℕ) → at < length bytes → text ++ without_cr (drop at bytes) ≡ without_cr bytes → ((get_or bytes at 0 == 13) && (get_or bytes (at + 1) 0 == 10)) ≡ true
-    → text ++ without_cr (drop (at + 1) bytes) ≡ without_cr bytes
-stream_less bytes text at inside so is =
-    ap (λ (l : List ℕ). text ++ l) (sym (left_at bytes at inside ∙ ap (λ (b : Bool). cond b (without_cr (drop (at + 1) bytes)) (get_or bytes at 0 ∷ without_cr (drop (at + 1) bytes))) is)) ∙ so
-
--- every other byte stays
-pub stream_more : (bytes text more : List ℕ) (at : ℕ) → at < length bytes → text ++ without_cr (drop at bytes) ≡ without_cr bytes → ((get_or bytes at 0 == 13) && (get_or bytes (at + 1) 0 == 10)) ≡ false
-    → more ≡ text ++ get_or bytes at 0 ∷ [] → more ++ without_cr (drop (at + 1) bytes) ≡ without_cr bytes
-stream_more bytes text more at inside so is e =
-    ap (λ (l : List ℕ). l ++ without_cr (drop (at + 1) bytes)) e
-    ∙ append_assoc text (get_or bytes at 0 ∷ []) (without_cr (drop (at + 1) bytes))
-    ∙ ap (λ (l : List ℕ). text ++ l) (sym (left_at bytes at inside ∙ ap (λ (b : Bool). cond b (without_cr (drop (at + 1) bytes)) (get_or bytes at 0 ∷ without_cr (drop (at + 1) bytes))) is)) ∙ so
-
--- at the end nothing is left
-pub stream_all : (bytes text : List ℕ) (at : ℕ) → length bytes ≤ at → text ++ without_cr (drop at bytes) ≡ without_cr bytes → text ≡ without_cr bytes
-stream_all bytes text at past so = sym (ap (λ (l : List ℕ). text ++ without_cr l) (drop_of_length-le bytes past) ∙ append-nil text) ∙ so

@@ -22,10 +22,6 @@ pub record HasSurveyed (kind : RecordKind) (bytes : List ℕ) (at : ℕ) (survey
   pub so_far : survey ≡ survey_of (flat_map option_to_list standing)
   pub within : at ≤ length bytes
 
--- nothing yet
-pub surveyed_none : (kind : RecordKind) (bytes : List ℕ) → HasSurveyed kind bytes 0 (survey_of [])
-surveyed_none kind bytes = record { standing = []; before = refl; so_far = refl; within = omega arith }
-
 and_true : (a : Bool) → (a && true) ≡ a
 and_true true = refl
 and_true false = refl

@@ -1,6 +1,7 @@
 -- The form of a file in words: `variable,cr,80`, by the first four bytes of its attributes.
-use Rattle.std.specs.Prelude.{ℕ, ◌+◌, ◌*◌, ◌-◌, Bool, true, false, ◌&&◌, ◌==◌, nat_le, if◌then◌else◌, List, [], ◌∷◌, length, codes, Option, Some, None}
-use Rattle.std.specs.List.{list_all, position_or_len, before_first, after_first}
+use Rattle.std.specs.Prelude.{◌≡◌, ℕ, ◌≤◌, Bool, true, false, ◌&&◌, ◌==◌, if◌then◌else◌, List, [], ◌∷◌, codes, Option, Some, None}
+use Rattle.std.specs.Fmt.{decimal}
+use Rattle.ods_text.specs.Cuts.{IsPair}
 use Rattle.ods_records.specs.Attributes.{word}
 
 -- the same bytes
@@ -33,36 +34,16 @@ control_said text =
     else if same text (codes "print+blk") then Some 12
     else None
 
--- a decimal digit
-abbrev pub is_digit : ℕ → Bool
-is_digit c = nat_le 48 c && nat_le c 57
+abbrev pub IsKind : List ℕ → ℕ → Type 0
+IsKind text kind = kind_said text ≡ Some kind
 
--- the number that digits say behind those whose number this is
-abbrev pub decimal_value : ℕ → List ℕ → ℕ
-decimal_value n [] = n
-decimal_value n (c ∷ digits) = decimal_value (10 * n + (c - 48)) digits
+abbrev pub IsControl : List ℕ → ℕ → Type 0
+IsControl text control = control_said text ≡ Some control
 
--- F.RSIZ: one or more digits, at most 32,767
-abbrev pub size_said : List ℕ → Option ℕ
-size_said digits = if nat_le 1 (length digits) && list_all is_digit digits && nat_le (decimal_value 0 digits) 32767 then Some (decimal_value 0 digits) else None
+-- F.RSIZ in decimal, at most 32,767
+abbrev pub IsSize : List ℕ → ℕ → Type 0
+IsSize text size = (size ≤ 32767) × (text ≡ decimal size)
 
-abbrev pub is_comma : ℕ → Bool
-is_comma c = c == 44
-
-abbrev pub has_comma : List ℕ → Bool
-has_comma text = nat_le (1 + position_or_len is_comma text) (length text)
-
--- the four bytes, where each part says something
-abbrev pub four_of : Option ℕ → Option ℕ → Option ℕ → Option (List ℕ)
-four_of (Some kind) (Some control) (Some size) = Some (kind ∷ control ∷ word size)
-four_of (Some kind) (Some control) None = None
-four_of (Some kind) None size = None
-four_of None control size = None
-
--- the parts behind the kind
-abbrev pub rest_of : Option ℕ → List ℕ → Option (List ℕ)
-rest_of kind rest = if has_comma rest then four_of kind (control_said (before_first is_comma rest)) (size_said (after_first is_comma rest)) else None
-
--- the first four bytes of the attributes of a file whose form is so said
-abbrev pub form_said : List ℕ → Option (List ℕ)
-form_said text = if has_comma text then rest_of (kind_said (before_first is_comma text)) (after_first is_comma text) else None
+-- KIND,CONTROL,SIZE says these first four bytes of the attributes
+abbrev pub IsForm : List ℕ → List ℕ → Type 0
+IsForm text form = (parts : ℕ × (ℕ × ℕ)) × IsPair 44 IsKind (IsPair 44 IsControl IsSize) text parts × (form ≡ parts.0 ∷ parts.1.0 ∷ word parts.1.1)

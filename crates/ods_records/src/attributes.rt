@@ -13,7 +13,7 @@ pub fn text_attributes(longest: u16, length: u64) -> [u8; 32]
     ensures value { result ≡ attributes 2 2 longest length }
     ensures end { end_of result ≡ length }
 {
-    made(2, 2, longest, length)
+    attributes_of(2, 2, longest, length)
 }
 
 /// The attributes of a file of `length` bytes in records of 512 bytes.
@@ -22,7 +22,7 @@ pub fn binary_attributes(length: u64) -> [u8; 32]
     ensures value { result ≡ attributes 1 0 512 length }
     ensures end { end_of result ≡ length }
 {
-    made(1, 0, 512, length)
+    attributes_of(1, 0, 512, length)
 }
 
 /// How the records of a file with these attributes are written, by F.RTYP; `None` where it has none with a length: 1, with 0 and what is above
@@ -145,7 +145,7 @@ fn word(attributes: &[u8; 32], at: usize) -> u64
 }
 
 /// Attributes of this record type, these record attributes, this record size and this length.
-fn made(rtyp: u8, ratt: u8, rsiz: u16, length: u64) -> [u8; 32]
+fn attributes_of(rtyp: u8, ratt: u8, rsiz: u16, length: u64) -> [u8; 32]
     requires { length < 512 * 2 ^ 20 }
     ensures value { result ≡ attributes rtyp ratt rsiz length }
     ensures end { end_of result ≡ length }

@@ -1,9 +1,11 @@
 //! The form of a file in words: `variable,cr,80`, by the first four bytes of its attributes.
-ghost use Rattle.std.specs.Prelude.{◌≡◌, ◌≢◌, ◌<◌, ◌≤◌, ℕ, length, slice_index, false, true, IfSome, IfNone};
-ghost use Rattle.std.specs.List.{before_first, after_first};
-ghost use Rattle.ods_records.specs.Forms.{same as same_bytes, kind_said, control_said, size_said, is_comma, has_comma, four_of as four_said, form_said};
+ghost use Rattle.std.specs.Prelude.{◌≡◌};
+ghost use Rattle.ods_text.specs.One.{IsTheOne};
+ghost use Rattle.ods_text.specs.Cuts.{IsPair};
+ghost use Rattle.ods_records.specs.Forms.{same as same_bytes, kind_said, control_said, IsKind, IsControl, IsSize, IsForm};
 
 use crate::attributes::word_bytes;
+use ods_text::{cut_at, read_small};
 use std::fmt;
 
 /// The greatest F.RSIZ.
@@ -12,53 +14,33 @@ const MOST: u16 = 32_767;
 /// The first four bytes of the attributes of a file whose form is said as `KIND,CONTROL,SIZE`: undefined, fixed, variable, sequenced or stream;
 /// none, ftn, cr or print, each perhaps with `+blk` behind; F.RSIZ, at most 32,767. `None` where the text says none.
 pub fn parse_form(text: &[u8]) -> Option<[u8; 4]>
-    ensures { result ≡ form_said text.now }
+    ensures { IsTheOne (IsForm text.now) result }
 {
-    let Some((kind, rest)) = cut_at_comma(text) else {
-        return None;
-    };
-    let Some((control, digits)) = cut_at_comma(rest) else {
-        return None;
-    };
-    four_of(read_kind(kind), read_control(control), read_size(digits))
-}
-
-/// The four bytes, where each part says something.
-fn four_of(kind: Option<u8>, control: Option<u8>, size: Option<u16>) -> Option<[u8; 4]>
-    ensures { result ≡ four_said kind control size }
-{
-    let Some(kind) = kind else {
-        return None;
-    };
-    let Some(control) = control else {
-        return None;
-    };
-    let Some(size) = size else {
+    let Some((kind, (control, size))) = read_parts(text) else {
         return None;
     };
     let [low, high] = word_bytes(u64::from(size));
     Some([kind, control, low, high])
 }
 
-/// What stands before the first comma, and what stands behind it.
-fn cut_at_comma(text: &[u8]) -> Option<(&[u8], &[u8])>
-    ensures some { IfSome result (λ parts. (has_comma text.now ≡ true) × (parts.0.now ≡ before_first is_comma text.now) × (parts.1.now ≡ after_first is_comma text.now)) }
-    ensures none { IfNone result (has_comma text.now ≡ false) }
+/// Kind, control and size, with commas between them.
+fn read_parts(text: &[u8]) -> Option<(u8, (u8, u16))>
+    ensures { IsTheOne (IsPair 44 IsKind (IsPair 44 IsControl IsSize) text.now) result }
 {
-    let place = comma_place(text);
-    if place == text.len() {
-        return None;
-    }
-    Some((&text[..place], &text[place + 1..]))
+    let (front, back) = cut_at(b',', text)?;
+    let kind = read_kind(front)?;
+    let rest = read_rest(back)?;
+    Some((kind, rest))
 }
 
-/// The place of the first comma, or the length where there is none.
-fn comma_place(text: &[u8]) -> usize
-    ensures within { result ≤ length text.now }
-    ensures before { (k : ℕ) → k < result → slice_index text.now k ≢ 44 }
-    ensures found { result < length text.now → slice_index text.now result ≡ 44 }
+/// Control and size, with a comma between them.
+fn read_rest(text: &[u8]) -> Option<(u8, u16)>
+    ensures { IsTheOne (IsPair 44 IsControl IsSize text.now) result }
 {
-    text.iter().position(|b| *b == b',').unwrap_or(text.len())
+    let (front, back) = cut_at(b',', text)?;
+    let control = read_control(front)?;
+    let size = read_size(back)?;
+    Some((control, size))
 }
 
 /// F.RTYP by its word.
@@ -123,24 +105,13 @@ fn is_same(text: &[u8], word: &[u8]) -> bool
 
 /// F.RSIZ by its digits.
 fn read_size(digits: &[u8]) -> Option<u16>
-    ensures { result ≡ size_said digits.now }
+    ensures { IsTheOne (IsSize digits.now) result }
 {
-    if digits.is_empty() {
+    let Some(size) = read_small(digits) else {
         return None;
-    }
-    let mut size: u16 = 0;
-    let mut rest = digits;
-    while 0 < rest.len() {
-        let digit = rest[0];
-        if digit < b'0' || b'9' < digit {
-            return None;
-        }
-        let next = 10 * u32::from(size) + u32::from(digit - b'0');
-        if u32::from(MOST) < next {
-            return None;
-        }
-        size = next as u16;
-        rest = &rest[1..];
+    };
+    if size > MOST {
+        return None;
     }
     Some(size)
 }

@@ -1,4 +1,4 @@
-//! How the records of a file are written, and how a file is read as a text.
+//! How the records of a file are written, how a file is read as a text, and in which form its bytes are wanted.
 
 /// How the records of a file are written, by F.RTYP of its attributes (the standard's FCS record structure). Records of one size
 /// (F.RTYP 1) are none of these: such a file is its bytes.
@@ -23,4 +23,17 @@ pub enum TextForm {
     Stream,
     /// The bytes as they are.
     Bytes,
+}
+
+/// The form in which the bytes of a file are wanted.
+#[derive(Clone, Copy, Debug, PartialEq, Eq)]
+pub enum Wanted {
+    /// Lines where the file is of records that come back from them, or a stream of lines; else bytes.
+    ByKind,
+    /// A text, by the attributes: the lines of records, a stream with CR LF as LF, or the bytes.
+    Text,
+    /// The bytes up to the end of file.
+    Binary,
+    /// The bytes of all blocks.
+    Raw,
 }

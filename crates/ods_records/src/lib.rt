@@ -20,7 +20,7 @@ pub use attributes::{
 };
 pub use faults::{RecordFault, TextFault};
 pub use forms::{FormWords, parse_form, print_form};
-pub use kind::{RecordKind, TextForm};
+pub use kind::{RecordKind, TextForm, Wanted};
 pub use laws::{
     end_is_set, lines_come_back, one_fault, one_reading, plain_text_comes_back, records_or_fault,
     written_is_read,

@@ -34,7 +34,7 @@ pub fn why_no_text(text: &[u8]) -> Option<NearText>
     ensures none { IfNone result ((near : Near) → ¬ IsNear text.now near) }
 {
     match (first_cr_lf(text), first_odd(text)) {
-        (None, None) => unshaped(text),
+        (None, None) => missing_shape(text),
         (Some(at), None) if is_shaped(text) => Some(NearText::CrLf(line_of(text, at))),
         (None, Some(at)) if is_shaped(text) => Some(NearText::OddByte(line_of(text, at), text[at])),
         _ => None,
@@ -89,7 +89,7 @@ fn line_of(text: &[u8], at: usize) -> usize
 }
 
 /// Which one of two a text lacks: an LF at its end, or lines that are short enough.
-fn unshaped(text: &[u8]) -> Option<NearText>
+fn missing_shape(text: &[u8]) -> Option<NearText>
     ensures some { IfSome result (λ near. ((near ≡ Near.NoLastLf) × (¬ IsEnded text.now) × IsShort text.now) ⊎ ((near ≡ Near.LongLine) × IsEnded text.now × (¬ IsShort text.now))) }
     ensures none { IfNone result ((¬ (IsEnded text.now × (¬ IsShort text.now))) × (¬ ((¬ IsEnded text.now) × IsShort text.now))) }
 {

@@ -5,16 +5,16 @@ use Rattle.std.specs.Option.{option_map, option_and_then}
 use Rattle.ods_request.specs.declared.requests.Request.{Request}
 use Rattle.ods_request.specs.declared.requests.Request.TheVariants as request
 use Rattle.ods_state.specs.Outcome.{CanBeAsked}
-use Rattle.ods_share.specs.Scripts.{CanBeObeyed, CanBeRun, request_of, resolved}
-use Rattle.ods_share.specs.declared.script.Ask.{Ask}
-use Rattle.ods_share.specs.declared.script.Ask.TheVariants as ask
-use Rattle.ods_share.specs.declared.script.Action.{Action}
-use Rattle.ods_share.specs.declared.script.Action.TheVariants as action
-use Rattle.ods_share.specs.declared.script.Command.{Command}
+use Rattle.ods_ask.specs.Asked.{CanBeObeyed, CanBeRun, request_of, resolved}
+use Rattle.ods_ask.specs.declared.script.Ask.{Ask}
+use Rattle.ods_ask.specs.declared.script.Ask.TheVariants as ask
+use Rattle.ods_ask.specs.declared.script.Action.{Action}
+use Rattle.ods_ask.specs.declared.script.Action.TheVariants as action
+use Rattle.ods_ask.specs.declared.script.Command.{Command}
 use Rattle.ods_script.specs.Commands.{IsCommand, HasVersions}
 use Rattle.ods_script.specs.Numbered.{AreOfLines}
 use Rattle.ods_script.specs.Said.{said, said_by}
-use Rattle.ods_script.specs.Spelling.{IsTheOne}
+use Rattle.ods_text.specs.One.{IsTheOne}
 use Rattle.ods_script.proofs.Lawful.{behind_lawful}
 
 -- a request on the file that is meant, if one is

@@ -4,8 +4,5 @@ pub mod HexTexts
 pub mod Lawful
 pub mod LineCuts
 pub mod Meaning
-pub mod Numerals
-pub mod Places
-pub mod Printing
 pub mod VerbWords
 pub mod Versions

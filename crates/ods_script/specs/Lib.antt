@@ -1,7 +1,6 @@
 pub mod Commands
 pub mod Naming
 pub mod Numbered
-pub mod Printing
 pub mod Said
 pub mod Spelling
 pub mod Spoken

@@ -3,8 +3,8 @@ use Rattle.std.specs.Prelude.{ℕ, List, Option}
 use Rattle.ods_base.specs.Name.{RadName}
 use Rattle.ods_base.specs.declared.file_id.Uic.{Uic}
 use Rattle.ods_base.specs.declared.name.Pick.{Pick}
-use Rattle.ods_share.specs.declared.script.Id.{Id}
-use Rattle.ods_share.specs.declared.script.Look.{Look}
+use Rattle.ods_ask.specs.declared.script.Id.{Id}
+use Rattle.ods_ask.specs.declared.script.Look.{Look}
 
 -- a command; the block of a WRITE is its 512 bytes
 pub data Spoken : Type 0 where

@@ -15,17 +15,17 @@ use Rattle.ods_request.specs.declared.answers.Answer.TheVariants as answer
 use Rattle.ods_request.specs.declared.answers.Stat.{Stat}
 use Rattle.ods_request.specs.declared.answers.Kind.{Kind}
 use Rattle.ods_request.specs.declared.answers.Kind.TheVariants as kind
-use Rattle.ods_share.specs.declared.outcome.Outcome.{Outcome}
-use Rattle.ods_share.specs.declared.outcome.Reply.{Reply}
-use Rattle.ods_share.specs.declared.outcome.Reply.TheVariants as reply
-use Rattle.ods_share.specs.declared.script.Action.{Action}
-use Rattle.ods_share.specs.declared.script.Action.TheVariants as action
-use Rattle.ods_share.specs.declared.script.Ask.{Ask}
-use Rattle.ods_share.specs.declared.script.Ask.TheVariants as ask
-use Rattle.ods_share.specs.declared.script.Command.{Command}
-use Rattle.ods_share.specs.declared.script.Look.{Look}
-use Rattle.ods_share.specs.declared.script.Look.TheVariants as look
-use Rattle.ods_share.specs.declared.script.Script.{Script}
+use Rattle.ods_ask.specs.declared.outcome.Outcome.{Outcome}
+use Rattle.ods_ask.specs.declared.outcome.Reply.{Reply}
+use Rattle.ods_ask.specs.declared.outcome.Reply.TheVariants as reply
+use Rattle.ods_ask.specs.declared.script.Action.{Action}
+use Rattle.ods_ask.specs.declared.script.Action.TheVariants as action
+use Rattle.ods_ask.specs.declared.script.Ask.{Ask}
+use Rattle.ods_ask.specs.declared.script.Ask.TheVariants as ask
+use Rattle.ods_ask.specs.declared.script.Command.{Command}
+use Rattle.ods_ask.specs.declared.script.Look.{Look}
+use Rattle.ods_ask.specs.declared.script.Look.TheVariants as look
+use Rattle.ods_ask.specs.declared.script.Script.{Script}
 
 -- a refusal as it is printed: NO, its number and its name, and a line feed
 abbrev pub refusal_line : ℕ → List ℕ → List ℕ
@@ -130,10 +130,6 @@ abbrev pub sessions_text : ℕ → List Script → List Outcome → List ℕ
 sessions_text k [] os = []
 sessions_text k (s ∷ ss) [] = []
 sessions_text k (s ∷ ss) (o ∷ os) = session_text k s o.replies.items ++ sessions_text (k + 1) ss os
-
--- the list of replies of each session
-abbrev pub replies_in : List Outcome → List (Vec Reply Global)
-replies_in os = map (λ (o : Outcome). o.replies) os
 
 -- the sessions from session k on, by their replies alone
 abbrev pub replied_text : ℕ → List Script → List (Vec Reply Global) → List ℕ

@@ -1,6 +1,7 @@
 //! Bytes in hex.
 ghost use Rattle.std.specs.Prelude.{◌≡◌};
-ghost use Rattle.ods_script.specs.Spelling.{IsTheOne, IsHex};
+ghost use Rattle.ods_text.specs.One.{IsTheOne};
+ghost use Rattle.ods_script.specs.Spelling.{IsHex};
 
 use crate::spelled::Spelled;
 use ods_base::Block;

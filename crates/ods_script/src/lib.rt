@@ -2,7 +2,6 @@
 #![tactic(auto)]
 
 mod answers;
-mod cuts;
 mod hex_bytes;
 mod hex_text;
 mod ids;
@@ -10,7 +9,6 @@ mod laws;
 mod lines;
 mod names;
 mod numbers;
-mod printed;
 mod replies;
 mod scripts;
 mod spelled;
@@ -19,6 +17,5 @@ mod verbs;
 
 pub use laws::{cuts_at_first, versions_are_versions};
 pub use lines::parse_line;
-pub use printed::Printed;
 pub use replies::{push_reply, sessions_text};
 pub use scripts::parse_script;

@@ -4,8 +4,8 @@ ghost use Rattle.std.specs.String.{string_bytes};
 ghost use Rattle.ods_script.specs.Texts.{refusal_line, asked_name, looked_name, spoken_name, no_name, reply_text, replies_text, session_text, replied_text};
 
 use crate::answers::push_answer;
+use ods_ask::{Action, Ask, Command, Look, Reply, Script};
 use ods_base::{Coded, Name};
-use ods_share::{Action, Ask, Command, Look, Reply, Script};
 use std::alloc::{AllocError, Global};
 
 /// The name of blanks, for what speaks of no name.
@@ -111,7 +111,7 @@ pub fn sessions_text(
     scripts: &[Script],
     replies: &[Vec<Reply>],
 ) -> Result<String, AllocError>
-    requires { length scripts.now ≤ 8 }
+    requires { length scripts.now < 65535 }
     ensures { IfOk result (λ text. string_bytes text ≡ replied_text 1 scripts.now replies.now) }
 {
     let mut text = String::new(alloc);

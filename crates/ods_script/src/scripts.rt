@@ -1,11 +1,11 @@
 //! Which commands a script is.
 ghost use Rattle.std.specs.Prelude.{◌≡◌, ◌<◌, ◌^◌, length, IfOk, OnOk};
-ghost use Rattle.ods_share.specs.Scripts.{CanBeRun};
+ghost use Rattle.ods_ask.specs.Asked.{CanBeRun};
 ghost use Rattle.ods_script.specs.Numbered.{AreCommandsOf, Takes};
 
-use crate::cuts::cut_at;
 use crate::lines::parse_line;
-use ods_share::{Command, Script};
+use ods_ask::{Command, Script};
+use ods_text::cut_at;
 use std::alloc::{AllocError, Global};
 
 /// The commands of a script: one for each line that is not empty, in order, with its number from 1. A line that spells no command is

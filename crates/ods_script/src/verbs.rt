@@ -1,13 +1,14 @@
 //! The verbs: the word that each is written as, and what may stand behind it.
 ghost use Rattle.std.specs.Prelude.{◌≡◌, MatchOption, Some, None, IfOk};
 ghost use Rattle.ods_script.specs.declared.verbs.Verb.TheVariants.{Write as the_write};
-ghost use Rattle.ods_script.specs.{Spelling.IsTheOne, Commands.verb_text, Commands.Behind, Commands.Begins, Commands.IsSplit, Commands.Viewed, Said.said};
+ghost use Rattle.ods_text.specs.One.{IsTheOne};
+ghost use Rattle.ods_script.specs.{Commands.verb_text, Commands.Behind, Commands.Begins, Commands.IsSplit, Commands.Viewed, Said.said};
 
-use crate::cuts::cut_at;
 use crate::names::{GivenName, NewName, WantedName};
 use crate::spelled::Spelled;
+use ods_ask::{Action, Ask, Id, Look};
 use ods_base::{Block, Uic};
-use ods_share::{Action, Ask, Id, Look};
+use ods_text::cut_at;
 use std::alloc::{AllocError, Global};
 use std::sync::Arc;
 

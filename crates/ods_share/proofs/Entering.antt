@@ -2,7 +2,7 @@
 use Rattle.std.proofs.Common.{◌≡◌, ◌≢◌, refl, ◌↔◌, ℕ, ◌+◌, ◌<◌, ◌≤◌, List, [], ◌∷◌, ◌∙◌, ap, sym, IsTrue, false, drop, length, slice_index_or, arith}
 use Rattle.std.proofs.lemmas.List.{drop_more}
 use Rattle.ods_request.specs.declared.answers.Entry.{Entry}
-use Rattle.ods_share.specs.declared.outcome.Call.{Call}
+use Rattle.ods_ask.specs.declared.outcome.Call.{Call}
 use Rattle.ods_share.specs.Settles.{call_in, calls_of}
 
 -- a list with a place in it has an element

@@ -20,7 +20,7 @@ use Rattle.ods_state.specs.Version.{State}
 use Rattle.ods_state.specs.Wants.{Lacks, lack_for}
 use Rattle.ods_share.specs.Desks.{IsDeskReason, list_full, fault_is, lacks, no_memory}
 use Rattle.ods_share.specs.Scripts.{IsSeen, fulls_in}
-use Rattle.ods_share.specs.declared.outcome.Reply.TheVariants as reply
+use Rattle.ods_ask.specs.declared.outcome.Reply.TheVariants as reply
 
 -- none of these refusals is a full list
 abbrev NoneIsList : List (Bool × Refusal) → Type 0
@@ -90,17 +90,6 @@ says_it_or_not refusal.VolumeFull = inr refl
 says_it_or_not refusal.HeadersFull = inr refl
 says_it_or_not refusal.ChainFull = inr refl
 says_it_or_not refusal.NoMemory = inr refl
-
--- what one says that is not the full list
-pub other_says_nothing : (f : Refusal) → f ≢ refusal.ListFull → fulls_in (reply.No f) ≡ 0
-other_says_nothing f apart = by (says_it_or_not f)
-  where
-    by : (f ≡ refusal.ListFull) ⊎ (fulls_in (reply.No f) ≡ 0) → fulls_in (reply.No f) ≡ 0
-    by (inl same) = absurd (apart same)
-    by (inr none) = none
-
-pub full_is_said_once : (f : Refusal) → f ≡ refusal.ListFull → fulls_in (reply.No f) ≡ 1
-full_is_said_once f same = ap (λ (g : Refusal). fulls_in (reply.No g)) same
 
 -- a refusal that is counted leaves the volume, and it is full where any was
 pub still_full : (v w : State) (who : Uic) (r : Request) (f : Refusal) (was now : ℕ) → w ≡ v → IsDeskReason v who r f → now ≡ was + fulls_in (reply.No f) → (0 < was → length v.entries ≡ v.limit) → 0 < now → length w.entries ≡ w.limit

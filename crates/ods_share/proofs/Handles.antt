@@ -5,7 +5,7 @@ use Rattle.std.specs.declared.alloc.AllocError.{AllocError}
 use Rattle.std.specs.declared.thread.PromisedHandle.{PromisedHandle}
 use Rattle.ods_share.specs.declared.threads.OfScript.{OfScript}
 use Rattle.ods_share.specs.declared.session.Sat.{Sat}
-use Rattle.ods_share.specs.declared.script.Script.{Script}
+use Rattle.ods_ask.specs.declared.script.Script.{Script}
 use Rattle.std.proofs.lemmas.List.{drop_more, get_or_append_left, get_or_default, get_or_push}
 use Rattle.ods_views.specs.Viewers.{Viewed, newly}
 use native.Mathlib.Decide.{dec_lt}

@@ -4,11 +4,11 @@ use Rattle.std.specs.Prelude.{All, slice_index_or, vec_len, Result, Err, IfOk}
 use Rattle.std.specs.declared.alloc.AllocError.{AllocError}
 use Rattle.std.specs.declared.alloc.Global.{Global}
 use Rattle.std.specs.declared.vec.Vec.{Vec}
-use Rattle.ods_share.specs.declared.script.Command.{Command}
-use Rattle.ods_share.specs.declared.script.Script.{Script}
+use Rattle.ods_ask.specs.declared.script.Command.{Command}
+use Rattle.ods_ask.specs.declared.script.Script.{Script}
 use Rattle.ods_share.specs.declared.keeping.Ended.{Ended}
-use Rattle.ods_share.specs.declared.outcome.Outcome.{Outcome}
-use Rattle.ods_share.specs.declared.outcome.Reply.{Reply}
+use Rattle.ods_ask.specs.declared.outcome.Outcome.{Outcome}
+use Rattle.ods_ask.specs.declared.outcome.Reply.{Reply}
 use Rattle.ods_request.specs.declared.answers.Entry.{Entry}
 use Rattle.ods_views.specs.Viewers.{Viewed, newly}
 use Rattle.ods_share.specs.Keeping.{AreReplies, EachEnded, EachIfOk, IsEnded, IsSat, outcome_of}

@@ -4,10 +4,10 @@ use Rattle.std.specs.declared.vec.Vec.{Vec}
 use Rattle.std.specs.declared.alloc.Global.{Global}
 use Rattle.std.specs.declared.alloc.AllocError.{AllocError}
 use Rattle.ods_request.specs.declared.answers.Entry.{Entry}
-use Rattle.ods_share.specs.declared.script.Command.{Command}
-use Rattle.ods_share.specs.declared.script.Script.{Script}
-use Rattle.ods_share.specs.declared.outcome.Reply.{Reply}
-use Rattle.ods_share.specs.declared.outcome.Outcome.{Outcome}
+use Rattle.ods_ask.specs.declared.script.Command.{Command}
+use Rattle.ods_ask.specs.declared.script.Script.{Script}
+use Rattle.ods_ask.specs.declared.outcome.Reply.{Reply}
+use Rattle.ods_ask.specs.declared.outcome.Outcome.{Outcome}
 use Rattle.ods_share.specs.declared.keeping.Ended.{Ended}
 use Rattle.ods_share.specs.declared.session.Sat.{Sat}
 use Rattle.ods_share.specs.Scripts.{Sitting, Runs, start, fulls_of}

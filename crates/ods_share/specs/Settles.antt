@@ -4,7 +4,7 @@ use Rattle.std.specs.declared.vec.Vec.{Vec}
 use Rattle.std.specs.declared.alloc.Global.{Global}
 use Rattle.ods_request.specs.declared.answers.Entry.{Entry}
 use Rattle.ods_state.specs.Version.{State}
-use Rattle.ods_share.specs.declared.outcome.Call.{Call}
+use Rattle.ods_ask.specs.declared.outcome.Call.{Call}
 use Rattle.ods_share.specs.declared.faults.SettleFault.{SettleFault}
 use Rattle.ods_share.specs.declared.faults.SettleFault.TheVariants.{Unmatched, NoMemory}
 use Rattle.ods_share.specs.declared.settlement.Report.{Report}

@@ -5,12 +5,12 @@ use Rattle.ods_base.specs.declared.file_id.Uic.{Uic}
 use Rattle.ods_request.specs.declared.requests.Request.{Request}
 use Rattle.ods_request.specs.declared.requests.Query.{Query}
 use Rattle.ods_request.specs.declared.answers.Entry.{Entry}
-use Rattle.ods_share.specs.declared.script.Action.{Action}
-use Rattle.ods_share.specs.declared.script.Action.TheVariants as action
-use Rattle.ods_share.specs.declared.script.Command.{Command}
-use Rattle.ods_share.specs.declared.outcome.Call.{Call}
-use Rattle.ods_share.specs.declared.outcome.Reply.{Reply}
-use Rattle.ods_share.specs.declared.outcome.Reply.TheVariants as reply
+use Rattle.ods_ask.specs.declared.script.Action.{Action}
+use Rattle.ods_ask.specs.declared.script.Action.TheVariants as action
+use Rattle.ods_ask.specs.declared.script.Command.{Command}
+use Rattle.ods_ask.specs.declared.outcome.Call.{Call}
+use Rattle.ods_ask.specs.declared.outcome.Reply.{Reply}
+use Rattle.ods_ask.specs.declared.outcome.Reply.TheVariants as reply
 use Rattle.ods_share.specs.declared.session.Context.{Context}
 use Rattle.ods_share.specs.Scripts.{Sitting, Tells, IsRefused, IsSeen, call_of, fulls_in}
 use Rattle.ods_views.specs.Viewers.{Viewed}

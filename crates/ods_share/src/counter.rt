@@ -3,7 +3,7 @@ ghost use Rattle.std.specs.Prelude.{◌≡◌, ◌+◌, ◌<◌, length, IfErr, 
 ghost use Rattle.ods_request.specs.Lists.{Begins};
 ghost use Rattle.ods_state.specs.{Version.IsLawful, Outcome.CanBeAsked};
 ghost use Rattle.ods_share.specs.Scripts.{IsRefused, fulls_in};
-ghost use Rattle.ods_share.specs.declared.outcome.Reply.TheVariants.{No};
+ghost use Rattle.ods_ask.specs.declared.outcome.Reply.TheVariants.{No};
 
 use crate::desk::Desk;
 use ods_base::Uic;

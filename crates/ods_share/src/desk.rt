@@ -6,12 +6,11 @@ ghost use Rattle.ods_state.specs.{Version.IsPresent, Version.IsLawful, Wants.Lac
 ghost use Rattle.ods_share.specs.Desks.{IsDeskReason, IsSubmitted};
 ghost use Rattle.ods_views.specs.Viewers.{newly};
 
-use crate::storing::store;
 use ods_base::{NoMemory, Uic};
 use ods_request::{Answer, CompactRequest, Refusal, Request};
 use ods_views::{
-    Change, DeskWriter, Naming, Told, Viewer, add_change, entry_count, make_viewers, open_writer,
-    publish_change,
+    Change, DeskWriter, MOST_SESSIONS, Naming, Told, Viewer, add_change, entry_count, make_viewers,
+    open_writer, publish_change,
 };
 use ods_volume::{Prepared, Volume};
 use std::alloc::Global;
@@ -22,8 +21,8 @@ use std::sync::Wait;
 
 /// A volume for several sessions, which is to lie under a lock, with the writer that shows its versions to viewers beside the lock.
 /// Contracts see the volume, which is lawful whenever the lock is free. Wherever the desk lies, its mounted image and its limit are
-/// those of its name, its list begins with the entries of its name, and what is shown is the volume's list and blocks. It is ended by [`Desk::close`], and cannot
-/// fall. While the lock is free no change is pending.
+/// those of its name. Its list begins with the entries of its name. Viewers are shown the volume's list and blocks. [`Desk::close`] ends
+/// a desk, and nothing else lets one go. While the lock is free no change is pending.
 pub struct Desk<J: Naming> {
     volume: Volume,
     writer: Option<DeskWriter<J>>,
@@ -42,8 +41,8 @@ impl<J: Naming> Model for Desk<J> {
 }
 
 impl<J: Naming> Desk<J> {
-    /// The desk of this volume, for 1 to 8 places, and a viewer for each place, which has seen the volume's list. After an error, which is
-    /// for memory, the volume comes back.
+    /// The desk of this volume, for 1 to [`MOST_SESSIONS`] places, and a viewer for each place, which has seen the volume's list. After an
+    /// error, which is for memory, the volume comes back.
     pub fn new<R: Wait>(
         rt: &R,
         alloc: Global,
@@ -51,7 +50,7 @@ impl<J: Naming> Desk<J> {
         places: usize,
     ) -> Result<(Desk<J>, Vec<Viewer<J>>), (Volume, NoMemory)>
         requires low { 1 ≤ places }
-        requires high { places ≤ 8 }
+        requires high { places ≤ MOST_SESSIONS }
         requires mounted { volume.mounted ≡ J.mounted }
         requires opening { volume.entries ≡ J.opening }
         requires limit { volume.limit ≡ J.limit }
@@ -184,7 +183,7 @@ impl<J: Naming> Desk<J> {
             }
         };
         let plan = Snapshot::of(&prepared);
-        let answer = store(&mut self.volume, prepared);
+        let answer = self.volume.apply(prepared);
         let writer = publish_change::<J, Brand, R>(rt, writer, plan, &self.volume);
         put_back(&mut self.writer, writer);
         (Ok(answer), self.tell())

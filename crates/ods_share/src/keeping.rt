@@ -1,18 +1,17 @@
 //! What a session keeps of the replies to its commands: the replies themselves, or what a caller makes of each.
-ghost use Rattle.std.specs.Prelude.{◌≡◌, ◌≤◌, [], IfOk, map};
+ghost use Rattle.std.specs.Prelude.{◌≡◌, ◌≤◌, [], IfOk, length, map};
 ghost use Rattle.std.specs.Vec.{vec_capacity};
 ghost use Rattle.ods_share.specs.Sittings.{room_for};
 ghost use Rattle.ods_share.specs.Keeping.{outcome_of};
 
-use crate::outcome::{Call, Outcome, Reply, submit_count};
-use crate::script::Command;
+use ods_ask::{Action, Call, Command, Outcome, Reply};
 use std::alloc::{AllocError, Global};
 
 /// What a session keeps of the replies to the commands of its script.
 pub trait Keep: Drop {
     ghost use Rattle.std.specs.Prelude.{List, [], ◌∷◌, ◌++◌, IfOk, OnOk};
-    ghost use Rattle.ods_share.specs.declared.script.Command.{Command};
-    ghost use Rattle.ods_share.specs.declared.outcome.Reply.{Reply};
+    ghost use Rattle.ods_ask.specs.declared.script.Command.{Command};
+    ghost use Rattle.ods_ask.specs.declared.outcome.Reply.{Reply};
 
     /// What is kept after these commands, each with its reply.
     ghost keeps: { List Command → List Reply → Self → Type 0 };
@@ -49,6 +48,20 @@ impl Keep for Vec<Reply> {
 pub struct Ended<K> {
     pub calls: Vec<Call>,
     pub kept: K,
+}
+
+/// How many calls may come of these commands: one of each request.
+fn submit_count(script: &[Command]) -> usize
+    ensures value { result ≡ room_for script.now }
+    ensures bound { result ≤ length script.now }
+{
+    let mut count = 0;
+    for command in script {
+        if let Action::Submit(_) = &command.action {
+            count += 1;
+        }
+    }
+    count
 }
 
 /// Nothing yet, with room for all calls that may come of a script.

@@ -8,12 +8,11 @@ use crate::desk::Desk;
 use crate::faults::RunFault;
 use crate::gate::Gate;
 use crate::keeping::{Ended, Keep, outcomes};
-use crate::outcome::{Outcome, Reply};
-use crate::script::Script;
 use crate::session::Sat;
 use crate::threads::run_all;
+use ods_ask::{Outcome, Reply, Script};
 use ods_request::Stamp;
-use ods_views::{Naming, Viewer};
+use ods_views::{MOST_SESSIONS, Naming, Viewer};
 use ods_volume::Volume;
 use std::alloc::{AllocError, Global};
 use std::marker::Brand;
@@ -38,7 +37,7 @@ fn unpack<K: Keep, L: Ledger>(
 }
 
 /// What each session keeps. No share has counted more than all of them together.
-fn audited<K: Keep, L: Ledger>(
+fn audit<K: Keep, L: Ledger>(
     alloc: Global,
     all: Vec<Sat<K, L>>,
     fulls: Book<L>,
@@ -77,8 +76,8 @@ fn run_counted<
 ) -> Result<(Volume, Vec<Ended<K>>), RunFault>
     requires name { blank.name ≡ L.name }
     requires parts { blank.parts ≡ L.parts }
-    requires eight { 8 ≤ L.parts }
-    requires few { length scripts.now ≤ 8 }
+    requires many { MOST_SESSIONS ≤ L.parts }
+    requires few { length scripts.now ≤ MOST_SESSIONS }
     requires enough { length scripts.now ≤ vec_len viewers }
     requires can { All (λ s. CanBeRun s.commands.items) scripts.now }
     ensures mounted { IfOk result (λ p. p.0.mounted ≡ J.mounted) }
@@ -97,7 +96,7 @@ fn run_counted<
     let Ok(all) = unpack(alloc, done) else {
         return Err(RunFault::NoMemory);
     };
-    let Ok(ended) = audited(alloc, all, fulls) else {
+    let Ok(ended) = audit(alloc, all, fulls) else {
         return Err(RunFault::NoMemory);
     };
     Ok((volume, ended))
@@ -113,7 +112,7 @@ fn run_desk<K: Keep + Send, J: Naming + Send + Sync, G: Gate + Sync, R: Threads 
     stamp: Stamp,
     gate: &G,
 ) -> Result<(Volume, Vec<Ended<K>>), RunFault>
-    requires few { length scripts.now ≤ 8 }
+    requires few { length scripts.now ≤ MOST_SESSIONS }
     requires enough { length scripts.now ≤ vec_len viewers }
     requires can { All (λ s. CanBeRun s.commands.items) scripts.now }
     ensures mounted { IfOk result (λ p. p.0.mounted ≡ J.mounted) }
@@ -121,13 +120,13 @@ fn run_desk<K: Keep + Send, J: Naming + Send + Sync, G: Gate + Sync, R: Threads 
     ensures limit { IfOk result (λ p. p.0.limit ≡ J.limit) }
     ensures ended { IfOk result (λ p. (vec_len p.1 ≡ length scripts.now) × EachEnded K.keeps J.mounted stamp (seen_first viewers.items) (length p.0.entries ≡ J.limit) scripts.now p.1.items) }
 {
-    let blank = Blank::new(8);
+    let blank = Blank::new(MOST_SESSIONS as u64);
     run_counted::<K, J, Brand, G, R>(rt, alloc, desk, viewers, blank, scripts, stamp, gate)
 }
 
-/// Runs each of at most 8 scripts as a session in a thread of its own, the first as session 1 and with the first viewer, waits for all,
-/// and gives the volume back with what came of each script, in their order. Files are made with this stamp. After a fault, of memory or of
-/// threads, all threads have ended too, and the volume is given up. An outcome has one reply for each command, in
+/// Runs each of at most [`MOST_SESSIONS`] scripts as a session in a thread of its own, the first as session 1 and with the first viewer. It
+/// waits for all, and gives the volume back with what came of each script, in their order. Files are made with this stamp. After a fault, of
+/// memory or of threads, all threads have ended too, and the volume is given up. An outcome has one reply for each command, in
 /// order. Its calls are just the requests that were answered, each once and in order. That the list is full is the reply only
 /// where the list that comes back has as many entries as its limit. BAD is the reply just to a line
 /// that is no command, and where `$` stands for no file. A query beside the lock is no call. The first VIEW of a session shows a
@@ -142,7 +141,7 @@ pub fn run_sessions<J: Naming + Send + Sync, G: Gate + Sync, R: Threads + Wait +
     stamp: Stamp,
     gate: &G,
 ) -> Result<(Volume, Vec<Outcome>), RunFault>
-    requires few { length scripts.now ≤ 8 }
+    requires few { length scripts.now ≤ MOST_SESSIONS }
     requires enough { length scripts.now ≤ vec_len viewers }
     requires can { All (λ s. CanBeRun s.commands.items) scripts.now }
     ensures mounted { IfOk result (λ p. p.0.mounted ≡ J.mounted) }
@@ -161,9 +160,9 @@ pub fn run_sessions<J: Naming + Send + Sync, G: Gate + Sync, R: Threads + Wait +
 
 /// How many places a desk has: one for each script, and one where there is none.
 fn places_for(scripts: usize) -> usize
-    requires { scripts ≤ 8 }
+    requires { scripts ≤ MOST_SESSIONS }
     ensures low { 1 ≤ result }
-    ensures high { result ≤ 8 }
+    ensures high { result ≤ MOST_SESSIONS }
     ensures enough { scripts ≤ result }
 {
     if scripts == 0 { 1 } else { scripts }
@@ -181,7 +180,7 @@ fn run_named<K: Keep + Send, J: Naming + Send + Sync, G: Gate + Sync, R: Threads
     requires mounted { volume.mounted ≡ J.mounted }
     requires opening { volume.entries ≡ J.opening }
     requires limit { volume.limit ≡ J.limit }
-    requires few { length scripts.now ≤ 8 }
+    requires few { length scripts.now ≤ MOST_SESSIONS }
     requires can { All (λ s. CanBeRun s.commands.items) scripts.now }
     ensures mounted { IfOk result (λ p. p.0.mounted ≡ volume.mounted) }
     ensures opening { IfOk result (λ p. Begins volume.entries p.0.entries) }
@@ -196,8 +195,8 @@ fn run_named<K: Keep + Send, J: Naming + Send + Sync, G: Gate + Sync, R: Threads
     }
 }
 
-/// Opens a desk of a volume, and runs each of at most 8 scripts as a session at it, as [`run_sessions`] does, with no name to be picked. Of
-/// its replies a session keeps what `K` makes of each, in its own thread and as soon as it is given. What is kept
+/// Opens a desk of a volume, and runs each of at most [`MOST_SESSIONS`] scripts as a session at it, as [`run_sessions`] does, with no name
+/// to be picked. Of its replies a session keeps what `K` makes of each, in its own thread and as soon as it is given. What is kept
 /// stands in the relation `keeps` of `K` to the commands and their replies.
 pub fn run_keeping<K: Keep + Send, G: Gate + Sync, R: Threads + Wait + Sync>(
     rt: &R,
@@ -207,7 +206,7 @@ pub fn run_keeping<K: Keep + Send, G: Gate + Sync, R: Threads + Wait + Sync>(
     stamp: Stamp,
     gate: &G,
 ) -> Result<(Volume, Vec<Ended<K>>), RunFault>
-    requires few { length scripts.now ≤ 8 }
+    requires few { length scripts.now ≤ MOST_SESSIONS }
     requires can { All (λ s. CanBeRun s.commands.items) scripts.now }
     ensures mounted { IfOk result (λ p. p.0.mounted ≡ volume.mounted) }
     ensures opening { IfOk result (λ p. Begins volume.entries p.0.entries) }
@@ -217,7 +216,8 @@ pub fn run_keeping<K: Keep + Send, G: Gate + Sync, R: Threads + Wait + Sync>(
     run_named::<K, Brand, G, R>(rt, alloc, volume, scripts, stamp, gate)
 }
 
-/// Opens a desk of a volume, and runs each of at most 8 scripts as a session at it, as [`run_sessions`] does, with no name to be picked.
+/// Opens a desk of a volume, and runs each of at most [`MOST_SESSIONS`] scripts as a session at it, as [`run_sessions`] does, with no name
+/// to be picked.
 pub fn run_scripts<G: Gate + Sync, R: Threads + Wait + Sync>(
     rt: &R,
     alloc: Global,
@@ -226,7 +226,7 @@ pub fn run_scripts<G: Gate + Sync, R: Threads + Wait + Sync>(
     stamp: Stamp,
     gate: &G,
 ) -> Result<(Volume, Vec<Outcome>), RunFault>
-    requires few { length scripts.now ≤ 8 }
+    requires few { length scripts.now ≤ MOST_SESSIONS }
     requires can { All (λ s. CanBeRun s.commands.items) scripts.now }
     ensures mounted { IfOk result (λ p. p.0.mounted ≡ volume.mounted) }
     ensures opening { IfOk result (λ p. Begins volume.entries p.0.entries) }

@@ -4,12 +4,10 @@ ghost use Rattle.std.specs.Vec.{vec_capacity};
 ghost use Rattle.ods_state.specs.Outcome.{CanBeAsked};
 ghost use Rattle.ods_share.specs.{Scripts.CanBeObeyed, Scripts.CanBeRun, Scripts.fulls_in, Keeping.IsSat, Keeping.TellsOn, Sittings.room_of, Sittings.IsReply, Sittings.IsView, Sittings.stands, Sittings.TellsContext};
 
-use crate::asking::{last_from, query_for, request_for};
 use crate::counter::Counter;
 use crate::gate::Gate;
 use crate::keeping::{Ended, Keep, reserve};
-use crate::outcome::{Call, Reply};
-use crate::script::{Action, Command};
+use ods_ask::{Action, Call, Command, Reply, last_from, query_for, request_for};
 use ods_base::{FileId, Uic};
 use ods_request::{CompactAnswer, CompactRequest, Query, Stamp};
 use ods_views::{Naming, ViewFault, Viewer};

@@ -4,7 +4,7 @@ ghost use Rattle.ods_request.specs.declared.answers.Entry.{Entry};
 ghost use Rattle.ods_share.specs.Settles.{call_in, calls_of, EachMatches, IsSettled, SettlesAs};
 
 use crate::faults::SettleFault;
-use crate::outcome::Call;
+use ods_ask::Call;
 use ods_base::Image;
 use ods_views::entry_count;
 use ods_volume::{Entries, Volume};

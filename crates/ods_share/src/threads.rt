@@ -7,10 +7,10 @@ use crate::counter::Counter;
 use crate::faults::RunFault;
 use crate::gate::Gate;
 use crate::keeping::Keep;
-use crate::script::Script;
 use crate::session::{Chair, Sat, Session};
+use ods_ask::Script;
 use ods_request::Stamp;
-use ods_views::{Naming, Viewer};
+use ods_views::{MOST_SESSIONS, Naming, Viewer};
 use std::alloc::{AllocError, Global};
 use std::marker::PhantomData;
 use std::snapshot::Snapshot;
@@ -125,7 +125,7 @@ fn begin_all<
     scripts: &'s [Script],
     stamp: &'s Stamp,
 ) -> Result<Vec<Result<Sat<K, L>, AllocError>>, RunFault>
-    requires few { length scripts.now ≤ 8 }
+    requires few { length scripts.now ≤ MOST_SESSIONS }
     requires enough { length scripts.now ≤ vec_len viewers }
     requires parts { length scripts.now ≤ fulls.parts }
     requires none { fulls.amount ≡ 0 }
@@ -171,7 +171,7 @@ pub(crate) fn run_all<
     scripts: &[Script],
     stamp: &Stamp,
 ) -> Result<Vec<Result<Sat<K, L>, AllocError>>, RunFault>
-    requires few { length scripts.now ≤ 8 }
+    requires few { length scripts.now ≤ MOST_SESSIONS }
     requires enough { length scripts.now ≤ vec_len viewers }
     requires parts { length scripts.now ≤ fulls.parts }
     requires none { fulls.amount ≡ 0 }
@@ -182,7 +182,7 @@ pub(crate) fn run_all<
         thread::scope_env(),
         rt,
         |scope| -> Result<Vec<Result<Sat<K, L>, AllocError>>, RunFault>
-            requires { (length scripts.now ≤ 8) × (length scripts.now ≤ vec_len viewers) × (length scripts.now ≤ fulls.parts) × (fulls.amount ≡ 0) × All (λ s. CanBeRun s.commands.items) scripts.now }
+            requires { (length scripts.now ≤ MOST_SESSIONS) × (length scripts.now ≤ vec_len viewers) × (length scripts.now ≤ fulls.parts) × (fulls.amount ≡ 0) × All (λ s. CanBeRun s.commands.items) scripts.now }
             ensures { IfOk result (λ v. (vec_len v ≡ length scripts.entry.now) × EachIfOk K.keeps J.mounted stamp.entry.now (seen_first viewers.items) scripts.entry.now v.items) }
         { begin_all(scope, rt, alloc, desk, gate, viewers, fulls, scripts, stamp) },
     )

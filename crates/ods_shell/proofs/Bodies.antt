@@ -31,14 +31,6 @@ same_body I L n a b f g =
     let attributes : a.attributes ≡ b.attributes = f.attributes ∙ sym g.attributes in
     λ i. record { blocks = blocks i; attributes = attributes i }
 
--- what is wrong is the first fault, where memory did not run out
-pub first_fault : (kind : RecordKind) (bytes : List ℕ) (fault : RecordFault) → (fault ≡ NoMemory → ⊥) → IsFault kind bytes fault → IsFirstFault kind bytes fault
-first_fault kind bytes NoMemory other told = absurd (other refl)
-first_fault kind bytes (CutLength place) other told = told
-first_fault kind bytes (PastEnd place) other told = told
-first_fault kind bytes (TooLong place) other told = told
-first_fault kind bytes (NoNumber place) other told = told
-
 pub some_same : {A : Type 0} (x y : A) → Some x ≡ Some y → x ≡ y
 some_same x y e = cc e
 

@@ -1,11 +1,11 @@
 -- Lines that are found directory by directory.
-use Rattle.std.proofs.Common.{◌≡◌, ℕ, ◌+◌, refl, sym, ap, ◌∙◌, subst, List, [], ◌∷◌, ◌++◌, length, map, append_assoc, append-nil, Option, arith}
+use Rattle.std.proofs.Common.{◌≡◌, ℕ, ◌+◌, refl, sym, ap, ◌∙◌, List, [], ◌∷◌, ◌++◌, length, map, append_assoc, append-nil, Option, arith}
 use Rattle.ods_base.specs.declared.listed.Listed.{Listed}
 use Rattle.ods_space.specs.Layout.{VolumeLayout}
 use Rattle.ods_paths.specs.declared.versions.Versions.{Versions}
 use Rattle.ods_paths.specs.Paths.{Files}
 use Rattle.ods_shell.specs.declared.folders.Directory.{Directory}
-use Rattle.ods_shell.specs.declared.finding.Line.{Line}
+use Rattle.ods_walk.specs.declared.tables.Line.{Line}
 use Rattle.ods_shell.specs.Found.{AreFound, AreFoundIn, placed}
 
 module _ (I : List (List ℕ)) (L : VolumeLayout) (files : Option Files) (unsaid : Versions) where

@@ -4,7 +4,7 @@ use Rattle.ods_base.specs.Image.{image_bytes}
 use Rattle.ods_files.specs.Body.{Body, size_in, bytes_in}
 use Rattle.ods_files.specs.declared.form.Form.{Form}
 use Rattle.ods_shell.specs.declared.form.Remark.{Remark}
-use Rattle.ods_shell.specs.declared.form.Wanted.{Wanted}
+use Rattle.ods_records.specs.declared.kind.Wanted.{Wanted}
 use Rattle.ods_shell.specs.Contents.{form_got, end_remark, AreBytes}
 
 -- a body that has bytes in the form that is got

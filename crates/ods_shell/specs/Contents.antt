@@ -18,8 +18,8 @@ use Rattle.ods_shell.specs.declared.form.FormFault.{FormFault}
 use Rattle.ods_shell.specs.declared.form.FormFault.TheVariants as fault
 use Rattle.ods_shell.specs.declared.form.Remark.{Remark}
 use Rattle.ods_shell.specs.declared.form.Remark.TheVariants as remark
-use Rattle.ods_shell.specs.declared.form.Wanted.{Wanted}
-use Rattle.ods_shell.specs.declared.form.Wanted.TheVariants.{ByKind, Text, Binary, Raw}
+use Rattle.ods_records.specs.declared.kind.Wanted.{Wanted}
+use Rattle.ods_records.specs.declared.kind.Wanted.TheVariants.{ByKind, Text, Binary, Raw}
 
 -- the kind of the records that are read, where any are
 abbrev pub kind_got : Wanted → List ℕ → Option RecordKind

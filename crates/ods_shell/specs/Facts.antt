@@ -1,5 +1,6 @@
 -- What is known of a file, as its first header and its blocks say it.
-use Rattle.std.specs.Prelude.{◌≡◌, ℕ, ◌*◌, List, length, Bool, true, false, if◌then◌else◌, is_some}
+use Rattle.std.specs.Prelude.{◌≡◌, ℕ, ◌*◌, List, length, codes, slice_range, Bool, true, false, if◌then◌else◌, is_some}
+use Rattle.ods_base.specs.Block.{word}
 use Rattle.ods_header.specs.Header.{sequence_of, owner_of, protection_of, user_char_of, system_char_of, ident_of, attributes_of, is_directory_header}
 use Rattle.ods_space.specs.Layout.{VolumeLayout, header_at}
 use Rattle.ods_space.specs.Files.{IsFile, HasBlocks}
@@ -15,6 +16,25 @@ kind_by n header =
     if is_directory_header n header then Directory
     else if is_some (kind_in (attributes_of header)) then (if is_controlled (attributes_of header) then Text else Records)
     else Binary
+
+-- the word for what a file holds
+abbrev pub kind_word : Kind → List ℕ
+kind_word Directory = codes "directory"
+kind_word Text = codes "text"
+kind_word Records = codes "records"
+kind_word Binary = codes "binary"
+
+-- in an ident area the 13 bytes of the date of creation
+abbrev pub created_in : List ℕ → List ℕ
+created_in ident = slice_range ident 25 38
+
+-- in an ident area the 13 bytes of the date of the last revision
+abbrev pub revised_in : List ℕ → List ℕ
+revised_in ident = slice_range ident 12 25
+
+-- in an ident area how often the file was revised
+abbrev pub revision_in : List ℕ → ℕ
+revision_in ident = word ident 5
 
 -- How many bytes a file has: up to the end that its attributes say, which may lie past its blocks; all where the attributes are zeros.
 abbrev pub bytes_by : List ℕ → ℕ → ℕ

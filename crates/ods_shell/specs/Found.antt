@@ -1,4 +1,4 @@
--- The lines that a path finds in directories.
+-- The lines that a path finds in directories, and the status of a path that names none.
 use Rattle.std.specs.Prelude.{◌≡◌, ℕ, ◌+◌, List, [], ◌∷◌, ◌++◌, map, Option, Some, None}
 use Rattle.ods_base.specs.declared.listed.Listed.{Listed}
 use Rattle.ods_space.specs.Layout.{VolumeLayout}
@@ -7,8 +7,12 @@ use Rattle.ods_paths.specs.declared.versions.Versions.{Versions}
 use Rattle.ods_paths.specs.Paths.{Files}
 use Rattle.ods_walk.specs.Listing.{IsListing}
 use Rattle.ods_shell.specs.Choosing.{AreThose, IsChosen}
+use Rattle.ods_shell.specs.declared.path_fault.PathFault.{PathFault}
+use Rattle.ods_shell.specs.declared.path_fault.PathFault.TheVariants as fault
+use Rattle.ods_shell.specs.declared.status.Status.{Status}
+use Rattle.ods_shell.specs.declared.status.Status.TheVariants as status
 use Rattle.ods_shell.specs.declared.folders.Directory.{Directory}
-use Rattle.ods_shell.specs.declared.finding.Line.{Line}
+use Rattle.ods_walk.specs.declared.tables.Line.{Line}
 
 -- the lines of directory n, in the order of a listing; none where n is no directory
 abbrev pub AreLinesOf : List (List ℕ) → VolumeLayout → ℕ → List Listed → Type 0
@@ -28,3 +32,13 @@ abbrev pub AreFound : List (List ℕ) → VolumeLayout → Option Files → Vers
 AreFound I L files unsaid place [] lines = lines ≡ []
 AreFound I L files unsaid place (d ∷ directories) lines =
     (entries : List Listed) × (rest : List Line) × (lines ≡ map (placed place) entries ++ rest) × AreFoundIn I L files unsaid d.number entries × AreFound I L files unsaid (place + 1) directories rest
+
+-- The exit status of a path that names no files: words that mean nothing are wrong words, an ID of no file is refused, and want of memory is the host's.
+abbrev pub HasPathStatus : PathFault → Status → Type 0
+HasPathStatus (fault.Bad bad) s = s ≡ status.Words
+HasPathStatus fault.NoName s = s ≡ status.Words
+HasPathStatus fault.NoVersion s = s ≡ status.Words
+HasPathStatus fault.IsId s = s ≡ status.Words
+HasPathStatus fault.Nothing s = s ≡ status.Nothing
+HasPathStatus fault.NoSuchFile s = s ≡ status.Refused
+HasPathStatus fault.NoMemory s = s ≡ status.Host

@@ -62,7 +62,7 @@ fn is_chosen(
 }
 
 /// Whether the patterns match the name.
-pub(crate) fn is_matched(name: &Name, files: &Files<'_>) -> bool
+fn is_matched(name: &Name, files: &Files<'_>) -> bool
     ensures { MatchBool result (IsMatched (said files.now) name.now) (¬ IsMatched (said files.now) name.now) }
 {
     matches(files.name, print_title(name).as_bytes())
@@ -85,7 +85,7 @@ fn is_picked(lines: &[Listed], place: usize, line: &Listed, versions: Versions) 
 
 /// Whether no line of the name has a higher version than this one, which stands at this place. Lines of one name follow one another, and
 /// their versions fall.
-fn is_highest(lines: &[Listed], place: usize, line: &Listed) -> bool
+pub(crate) fn is_highest(lines: &[Listed], place: usize, line: &Listed) -> bool
     requires sorted { IsSortedByKey shown listing_cmp lines.now }
     requires there { slice_get lines.now place ≡ Some line.now }
     ensures { MatchBool result (IsPicked Versions.Highest lines.now line.now) (¬ IsPicked Versions.Highest lines.now line.now) }

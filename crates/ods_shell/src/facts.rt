@@ -1,8 +1,8 @@
 //! What is known of a file: the fields of its first header, how many blocks it has, and how many bytes.
-ghost use Rattle.std.specs.Prelude.{◌≡◌, ◌≤◌, MatchOption};
+ghost use Rattle.std.specs.Prelude.{◌≡◌, ◌≢◌, ◌≤◌, ◌+◌, slice_range, MatchOption};
 ghost use Rattle.ods_header.specs.Header.{IsLaidOut};
 ghost use Rattle.ods_files.specs.Body.{are_zeros as all_zeros};
-ghost use Rattle.ods_shell.specs.Facts.{AreFacts, facts_in as facts_shown, kind_by as kind_shown, bytes_by};
+ghost use Rattle.ods_shell.specs.Facts.{AreFacts, facts_in as facts_shown, kind_by as kind_shown, kind_word, bytes_by, created_in, revised_in, revision_in};
 
 use ods_base::{Block, FileId, Uic};
 use ods_header::{
@@ -10,7 +10,7 @@ use ods_header::{
 };
 use ods_mount::Mounted;
 use ods_records::{end_of_file, is_controlled, kind_of};
-use ods_space::{block_count, first_header};
+use ods_space::{block_count, primary_header};
 
 /// What a file holds, by its header.
 #[derive(Clone, Copy, Debug, PartialEq, Eq)]
@@ -27,7 +27,9 @@ pub enum Kind {
 
 impl Kind {
     /// The word for it.
-    pub fn word(&self) -> &'static str {
+    pub fn word(&self) -> &'static str
+        ensures { result.now ≡ kind_word self.now }
+    {
         match self {
             Kind::Directory => "directory",
             Kind::Text => "text",
@@ -38,7 +40,6 @@ impl Kind {
 }
 
 /// What is known of a file.
-/// No clause covers the texts of its dates, its revision and the word of its kind.
 #[derive(Clone, Copy, Debug)]
 pub struct Facts {
     pub file: FileId,
@@ -61,13 +62,24 @@ pub fn facts_of(volume: &Mounted, number: u16) -> Option<Facts>
     ensures { MatchOption result ((facts : Facts) → AreFacts volume.now.image volume.now.layout number facts → ⊥) (AreFacts volume.now.image volume.now.layout number) }
 {
     let disk = volume.disk();
-    let Some(header) = first_header(&disk, number) else {
+    let Some(header) = primary_header(&disk, number) else {
         return None;
     };
     let Some(blocks) = block_count(&disk, number) else {
         return None;
     };
     Some(facts_in(number, header, blocks))
+}
+
+/// What is known of the file with this ID; `None` where it is that of no file.
+pub fn facts_by_id(volume: &Mounted, file: FileId) -> Option<Facts>
+    ensures { MatchOption result ((facts : Facts) → AreFacts volume.now.image volume.now.layout file.number facts → facts.file ≢ file)
+        (λ facts. AreFacts volume.now.image volume.now.layout file.number facts × (facts.file ≡ file)) }
+{
+    match facts_of(volume, file.number) {
+        Some(facts) if facts.file == file => Some(facts),
+        _ => None,
+    }
 }
 
 /// What a first header says of the file with this number, which has so many blocks.
@@ -139,18 +151,23 @@ impl Facts {
     }
 
     /// The date and time of creation: `01JAN80` and `103000`.
-    pub fn created(&self) -> [u8; 13] {
+    pub fn creation_date(&self) -> [u8; 13]
+        ensures { result ≡ created_in self.now.ident }
+    {
         self.date_at(25)
     }
 
     /// The date and time of the last revision.
-    pub fn revised(&self) -> [u8; 13] {
+    pub fn revision_date(&self) -> [u8; 13]
+        ensures { result ≡ revised_in self.now.ident }
+    {
         self.date_at(12)
     }
 
     /// The 13 bytes of the ident area from this one on.
     fn date_at(&self, at: usize) -> [u8; 13]
         requires { at ≤ 33 }
+        ensures { result ≡ slice_range self.now.ident at (at + 13) }
     {
         let mut date = [0; 13];
         date.copy_from_slice(&self.ident[at..at + 13]);
@@ -158,7 +175,9 @@ impl Facts {
     }
 
     /// How often the file was revised.
-    pub fn revision(&self) -> u16 {
+    pub fn revision(&self) -> u16
+        ensures { result ≡ revision_in self.now.ident }
+    {
         u16::from_le_bytes([self.ident[10], self.ident[11]])
     }
 }

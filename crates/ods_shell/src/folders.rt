@@ -1,20 +1,24 @@
-//! The directories that a path finds.
-ghost use Rattle.std.specs.Prelude.{◌≡◌, [], IfOk, MatchBool, MatchOption, IsSortedByKey};
-ghost use Rattle.ods_paths.specs.Order.{listing_cmp};
+//! The directories that the folder of a path means.
+ghost use Rattle.std.specs.Prelude.{◌≡◌, ◌==◌, ◌++◌, ◌∷◌, ℕ, List, [], false, true, IfOk, OnOk, MatchBool, MatchOption, IsSortedByKey};
+ghost use Rattle.std.specs.List.{list_any};
+ghost use Rattle.ods_paths.specs.{Order.listing_cmp, Views.folder as said_folder, Views.place as said_place};
 ghost use Rattle.ods_mount.specs.{Faults.IsDirectoryFile};
 ghost use Rattle.ods_walk.specs.{Listing.IsListing, Listing.shown, Walk.NamesDirectory};
+ghost use Rattle.ods_shell.specs.declared.folders.Directory.{Directory as One};
+ghost use Rattle.ods_shell.specs.Ways.{AreMeant, AreMet, AreOpen, AreStarts, CountAsClosed};
 
-use crate::choosing::is_matched;
-use ods_base::{Listed, Name, print_title};
+use crate::below::with_all_below;
+use crate::ways::{find_named, find_numbered};
+use ods_base::{Listed, Name};
 use ods_header::is_directory;
 use ods_mount::Mounted;
-use ods_paths::{Files, Folder, Place, Steps, Versions, numbered_name};
-use ods_space::first_header;
-use ods_walk::{Walk, listing, names_directory, walk_past};
+use ods_paths::{Folder, Place};
+use ods_space::primary_header;
+use ods_walk::{listing, names_directory};
 use std::alloc::{AllocError, Global};
 
 /// The number of the master directory.
-pub(crate) const MASTER: u16 = 4;
+pub const MASTER: u16 = 4;
 
 /// A directory: the number of its file, and the names that lead to it from the master directory.
 #[derive(Drop, Debug)]
@@ -32,12 +36,12 @@ pub(crate) struct Closed<'a> {
 
 impl Closed<'_> {
     /// Whether the directory with this number is closed, which is noted then.
-    pub fn stops(
-        &mut self,
-        alloc: Global,
-        number: u16,
-        names: &[Name],
-    ) -> Result<bool, AllocError> {
+    pub fn stops(&mut self, alloc: Global, number: u16, names: &[Name]) -> Result<bool, AllocError>
+        ensures value { IfOk result (λ stopped. stopped ≡ list_any (λ n. n == number) self.old.numbers.now) }
+        ensures same { self.new.numbers ≡ self.old.numbers }
+        ensures open { IfOk result (λ stopped. stopped ≡ false → self.new.met.items ≡ self.old.met.items) }
+        ensures met { IfOk result (λ stopped. stopped ≡ true → (d : One) × (d.number ≡ number) × (self.new.met.items ≡ self.old.met.items ++ d ∷ [])) }
+    {
         if !self.numbers.contains(&number) {
             return Ok(false);
         }
@@ -52,11 +56,7 @@ impl Closed<'_> {
 }
 
 /// The lines of a directory, in the order of a listing; none where the number is that of no directory.
-pub(crate) fn lines_of(
-    alloc: Global,
-    volume: &Mounted,
-    number: u16,
-) -> Result<Vec<Listed>, AllocError>
+pub fn lines_of(alloc: Global, volume: &Mounted, number: u16) -> Result<Vec<Listed>, AllocError>
     ensures there { IfOk result (λ lines. IsDirectoryFile volume.now.image volume.now.layout number → IsListing volume.now.image volume.now.layout number lines.items) }
     ensures none { IfOk result (λ lines. ¬ IsDirectoryFile volume.now.image volume.now.layout number → lines.items ≡ []) }
     ensures sorted { IfOk result (λ lines. IsSortedByKey shown listing_cmp lines.items) }
@@ -69,11 +69,11 @@ pub(crate) fn lines_of(
 }
 
 /// Whether the number is that of a directory.
-fn is_directory_file(volume: &Mounted, number: u16) -> bool
+pub fn is_directory_file(volume: &Mounted, number: u16) -> bool
     ensures { MatchBool result (IsDirectoryFile volume.now.image volume.now.layout number) (¬ IsDirectoryFile volume.now.image volume.now.layout number) }
 {
     let disk = volume.disk();
-    match first_header(&disk, number) {
+    match primary_header(&disk, number) {
         Some(header) => is_directory(number, header),
         None => false,
     }
@@ -92,228 +92,91 @@ pub(crate) fn directory_of(volume: &Mounted, entry: &Listed) -> Option<u16>
     }
 }
 
-/// The directories that a path finds, in the order of a walk. Nothing is found by the names of a closed one.
+/// The directories that a path means, in the order of a walk, but for closed ones. Of these no names are read.
 pub(crate) fn directories(
     alloc: Global,
     volume: &Mounted,
     folder: &Folder<'_>,
     closed: &mut Closed<'_>,
-) -> Result<Vec<Directory>, AllocError> {
-    let found = match folder.place {
+) -> Result<Vec<Directory>, AllocError>
+    ensures found { IfOk result (λ found. (shut : List ℕ) → CountAsClosed closed.old.numbers.now closed.new.met.items shut
+        → AreMeant volume.now.image volume.now.layout shut (said_folder folder.now) found.items) }
+    ensures same { closed.new.numbers ≡ closed.old.numbers }
+    ensures met { OnOk result (AreMet closed.old.numbers.now closed.old.met.items closed.new.met.items) }
+{
+    let starts = find_starts(alloc, volume, &folder.place, closed)?;
+    if folder.below {
+        return with_all_below(alloc, volume, &starts, closed);
+    }
+    open_ones(alloc, starts, closed)
+}
+
+/// The directories of a place, closed ones too.
+fn find_starts(
+    alloc: Global,
+    volume: &Mounted,
+    place: &Place<'_>,
+    closed: &mut Closed<'_>,
+) -> Result<Vec<Directory>, AllocError>
+    ensures found { IfOk result (λ found. (shut : List ℕ) → CountAsClosed closed.old.numbers.now closed.new.met.items shut
+        → AreStarts volume.now.image volume.now.layout shut (said_place place.now) found.items) }
+    ensures same { closed.new.numbers ≡ closed.old.numbers }
+    ensures met { OnOk result (AreMet closed.old.numbers.now closed.old.met.items closed.new.met.items) }
+{
+    match place {
         Place::Master => {
             let mut found = Vec::new(alloc);
             found.push(master(alloc))?;
-            found
+            Ok(found)
         }
-        Place::Numbered { group, member } => numbered(alloc, volume, group, member, closed)?,
-        Place::Named(steps) => named(alloc, volume, &steps, closed)?,
-    };
-    if folder.below {
-        return with_all_below(alloc, volume, &found, closed);
+        Place::Numbered { group, member } => find_numbered(alloc, volume, *group, *member, closed),
+        Place::Named(steps) => find_named(alloc, volume, steps, closed),
+    }
+}
+
+/// Of these directories the open ones, in their order.
+fn open_ones(
+    alloc: Global,
+    starts: Vec<Directory>,
+    closed: &mut Closed<'_>,
+) -> Result<Vec<Directory>, AllocError>
+    ensures found { IfOk result (λ found. (shut : List ℕ) → CountAsClosed closed.old.numbers.now closed.new.met.items shut
+        → AreOpen shut starts.items found.items) }
+    ensures same { closed.new.numbers ≡ closed.old.numbers }
+    ensures met { OnOk result (AreMet closed.old.numbers.now closed.old.met.items closed.new.met.items) }
+{
+    let mut found = Vec::new(alloc);
+    for start in starts {
+        add_open(alloc, start, &mut found, closed)?;
     }
     Ok(found)
 }
 
+/// Adds a directory, unless it is closed, which is noted then.
+fn add_open(
+    alloc: Global,
+    start: Directory,
+    found: &mut Vec<Directory>,
+    closed: &mut Closed<'_>,
+) -> Result<(), AllocError>
+    ensures found { OnOk result ((shut : List ℕ) (before : List One) → CountAsClosed closed.old.numbers.now closed.new.met.items shut
+        → AreOpen shut before found.old.items → AreOpen shut (before ++ start ∷ []) found.new.items) }
+    ensures same { closed.new.numbers ≡ closed.old.numbers }
+    ensures met { OnOk result (AreMet closed.old.numbers.now closed.old.met.items closed.new.met.items) }
+{
+    if !closed.stops(alloc, start.number, &start.names)? {
+        found.push(start)?;
+    }
+    Ok(())
+}
+
 /// The master directory.
-pub(crate) fn master(alloc: Global) -> Directory {
+pub(crate) fn master(alloc: Global) -> Directory
+    ensures number { result.number ≡ 4 }
+    ensures names { result.names.items ≡ [] }
+{
     Directory {
         number: MASTER,
         names: Vec::new(alloc),
     }
-}
-
-/// The directories of a group and a member in the master directory, of all where there is `None`.
-fn numbered(
-    alloc: Global,
-    volume: &Mounted,
-    group: Option<u8>,
-    member: Option<u8>,
-    closed: &mut Closed<'_>,
-) -> Result<Vec<Directory>, AllocError> {
-    let mut found = Vec::new(alloc);
-    if closed.stops(alloc, MASTER, &[])? {
-        return Ok(found);
-    }
-    let lines = lines_of(alloc, volume, MASTER)?;
-    for line in &lines {
-        let title = print_title(&line.name);
-        let Some((g, m)) = numbered_name(title.as_bytes()) else {
-            continue;
-        };
-        if is_meant(group, g) && is_meant(member, m) {
-            add_below(alloc, volume, &[], line, &mut found)?;
-        }
-    }
-    Ok(found)
-}
-
-/// Whether a group or member is the one that is meant, or each is.
-fn is_meant(meant: Option<u8>, found: u8) -> bool {
-    match meant {
-        Some(meant) => meant == found,
-        None => true,
-    }
-}
-
-/// The directories of names, or of patterns for them, each within the one before.
-fn named(
-    alloc: Global,
-    volume: &Mounted,
-    steps: &Steps<'_>,
-    closed: &mut Closed<'_>,
-) -> Result<Vec<Directory>, AllocError> {
-    let mut found = Vec::new(alloc);
-    found.push(master(alloc))?;
-    for step in steps.text.split(|c| *c == steps.separator) {
-        let step_files = Files {
-            name: step,
-            kind: b"*",
-            versions: None,
-        };
-        let mut next = Vec::new(alloc);
-        for from in &found {
-            if !closed.stops(alloc, from.number, &from.names)? {
-                add_matched(alloc, volume, from, &step_files, &mut next)?;
-            }
-        }
-        found = next;
-    }
-    Ok(found)
-}
-
-/// Adds the directories in this one whose names are matched.
-fn add_matched(
-    alloc: Global,
-    volume: &Mounted,
-    from: &Directory,
-    step: &Files<'_>,
-    found: &mut Vec<Directory>,
-) -> Result<(), AllocError> {
-    let lines = lines_of(alloc, volume, from.number)?;
-    for line in &lines {
-        if is_matched(&line.name, step) {
-            add_below(alloc, volume, &from.names, line, found)?;
-        }
-    }
-    Ok(())
-}
-
-/// Adds the directory that an entry names, where it names one that is not the master directory; of a name with several versions the
-/// highest, which comes first.
-fn add_below(
-    alloc: Global,
-    volume: &Mounted,
-    names: &[Name],
-    entry: &Listed,
-    found: &mut Vec<Directory>,
-) -> Result<(), AllocError> {
-    let Some(number) = directory_of(volume, entry) else {
-        return Ok(());
-    };
-    if number == MASTER {
-        return Ok(());
-    }
-    let names = longer(alloc, names, &entry.name)?;
-    if is_last(found, &names) {
-        return Ok(());
-    }
-    found.push(Directory { number, names })?;
-    Ok(())
-}
-
-/// Whether these names lead to the last directory.
-fn is_last(found: &[Directory], names: &[Name]) -> bool {
-    match found.last() {
-        Some(last) => last.names.as_slice() == names,
-        None => false,
-    }
-}
-
-/// The names and one more.
-fn longer(alloc: Global, names: &[Name], name: &Name) -> Result<Vec<Name>, AllocError> {
-    let mut all = Vec::new(alloc);
-    all.extend_from_slice(names)?;
-    all.push(*name)?;
-    Ok(all)
-}
-
-/// These directories and all below them, each once.
-fn with_all_below(
-    alloc: Global,
-    volume: &Mounted,
-    starts: &[Directory],
-    closed: &mut Closed<'_>,
-) -> Result<Vec<Directory>, AllocError> {
-    let mut is_added = vec![in alloc; false; 65_536]?;
-    let mut found = Vec::new(alloc);
-    for start in starts {
-        if !closed.stops(alloc, start.number, &start.names)? {
-            add_walked(alloc, volume, start, &mut is_added, &mut found, closed)?;
-        }
-    }
-    Ok(found)
-}
-
-/// Adds a directory and all below it, but for those that are added.
-fn add_walked(
-    alloc: Global,
-    volume: &Mounted,
-    start: &Directory,
-    is_added: &mut [bool],
-    found: &mut Vec<Directory>,
-    closed: &mut Closed<'_>,
-) -> Result<(), AllocError> {
-    if !is_directory_file(volume, start.number) {
-        return Ok(());
-    }
-    let disk = volume.disk();
-    let walk = walk_past(alloc, &disk, start.number, closed.numbers)?;
-    for place in 0..65_536 {
-        let Some(entered) = walk.directory(place) else {
-            break;
-        };
-        let number = entered.number;
-        if let Some(added) = is_added.get_mut(number as usize) {
-            if *added {
-                continue;
-            }
-            *added = true;
-        }
-        let names = names_in(alloc, &start.names, &walk, place)?;
-        found.push(Directory { number, names })?;
-    }
-    note_closed(alloc, volume, start, &walk, closed)
-}
-
-/// Notes each closed directory that a line of a walk names.
-fn note_closed(
-    alloc: Global,
-    volume: &Mounted,
-    start: &Directory,
-    walk: &Walk,
-    closed: &mut Closed<'_>,
-) -> Result<(), AllocError> {
-    if closed.numbers.is_empty() {
-        return Ok(());
-    }
-    for line in walk.lines() {
-        if let Some(number) = directory_of(volume, &line.entry) {
-            let names = names_in(alloc, &start.names, walk, line.directory)?;
-            closed.stops(alloc, number, &longer(alloc, &names, &line.entry.name)?)?;
-        }
-    }
-    Ok(())
-}
-
-/// The names that lead to a place of a walk from the master directory.
-fn names_in(
-    alloc: Global,
-    before: &[Name],
-    walk: &Walk,
-    place: usize,
-) -> Result<Vec<Name>, AllocError> {
-    let mut names = Vec::new(alloc);
-    names.extend_from_slice(before)?;
-    names.extend_from_slice(&walk.path(alloc, place)?)?;
-    Ok(names)
 }

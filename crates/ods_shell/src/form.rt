@@ -13,7 +13,7 @@ use ods_base::{WriteFault, write_bytes};
 use ods_files::{CopyFault, FileBody, FileFault, Form};
 use ods_mount::Mounted;
 use ods_records::{
-    RecordFault, RecordKind, TextForm, end_of_file, fixed_to_text, kind_of, print_form,
+    RecordFault, RecordKind, TextForm, Wanted, end_of_file, fixed_to_text, kind_of, print_form,
     record_size, records_to_text, stream_to_text, survey_records, text_form,
 };
 use ods_space::ChainFault;
@@ -21,19 +21,6 @@ use std::alloc::{AllocError, Global};
 use std::fmt;
 use std::io::Write;
 use thiserror::Error;
-
-/// Which form is asked for.
-#[derive(Clone, Copy, Debug, PartialEq, Eq)]
-pub enum Wanted {
-    /// Lines where the file is of records that come back from them, or a stream of lines; else bytes.
-    ByKind,
-    /// A text, by the attributes: the lines of records, a stream with CR LF as LF, or the bytes.
-    Text,
-    /// The bytes up to the end of file.
-    Binary,
-    /// The bytes of all blocks.
-    Raw,
-}
 
 /// Why nothing is got out of a file.
 #[derive(Clone, Copy, Debug, PartialEq, Eq, Error)]
@@ -192,7 +179,7 @@ fn as_lines<'a>(alloc: Global, body: FileBody<'a>) -> Result<Got<'a>, FormFault>
     ensures ok { IfOk result (λ got. (bytes : List ℕ) × ContentsAre got.contents bytes × AreStreamLines body.entry bytes got.remark) }
     ensures err { IfErr result (IsNotGotBy Wanted.ByKind body.entry) }
 {
-    let bytes = ended(alloc, &body)?;
+    let bytes = bytes_to_end(alloc, &body)?;
     let remark = end_remark(&body, Wanted::ByKind);
     let text = stream_to_text(alloc, &bytes)?;
     Ok(Got {
@@ -222,7 +209,7 @@ fn chosen<'a>(alloc: Global, body: FileBody<'a>, kind: RecordKind) -> Result<Got
     ensures ok { IfOk result (λ got. (given : List ℕ) × ContentsAre got.contents given × ((bytes : List ℕ) × (bytes_in forms.Binary body.entry ≡ Some bytes) × IsChosen kind body.entry bytes given got.remark)) }
     ensures err { IfErr result (λ f. kind_in body.entry.attributes ≡ Some kind → IsNotGotBy Wanted.ByKind body.entry f) }
 {
-    let bytes = ended(alloc, &body)?;
+    let bytes = bytes_to_end(alloc, &body)?;
     let attributes = body.attributes();
     let survey = match survey_records(kind, &bytes) {
         Ok(survey) => survey,
@@ -298,7 +285,7 @@ fn as_text<'a>(alloc: Global, body: FileBody<'a>) -> Result<Got<'a>, FormFault>
     ensures ok { IfOk result (λ got. (given : List ℕ) × ContentsAre got.contents given × IsGotBy Wanted.Text body.entry given got.remark) }
     ensures err { IfErr result (IsNotGotBy Wanted.Text body.entry) }
 {
-    let bytes = ended(alloc, &body)?;
+    let bytes = bytes_to_end(alloc, &body)?;
     let remark = end_remark(&body, Wanted::Text);
     let text = match text_in(alloc, &body.attributes(), &bytes) {
         Ok(Some(text)) => text,
@@ -374,7 +361,7 @@ fn ends_early(wanted: Wanted) -> bool
 }
 
 /// The bytes of a file up to its end.
-fn ended<'a>(alloc: Global, body: &FileBody<'a>) -> Result<Vec<u8>, FormFault>
+fn bytes_to_end<'a>(alloc: Global, body: &FileBody<'a>) -> Result<Vec<u8>, FormFault>
     ensures ok { IfOk result (λ bytes. bytes_in forms.Binary body.now ≡ Some bytes.items) }
     ensures err { IfErr result (λ f. (f ≡ faults.NoMemory) ⊎ ((f ≡ faults.EndPastBlocks) × (bytes_in forms.Binary body.now ≡ None))) }
 {

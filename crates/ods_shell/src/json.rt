@@ -1,7 +1,13 @@
 //! What commands print as JSON: an object a line.
-use crate::facts::Facts;
-use crate::finding::Finding;
-use crate::ls::found_facts;
+ghost use Rattle.std.specs.Prelude.{◌≡◌, ◌++◌, codes, false, IfOk, OnOk};
+ghost use Rattle.std.specs.String.{string_bytes};
+ghost use Rattle.serde_json.specs.Data.{no_members, object, put};
+ghost use Rattle.serde_json.specs.View.{members_view, view};
+ghost use Rattle.serde_json.specs.Written.{compact_text, members_have_float};
+ghost use Rattle.ods_shell.specs.Json.{object_line, stat_members, with_block_counts, with_facts, with_number, with_text};
+
+use crate::facts::{Facts, facts_by_id};
+use crate::finding::FoundLines;
 use crate::space::Space;
 use crate::texts::{date_text, push_path, push_user, rights_text};
 use ods_base::Listed;
@@ -10,13 +16,24 @@ use ods_mount::Mounted;
 use serde_json::{Map, Value};
 use std::alloc::{AllocError, Global};
 
+/// No members.
+fn no_fields(alloc: Global) -> Map<String, Value>
+    ensures members { members_view result.entries ≡ no_members }
+    ensures plain { members_have_float (members_view result.entries) ≡ false }
+{
+    Map::new(alloc)
+}
+
 /// Adds a member to an object.
+#[tactic(auto, using(crate::proofs::Objects::entries_put))]
 fn add(
     alloc: Global,
     members: &mut Map<String, Value>,
     name: &str,
     value: Value,
-) -> Result<(), AllocError> {
+) -> Result<(), AllocError>
+    ensures { OnOk result (members_view members.new.entries ≡ put name.now (view value) (members_view members.old.entries)) }
+{
     match members.insert(String::from_str(alloc, name)?, value) {
         Ok(_) => Ok(()),
         Err(_) => Err(AllocError),
@@ -24,12 +41,16 @@ fn add(
 }
 
 /// Adds a text.
+#[tactic(auto, using(crate::proofs::Objects::text_put_plain))]
 fn add_text(
     alloc: Global,
     members: &mut Map<String, Value>,
     name: &str,
     text: &str,
-) -> Result<(), AllocError> {
+) -> Result<(), AllocError>
+    ensures members { OnOk result (members_view members.new.entries ≡ with_text name.now text.now (members_view members.old.entries)) }
+    ensures plain { members_have_float (members_view members.old.entries) ≡ false → OnOk result (members_have_float (members_view members.new.entries) ≡ false) }
+{
     add(
         alloc,
         members,
@@ -39,29 +60,46 @@ fn add_text(
 }
 
 /// Adds a number.
+#[tactic(auto, using(crate::proofs::Objects::number_put_plain))]
 fn add_number(
     alloc: Global,
     members: &mut Map<String, Value>,
     name: &str,
     number: u64,
-) -> Result<(), AllocError> {
+) -> Result<(), AllocError>
+    ensures members { OnOk result (members_view members.new.entries ≡ with_number name.now number (members_view members.old.entries)) }
+    ensures plain { members_have_float (members_view members.old.entries) ≡ false → OnOk result (members_have_float (members_view members.new.entries) ≡ false) }
+{
     add(alloc, members, name, Value::from(number))
 }
 
+/// The text of an object.
+#[tactic(auto, using(crate::proofs::Objects::compact_is))]
+fn object_text(alloc: Global, members: Map<String, Value>) -> Result<String, AllocError>
+    ensures { members_have_float (members_view members.entries) ≡ false → IfOk result (λ text. string_bytes text ≡ compact_text (object (members_view members.entries))) }
+{
+    let object = Value::Object(members);
+    object.to_string(alloc)
+}
+
 /// Appends an object, and a line feed.
+#[tactic(auto, unfolding(crate::specs::Json::object_line))]
 fn push_object(
     alloc: Global,
     text: &mut String,
     members: Map<String, Value>,
-) -> Result<(), AllocError> {
-    let object = Value::Object(members);
-    text.push_str(object.to_string(alloc)?.as_str())?;
-    text.push('\n')
+) -> Result<(), AllocError>
+    ensures { members_have_float (members_view members.entries) ≡ false → OnOk result (string_bytes text.new ≡ string_bytes text.old ++ object_line (members_view members.entries)) }
+{
+    text.push_str(object_text(alloc, members)?.as_str())?;
+    text.push_str("\n")
 }
 
 /// An object with one text: `{"fault":".."}`.
-pub fn text_object(alloc: Global, name: &str, text: &str) -> Result<String, AllocError> {
-    let mut members = Map::new(alloc);
+pub fn text_object(alloc: Global, name: &str, text: &str) -> Result<String, AllocError>
+    ensures { IfOk result (λ line. string_bytes line ≡ object_line (with_text name.now text.now no_members)) }
+{
+    let mut members = no_fields(alloc);
     add_text(alloc, &mut members, name, text)?;
     let mut line = String::new(alloc);
     push_object(alloc, &mut line, members)?;
@@ -69,8 +107,10 @@ pub fn text_object(alloc: Global, name: &str, text: &str) -> Result<String, Allo
 }
 
 /// An object with one number.
-pub fn number_object(alloc: Global, name: &str, number: u64) -> Result<String, AllocError> {
-    let mut members = Map::new(alloc);
+pub fn number_object(alloc: Global, name: &str, number: u64) -> Result<String, AllocError>
+    ensures { IfOk result (λ line. string_bytes line ≡ object_line (with_number name.now number no_members)) }
+{
+    let mut members = no_fields(alloc);
     add_number(alloc, &mut members, name, number)?;
     let mut line = String::new(alloc);
     push_object(alloc, &mut line, members)?;
@@ -84,8 +124,10 @@ pub(crate) fn push_blocks(
     name: &str,
     value: &str,
     blocks: u64,
-) -> Result<(), AllocError> {
-    let mut members = Map::new(alloc);
+) -> Result<(), AllocError>
+    ensures { OnOk result (string_bytes text.new ≡ string_bytes text.old ++ object_line (with_number (codes "blocks") blocks (with_text name.now value.now no_members))) }
+{
+    let mut members = no_fields(alloc);
     add_text(alloc, &mut members, name, value)?;
     add_number(alloc, &mut members, "blocks", blocks)?;
     push_object(alloc, text, members)
@@ -98,8 +140,10 @@ pub fn pair_object(
     value: &str,
     other: &str,
     other_value: &str,
-) -> Result<String, AllocError> {
-    let mut members = Map::new(alloc);
+) -> Result<String, AllocError>
+    ensures { IfOk result (λ line. string_bytes line ≡ object_line (with_text other.now other_value.now (with_text name.now value.now no_members))) }
+{
+    let mut members = no_fields(alloc);
     add_text(alloc, &mut members, name, value)?;
     add_text(alloc, &mut members, other, other_value)?;
     let mut line = String::new(alloc);
@@ -112,13 +156,13 @@ pub fn pair_object(
 pub fn ls_objects(
     alloc: Global,
     volume: &Mounted,
-    finding: &Finding,
+    found: &FoundLines,
 ) -> Result<String, AllocError> {
     let mut text = String::new(alloc);
-    for line in &finding.lines {
-        let mut members = Map::new(alloc);
+    for line in &found.lines {
+        let mut members = no_fields(alloc);
         let mut path = String::new(alloc);
-        if let Some(directory) = finding.directories.get(line.directory) {
+        if let Some(directory) = found.directories.get(line.directory) {
             push_path(&mut path, &directory.names, &line.entry)?;
         }
         add_text(alloc, &mut members, "path", path.as_str())?;
@@ -137,7 +181,7 @@ fn add_entry(
 ) -> Result<(), AllocError> {
     let id = format!(in alloc; "{},{}", entry.file.number, entry.file.sequence)?;
     add_text(alloc, members, "id", id.as_str())?;
-    match found_facts(volume, entry) {
+    match facts_by_id(volume, entry.file) {
         Some(facts) => add_facts(alloc, &facts, members),
         None => Ok(()),
     }
@@ -148,7 +192,10 @@ fn add_facts(
     alloc: Global,
     facts: &Facts,
     members: &mut Map<String, Value>,
-) -> Result<(), AllocError> {
+) -> Result<(), AllocError>
+    ensures members { OnOk result (members_view members.new.entries ≡ with_facts facts.now (members_view members.old.entries)) }
+    ensures plain { members_have_float (members_view members.old.entries) ≡ false → OnOk result (members_have_float (members_view members.new.entries) ≡ false) }
+{
     add_number(alloc, members, "blocks", u64::from(facts.blocks))?;
     add_number(alloc, members, "bytes", facts.bytes)?;
     add_text(alloc, members, "kind", facts.kind.word())?;
@@ -165,19 +212,21 @@ fn add_facts(
         alloc,
         members,
         "created",
-        date_text(&facts.created()).as_str(),
+        date_text(&facts.creation_date()).as_str(),
     )?;
     add_text(
         alloc,
         members,
         "revised",
-        date_text(&facts.revised()).as_str(),
+        date_text(&facts.revision_date()).as_str(),
     )
 }
 
 /// An object of what is known of a file that a path names.
-pub fn stat_object(alloc: Global, path: &str, facts: &Facts) -> Result<String, AllocError> {
-    let mut members = Map::new(alloc);
+pub fn stat_object(alloc: Global, path: &str, facts: &Facts) -> Result<String, AllocError>
+    ensures { IfOk result (λ line. string_bytes line ≡ object_line (stat_members path.now facts.now)) }
+{
+    let mut members = no_fields(alloc);
     add_text(alloc, &mut members, "path", path)?;
     let id = format!(in alloc; "{},{}", facts.file.number, facts.file.sequence)?;
     add_text(alloc, &mut members, "id", id.as_str())?;
@@ -196,24 +245,45 @@ pub fn stat_object(alloc: Global, path: &str, facts: &Facts) -> Result<String, A
 
 /// An object of how much of a volume is used.
 pub fn space_object(alloc: Global, space: &Space) -> Result<String, AllocError> {
-    let mut members = Map::new(alloc);
-    add_number(alloc, &mut members, "blocks", u64::from(space.blocks))?;
-    add_number(alloc, &mut members, "free", u64::from(space.free))?;
-    add_number(
-        alloc,
-        &mut members,
-        "largest_free_run",
-        u64::from(space.longest),
-    )?;
-    add_number(
-        alloc,
-        &mut members,
-        "numbers_in_use",
-        u64::from(space.numbers),
-    )?;
-    add_number(alloc, &mut members, "numbers_ready", u64::from(space.ready))?;
-    add_number(alloc, &mut members, "numbers", u64::from(space.most))?;
+    let mut members = no_fields(alloc);
+    add_space(alloc, space, &mut members)?;
     let mut text = String::new(alloc);
     push_object(alloc, &mut text, members)?;
     Ok(text)
+}
+
+/// Adds how much of a volume is used.
+fn add_space(
+    alloc: Global,
+    space: &Space,
+    members: &mut Map<String, Value>,
+) -> Result<(), AllocError> {
+    add_block_counts(alloc, space, members)?;
+    add_file_numbers(alloc, space, members)
+}
+
+/// Adds how many blocks a volume has, how many are free, and the longest free run.
+#[tactic(auto, unfolding(crate::specs::Json::with_block_counts))]
+fn add_block_counts(
+    alloc: Global,
+    space: &Space,
+    members: &mut Map<String, Value>,
+) -> Result<(), AllocError>
+    ensures members { OnOk result (members_view members.new.entries ≡ with_block_counts space.now (members_view members.old.entries)) }
+    ensures plain { members_have_float (members_view members.old.entries) ≡ false → OnOk result (members_have_float (members_view members.new.entries) ≡ false) }
+{
+    add_number(alloc, members, "blocks", u64::from(space.blocks))?;
+    add_number(alloc, members, "free", u64::from(space.free))?;
+    add_number(alloc, members, "largest_free_run", u64::from(space.longest))
+}
+
+/// Adds how many file numbers are in use, ready, and there.
+fn add_file_numbers(
+    alloc: Global,
+    space: &Space,
+    members: &mut Map<String, Value>,
+) -> Result<(), AllocError> {
+    add_number(alloc, members, "numbers_in_use", u64::from(space.numbers))?;
+    add_number(alloc, members, "numbers_ready", u64::from(space.ready))?;
+    add_number(alloc, members, "numbers", u64::from(space.most))
 }

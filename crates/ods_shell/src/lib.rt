@@ -1,7 +1,8 @@
 //! The commands of `f11fs`: which files a path finds, what is known of each, and the text that a command prints.
-//! No clause covers the printed texts, the JSON objects and the statuses: `tests/fs` checks them on the built program.
+//! No clause covers the text of `du`, of `ls` with headings, nor the JSON of `ls` and `df`: `tests/fs` checks them on the built program.
 #![tactic(auto)]
 
+mod below;
 mod choosing;
 mod comparing;
 mod facts;
@@ -9,9 +10,11 @@ mod find;
 mod finding;
 mod folders;
 mod form;
+mod found;
 mod json;
 mod ls;
 mod naming;
+mod path_fault;
 mod remedies;
 mod rescued;
 mod space;
@@ -20,16 +23,20 @@ mod stat;
 mod status;
 mod texts;
 mod usage;
+mod ways;
 
 pub use comparing::have_same_bytes;
-pub use facts::{Facts, Kind, facts_of};
+pub use facts::{Facts, Kind, facts_by_id, facts_of};
 pub use find::{find_lines, lost_lines, unreached_lines};
-pub use finding::{Finding, Line, find_files, find_open};
-pub use folders::Directory;
-pub use form::{Contents, FormFault, Got, Remark, Wanted, open_contents};
+pub use finding::{FoundLines, find_open};
+pub use folders::{Directory, MASTER, is_directory_file, lines_of};
+pub use form::{Contents, FormFault, Got, Remark, open_contents};
+pub use found::{EntryPlace, Found, find_names, find_path};
 pub use json::{ls_objects, number_object, pair_object, space_object, stat_object, text_object};
 pub use ls::{Columns, ls_lines};
-pub use naming::{PathFault, Target, Versioned, open_targets, targets};
+pub use naming::Versioned;
+pub use ods_records::Wanted;
+pub use path_fault::PathFault;
 pub use remedies::{Advice, remedy};
 pub use rescued::{Rescued, open_rescued};
 pub use space::{Space, space_lines, space_of};

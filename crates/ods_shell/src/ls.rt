@@ -1,11 +1,17 @@
 //! The lines of `ls`.
-ghost use Rattle.std.specs.Prelude.{◌≤◌};
+ghost use Rattle.std.specs.Prelude.{◌≡◌, ◌≤◌, ◌+◌, ◌-◌, ◌∷◌, ◌^◌, min, false, Option, IfOk, ◌++◌, [], if◌then◌else◌, length, replicate, slice_get, Some, ◌==◌, OnOk};
+ghost use Rattle.std.specs.Fmt.{decimal};
+ghost use Rattle.std.specs.String.{string_bytes, string_len};
+ghost use Rattle.ods_shell.specs.declared.facts.Facts.{Facts as KnownFacts};
+ghost use Rattle.ods_shell.specs.Listed.{IsListing, blocks_of, total_line};
+ghost use Rattle.ods_shell.specs.Named.{IsKnown};
+ghost use Rattle.ods_shell.specs.Lines.{heading, column, columns_text, counted_word, entry_line, facts_columns, kind_columns, known_columns, rights_columns, size_columns};
 
-use crate::facts::{Facts, facts_of};
-use crate::finding::{Finding, Line};
+use crate::facts::{Facts, Kind, facts_by_id};
+use crate::finding::FoundLines;
 use crate::folders::Directory;
-use crate::texts::{date_text, push_directory, push_id, push_user, rights_text};
-use ods_base::{Listed as Entry, print_name};
+use crate::texts::{date_text, push_directory, push_id, push_rights, push_user};
+use ods_base::{Listed as Entry, Uic, print_name};
 use ods_mount::Mounted;
 use std::alloc::{AllocError, Global};
 
@@ -23,49 +29,107 @@ pub struct Columns {
 }
 
 /// The lines of what was found, and a last one with how many files and blocks these are.
-/// No clause covers the text; `tests/fs` checks it on the built program.
+/// No clause covers the text with headings; `tests/fs` checks it on the built program.
 pub fn ls_lines(
     alloc: Global,
     volume: &Mounted,
-    finding: &Finding,
+    found: &FoundLines,
     columns: Columns,
-) -> Result<String, AllocError> {
+) -> Result<String, AllocError>
+    ensures { columns.headings ≡ false → IfOk result (λ text. IsListing volume.now.image volume.now.layout columns found.now.lines.items (length found.now.lines.items) (string_bytes text)) }
+{
     let mut text = String::new(alloc);
     let mut blocks: u64 = 0;
     // The places below this one have their heading.
     let mut headed = 0;
-    for line in &finding.lines {
-        if columns.headings && headed <= line.directory {
-            if columns.empty {
-                push_headings(&mut text, finding, headed, line.directory)?;
-            }
-            push_heading(&mut text, finding, line.directory)?;
-            headed = line.directory.saturating_add(1);
-        }
-        let facts = found_facts(volume, &line.entry);
-        blocks = blocks.saturating_add(count_of(&facts));
-        push_line(&mut text, &line.entry, &facts, columns)?;
+    for line in &found.lines {
+        headed = push_before(&mut text, found, columns, headed, line.directory)?;
+        blocks = push_listed(&mut text, volume, &line.entry, columns, blocks)?;
     }
-    if columns.headings && columns.empty {
-        push_headings(&mut text, finding, headed, finding.directories.len())?;
-    }
-    let files = finding.lines.len();
-    writeln!(
-        text,
-        "{files} {}, {blocks} {}",
-        plural(files as u64, "file", "files"),
-        plural(blocks, "block", "blocks")
-    )?;
+    push_after(&mut text, found, columns, headed)?;
+    push_total(&mut text, found.lines.len() as u64, blocks)?;
     Ok(text)
 }
 
+/// The headings that stand before a line of the directory at this place, where those below the first place have theirs. The answer is below
+/// which place they have theirs then.
+fn push_before(
+    text: &mut String,
+    found: &FoundLines,
+    columns: Columns,
+    headed: usize,
+    place: usize,
+) -> Result<usize, AllocError>
+    ensures { columns.headings ≡ false → OnOk result (string_bytes text.new ≡ string_bytes text.old) }
+{
+    if !columns.headings {
+        return Ok(headed);
+    }
+    if place < headed {
+        return Ok(headed);
+    }
+    if columns.empty {
+        push_headings(text, found, headed, place)?;
+    }
+    push_heading(text, &found.directories, place)?;
+    Ok(place.saturating_add(1))
+}
+
+/// The headings that stand behind all lines.
+fn push_after(
+    text: &mut String,
+    found: &FoundLines,
+    columns: Columns,
+    headed: usize,
+) -> Result<(), AllocError>
+    ensures { columns.headings ≡ false → OnOk result (string_bytes text.new ≡ string_bytes text.old) }
+{
+    if !columns.headings {
+        return Ok(());
+    }
+    if columns.empty {
+        push_headings(text, found, headed, found.directories.len())?;
+    }
+    Ok(())
+}
+
+/// The line of an entry. The answer is the blocks with those of the file that it names.
+fn push_listed(
+    text: &mut String,
+    volume: &Mounted,
+    entry: &Entry,
+    columns: Columns,
+    blocks: u64,
+) -> Result<u64, AllocError>
+    ensures { IfOk result (λ sum. (known : Option KnownFacts) × IsKnown volume.now.image volume.now.layout entry.now.file known
+        × (sum ≡ min (blocks + blocks_of known) (2 ^ 64 - 1)) × (string_bytes text.new ≡ string_bytes text.old ++ entry_line entry.now known columns)) }
+{
+    let facts = facts_by_id(volume, entry.file);
+    push_line(text, entry, &facts, columns)?;
+    Ok(blocks.saturating_add(count_of(&facts)))
+}
+
+/// The last line: how many files and blocks these are.
+#[tactic(auto, unfolding(crate::specs::Listed::total_line))]
+fn push_total(text: &mut String, files: u64, blocks: u64) -> Result<(), AllocError>
+    ensures { OnOk result (string_bytes text.new ≡ string_bytes text.old ++ total_line files blocks) }
+{
+    let files_word = plural(files, "file", "files");
+    let blocks_word = plural(blocks, "block", "blocks");
+    writeln!(text, "{files} {files_word}, {blocks} {blocks_word}")
+}
+
 /// The word for one or for several.
-fn plural(count: u64, one: &'static str, several: &'static str) -> &'static str {
+fn plural(count: u64, one: &'static str, several: &'static str) -> &'static str
+    ensures { result.now ≡ counted_word count one.now several.now }
+{
     if count == 1 { one } else { several }
 }
 
 /// How many blocks a file has.
-fn count_of(facts: &Option<Facts>) -> u64 {
+fn count_of(facts: &Option<Facts>) -> u64
+    ensures { result ≡ blocks_of facts.now }
+{
     match facts {
         Some(facts) => u64::from(facts.blocks),
         None => 0,
@@ -75,34 +139,45 @@ fn count_of(facts: &Option<Facts>) -> u64 {
 /// A line with its name for each directory from this place on, and before the other.
 fn push_headings(
     text: &mut String,
-    finding: &Finding,
+    found: &FoundLines,
     from: usize,
     to: usize,
 ) -> Result<(), AllocError> {
     for place in from..to {
-        push_heading(text, finding, place)?;
+        push_heading(text, &found.directories, place)?;
     }
     Ok(())
 }
 
 /// A line with the name of a directory.
-fn push_heading(text: &mut String, finding: &Finding, place: usize) -> Result<(), AllocError> {
-    if let Some(directory) = finding.directories.get(place) {
-        if !text.is_empty() {
-            text.push('\n')?;
-        }
-        push_directory(text, &directory.names)?;
-        text.push_str(":\n")?;
+fn push_heading(
+    text: &mut String,
+    directories: &[Directory],
+    place: usize,
+) -> Result<(), AllocError>
+    ensures { OnOk result (string_bytes text.new ≡ string_bytes text.old ++ heading (string_len text.old == 0) (slice_get directories.now place)) }
+{
+    match directories.get(place) {
+        Some(directory) => push_named(text, directory),
+        None => Ok(()),
     }
-    Ok(())
 }
 
-/// What is known of the file that an entry names; `None` where it names none.
-pub(crate) fn found_facts(volume: &Mounted, entry: &Entry) -> Option<Facts> {
-    match facts_of(volume, entry.file.number) {
-        Some(facts) if facts.file == entry.file => Some(facts),
-        _ => None,
-    }
+/// A line with the name of this directory.
+fn push_named(text: &mut String, directory: &Directory) -> Result<(), AllocError>
+    ensures { OnOk result (string_bytes text.new ≡ string_bytes text.old ++ heading (string_len text.old == 0) (Some directory.now)) }
+{
+    let is_first = text.is_empty();
+    text.push_str(gap(is_first))?;
+    push_directory(text, &directory.names)?;
+    text.push_str(":\n")
+}
+
+/// What stands before a heading: nothing before the first line, and else an empty line.
+fn gap(is_first: bool) -> &'static str
+    ensures { result.now ≡ (if is_first then [] else 10 ∷ []) }
+{
+    if is_first { "" } else { "\n" }
 }
 
 /// The line of an entry.
@@ -111,36 +186,78 @@ fn push_line(
     entry: &Entry,
     facts: &Option<Facts>,
     columns: Columns,
-) -> Result<(), AllocError> {
+) -> Result<(), AllocError>
+    ensures { OnOk result (string_bytes text.new ≡ string_bytes text.old ++ entry_line entry.now facts.now columns) }
+{
     let name = print_name(&entry.name, entry.version);
-    if !columns.long && !columns.ids {
-        return writeln!(text, "{name}");
+    if columns.long || columns.ids {
+        push_column(text, name.as_str(), 19)?;
+        push_columns(text, entry, facts, columns.long)?;
+        text.push_str("\n")
+    } else {
+        writeln!(text, "{name}")
     }
-    write!(text, "{:<19}  ", name.as_str())?;
-    let number = entry.file.number;
-    let sequence = entry.file.sequence;
-    write!(text, "#{number},{sequence}")?;
-    if columns.long {
-        pad(text, number, sequence)?;
-        match facts {
-            Some(facts) => push_facts(text, facts)?,
-            None => text.push_str("  no such file")?,
-        }
-    }
-    text.push('\n')
 }
 
-/// The ID takes twelve places.
-fn pad(text: &mut String, number: u16, sequence: u16) -> Result<(), AllocError> {
-    for _place in digits(number) + digits(sequence)..10 {
-        text.push(' ')?;
+/// What stands behind the name of an entry.
+fn push_columns(
+    text: &mut String,
+    entry: &Entry,
+    facts: &Option<Facts>,
+    long: bool,
+) -> Result<(), AllocError>
+    ensures { OnOk result (string_bytes text.new ≡ string_bytes text.old ++ columns_text entry.now facts.now long) }
+{
+    text.push_str("  ")?;
+    push_id(text, entry.file)?;
+    if long {
+        pad(text, entry.file.number, entry.file.sequence)?;
+        push_known(text, facts)
+    } else {
+        Ok(())
+    }
+}
+
+/// What is known of a file, in columns, where it is known.
+fn push_known(text: &mut String, facts: &Option<Facts>) -> Result<(), AllocError>
+    ensures { OnOk result (string_bytes text.new ≡ string_bytes text.old ++ known_columns facts.now) }
+{
+    match facts {
+        Some(facts) => push_facts(text, facts),
+        None => text.push_str("  no such file"),
+    }
+}
+
+/// Appends a text, and spaces up to this width.
+fn push_column(text: &mut String, part: &str, width: usize) -> Result<(), AllocError>
+    ensures { OnOk result (string_bytes text.new ≡ string_bytes text.old ++ column width part.now) }
+{
+    text.push_str(part)?;
+    push_spaces(text, width.saturating_sub(part.len()))
+}
+
+/// Appends so many spaces.
+fn push_spaces(text: &mut String, count: usize) -> Result<(), AllocError>
+    ensures { OnOk result (string_bytes text.new ≡ string_bytes text.old ++ replicate count 32) }
+{
+    for _place in 0..count {
+        text.push_str(" ")?;
     }
     Ok(())
 }
 
+/// The ID takes twelve places.
+fn pad(text: &mut String, number: u16, sequence: u16) -> Result<(), AllocError>
+    ensures { OnOk result (string_bytes text.new ≡ string_bytes text.old ++ replicate (10 - (length (decimal number) + length (decimal sequence))) 32) }
+{
+    push_spaces(text, 10 - (digits(number) + digits(sequence)))
+}
+
 /// How many decimal digits a number has.
+#[tactic(auto, using(crate::proofs::Digits::length_1, crate::proofs::Digits::length_2, crate::proofs::Digits::length_3, crate::proofs::Digits::length_4, crate::proofs::Digits::length_5))]
 fn digits(number: u16) -> usize
-    ensures { result ≤ 5 }
+    ensures value { result ≡ length (decimal number) }
+    ensures few { result ≤ 5 }
 {
     match number {
         0..=9 => 1,
@@ -152,13 +269,39 @@ fn digits(number: u16) -> usize
 }
 
 /// What is known of a file, in columns.
-fn push_facts(text: &mut String, facts: &Facts) -> Result<(), AllocError> {
-    let blocks = facts.blocks;
-    let bytes = facts.bytes;
-    let word = facts.kind.word();
-    write!(text, "  {blocks:>7}  {bytes:>10}  {word:<9}  ")?;
-    push_user(text, facts.owner)?;
-    let rights = rights_text(facts.protection);
-    let date = date_text(&facts.created());
-    write!(text, "  {}  {}", rights.as_str(), date.as_str())
+fn push_facts(text: &mut String, facts: &Facts) -> Result<(), AllocError>
+    ensures { OnOk result (string_bytes text.new ≡ string_bytes text.old ++ facts_columns facts.now) }
+{
+    push_sizes(text, facts.blocks, facts.bytes)?;
+    push_kind(text, facts.kind, facts.owner)?;
+    push_rights_and_date(text, facts)
+}
+
+/// What a file holds, and whose it is, in columns.
+#[tactic(auto, unfolding(crate::specs::Lines::kind_columns))]
+fn push_kind(text: &mut String, kind: Kind, owner: Uic) -> Result<(), AllocError>
+    ensures { OnOk result (string_bytes text.new ≡ string_bytes text.old ++ kind_columns kind owner) }
+{
+    push_column(text, kind.word(), 9)?;
+    text.push_str("  ")?;
+    push_user(text, owner)
+}
+
+/// The protection and the date of creation, in columns.
+#[tactic(auto, unfolding(crate::specs::Lines::rights_columns))]
+fn push_rights_and_date(text: &mut String, facts: &Facts) -> Result<(), AllocError>
+    ensures { OnOk result (string_bytes text.new ≡ string_bytes text.old ++ rights_columns facts.now.protection facts.now.ident) }
+{
+    text.push_str("  ")?;
+    push_rights(text, facts.protection)?;
+    text.push_str("  ")?;
+    text.push_str(date_text(&facts.creation_date()).as_str())
+}
+
+/// How many blocks and bytes a file has, in columns.
+#[tactic(auto, unfolding(crate::specs::Lines::size_columns, crate::specs::Lines::number_column))]
+fn push_sizes(text: &mut String, blocks: u32, bytes: u64) -> Result<(), AllocError>
+    ensures { OnOk result (string_bytes text.new ≡ string_bytes text.old ++ size_columns blocks bytes) }
+{
+    write!(text, "  {blocks:>7}  {bytes:>10}  ")
 }

@@ -1,12 +1,14 @@
 //! What is got out of an image that may be refused: each file whose own chain is whole.
+ghost use Rattle.std.specs.Prelude.{IfOk, IfSome, IfNone};
 ghost use Rattle.ods_space.specs.Files.{IsLayoutOf};
 ghost use Rattle.ods_space.specs.Disks.{on};
+ghost use Rattle.ods_shell.specs.Rescued.{HasText, IsKept, IsRescued, LacksText};
 
 use crate::form::{Contents, FormFault, text_in};
 use ods_base::FileId;
 use ods_files::{FileBody, FileFault, Form};
 use ods_header::{file_sequence, ident, is_directory, print_ident};
-use ods_space::{ChainFault, Disk, first_header};
+use ods_space::{ChainFault, Disk, primary_header};
 use std::alloc::{AllocError, Global};
 
 /// What is got out of a number.
@@ -22,7 +24,6 @@ pub enum Rescued<'a> {
 
 /// What is got out of the file with this number: its bytes up to the end of file where that lies in its blocks, else of all blocks; with
 /// `text` the lines of its records where these are whole.
-/// No clause of its own says which bytes these are; the clauses of the calls that it makes do.
 pub fn open_rescued<'a>(
     alloc: Global,
     disk: &Disk<'a>,
@@ -30,8 +31,9 @@ pub fn open_rescued<'a>(
     text: bool,
 ) -> Result<Rescued<'a>, AllocError>
     requires { on IsLayoutOf disk.now }
+    ensures { IfOk result (on IsRescued disk.now number text) }
 {
-    let Some(header) = first_header(disk, number) else {
+    let Some(header) = primary_header(disk, number) else {
         return Ok(Rescued::Nothing);
     };
     if is_directory(number, header) {
@@ -44,7 +46,7 @@ pub fn open_rescued<'a>(
     match FileBody::open(alloc, disk, number) {
         Ok(body) => {
             let name = String::from_str(alloc, print_ident(&ident(header)).as_str())?;
-            Ok(Rescued::Whole(file, name, kept(alloc, body, text)?))
+            Ok(Rescued::Whole(file, name, rescued_contents(alloc, body, text)?))
         }
         Err(FileFault::NoSuchFile) => Ok(Rescued::Nothing),
         Err(FileFault::Chain(ChainFault::NoMemory)) => Err(AllocError),
@@ -53,7 +55,13 @@ pub fn open_rescued<'a>(
 }
 
 /// What is kept of a file with this body.
-fn kept<'a>(alloc: Global, body: FileBody<'a>, text: bool) -> Result<Contents<'a>, AllocError> {
+fn rescued_contents<'a>(
+    alloc: Global,
+    body: FileBody<'a>,
+    text: bool,
+) -> Result<Contents<'a>, AllocError>
+    ensures { IfOk result (IsKept text body.entry) }
+{
     if text {
         if let Some(lines) = whole_lines(alloc, &body)? {
             return Ok(Contents::Lines(lines));
@@ -68,7 +76,10 @@ fn kept<'a>(alloc: Global, body: FileBody<'a>, text: bool) -> Result<Contents<'a
 }
 
 /// The text of a file, where it is another than its bytes, and its records are whole.
-fn whole_lines(alloc: Global, body: &FileBody<'_>) -> Result<Option<Vec<u8>>, AllocError> {
+fn whole_lines(alloc: Global, body: &FileBody<'_>) -> Result<Option<Vec<u8>>, AllocError>
+    ensures some { IfOk result (λ lines. IfSome lines (λ text. HasText body.now text.items)) }
+    ensures none { IfOk result (λ lines. IfNone lines (LacksText body.now)) }
+{
     let Some(bytes) = body.read(alloc, Form::Binary)? else {
         return Ok(None);
     };

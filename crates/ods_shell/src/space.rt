@@ -1,9 +1,11 @@
 //! The lines of `df`: how much of a volume is used.
-ghost use Rattle.std.specs.Prelude.{◌≡◌, ◌↔◌, ℕ, ◌+◌, ◌<◌, ◌≤◌, length, max, if◌then◌else◌};
+ghost use Rattle.std.specs.Prelude.{◌≡◌, ◌↔◌, ℕ, ◌+◌, ◌<◌, ◌≤◌, length, max, if◌then◌else◌, ◌++◌, IfOk, OnOk};
 ghost use Rattle.std.specs.List.{filter, range_with_len};
 ghost use Rattle.ods_space.specs.Layout.{is_in_use};
 ghost use Rattle.ods_shell.specs.Space.{EndsRun, HasFreeRun, IsSpaceOf};
 ghost use Rattle.ods_space.specs.Disks.{on};
+ghost use Rattle.ods_shell.specs.Lines.{free_part, numbers_line, run_label, space_text, used_part};
+ghost use Rattle.std.specs.String.{string_bytes};
 
 use ods_alloc::{free_count, number_count};
 use ods_mount::Mounted;
@@ -91,22 +93,49 @@ fn one_if(holds: bool) -> u32
 }
 
 /// The lines of `df`.
-pub fn space_lines(alloc: Global, space: &Space) -> Result<String, AllocError> {
+pub fn space_lines(alloc: Global, space: &Space) -> Result<String, AllocError>
+    ensures { IfOk result (λ text. string_bytes text ≡ space_text space.now) }
+{
     let mut text = String::new(alloc);
-    let blocks = space.blocks;
-    let free = space.free;
-    let used = blocks.saturating_sub(free);
-    let longest = space.longest;
-    let numbers = space.numbers;
-    let ready = space.ready;
-    let most = space.most;
-    writeln!(
-        text,
-        "{blocks} blocks, {used} used, {free} free, largest free run {longest}"
-    )?;
+    let used = space.blocks.saturating_sub(space.free);
+    push_used(&mut text, space.blocks, used)?;
+    push_free(&mut text, space.free, space.longest)?;
+    push_numbers(&mut text, space.numbers, space.most, space.ready)?;
+    Ok(text)
+}
+
+/// How many blocks there are, and how many are used.
+#[tactic(auto, unfolding(crate::specs::Lines::used_part))]
+fn push_used(text: &mut String, blocks: u32, used: u32) -> Result<(), AllocError>
+    ensures { OnOk result (string_bytes text.new ≡ string_bytes text.old ++ used_part blocks used) }
+{
+    write!(text, "{blocks} blocks, {used} used, ")
+}
+
+/// How many blocks are free, and how long the longest free run is.
+#[tactic(auto, unfolding(crate::specs::Lines::free_part))]
+fn push_free(text: &mut String, free: u32, longest: u32) -> Result<(), AllocError>
+    ensures { OnOk result (string_bytes text.new ≡ string_bytes text.old ++ free_part free longest) }
+{
+    let label = before_run();
+    writeln!(text, "{free}{label}{longest}")
+}
+
+/// What stands before the longest free run.
+#[tactic(auto, unfolding(crate::specs::Lines::run_label))]
+fn before_run() -> &'static str
+    ensures { result.now ≡ run_label }
+{
+    " free, largest free run "
+}
+
+/// The line of the file numbers: in use, all, and ready.
+#[tactic(auto, unfolding(crate::specs::Lines::numbers_line))]
+fn push_numbers(text: &mut String, numbers: u32, most: u16, ready: u32) -> Result<(), AllocError>
+    ensures { OnOk result (string_bytes text.new ≡ string_bytes text.old ++ numbers_line numbers most ready) }
+{
     writeln!(
         text,
         "{numbers} of {most} file numbers in use, {ready} ready"
-    )?;
-    Ok(text)
+    )
 }

@@ -1,7 +1,9 @@
 //! How a command ends.
+ghost use Rattle.std.specs.Prelude.{◌≡◌};
+ghost use Rattle.ods_shell.specs.Statuses.{status_number};
 
 /// How a command ends: the exit status of the program.
-/// No clause covers the statuses; `tests/fs` checks them on the built program.
+/// No clause covers which command ends with which status; `tests/fs` checks that on the built program.
 #[derive(Clone, Copy, Debug, PartialEq, Eq)]
 pub enum Status {
     /// The command did all that it was asked for.
@@ -22,7 +24,9 @@ pub enum Status {
 
 impl Status {
     /// The number of the status.
-    pub fn code(&self) -> u8 {
+    pub fn code(&self) -> u8
+        ensures { result ≡ status_number self.now }
+    {
         match self {
             Status::Done => 0,
             Status::Image => 1,
@@ -35,7 +39,10 @@ impl Status {
     }
 
     /// This one, or where nothing was wrong the other: several faults end with the status of the first.
-    pub fn or(self, later: Status) -> Status {
+    pub fn or(self, later: Status) -> Status
+        ensures done { self ≡ Status.Done → result ≡ later }
+        ensures fault { ¬ (self ≡ Status.Done) → result ≡ self }
+    {
         match self {
             Status::Done => later,
             _ => self,

@@ -69,10 +69,6 @@ applied_set I lbn b = applied_is I (set I lbn b) ((lbn, b) ∷ []) (length-set I
 pub applied_over : (I : List (List ℕ)) (d : Changes) (lbn : ℕ) (b : List ℕ) → applied I ((lbn, b) ∷ d) ≡ set (applied I d) lbn b
 applied_over I d lbn b = sym (applied-applied I ((lbn, b) ∷ []) d) ∙ sym (applied_set (applied I d) lbn b)
 
--- a block past the end
-pub applied_past : (I : List (List ℕ)) (lbn : ℕ) (b : List ℕ) → length I ≤ lbn → I ≡ applied I ((lbn, b) ∷ [])
-applied_past I lbn b past = sym (set_past I lbn b past) ∙ applied_set I lbn b
-
 -- the changes by which so many blocks become this one
 abbrev pub all_from : List ℕ → ℕ → ℕ → Changes
 all_from b a n = map (λ lbn. (lbn, b)) (range_with_len a n)

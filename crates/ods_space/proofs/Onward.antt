@@ -23,15 +23,6 @@ pub record IsOnward (len wanted : ℕ) (s : Surveyor) (all rest : List (ℕ × L
   pub noted : IsSurveyOf s.len s.wanted s.survey front
   pub parts : named_by all ≡ front ++ named_by rest
 
-pub onward_first : (len wanted : ℕ) (s : Surveyor) (all rest : List (ℕ × List ℕ)) → s.len ≡ len → s.wanted ≡ wanted → IsSurveyOf len wanted s.survey [] → rest ≡ all → IsOnward len wanted s all rest
-onward_first len wanted s all rest length_is wanted_is noted same = record {
-  length_is = length_is;
-  wanted_is = wanted_is;
-  front = [];
-  noted = as_asked s.survey [] len s.len wanted s.wanted noted (sym length_is) (sym wanted_is);
-  parts = ap named_by (sym same);
-}
-
 module _ (len wanted : ℕ) (s : Surveyor) (all old : List (ℕ × List ℕ)) (w : IsOnward len wanted s all old) where
   -- one header more
   pub onward_next : (t : Surveyor) (h : ℕ × List ℕ) (rest : List (ℕ × List ℕ)) → old ≡ h ∷ rest → (t.len ≡ s.len) × (t.wanted ≡ s.wanted) × IsSurveyOf t.len t.wanted t.survey (w.front ++ blocks_of h.1) → IsOnward len wanted t all rest

@@ -26,9 +26,6 @@ pub record IsUnderWay (I : List (List ℕ)) (h : Home) (index : Option (List ℕ
   pub noted : Has front
   pub few : length front ≤ header_blocks * k
 
-pub reached_first : (I : List (List ℕ)) (h : Home) (index : Option (List ℕ)) (n : ℕ) (b : List ℕ) → IsSegment I h (known index []) (most h index []) n 0 → b ≡ header_by I h (known index []) n → IsReached I h index n [] 0 n b
-reached_first I h index n b segment block = record { segment = segment; block = block; completes = λ others all f. (others, f); only = λ others all f. (others, f) }
-
 -- where the first header is none, there is no chain
 pub none_first : (I : List (List ℕ)) (h : Home) (index : Option (List ℕ)) (n : ℕ) → ¬ IsSegment I h (known index []) (most h index []) n 0 → (blocks : List ℕ) → ¬ Leads I h index n blocks
 none_first I h index n none blocks chain = none (head_of I h index [] 0 n chain.0 blocks chain.1)

@@ -33,7 +33,7 @@ pub fn push_header(named: &mut Vec<u32>, block: &Block) -> Result<(), AllocError
 }
 
 /// The blocks of INDEXF.SYS by which headers are placed: all of them, or those named so far.
-fn known<'a>(index: Option<&'a [u32]>, front: &'a [u32]) -> &'a [u32]
+fn known_index<'a>(index: Option<&'a [u32]>, front: &'a [u32]) -> &'a [u32]
     ensures { result.now ≡ known_of (option_map (λ x. x.now) index.entry) front.now }
 {
     match index {
@@ -72,8 +72,8 @@ impl Notes for Named<'_> {
 
     ghost has = { λ s t blocks. (t.index ≡ s.index) × (t.blocks.items ≡ blocks) };
 
-    fn known(&self) -> &[u32] {
-        known(self.index, &self.blocks)
+    fn known_index(&self) -> &[u32] {
+        known_index(self.index, &self.blocks)
     }
 
     fn most(&self, home: &Home) -> u16 {

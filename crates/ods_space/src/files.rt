@@ -39,7 +39,7 @@ pub fn file_header(disk: &Disk<'_>, number: u16) -> Option<Header>
 
 /// The block of a file's first header. It is looked at in place, with no copy of its fields. There is none where the
 /// number is no file.
-pub fn first_header<'a>(disk: &Disk<'a>, number: u16) -> Option<&'a Block>
+pub fn primary_header<'a>(disk: &Disk<'a>, number: u16) -> Option<&'a Block>
     ensures some { IfSome result (λ block. on IsFile disk.now number × (block.now ≡ header_on disk.now number)) }
     ensures none { IfNone result (¬ on IsFile disk.now number) }
 {

@@ -24,7 +24,7 @@ pub use cursor::BlockCursor;
 pub use disk::Disk;
 pub use draft::Draft;
 pub use fault::{ChainFault, LayoutFault};
-pub use files::{block_count, chain, check_chain, file_header, first_header, locate};
+pub use files::{block_count, chain, check_chain, file_header, locate, primary_header};
 pub use headers::{header_block, last_number, sequence};
 pub use laws::places_stay;
 pub use layout::Layout;

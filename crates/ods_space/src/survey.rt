@@ -59,7 +59,7 @@ impl Notes for Surveyor<'_> {
 
     ghost has = { λ s t blocks. (t.index.now ≡ s.index.now) × (t.len ≡ s.len) × (t.wanted ≡ s.wanted) × IsSurveyOf t.len t.wanted t.survey blocks };
 
-    fn known(&self) -> &[u32] {
+    fn known_index(&self) -> &[u32] {
         self.index
     }
 

@@ -24,7 +24,7 @@ pub(crate) trait Notes {
     ghost has: { Self → Self → List ℕ → Type 0 };
 
     /// The blocks of INDEXF.SYS by which the next header is placed.
-    fn known(&self) -> &[u32]
+    fn known_index(&self) -> &[u32]
         ensures { (start : Self) (blocks : List ℕ) → has start self.now blocks → result.now ≡ known_of (placed_by start) blocks };
 
     /// The greatest number that the next header may have.
@@ -52,7 +52,14 @@ pub(crate) fn walk<N: Notes>(
 {
     // The blocks of an image have bytes, so a header names few blocks.
     let _ = image.len();
-    let Some(first) = segment_block(image, home, notes.known(), notes.most(home), number, 0) else {
+    let Some(first) = segment_block(
+        image,
+        home,
+        notes.known_index(),
+        notes.most(home),
+        number,
+        0,
+    ) else {
         return Ok(false);
     };
     let mut block = first;
@@ -64,7 +71,8 @@ pub(crate) fn walk<N: Notes>(
             return Ok(true);
         }
         let most = notes.most(home);
-        let Some(next) = next_block(image, home, notes.known(), most, block, segment + 1) else {
+        let Some(next) = next_block(image, home, notes.known_index(), most, block, segment + 1)
+        else {
             return Ok(false);
         };
         block = next;

@@ -14,7 +14,7 @@ use Rattle.ods_alloc.specs.Extend.{is_one_of}
 use Rattle.ods_mount.specs.Faults.{contents_of}
 use Rattle.ods_mount.specs.Sound.{IsSoundBy}
 use Rattle.ods_state.specs.Growth.{IsGrowth, all_headers}
-use Rattle.ods_state.specs.Wants.{taken_blocks, taken_numbers}
+use Rattle.ods_state.specs.Wants.{allocated_blocks, allocated_numbers}
 use Rattle.ods_state.proofs.Chains.{IsLinkedBut}
 use Rattle.ods_state.proofs.Rechained as re
 use Rattle.ods_state.proofs.Rising.{block_once}
@@ -44,14 +44,14 @@ module _ {I J : List (List ℕ)} {L : VolumeLayout} {n : ℕ} {headers old : Lis
   own_used m own = g.bits.index_bits m ∙ or_right (is_in_use I L.home m) (is_one_of (all_headers n headers numbers) m) (taken.one_of (all_headers n headers numbers) m own)
 
   -- what is free: what was free, but for what was taken
-  pub free_now : (x : ℕ) → is_free_block J L x ≡ (is_free_block I L x && not (is_one_of (taken_blocks I L count) x))
+  pub free_now : (x : ℕ) → is_free_block J L x ≡ (is_free_block I L x && not (is_one_of (allocated_blocks I L count) x))
   free_now x =
       ap (λ k. nat_lt x k && (is_covered L x && storage_bit J L x)) g.long
-      ∙ ap (λ t. nat_lt x (length I) && t) (and_alike (not (is_one_of (taken_blocks I L count) x)) (storage_bit I L x) (is_covered L x) (storage_bit J L x) (g.bits.storage x))
-      ∙ sym (and_assoc (nat_lt x (length I)) (is_covered L x && storage_bit I L x) (not (is_one_of (taken_blocks I L count) x)))
+      ∙ ap (λ t. nat_lt x (length I) && t) (and_alike (not (is_one_of (allocated_blocks I L count) x)) (storage_bit I L x) (is_covered L x) (storage_bit J L x) (g.bits.storage x))
+      ∙ sym (and_assoc (nat_lt x (length I)) (is_covered L x && storage_bit I L x) (not (is_one_of (allocated_blocks I L count) x)))
 
   -- so it is a file whose chain becomes another one, which gives nothing back
-  pub rechained : re.Rechained I J L n (all_headers n headers numbers) (drop 1 headers ++ numbers) old [] (taken_blocks I L count)
+  pub rechained : re.Rechained I J L n (all_headers n headers numbers) (drop 1 headers ++ numbers) old [] (allocated_blocks I L count)
   rechained = record {
     above = g.taking.above;
     there = inl (own_used n (taken.first_is_one S g.taking));
@@ -65,11 +65,11 @@ module _ {I J : List (List ℕ)} {L : VolumeLayout} {n : ℕ} {headers old : Lis
       | inl p ↦ inl (subst (HasBlocks I L n) (sym (append-nil old)) (taken.had_blocks S g.taking p.0))
       | inr p ↦ inr (append-nil old ∙ p.1, taken.new_is_no_file S g.taking p.0)
     ];
-    was_free = taken.taken_block_is_free I L count;
+    was_free = taken.allocated_block_is_free I L count;
     once = block_once I L count;
     free = λ x e.
-        let both = and_parts (is_free_block I L x) (not (is_one_of (taken_blocks I L count) x)) (sym (free_now x) ∙ e) in
-        inl (both.0, λ c. both_ways (not (is_one_of (taken_blocks I L count) x)) (ap not (taken.one_of (taken_blocks I L count) x c)) both.1);
+        let both = and_parts (is_free_block I L x) (not (is_one_of (allocated_blocks I L count) x)) (sym (free_now x) ∙ e) in
+        inl (both.0, λ c. both_ways (not (is_one_of (allocated_blocks I L count) x)) (ap not (taken.one_of (allocated_blocks I L count) x c)) both.1);
     elsewhere = g.elsewhere;
   }
 
@@ -77,10 +77,10 @@ module _ {I J : List (List ℕ)} {L : VolumeLayout} {n : ℕ} {headers old : Lis
   own_file = re.own_file S rechained (own_used n (taken.first_is_one S g.taking))
 
   -- the file has its old blocks, and behind them those that were taken
-  pub own_whole : IsWhole J L n (drop 1 headers ++ numbers) (old ++ taken_blocks I L count)
+  pub own_whole : IsWhole J L n (drop 1 headers ++ numbers) (old ++ allocated_blocks I L count)
   own_whole = re.own_whole S rechained own_file
 
-  pub own_blocks : HasBlocks J L n (old ++ taken_blocks I L count)
+  pub own_blocks : HasBlocks J L n (old ++ allocated_blocks I L count)
   own_blocks = re.own_blocks S rechained own_file
 
   pub is_linked : IsLinkedBut I J L IsOwn
@@ -96,7 +96,7 @@ module _ {I J : List (List ℕ)} {L : VolumeLayout} {n : ℕ} {headers old : Lis
   own_contents = re.kept_contents S rechained
 
   -- what files hold: what they held, and what the file took
-  pub holds_now : (m v x : ℕ) → Holds J L m v x ↔ (Holds I L m v x ⊎ ((k : ℕ) × (m ≡ n) × (v ≡ length old + k + 1) × (slice_get (taken_blocks I L count) k ≡ Some x)))
+  pub holds_now : (m v x : ℕ) → Holds J L m v x ↔ (Holds I L m v x ⊎ ((k : ℕ) × (m ≡ n) × (v ≡ length old + k + 1) × (slice_get (allocated_blocks I L count) k ≡ Some x)))
   holds_now m v x = (λ h. elim (re.held_or_taken S rechained m v x h) [ inl p ↦ inl p.0 | inr p ↦ inr p ], back)
     where
       kept : Holds I L m v x → (m ≢ n) ⊎ (v ≤ length old)
@@ -112,16 +112,16 @@ module _ {I J : List (List ℕ)} {L : VolumeLayout} {n : ℕ} {headers old : Lis
   never_free : (K : List (List ℕ)) (m : ℕ) → is_in_use K L.home m ≡ true → is_free_number K L m ≡ false
   never_free K m used = and_right (nat_le 6 m) _ (and_right (nat_le m (last_number L)) _ (and_left (not (is_in_use K L.home m)) (nat_lt (sequence_of (header_at K L m)) 65535) (not_from_true (is_in_use K L.home m) used)))
 
-  pub numbers_now : (m : ℕ) → is_free_number J L m ≡ (is_free_number I L m && not (is_one_of (taken_numbers I L headers count) m))
+  pub numbers_now : (m : ℕ) → is_free_number J L m ≡ (is_free_number I L m && not (is_one_of (allocated_numbers I L headers count) m))
   numbers_now m = by (taken.contains_or_not (all_headers n headers numbers) m)
     where
-      by_kind : Contains headers m ⊎ Contains (taken_numbers I L headers count) m → (is_free_number I L m && not (is_one_of (taken_numbers I L headers count) m)) ≡ false
-      by_kind (inl before) = and_left (is_free_number I L m) (not (is_one_of (taken_numbers I L headers count) m)) (never_free I m (taken.old_in_use S g.taking m before))
-      by_kind (inr got) = and_right (is_free_number I L m) (not (is_one_of (taken_numbers I L headers count) m)) (not_from_true (is_one_of (taken_numbers I L headers count) m) (taken.one_of (taken_numbers I L headers count) m got))
+      by_kind : Contains headers m ⊎ Contains (allocated_numbers I L headers count) m → (is_free_number I L m && not (is_one_of (allocated_numbers I L headers count) m)) ≡ false
+      by_kind (inl before) = and_left (is_free_number I L m) (not (is_one_of (allocated_numbers I L headers count) m)) (never_free I m (taken.old_in_use S g.taking m before))
+      by_kind (inr got) = and_right (is_free_number I L m) (not (is_one_of (allocated_numbers I L headers count) m)) (not_from_true (is_one_of (allocated_numbers I L headers count) m) (taken.one_of (allocated_numbers I L headers count) m got))
 
-      by : IsOwn m ⊎ (¬ IsOwn m) → is_free_number J L m ≡ (is_free_number I L m && not (is_one_of (taken_numbers I L headers count) m))
+      by : IsOwn m ⊎ (¬ IsOwn m) → is_free_number J L m ≡ (is_free_number I L m && not (is_one_of (allocated_numbers I L headers count) m))
       by (inl own) = never_free J m (own_used m own) ∙ sym (by_kind (taken.old_or_new S g.taking m own))
       by (inr far) =
           let free : is_free_number J L m ≡ is_free_number I L m = λ i. nat_le 6 m && (nat_le m (last_number L) && (not (same_used m far i) && nat_lt (sequence_of (g.stays m far i)) 65535)) in
-          let none : is_one_of (taken_numbers I L headers count) m ≡ false = taken.none_of (taken_numbers I L headers count) m (λ c. far (taken.new_is_one S g.taking m c)) in
+          let none : is_one_of (allocated_numbers I L headers count) m ≡ false = taken.none_of (allocated_numbers I L headers count) m (λ c. far (taken.new_is_one S g.taking m c)) in
           free ∙ sym (ap (λ t. is_free_number I L m && not t) none ∙ and-true (is_free_number I L m))

@@ -18,10 +18,10 @@ use Rattle.ods_request.specs.Steps.{zero_blocks}
 use Rattle.ods_state.specs.Change.{disk}
 use Rattle.ods_state.specs.Contents.{file_of, IsFileIn}
 use Rattle.ods_state.specs.Made.{AreZeroed}
-use Rattle.ods_state.specs.Wants.{taken_blocks}
+use Rattle.ods_state.specs.Wants.{allocated_blocks}
 use Rattle.ods_state.proofs.Grown.{own_blocks, own_contents}
 use Rattle.ods_state.specs.Growth.{HadHeaders, IsGrowth}
-use Rattle.ods_state.proofs.GrowthTakes.{is_enough}
+use Rattle.ods_state.proofs.GrowthAllocates.{is_enough}
 
 -- a list that is mapped to one value
 all_mapped : {X : Type 0} (f : ℕ → X) (x : X) (ns : List ℕ) → All (λ n. f n ≡ x) ns → map f ns ≡ replicate (length ns) x
@@ -30,7 +30,7 @@ all_mapped f x (n ∷ ns) same = λ i. All-head (λ m. f m ≡ x) n ns same i �
 
 module _ {I J : List (List ℕ)} {L : VolumeLayout} {n : ℕ} {headers old : List ℕ} {count : ℕ} {numbers : List ℕ} (S : IsSoundBy I L) (g : IsGrowth I J L n headers old count numbers) where
   abbrev taken : List ℕ
-  taken = taken_blocks I L count
+  taken = allocated_blocks I L count
 
   -- as many blocks are taken as are wanted
   pub so_many_blocks : length taken ≡ count

@@ -19,13 +19,13 @@ use Rattle.ods_request.specs.Steps.{created, is_new, is_used, put}
 use Rattle.ods_request.proofs.Orders.{file_cmp-total}
 use Rattle.ods_state.specs.Contents.{IsFileIn, ShowsBy}
 use Rattle.ods_state.specs.Version.{PastIsSpent}
-use Rattle.ods_state.specs.Wants.{taken_numbers}
+use Rattle.ods_state.specs.Wants.{allocated_numbers}
 use Rattle.ods_state.proofs.Grown.{other_is_far, rechained}
 use Rattle.ods_state.proofs.GrownMoves.{sequences_rise}
 use Rattle.ods_state.specs.Growth.{IsGrowth}
 use Rattle.ods_state.proofs.Rechained as re
 use Rattle.ods_state.proofs.Shown.{ids, shows_put}
-use Rattle.ods_state.proofs.OpenNumbers.{taken_number_is_free}
+use Rattle.ods_state.proofs.OpenNumbers.{allocated_number_is_free}
 use Rattle.ods_state.proofs.Taken.{first_is_one, new_is_no_file, none_empty, old_or_new}
 
 -- an ID that is a key of the catalogue's files has a file
@@ -85,9 +85,9 @@ module _ {I J : List (List ℕ)} {L : VolumeLayout} {n : ℕ} {headers old : Lis
     first_was_free : IsFreeNumber I L n
     first_was_free = by (old_or_new S g.taking n (first_is_one S g.taking))
       where
-        by : Contains headers n ⊎ Contains (taken_numbers I L headers count) n → IsFreeNumber I L n
+        by : Contains headers n ⊎ Contains (allocated_numbers I L headers count) n → IsFreeNumber I L n
         by (inl before) = absurd (none_empty n (subst (λ l. Contains l n) new before))
-        by (inr taken) = free_number I L n (taken_number_is_free I L headers count n g.taking.no_growth taken)
+        by (inr taken) = free_number I L n (allocated_number_is_free I L headers count n g.taking.no_growth taken)
 
     module _ (id : FileId) (number : id.number ≡ n) where
       -- a new file is created

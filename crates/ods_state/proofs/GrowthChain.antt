@@ -25,7 +25,7 @@ use Rattle.ods_state.proofs.GrowthReady.{IsNewFile, IsOldFile, elsewhere, header
 use Rattle.ods_state.proofs.Links.{LinkedAt, header_is_no_data, linked_same}
 use Rattle.ods_state.proofs.OneBlock.{held_inside}
 use Rattle.ods_state.proofs.Still.{IsStill, chain_kept}
-use Rattle.ods_state.proofs.OpenNumbers.{taken_number_is_free}
+use Rattle.ods_state.proofs.OpenNumbers.{allocated_number_is_free}
 
 -- a bit that is set in a block that has it
 bit_set : (b : List ℕ) (i : ℕ) → i / 8 < length b → has_bit (with_bit b i) i ≡ true
@@ -90,7 +90,7 @@ module _ (I K : List (List ℕ)) (L : VolumeLayout) (S : IsSoundBy I L) (n : ℕ
 
   module _ (image : IsImage I) (f : IsNewFile I K L n headers old count numbers) (C : List (List ℕ)) (is : C ≡ with_in_use K L.home n) where
     free : IsFreeNumber I L n
-    free = free_number I L n (taken_number_is_free I L headers count n t.no_growth (subst (λ l. Contains l n) f.new (zero, omega arith, refl)))
+    free = free_number I L n (allocated_number_is_free I L headers count n t.no_growth (subst (λ l. Contains l n) f.new (zero, omega arith, refl)))
 
     few : n ≤ 4096 * L.home.index_bitmap_size
     few = let high = free.high in omega arith

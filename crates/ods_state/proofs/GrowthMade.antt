@@ -26,11 +26,11 @@ use Rattle.ods_alloc.proofs.Places.{place_not_index, place_not_storage, place_on
 use Rattle.ods_mount.specs.Sound.{IsSoundBy}
 use Rattle.ods_state.specs.Change.{disk}
 use Rattle.ods_state.specs.Made.{AreMade}
-use Rattle.ods_state.specs.Wants.{taken_blocks, taken_numbers}
+use Rattle.ods_state.specs.Wants.{allocated_blocks, allocated_numbers}
 use Rattle.ods_state.specs.Growth.{IsGrowth, IsReady, IsTaking, all_headers}
 use Rattle.ods_state.proofs.GrowthChain.{still}
-use Rattle.ods_state.proofs.GrowthReady.{IsNewFile, IsOldFile, header_stays, held_stays, seen, taken_not_bookkeeping, used_stays}
-use Rattle.ods_state.proofs.GrowthTakes.{not_the_first}
+use Rattle.ods_state.proofs.GrowthReady.{IsNewFile, IsOldFile, header_stays, held_stays, seen, allocated_not_bookkeeping, used_stays}
+use Rattle.ods_state.proofs.GrowthAllocates.{not_the_first}
 use Rattle.ods_state.proofs.Still.{chain_kept}
 use Rattle.ods_state.proofs.Taken.{contains_or_not, later_segment, none_empty, none_of, old_in_use, one_of}
 
@@ -83,7 +83,7 @@ or_same true a b same = refl
 or_same false a b same = same refl
 
 module _ (I K J : List (List ℕ)) (L : VolumeLayout) (S : IsSoundBy I L) (n : ℕ) (headers old : List ℕ) (count : ℕ) (numbers : List ℕ)
-    (t : IsTaking I L n headers old count numbers) (r : IsReady I K L n headers count) (e : Extends K L n (drop 1 headers) old (taken_blocks I L count) numbers J) where
+    (t : IsTaking I L n headers old count numbers) (r : IsReady I K L n headers count) (e : Extends K L n (drop 1 headers) old (allocated_blocks I L count) numbers J) where
   abbrev Old : Type 0
   Old = IsOldFile I K L n headers old count numbers
 
@@ -101,8 +101,8 @@ module _ (I K J : List (List ℕ)) (L : VolumeLayout) (S : IsSoundBy I L) (n : �
   same_header = header_stays I K L S n headers old count numbers t r
 
   -- the taken blocks stay what was written into them
-  pub filled : (x : ℕ) → Contains (taken_blocks I L count) x → block_at J x ≡ block_at K x
-  filled x c = e.only.others x (taken_not_bookkeeping I L S count x (written ++ numbers) c)
+  pub filled : (x : ℕ) → Contains (allocated_blocks I L count) x → block_at J x ≡ block_at K x
+  filled x c = e.only.others x (allocated_not_bookkeeping I L S count x (written ++ numbers) c)
 
   -- the first header keeps its fields
   pub first_fields : KeepsFields (header_at K L n) (header_at J L n)
@@ -179,7 +179,7 @@ module _ (I K J : List (List ℕ)) (L : VolumeLayout) (S : IsSoundBy I L) (n : �
   runs_before o = field_before runs_of o.kept.pointers
 
   -- a number that is taken is the new first header, or one of those behind
-  number_from : (m : ℕ) → Contains (taken_numbers I L headers count) m → (New × (m ≡ n)) ⊎ Contains numbers m
+  number_from : (m : ℕ) → Contains (allocated_numbers I L headers count) m → (New × (m ≡ n)) ⊎ Contains numbers m
   number_from m c = by which (cases_eq m n)
     where
       by : Old ⊎ New → (m ≡ n) ⊎ (m ≢ n) → (New × (m ≡ n)) ⊎ Contains numbers m
@@ -214,7 +214,7 @@ module _ (I K J : List (List ℕ)) (L : VolumeLayout) (S : IsSoundBy I L) (n : �
       by (inl o) = let c' = among o m c in sequence_kept (header_at K L m) (header_at J L m) m (old_valid o m c') (kept_at m c') ∙ field_before sequence_of o.kept.links.sequence m
       by (inr f) = absurd (no_header f m c)
 
-  sequence_rises : (m : ℕ) → Contains (taken_numbers I L headers count) m → sequence_of (header_at J L m) ≡ sequence_of (header_at I L m) + 1
+  sequence_rises : (m : ℕ) → Contains (allocated_numbers I L headers count) m → sequence_of (header_at J L m) ≡ sequence_of (header_at I L m) + 1
   sequence_rises m c = by (number_from m c)
     where
       by : (New × (m ≡ n)) ⊎ Contains numbers m → sequence_of (header_at J L m) ≡ sequence_of (header_at I L m) + 1
@@ -258,12 +258,12 @@ module _ (I K J : List (List ℕ)) (L : VolumeLayout) (S : IsSoundBy I L) (n : �
     taking = t;
     long = e.only.size ∙ r.long;
     chain = e.chain;
-    pointers = e.runs ∙ ap (λ l. l ++ cut (taken_blocks I L count)) same_runs;
+    pointers = e.runs ∙ ap (λ l. l ++ cut (allocated_blocks I L count)) same_runs;
     stays = other_stays;
     kept = sequence_stays;
     raised = sequence_rises;
     bits = record {
-      storage = λ x covered. e.bits.storage x covered ∙ ap (λ b. b && not (is_one_of (taken_blocks I L count) x)) (storage_stays x covered);
+      storage = λ x covered. e.bits.storage x covered ∙ ap (λ b. b && not (is_one_of (allocated_blocks I L count) x)) (storage_stays x covered);
       index_bits = λ m. e.bits.index_bits m ∙ ap (λ b. b || is_one_of (n ∷ numbers) m) (used_stays I K L S n headers old count numbers t r m)
           ∙ or_same (is_in_use I L.home m) (is_one_of (n ∷ numbers) m) (is_one_of (all_headers n headers numbers) m) (same_numbers m);
     };
@@ -301,7 +301,7 @@ module _ (I K J : List (List ℕ)) (L : VolumeLayout) (S : IsSoundBy I L) (n : �
       by (inl o) = rest_on (header_at I L m) (header_at K L m) (header_at J L m) (rest_before o m) (All-contains (λ x. KeepsRest (header_at K L x) (header_at J L x)) written m e.rest (among o m c))
       by (inr f) = absurd (no_header f m c)
 
-  ends_clean : (m : ℕ) → Contains (taken_numbers I L headers count) m → EndsClean (header_at J L m)
+  ends_clean : (m : ℕ) → Contains (allocated_numbers I L headers count) m → EndsClean (header_at J L m)
   ends_clean m c = by (number_from m c)
     where
       by : (New × (m ≡ n)) ⊎ Contains numbers m → EndsClean (header_at J L m)
@@ -320,18 +320,18 @@ module _ (I K J : List (List ℕ)) (L : VolumeLayout) (S : IsSoundBy I L) (n : �
           let last : last_of n (drop 1 headers) ≡ n = ap (last_of n) none in
           subst (λ m. next_volume_of (header_at J L m) ≡ next_volume_of (header_at K L m)) last (e.last_volume is) ∙ f.made.form.volume
       by (m ∷ ms) is =
-          let chain : Follows J L.home (Some L.index) [] 0 n (m ∷ ms) (old ++ taken_blocks I L count) =
-          subst (λ l. Follows J L.home (Some L.index) [] 0 n l (old ++ taken_blocks I L count)) (ap (λ l. l ++ numbers) none ∙ is) (chain_in J (drop 1 headers ++ numbers) (old ++ taken_blocks I L count) e.chain) in
+          let chain : Follows J L.home (Some L.index) [] 0 n (m ∷ ms) (old ++ allocated_blocks I L count) =
+          subst (λ l. Follows J L.home (Some L.index) [] 0 n l (old ++ allocated_blocks I L count)) (ap (λ l. l ++ numbers) none ∙ is) (chain_in J (drop 1 headers ++ numbers) (old ++ allocated_blocks I L count) e.chain) in
           chain.2
 
-  new_form : (m : ℕ) → Contains (taken_numbers I L headers count) m → IsMadeHeader (header_at J L m)
+  new_form : (m : ℕ) → Contains (allocated_numbers I L headers count) m → IsMadeHeader (header_at J L m)
   new_form m c = by (number_from m c)
     where
       by : (New × (m ≡ n)) ⊎ Contains numbers m → IsMadeHeader (header_at J L m)
       by (inl p) = subst (λ x. IsMadeHeader (header_at J L x)) (sym p.1) (made_on (header_at K L n) (header_at J L n) first_fields first_rest p.0.made.form (first_volume p.0))
       by (inr c') = (All-contains (λ x. IsExtensionOf (header_at J L n) (header_at J L x)) numbers m e.made c').form
 
-  extension : (first m : ℕ) → slice_get (headers ++ taken_numbers I L headers count) 0 ≡ Some first → Contains (taken_numbers I L headers count) m → m ≢ first → IsExtensionOf (header_at J L first) (header_at J L m)
+  extension : (first m : ℕ) → slice_get (headers ++ allocated_numbers I L headers count) 0 ≡ Some first → Contains (allocated_numbers I L headers count) m → m ≢ first → IsExtensionOf (header_at J L first) (header_at J L m)
   extension first m at c other = by (number_from m c)
     where
       is : n ≡ first
@@ -341,27 +341,27 @@ module _ (I K J : List (List ℕ)) (L : VolumeLayout) (S : IsSoundBy I L) (n : �
       by (inl p) = absurd (other (p.1 ∙ is))
       by (inr c') = subst (λ x. IsExtensionOf (header_at J L x) (header_at J L m)) is (All-contains (λ x. IsExtensionOf (header_at J L n) (header_at J L x)) numbers m e.made c')
 
-  full : (i m : ℕ) → length headers ≤ i + 1 → i + 1 < length (headers ++ taken_numbers I L headers count) → slice_get (headers ++ taken_numbers I L headers count) i ≡ Some m → room_of (header_at J L m) / 2 ≡ 0
+  full : (i m : ℕ) → length headers ≤ i + 1 → i + 1 < length (headers ++ allocated_numbers I L headers count) → slice_get (headers ++ allocated_numbers I L headers count) i ≡ Some m → room_of (header_at J L m) / 2 ≡ 0
   full i m low high at =
       let others : ℕ = length (drop 1 headers) in
       let j : ℕ = i - others in
       let fewer : others ≡ length headers - 1 = length-drop 1 headers in
-      let all : length (written ++ numbers) ≡ length (headers ++ taken_numbers I L headers count) = ap length t.all in
+      let all : length (written ++ numbers) ≡ length (headers ++ allocated_numbers I L headers count) = ap length t.all in
       let parts : length (written ++ numbers) ≡ length written + length numbers = length-append written numbers in
       let place : i ≡ others + j = omega arith in
       e.filled j m (omega (arith, all, parts)) (sym (at_last n (drop 1 headers) numbers i j place) ∙ ap (λ l. slice_get l i) t.all ∙ at)
 
   -- without a new header the last one names the volume that it named
-  last_names : taken_numbers I L headers count ≡ [] → (first : ℕ) (behind : List ℕ) → headers ≡ first ∷ behind → next_volume_of (header_at J L (last_of first behind)) ≡ next_volume_of (header_at I L (last_of first behind))
+  last_names : allocated_numbers I L headers count ≡ [] → (first : ℕ) (behind : List ℕ) → headers ≡ first ∷ behind → next_volume_of (header_at J L (last_of first behind)) ≡ next_volume_of (header_at I L (last_of first behind))
   last_names nothing first behind is = by which
     where
       -- no number is new: the headers are as many as before
       no_number : headers ≡ written → numbers ≡ []
       no_number old_ones =
-          let all : length (written ++ numbers) ≡ length (headers ++ taken_numbers I L headers count) = ap length t.all in
+          let all : length (written ++ numbers) ≡ length (headers ++ allocated_numbers I L headers count) = ap length t.all in
           let parts : length (written ++ numbers) ≡ length written + length numbers = length-append written numbers in
-          let before : length (headers ++ taken_numbers I L headers count) ≡ length headers + length (taken_numbers I L headers count) = length-append headers (taken_numbers I L headers count) in
-          let none : length (taken_numbers I L headers count) ≡ 0 = ap length nothing in
+          let before : length (headers ++ allocated_numbers I L headers count) ≡ length headers + length (allocated_numbers I L headers count) = length-append headers (allocated_numbers I L headers count) in
+          let none : length (allocated_numbers I L headers count) ≡ 0 = ap length nothing in
           let same : length headers ≡ length written = ap length old_ones in
           empty numbers (omega (arith, all, parts, before, none, same))
 
@@ -372,15 +372,15 @@ module _ (I K J : List (List ℕ)) (L : VolumeLayout) (S : IsSoundBy I L) (n : �
           subst (λ m. next_volume_of (header_at J L m) ≡ next_volume_of (header_at I L m)) there (e.last_volume (no_number o.is) ∙ field_before next_volume_of o.kept.links.next_volume z)
       by (inr f) = let clash : ◌≡◌ {A = List ℕ} (first ∷ behind) [] = sym is ∙ f.none in absurd (cc)
 
-  pub made : AreMade (disk I L) (disk J L) headers (taken_numbers I L headers count)
+  pub made : AreMade (disk I L) (disk J L) headers (allocated_numbers I L headers count)
   made = record {
     stays = λ k d below. form_stays (get_or headers k d) (Contains-get_or headers k d below);
     others = λ k d below. fields_stay (get_or (drop 1 headers) k d) (Contains-get_or (drop 1 headers) k d below);
     begins = λ k d below. pointers_begin (get_or headers k d) (Contains-get_or headers k d below);
     rest = λ k d below. rest_stays (get_or headers k d) (Contains-get_or headers k d below);
-    form = λ k d below. let m : ℕ = get_or (taken_numbers I L headers count) k d in new_form m (Contains-get_or (taken_numbers I L headers count) k d below);
+    form = λ k d below. let m : ℕ = get_or (allocated_numbers I L headers count) k d in new_form m (Contains-get_or (allocated_numbers I L headers count) k d below);
     made = extension;
-    clean = λ k d below. let m : ℕ = get_or (taken_numbers I L headers count) k d in ends_clean m (Contains-get_or (taken_numbers I L headers count) k d below);
+    clean = λ k d below. let m : ℕ = get_or (allocated_numbers I L headers count) k d in ends_clean m (Contains-get_or (allocated_numbers I L headers count) k d below);
     filled = full;
     last_volume = last_names;
   }

@@ -15,31 +15,31 @@ use Rattle.ods_alloc.specs.Extension.{first_number}
 use Rattle.ods_alloc.proofs.Places.{place_not_index}
 use Rattle.ods_mount.specs.Faults.{CouldBeWritten}
 use Rattle.ods_mount.specs.Sound.{IsSoundBy}
-use Rattle.ods_state.specs.Wants.{taken_blocks, taken_numbers}
+use Rattle.ods_state.specs.Wants.{allocated_blocks, allocated_numbers}
 use Rattle.ods_state.proofs.Bookkeeping.{IsHeldBySystem, bookkeeping_held, bitmap_holds, index_holds, well_placed}
 use Rattle.ods_state.proofs.Chains.{IsLinkedBut, blocks_stay}
 use Rattle.ods_state.specs.Growth.{HadHeaders, IsFirstFor, IsKeptFirst, IsNewFirst, IsReady, IsTaking, all_headers}
 use Rattle.ods_state.proofs.Homes as homes
 use Rattle.ods_state.proofs.Links.{bits_stay, header_held, linked_same, numbered, place_is_one}
-use Rattle.ods_state.proofs.Taken.{file_is_far, others_apart, taken_block_is_free}
+use Rattle.ods_state.proofs.Taken.{file_is_far, others_apart, allocated_block_is_free}
 
 -- a file that is there grows: it has its first header already
 pub record IsOldFile (I K : List (List ℕ)) (L : VolumeLayout) (n : ℕ) (headers old : List ℕ) (count : ℕ) (numbers : List ℕ) : Type 0 where
   pub is : headers ≡ n ∷ drop 1 headers
   pub file : IsFile I L n
   pub chain : IsChain I L n (drop 1 headers) old
-  pub new : numbers ≡ taken_numbers I L headers count
+  pub new : numbers ≡ allocated_numbers I L headers count
   pub kept : IsKeptFirst (header_at I L n) (header_at K L n) n
 
 -- a new file: its first header is the first number that is taken
 pub record IsNewFile (I K : List (List ℕ)) (L : VolumeLayout) (n : ℕ) (headers old : List ℕ) (count : ℕ) (numbers : List ℕ) : Type 0 where
   pub none : headers ≡ []
   pub nothing : old ≡ []
-  pub new : n ∷ numbers ≡ taken_numbers I L headers count
+  pub new : n ∷ numbers ≡ allocated_numbers I L headers count
   pub made : IsNewFirst (header_at I L n) (header_at K L n) n
 
 seen_by : (I K : List (List ℕ)) (L : VolumeLayout) (n : ℕ) (headers old : List ℕ) (count : ℕ) (numbers : List ℕ) → HadHeaders I L n headers old
-    → all_headers n headers numbers ≡ headers ++ taken_numbers I L headers count → IsFirstFor headers (header_at I L n) (header_at K L n) n
+    → all_headers n headers numbers ≡ headers ++ allocated_numbers I L headers count → IsFirstFor headers (header_at I L n) (header_at K L n) n
     → IsOldFile I K L n headers old count numbers ⊎ IsNewFile I K L n headers old count numbers
 seen_by I K L n [] old count numbers (inl p) all first = let wrong : [] ≡ n ∷ p.1.0 = p.1.1 in absurd (cc)
 seen_by I K L n [] old count numbers (inr p) all first = inr (record { none = refl; nothing = p.1; new = all; made = first })
@@ -50,24 +50,24 @@ seen_by I K L n (h ∷ hs) old count numbers (inl p) all first =
       is = ap (λ x. x ∷ hs) (ap first_number p.1.1);
       file = p.0;
       chain = subst (λ os. IsChain I L n os old) tail p.1.2.chain;
-      new = append_cancel_left hs numbers (taken_numbers I L (h ∷ hs) count) (ap (drop 1) all);
+      new = append_cancel_left hs numbers (allocated_numbers I L (h ∷ hs) count) (ap (drop 1) all);
       kept = first;
     })
 
 module _ (I : List (List ℕ)) (L : VolumeLayout) (S : IsSoundBy I L) where
   -- no file holds a block that is taken
-  pub taken_not_held : (count m v x : ℕ) → Contains (taken_blocks I L count) x → ¬ Holds I L m v x
-  taken_not_held count m v x c h = both_ways (is_free_block I L x) (S.not_free m v x h) (taken_block_is_free I L count x c)
+  pub taken_not_held : (count m v x : ℕ) → Contains (allocated_blocks I L count) x → ¬ Holds I L m v x
+  taken_not_held count m v x c h = both_ways (is_free_block I L x) (S.not_free m v x h) (allocated_block_is_free I L count x c)
 
-  pub taken_not_index : (count x i : ℕ) → Contains (taken_blocks I L count) x → slice_get L.index i ≡ Some x → ⊥
-  taken_not_index count x i c e = taken_not_held count 1 (i + 1) x c (index_holds I L S i x e)
+  pub allocated_not_index : (count x i : ℕ) → Contains (allocated_blocks I L count) x → slice_get L.index i ≡ Some x → ⊥
+  allocated_not_index count x i c e = taken_not_held count 1 (i + 1) x c (index_holds I L S i x e)
 
-  pub taken_not_bitmap : (count x i : ℕ) → Contains (taken_blocks I L count) x → slice_get L.bitmap i ≡ Some x → ⊥
-  taken_not_bitmap count x i c e = taken_not_held count 2 (i + 1) x c (bitmap_holds I L S i x e)
+  pub allocated_not_bitmap : (count x i : ℕ) → Contains (allocated_blocks I L count) x → slice_get L.bitmap i ≡ Some x → ⊥
+  allocated_not_bitmap count x i c e = taken_not_held count 2 (i + 1) x c (bitmap_holds I L S i x e)
 
   -- and none of them has a header or a bitmap
-  pub taken_not_bookkeeping : (count x : ℕ) (numbers : List ℕ) → Contains (taken_blocks I L count) x → ¬ IsBookkeeping L numbers x
-  taken_not_bookkeeping count x numbers c b = by (bookkeeping_held S numbers x b)
+  pub allocated_not_bookkeeping : (count x : ℕ) (numbers : List ℕ) → Contains (allocated_blocks I L count) x → ¬ IsBookkeeping L numbers x
+  allocated_not_bookkeeping count x numbers c b = by (bookkeeping_held S numbers x b)
     where
       by : IsHeldBySystem S x → ⊥
       by (inl p) = taken_not_held count 1 p.0 x c p.1
@@ -124,7 +124,7 @@ module _ (I K : List (List ℕ)) (L : VolumeLayout) (S : IsSoundBy I L) (n : ℕ
     where
       by_free : (b : Bool) → is_free_block I L x ≡ b → place_of L n ≢ Some x → (block_at K x ≡ block_at I x) ⊎ CouldBeWritten I L x
       by_free true e other = inr (inl e)
-      by_free false e other = inl (r.elsewhere x other (λ c. both_ways (is_free_block I L x) e (taken_block_is_free I L count x c)))
+      by_free false e other = inl (r.elsewhere x other (λ c. both_ways (is_free_block I L x) e (allocated_block_is_free I L count x c)))
 
       by_block : (y : ℕ) → place_of L n ≡ Some y → (y ≡ x) ⊎ (y ≢ x) → (block_at K x ≡ block_at I x) ⊎ CouldBeWritten I L x
       by_block y e (inl is) =

@@ -23,7 +23,8 @@ pub mod IndexEnd
 pub mod RunsBehind
 pub mod IndexGrown
 pub mod IndexSound
-pub mod IndexTakes
+pub mod IndexFree
+pub mod IndexAllocates
 pub mod StepBehind
 pub mod Bookkeeping
 pub mod OnlyBookkeeping
@@ -34,7 +35,7 @@ pub mod GrownMoves
 pub mod Wanted
 pub mod GrowthReady
 pub mod GrowthChain
-pub mod GrowthTakes
+pub mod GrowthAllocates
 pub mod GrowthMade
 pub mod GrownSound
 pub mod GrownShown

@@ -11,7 +11,7 @@ use Rattle.ods_header.specs.Header.{sequence_of}
 use Rattle.ods_space.specs.Layout.{VolumeLayout, greatest_number, header_at, is_in_use, last_number}
 use Rattle.ods_space.specs.Free.{is_free_number, is_open_number, open_numbers}
 use Rattle.ods_alloc.specs.Extend.{last_of}
-use Rattle.ods_state.specs.Wants.{index_growth, taken_count, taken_numbers}
+use Rattle.ods_state.specs.Wants.{index_growth, allocated_count, allocated_numbers}
 use Rattle.ods_state.proofs.Rising.{numbers_rise}
 
 none_in : (x : ℕ) → ¬ Contains [] x
@@ -45,16 +45,16 @@ open_up_to I L a b m is within =
     λ i. p.0 i && (le-leb m b within i && q.1 i)
 
 -- a number that is taken is open
-pub taken_number_is_open : (I : List (List ℕ)) (L : VolumeLayout) (headers : List ℕ) (count m : ℕ) → Contains (taken_numbers I L headers count) m → is_open_number I L (greatest_number L.home) m ≡ true
+pub allocated_number_is_open : (I : List (List ℕ)) (L : VolumeLayout) (headers : List ℕ) (count m : ℕ) → Contains (allocated_numbers I L headers count) m → is_open_number I L (greatest_number L.home) m ≡ true
 unfolding open_numbers
-taken_number_is_open I L headers count m c =
+allocated_number_is_open I L headers count m c =
     let most : ℕ = greatest_number L.home in
-    All-contains (λ y. is_open_number I L most y ≡ true) (taken_numbers I L headers count) m
-    (All-take (λ y. is_open_number I L most y ≡ true) (taken_count I L headers count) (open_numbers I L) (filter_passes (is_open_number I L most) (range_with_len 1 most))) c
+    All-contains (λ y. is_open_number I L most y ≡ true) (allocated_numbers I L headers count) m
+    (All-take (λ y. is_open_number I L most y ≡ true) (allocated_count I L headers count) (open_numbers I L) (filter_passes (is_open_number I L most) (range_with_len 1 most))) c
 
 -- where INDEXF.SYS need not grow for it, it is free
-pub taken_number_is_free : (I : List (List ℕ)) (L : VolumeLayout) (headers : List ℕ) (count m : ℕ) → index_growth L (taken_numbers I L headers count) ≡ 0
-    → Contains (taken_numbers I L headers count) m → IsTrue (is_free_number I L m)
-taken_number_is_free I L headers count m still c =
-    let last : m ≤ last_of 0 (taken_numbers I L headers count) = up_to_last 0 (taken_numbers I L headers count) (numbers_rise I L headers count) m c in
-    open_up_to I L (greatest_number L.home) (last_number L) m (taken_number_is_open I L headers count m c) (omega (arith, last, still))
+pub allocated_number_is_free : (I : List (List ℕ)) (L : VolumeLayout) (headers : List ℕ) (count m : ℕ) → index_growth L (allocated_numbers I L headers count) ≡ 0
+    → Contains (allocated_numbers I L headers count) m → IsTrue (is_free_number I L m)
+allocated_number_is_free I L headers count m still c =
+    let last : m ≤ last_of 0 (allocated_numbers I L headers count) = up_to_last 0 (allocated_numbers I L headers count) (numbers_rise I L headers count) m c in
+    open_up_to I L (greatest_number L.home) (last_number L) m (allocated_number_is_open I L headers count m c) (omega (arith, last, still))

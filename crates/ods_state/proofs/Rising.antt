@@ -11,7 +11,7 @@ use Rattle.std.proofs.lemmas.Option.{slice_get-get_or, slice_get_within, get_or_
 use Rattle.ods_space.specs.Layout.{VolumeLayout, greatest_number}
 use Rattle.ods_space.specs.Free.{is_free_block, is_open_number, free_blocks, open_numbers}
 use Rattle.ods_alloc.proofs.NewHeaders.{rising_apart}
-use Rattle.ods_state.specs.Wants.{taken_blocks, taken_count, taken_numbers}
+use Rattle.ods_state.specs.Wants.{allocated_blocks, allocated_count, allocated_numbers}
 
 -- what stands at a place of a list is one of it, and the other way round
 pub stands_at : (xs : List ℕ) (x : ℕ) → Contains xs x → (k : ℕ) × (slice_get xs k ≡ Some x)
@@ -47,15 +47,15 @@ module _ (I : List (List ℕ)) (L : VolumeLayout) where
   unfolding free_blocks
   free_rise = IsStrictlyIncreasing-filter (is_free_block I L) (range_with_len 0 (length I)) (range_rises 0 (length I))
 
-  pub blocks_rise : (count : ℕ) → IsStrictlyIncreasing (taken_blocks I L count)
+  pub blocks_rise : (count : ℕ) → IsStrictlyIncreasing (allocated_blocks I L count)
   blocks_rise count = rises_in count (free_blocks I L) free_rise
 
-  pub numbers_rise : (headers : List ℕ) (count : ℕ) → IsStrictlyIncreasing (taken_numbers I L headers count)
+  pub numbers_rise : (headers : List ℕ) (count : ℕ) → IsStrictlyIncreasing (allocated_numbers I L headers count)
   unfolding open_numbers
   numbers_rise headers count =
       let most : ℕ = greatest_number L.home in
-      rises_in (taken_count I L headers count) (open_numbers I L) (IsStrictlyIncreasing-filter (is_open_number I L most) (range_with_len 1 most) (range_rises 1 most))
+      rises_in (allocated_count I L headers count) (open_numbers I L) (IsStrictlyIncreasing-filter (is_open_number I L most) (range_with_len 1 most) (range_rises 1 most))
 
   -- a block is taken once
-  pub block_once : (count i j x : ℕ) → slice_get (taken_blocks I L count) i ≡ Some x → slice_get (taken_blocks I L count) j ≡ Some x → i ≡ j
-  block_once count i j x p q = stands_once (taken_blocks I L count) (blocks_rise count) i j x p q
+  pub block_once : (count i j x : ℕ) → slice_get (allocated_blocks I L count) i ≡ Some x → slice_get (allocated_blocks I L count) j ≡ Some x → i ≡ j
+  block_once count i j x p q = stands_once (allocated_blocks I L count) (blocks_rise count) i j x p q

@@ -31,9 +31,9 @@ use Rattle.ods_directory.specs.Mark.{IsSlot, grown, mark_in, marked, written}
 use Rattle.ods_state.specs.Change.{disk}
 use Rattle.ods_state.specs.IndexGrowth.{CanGrowIndex, GrowsIndex, IsNoMap, StepBehindGrowth, WantsStay, WantsTheSame}
 use Rattle.ods_state.specs.Made.{AreMade, AreZeroed, IsEnteredAt}
-use Rattle.ods_state.specs.Moves.{AreTaken, IsCreatedId, IsNameEntered, IsNextBlock, Moves, TouchedByIndex, TouchedByTaking, Touches}
+use Rattle.ods_state.specs.Moves.{AreAllocated, IsCreatedId, IsNameEntered, IsNextBlock, Moves, TouchedByIndex, TouchedByAllocating, Touches}
 use Rattle.ods_state.specs.Served.{IsStepOf}
-use Rattle.ods_state.specs.Wants.{EnterGrows, HasHeaders, Wants, index_blocks, index_end, lack_of, taken_blocks, taken_count, taken_numbers}
+use Rattle.ods_state.specs.Wants.{EnterGrows, HasHeaders, Wants, index_blocks, index_end, lack_of, allocated_blocks, allocated_count, allocated_numbers}
 use Rattle.ods_request.specs.declared.requests.Request.{Request}
 use Rattle.ods_request.specs.declared.requests.Request.TheVariants.{Create, Extend, Truncate, Delete, Enter, LookUp, Remove, Read, Write, List as Lines, Stat, SetUser}
 use Rattle.ods_request.specs.declared.answers.Answer.{Answer}
@@ -43,8 +43,8 @@ use Rattle.ods_state.proofs.Chains.{first_in, later_in}
 use Rattle.ods_state.proofs.IndexGrown as index
 use Rattle.ods_state.proofs.IndexGrown.{is_longer, longer, new_place}
 use Rattle.ods_state.proofs.IndexSound as sound
-use Rattle.ods_state.proofs.IndexTakes as takes
-use Rattle.ods_state.proofs.IndexTakes.{HadThese, can_grow}
+use Rattle.ods_state.proofs.IndexAllocates as takes
+use Rattle.ods_state.proofs.IndexAllocates.{HadThese, can_grow}
 use Rattle.ods_state.proofs.Links.{place_is_one}
 use Rattle.ods_state.proofs.OnlyBookkeeping.{first_or_later}
 use Rattle.ods_state.proofs.Taken.{none_empty}
@@ -99,10 +99,10 @@ module _ (I K J : List (List ℕ)) (L : VolumeLayout) (headers old : List ℕ) (
   can : CanGrowIndex I L X
   can = takes.can I K L headers old count image S enough had g
 
-  blocks_same : taken_blocks K M count ≡ taken_blocks I L count
+  blocks_same : allocated_blocks K M count ≡ allocated_blocks I L count
   blocks_same = takes.blocks_stay I K L headers old count image S enough had g
 
-  numbers_same : taken_numbers K M headers count ≡ taken_numbers I L headers count
+  numbers_same : allocated_numbers K M headers count ≡ allocated_numbers I L headers count
   numbers_same = takes.numbers_stay I K L headers old count image S enough had g
 
   none_more : index_blocks K M headers count ≡ []
@@ -111,8 +111,8 @@ module _ (I K J : List (List ℕ)) (L : VolumeLayout) (headers old : List ℕ) (
   own_same : (m : ℕ) → Contains headers m → header_at K M m ≡ header_at I L m
   own_same = takes.own_stays I K L headers old count image S enough had g
 
-  just_taken : taken_blocks K M count ++ index_blocks K M headers count ≡ taken_blocks I L count
-  just_taken = (λ i. blocks_same i ++ none_more i) ∙ append-nil (taken_blocks I L count)
+  just_taken : allocated_blocks K M count ++ index_blocks K M headers count ≡ allocated_blocks I L count
+  just_taken = (λ i. blocks_same i ++ none_more i) ∙ append-nil (allocated_blocks I L count)
 
   sound_then : IsSoundBy K M
   sound_then = sound.sound_now image S can g
@@ -157,9 +157,9 @@ module _ (I K J : List (List ℕ)) (L : VolumeLayout) (headers old : List ℕ) (
 
   -- of the new blocks those in which no header is made are zeros
   abbrev Untouched : Type 0
-  Untouched = (x : ℕ) → Contains X x → ¬ IsHeaderPlace M (headers ++ taken_numbers I L headers count) x → block_at J x ≡ block_at K x
+  Untouched = (x : ℕ) → Contains X x → ¬ IsHeaderPlace M (headers ++ allocated_numbers I L headers count) x → block_at J x ≡ block_at K x
 
-  still_zeros : Untouched → (n : ℕ) → last_number L < n → n ≤ last_number M → ¬ Contains (taken_numbers I L headers count) n → header_at J M n ≡ zeros
+  still_zeros : Untouched → (n : ℕ) → last_number L < n → n ≤ last_number M → ¬ Contains (allocated_numbers I L headers count) n → header_at J M n ≡ zeros
   still_zeros away n above within not_taken = by (place_of L n) refl (place_of M n) refl
     where
       by : (o : Option ℕ) → place_of L n ≡ o → (q : Option ℕ) → place_of M n ≡ q → header_at J M n ≡ zeros
@@ -169,33 +169,33 @@ module _ (I K J : List (List ℕ)) (L : VolumeLayout) (headers old : List ℕ) (
           let new : Contains X x = new_place L.home L.index X n x none e in
           ap (λ o. option_map_or (block_at J) o []) e ∙ away x new no_header ∙ All-contains (λ y. block_at K y ≡ zeros) X x g.zeroed new
         where
-          no_header : ¬ IsHeaderPlace M (headers ++ taken_numbers I L headers count) x
+          no_header : ¬ IsHeaderPlace M (headers ++ allocated_numbers I L headers count) x
           no_header p =
               let is : p.0 ≡ n = place_is_one K M sound_then p.0 n x p.2 e in
-              which (Contains-append_cases headers (taken_numbers I L headers count) n (subst (Contains (headers ++ taken_numbers I L headers count)) is p.1))
+              which (Contains-append_cases headers (allocated_numbers I L headers count) n (subst (Contains (headers ++ allocated_numbers I L headers count)) is p.1))
             where
-              which : Contains headers n ⊎ Contains (taken_numbers I L headers count) n → ⊥
+              which : Contains headers n ⊎ Contains (allocated_numbers I L headers count) n → ⊥
               which (inl c) = let low = (takes.own_kept I K L headers old count image S enough had g n c).1 in absurd (omega (arith, low, above))
               which (inr c) = not_taken c
 
   -- what the grown volume takes is what the volume takes
-  taken_before : Untouched → AreTaken (disk K M) (disk J M) headers old count → AreTaken (disk I L) (disk J M) headers old count
+  taken_before : Untouched → AreAllocated (disk K M) (disk J M) headers old count → AreAllocated (disk I L) (disk J M) headers old count
   taken_before away t = record {
     number = t.number;
     layout = sym (is_longer L X can.fits);
-    chain = subst (λ ns. HasHeaders J M t.number (headers ++ ns) (old ++ taken_blocks I L count)) numbers_same
-        (subst (λ bs. HasHeaders J M t.number (headers ++ taken_numbers K M headers count) (old ++ bs)) blocks_same t.chain);
+    chain = subst (λ ns. HasHeaders J M t.number (headers ++ ns) (old ++ allocated_blocks I L count)) numbers_same
+        (subst (λ bs. HasHeaders J M t.number (headers ++ allocated_numbers K M headers count) (old ++ bs)) blocks_same t.chain);
     pointers = ap (λ ns. chain_runs J M (headers ++ ns)) (sym numbers_same) ∙ t.pointers ∙ (λ i. runs_same headers own_same i ++ cut (blocks_same i));
     held = λ n v x. (λ h. held_after n v x ((t.held n v x).0 h), λ h. (t.held n v x).1 (held_before n v x h));
-    free = λ x. t.free x ∙ ap (λ l. is_free_block K M x && not (is_one_of l x)) just_taken ∙ ap (λ b. b && not (is_one_of (taken_blocks I L count) x)) (index.free_now image S can g x)
-        ∙ two_tests (is_free_block I L x) (is_one_of (taken_blocks I L count) x) (is_one_of X x)
-        ∙ ap (λ b. is_free_block I L x && not b) (sym (list_any-append (λ y. y == x) (taken_blocks I L count) X));
+    free = λ x. t.free x ∙ ap (λ l. is_free_block K M x && not (is_one_of l x)) just_taken ∙ ap (λ b. b && not (is_one_of (allocated_blocks I L count) x)) (index.free_now image S can g x)
+        ∙ two_tests (is_free_block I L x) (is_one_of (allocated_blocks I L count) x) (is_one_of X x)
+        ∙ ap (λ b. is_free_block I L x && not b) (sym (list_any-append (λ y. y == x) (allocated_blocks I L count) X));
     numbers = λ n. t.numbers n ∙ (λ i. takes.open_stays I K L headers old count image S enough had g (last_number M) n i && not (is_one_of (numbers_same i) n));
     bits = record {
       storage = λ x covered. t.bits.storage x covered ∙ ap (λ l. storage_bit K M x && not (is_one_of l x)) just_taken
-          ∙ ap (λ b. b && not (is_one_of (taken_blocks I L count) x)) (g.bits.storage x covered)
-          ∙ two_tests (storage_bit I L x) (is_one_of (taken_blocks I L count) x) (is_one_of X x)
-          ∙ ap (λ b. storage_bit I L x && not b) (sym (list_any-append (λ y. y == x) (taken_blocks I L count) X));
+          ∙ ap (λ b. b && not (is_one_of (allocated_blocks I L count) x)) (g.bits.storage x covered)
+          ∙ two_tests (storage_bit I L x) (is_one_of (allocated_blocks I L count) x) (is_one_of X x)
+          ∙ ap (λ b. storage_bit I L x && not b) (sym (list_any-append (λ y. y == x) (allocated_blocks I L count) X));
       index_bits = λ n. t.bits.index_bits n ∙ (λ i. index.used_stays image S can g n i || is_one_of (numbers_same i) n);
     };
     sequences = λ n c. t.sequences n (subst (λ ns. Contains ns n) (sym numbers_same) c) ∙ ap (λ s. s + 1) (takes.sequence_stays I K L headers old count image S enough had g n);
@@ -211,23 +211,23 @@ module _ (I K J : List (List ℕ)) (L : VolumeLayout) (headers old : List ℕ) (
       runs_same [] each = refl
       runs_same (h ∷ hs) each = λ i. runs_of (each h (first_in h hs) i) ++ runs_same hs (λ m c. each m (later_in h hs m c)) i
 
-      held_after : (n v x : ℕ) → Holds K M n v x ⊎ IsNextBlock t.number (length old) (taken_blocks K M count) n v x ⊎ IsNextBlock 1 (length M.index) (index_blocks K M headers count) n v x
-          → Holds I L n v x ⊎ IsNextBlock t.number (length old) (taken_blocks I L count) n v x ⊎ IsNextBlock 1 (length L.index) X n v x
+      held_after : (n v x : ℕ) → Holds K M n v x ⊎ IsNextBlock t.number (length old) (allocated_blocks K M count) n v x ⊎ IsNextBlock 1 (length M.index) (index_blocks K M headers count) n v x
+          → Holds I L n v x ⊎ IsNextBlock t.number (length old) (allocated_blocks I L count) n v x ⊎ IsNextBlock 1 (length L.index) X n v x
       held_after n v x (inl h) = by ((index.holds_now image S can g n v x).0 h)
         where
-          by : Holds I L n v x ⊎ IsNextBlock 1 (length L.index) X n v x → Holds I L n v x ⊎ IsNextBlock t.number (length old) (taken_blocks I L count) n v x ⊎ IsNextBlock 1 (length L.index) X n v x
+          by : Holds I L n v x ⊎ IsNextBlock 1 (length L.index) X n v x → Holds I L n v x ⊎ IsNextBlock t.number (length old) (allocated_blocks I L count) n v x ⊎ IsNextBlock 1 (length L.index) X n v x
           by (inl before) = inl before
           by (inr new) = inr (inr new)
       held_after n v x (inr (inl p)) = inr (inl (p.0, p.1, p.2, ap (λ l. slice_get l p.0) (sym blocks_same) ∙ p.3))
       held_after n v x (inr (inr p)) = let none : None ≡ Some x = sym (ap (λ l. slice_get l p.0) none_more) ∙ p.3 in absurd (cc)
 
-      held_before : (n v x : ℕ) → Holds I L n v x ⊎ IsNextBlock t.number (length old) (taken_blocks I L count) n v x ⊎ IsNextBlock 1 (length L.index) X n v x
-          → Holds K M n v x ⊎ IsNextBlock t.number (length old) (taken_blocks K M count) n v x ⊎ IsNextBlock 1 (length M.index) (index_blocks K M headers count) n v x
+      held_before : (n v x : ℕ) → Holds I L n v x ⊎ IsNextBlock t.number (length old) (allocated_blocks I L count) n v x ⊎ IsNextBlock 1 (length L.index) X n v x
+          → Holds K M n v x ⊎ IsNextBlock t.number (length old) (allocated_blocks K M count) n v x ⊎ IsNextBlock 1 (length M.index) (index_blocks K M headers count) n v x
       held_before n v x (inl h) = inl ((index.holds_now image S can g n v x).1 (inl h))
       held_before n v x (inr (inl p)) = inr (inl (p.0, p.1, p.2, ap (λ l. slice_get l p.0) blocks_same ∙ p.3))
       held_before n v x (inr (inr p)) = inl ((index.holds_now image S can g n v x).1 (inr p))
 
-      made_before : AreMade (disk K M) (disk J M) headers (taken_numbers K M headers count) → AreMade (disk I L) (disk J M) headers (taken_numbers K M headers count)
+      made_before : AreMade (disk K M) (disk J M) headers (allocated_numbers K M headers count) → AreMade (disk I L) (disk J M) headers (allocated_numbers K M headers count)
       made_before m = record {
         stays = λ i d low. subst (λ b. KeepsForm b (header_at J M (get_or headers i d))) (own_same (get_or headers i d) (Contains-get_or headers i d low)) (m.stays i d low);
         others = λ i d low. subst (λ b. KeepsFields b (header_at J M (get_or (drop 1 headers) i d))) (own_same (get_or (drop 1 headers) i d) (behind_first headers (get_or (drop 1 headers) i d) (Contains-get_or (drop 1 headers) i d low))) (m.others i d low);
@@ -282,25 +282,25 @@ module _ (I K J : List (List ℕ)) (L : VolumeLayout) (headers old : List ℕ) (
       (p.0, subst (λ c. IsSlot c (mark_at K M n old) p.0) (sym contents) (subst (λ b. IsSlot (contents_of I old) (mark_in (attributes_of b) (length old)) p.0) (sym header) p.1), p.2)
 
   -- what the request may change of the grown volume it may change
-  taking_before : (r : Request) → Wants I L r headers old count → Wants K M r headers old count → (x : ℕ) → TouchedByTaking (disk K M) r (disk J M) x → TouchedByTaking (disk I L) r (disk J M) x
+  taking_before : (r : Request) → Wants I L r headers old count → Wants K M r headers old count → (x : ℕ) → TouchedByAllocating (disk K M) r (disk J M) x → TouchedByAllocating (disk I L) r (disk J M) x
   taking_before r wants now x p =
       let same = wants_are_one K M r p.0 headers p.1 old p.2 count p.3 now in
       (headers, old, count, wants, at (subst (λ k. Cases headers k) same.2 (subst (λ hs. Cases hs p.2) same.0 p.4)))
     where
       Cases : List ℕ → ℕ → Type 0
-      Cases hs k = IsIndexBitmap M x ⊎ IsStorageBitmap M x ⊎ IsHeaderPlace M (hs ++ taken_numbers K M hs k) x ⊎ Contains (taken_blocks K M k) x ⊎ TouchedByIndex (disk K M) (index_blocks K M hs k) x
+      Cases hs k = IsIndexBitmap M x ⊎ IsStorageBitmap M x ⊎ IsHeaderPlace M (hs ++ allocated_numbers K M hs k) x ⊎ Contains (allocated_blocks K M k) x ⊎ TouchedByIndex (disk K M) (index_blocks K M hs k) x
 
       Before : Type 0
-      Before = IsIndexBitmap L x ⊎ IsStorageBitmap L x ⊎ IsHeaderPlace L (headers ++ taken_numbers I L headers count) x ⊎ Contains (taken_blocks I L count) x ⊎ TouchedByIndex (disk I L) X x
+      Before = IsIndexBitmap L x ⊎ IsStorageBitmap L x ⊎ IsHeaderPlace L (headers ++ allocated_numbers I L headers count) x ⊎ Contains (allocated_blocks I L count) x ⊎ TouchedByIndex (disk I L) X x
 
-      by_place : IsHeaderPlace L (headers ++ taken_numbers I L headers count) x ⊎ Contains X x → Before
+      by_place : IsHeaderPlace L (headers ++ allocated_numbers I L headers count) x ⊎ Contains X x → Before
       by_place (inl q) = inr (inr (inl q))
       by_place (inr c) = inr (inr (inr (inr (inl c))))
 
       at : Cases headers count → Before
       at (inl i) = inl i
       at (inr (inl s)) = inr (inl s)
-      at (inr (inr (inl q))) = by_place (header_place_in (headers ++ taken_numbers I L headers count) x (subst (λ ns. IsHeaderPlace M (headers ++ ns) x) numbers_same q))
+      at (inr (inr (inl q))) = by_place (header_place_in (headers ++ allocated_numbers I L headers count) x (subst (λ ns. IsHeaderPlace M (headers ++ ns) x) numbers_same q))
       at (inr (inr (inr (inl c)))) = inr (inr (inr (inl (subst (λ l. Contains l x) blocks_same c))))
       at (inr (inr (inr (inr (inl c))))) = absurd (none_empty x (subst (λ l. Contains l x) none_more c))
       at (inr (inr (inr (inr (inr q))))) = absurd (q.0 none_more)
@@ -313,13 +313,13 @@ module _ (I K J : List (List ℕ)) (L : VolumeLayout) (headers old : List ℕ) (
       by (inl p) = index.not_held image S can g 1 p.0 x p.1 c
       by (inr p) = index.not_held image S can g 2 p.0 x p.1 c
 
-  new_untaken : (r : Request) → Wants K M r headers old count → (x : ℕ) → Contains X x → ¬ IsHeaderPlace M (headers ++ taken_numbers I L headers count) x → ¬ TouchedByTaking (disk K M) r (disk J M) x
+  new_untaken : (r : Request) → Wants K M r headers old count → (x : ℕ) → Contains X x → ¬ IsHeaderPlace M (headers ++ allocated_numbers I L headers count) x → ¬ TouchedByAllocating (disk K M) r (disk J M) x
   new_untaken r now x c away p =
       let same = wants_are_one K M r p.0 headers p.1 old p.2 count p.3 now in
       at (subst (λ k. Cases headers k) same.2 (subst (λ hs. Cases hs p.2) same.0 p.4))
     where
       Cases : List ℕ → ℕ → Type 0
-      Cases hs k = IsIndexBitmap M x ⊎ IsStorageBitmap M x ⊎ IsHeaderPlace M (hs ++ taken_numbers K M hs k) x ⊎ Contains (taken_blocks K M k) x ⊎ TouchedByIndex (disk K M) (index_blocks K M hs k) x
+      Cases hs k = IsIndexBitmap M x ⊎ IsStorageBitmap M x ⊎ IsHeaderPlace M (hs ++ allocated_numbers K M hs k) x ⊎ Contains (allocated_blocks K M k) x ⊎ TouchedByIndex (disk K M) (index_blocks K M hs k) x
 
       at : Cases headers count → ⊥
       at (inl i) = system_apart x c (inl i)
@@ -330,7 +330,7 @@ module _ (I K J : List (List ℕ)) (L : VolumeLayout) (headers old : List ℕ) (
       at (inr (inr (inr (inr (inr q))))) = q.0 none_more
 
   -- a block that the growth changes, the request may change
-  growth_touched : (r : Request) → Wants I L r headers old count → X ≢ [] → (x : ℕ) → ¬ TouchedByTaking (disk I L) r (disk J M) x → block_at K x ≡ block_at I x
+  growth_touched : (r : Request) → Wants I L r headers old count → X ≢ [] → (x : ℕ) → ¬ TouchedByAllocating (disk I L) r (disk J M) x → block_at K x ≡ block_at I x
   growth_touched r wants some x away = g.others x
       (λ s. away (headers, old, count, wants, inr (inl s)))
       (λ p. away (headers, old, count, wants, inr (inr (inr (inr (inr (some, p)))))))
@@ -339,11 +339,11 @@ module _ (I K J : List (List ℕ)) (L : VolumeLayout) (headers old : List ℕ) (
   zeroed_before : (k : ℕ) → count ≡ k → AreZeroed (disk K M) (disk J M) k → AreZeroed (disk I L) (disk J M) k
   zeroed_before k is all =
       let P : ℕ → Type 0 = λ x. block_at J x ≡ zeros in
-      subst (λ n. All P (taken_blocks I L n)) is (subst (All P) blocks_same (subst (λ n. All P (taken_blocks K M n)) (sym is) all))
+      subst (λ n. All P (allocated_blocks I L n)) is (subst (All P) blocks_same (subst (λ n. All P (allocated_blocks K M n)) (sym is) all))
 
   created_before : (a : Answer) → IsCreatedId (disk K M) (disk J M) a → IsCreatedId (disk I L) (disk J M) a
   created_before (Created id) p =
-      let same : taken_numbers K M [] 0 ≡ taken_numbers I L [] 0 = ap (take (taken_count I L [] 0)) (takes.open_numbers_stay I K L headers old count image S enough had g) in
+      let same : allocated_numbers K M [] 0 ≡ allocated_numbers I L [] 0 = ap (take (allocated_count I L [] 0)) (takes.open_numbers_stay I K L headers old count image S enough had g) in
       (p.0, ap (λ l. slice_get l 0) (sym same) ∙ p.1)
   created_before (Extended n) p = p
   created_before (Truncated n) p = p
@@ -386,8 +386,8 @@ module _ (I K J : List (List ℕ)) (L : VolumeLayout) (headers old : List ℕ) (
   -- what a request that takes blocks moves and may change, of the grown volume and of the volume
   record IsBehind (r : Request) (a : Answer) : Type 0 where
     touched : (x : ℕ) → Touches (disk K M) r (disk J M) x → Touches (disk I L) r (disk J M) x
-    taking : (x : ℕ) → TouchedByTaking (disk I L) r (disk J M) x → Touches (disk I L) r (disk J M) x
-    away : (x : ℕ) → Contains X x → ¬ IsHeaderPlace M (headers ++ taken_numbers I L headers count) x → ¬ Touches (disk K M) r (disk J M) x
+    taking : (x : ℕ) → TouchedByAllocating (disk I L) r (disk J M) x → Touches (disk I L) r (disk J M) x
+    away : (x : ℕ) → Contains X x → ¬ IsHeaderPlace M (headers ++ allocated_numbers I L headers count) x → ¬ Touches (disk K M) r (disk J M) x
     moved : Untouched → Moves (disk K M) r a (disk J M) → Moves (disk I L) r a (disk J M)
 
   behind : (r : Request) (a : Answer) → IsNoMap headers → Wants I L r headers old count → IsBehind r a
@@ -443,10 +443,10 @@ module _ (I K J : List (List ℕ)) (L : VolumeLayout) (headers old : List ℕ) (
           held (inl h) = inr (inr (b.0, h))
           held (inr p) = let one = p.1 in let high = dir_is_high in absurd (omega (arith, one, high))
 
-      away_by : (x : ℕ) → Contains X x → ¬ IsHeaderPlace M (headers ++ taken_numbers I L headers count) x → Wants K M (Enter dir name version file) headers old count
+      away_by : (x : ℕ) → Contains X x → ¬ IsHeaderPlace M (headers ++ allocated_numbers I L headers count) x → Wants K M (Enter dir name version file) headers old count
           → ¬ Touches (disk K M) (Enter dir name version file) (disk J M) x
       away_by x c off now (inl t) = new_untaken (Enter dir name version file) now x c off t
-      away_by x c off now (inr (inl p)) = off (p.0, Contains-append_left headers (taken_numbers I L headers count) p.0 own, p.2)
+      away_by x c off now (inr (inl p)) = off (p.0, Contains-append_left headers (allocated_numbers I L headers count) p.0 own, p.2)
         where
           own : Contains headers p.0
           own = by (first_or_later dir.number [] p.0 p.1)

@@ -15,10 +15,10 @@ use Rattle.ods_space.specs.Free.{free_blocks, is_free_block}
 use Rattle.ods_alloc.specs.Extend.{is_one_of}
 use Rattle.ods_alloc.proofs.FreeTests.{free_number}
 use Rattle.ods_mount.specs.Sound.{IsSoundBy}
-use Rattle.ods_state.specs.Wants.{taken_blocks, taken_numbers}
+use Rattle.ods_state.specs.Wants.{allocated_blocks, allocated_numbers}
 use Rattle.ods_space.proofs.Chains.{head_of}
 use Rattle.ods_state.specs.Growth.{HadHeaders, IsTaking, all_headers}
-use Rattle.ods_state.proofs.OpenNumbers.{taken_number_is_free}
+use Rattle.ods_state.proofs.OpenNumbers.{allocated_number_is_free}
 
 -- an element of a list passes its test, and anything else does not
 pub one_of : (xs : List ℕ) (x : ℕ) → Contains xs x → is_one_of xs x ≡ true
@@ -64,25 +64,25 @@ later_segment I h index front k n (m ∷ ms) all f x c = by (later_segment I h i
     by rest (inr ne) = rest (Contains-tail m ms x ne c)
 
 -- what is taken was free
-pub taken_block_is_free : (I : List (List ℕ)) (L : VolumeLayout) (count x : ℕ) → Contains (taken_blocks I L count) x → IsTrue (is_free_block I L x)
+pub allocated_block_is_free : (I : List (List ℕ)) (L : VolumeLayout) (count x : ℕ) → Contains (allocated_blocks I L count) x → IsTrue (is_free_block I L x)
 unfolding free_blocks
-taken_block_is_free I L count x c =
-    All-contains (λ y. is_free_block I L y ≡ true) (taken_blocks I L count) x
+allocated_block_is_free I L count x c =
+    All-contains (λ y. is_free_block I L y ≡ true) (allocated_blocks I L count) x
     (All-take (λ y. is_free_block I L y ≡ true) count (free_blocks I L) (filter_passes (is_free_block I L) (range_with_len 0 (length I)))) c
 
 module _ {I : List (List ℕ)} {L : VolumeLayout} {n : ℕ} {headers old : List ℕ} {count : ℕ} {numbers : List ℕ} (S : IsSoundBy I L) (t : IsTaking I L n headers old count numbers) where
   -- all headers are the old ones and those that are taken
-  pub old_or_new : (m : ℕ) → Contains (all_headers n headers numbers) m → Contains headers m ⊎ Contains (taken_numbers I L headers count) m
-  old_or_new m c = Contains-append_cases headers (taken_numbers I L headers count) m (subst (λ l. Contains l m) t.all c)
+  pub old_or_new : (m : ℕ) → Contains (all_headers n headers numbers) m → Contains headers m ⊎ Contains (allocated_numbers I L headers count) m
+  old_or_new m c = Contains-append_cases headers (allocated_numbers I L headers count) m (subst (λ l. Contains l m) t.all c)
 
-  pub new_is_one : (m : ℕ) → Contains (taken_numbers I L headers count) m → Contains (all_headers n headers numbers) m
-  new_is_one m c = subst (λ l. Contains l m) (sym t.all) (Contains-append_right headers (taken_numbers I L headers count) m c)
+  pub new_is_one : (m : ℕ) → Contains (allocated_numbers I L headers count) m → Contains (all_headers n headers numbers) m
+  new_is_one m c = subst (λ l. Contains l m) (sym t.all) (Contains-append_right headers (allocated_numbers I L headers count) m c)
 
   pub first_is_one : Contains (all_headers n headers numbers) n
   first_is_one = (zero, omega arith, refl)
 
-  pub new_unused : (m : ℕ) → Contains (taken_numbers I L headers count) m → is_in_use I L.home m ≡ false
-  new_unused m c = (free_number I L m (taken_number_is_free I L headers count m t.no_growth c)).unused
+  pub new_unused : (m : ℕ) → Contains (allocated_numbers I L headers count) m → is_in_use I L.home m ≡ false
+  new_unused m c = (free_number I L m (allocated_number_is_free I L headers count m t.no_growth c)).unused
 
   -- a file that has a header had it in a chain
   abbrev HadIt : ℕ → Type 0
@@ -102,14 +102,14 @@ module _ {I : List (List ℕ)} {L : VolumeLayout} {n : ℕ} {headers old : List 
   pub others_apart : (m : ℕ) (ms bs : List ℕ) → IsFile I L m → IsChain I L m ms bs → ¬ Contains (all_headers n headers numbers) m → (x : ℕ) → Contains (m ∷ ms) x → ¬ Contains (all_headers n headers numbers) x
   others_apart m ms bs f chain none x c h = by (old_or_new x h)
     where
-      by : Contains headers x ⊎ Contains (taken_numbers I L headers count) x → ⊥
+      by : Contains headers x ⊎ Contains (allocated_numbers I L headers count) x → ⊥
       by (inl before) = let p = had_it x before in none (subst (Contains (all_headers n headers numbers)) (sym (S.apart m n ms p.1 bs old x f p.0 chain p.2.chain c p.3)) first_is_one)
       by (inr taken) = both_ways (is_in_use I L.home x) (new_unused x taken) (chain_in_use I L.home (index_for L m) [] 0 m ms bs chain x c)
 
   pub file_is_far : (m : ℕ) → IsFile I L m → m ≢ n → ¬ Contains (all_headers n headers numbers) m
   file_is_far m f ne h = by (old_or_new m h)
     where
-      by : Contains headers m ⊎ Contains (taken_numbers I L headers count) m → ⊥
+      by : Contains headers m ⊎ Contains (allocated_numbers I L headers count) m → ⊥
       by (inl before) =
           let p = had_it m before in
           let own = (S.chains m f).1 in
@@ -120,7 +120,7 @@ module _ {I : List (List ℕ)} {L : VolumeLayout} {n : ℕ} {headers old : List 
   pub new_is_no_file : headers ≡ [] → ¬ IsFile I L n
   new_is_no_file none f = by (old_or_new n first_is_one)
     where
-      by : Contains headers n ⊎ Contains (taken_numbers I L headers count) n → ⊥
+      by : Contains headers n ⊎ Contains (allocated_numbers I L headers count) n → ⊥
       by (inl before) = none_empty n (subst (λ l. Contains l n) none before)
       by (inr taken) = both_ways (is_in_use I L.home n) (new_unused n taken) f.in_use
 

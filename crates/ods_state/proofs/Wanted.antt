@@ -6,7 +6,7 @@ use Rattle.ods_request.specs.declared.requests.Request.{Request}
 use Rattle.ods_request.specs.declared.requests.Request.TheVariants.{Create, Extend, Truncate, Delete, Enter, LookUp, Remove, Read, Write, List as Lines, Stat, SetUser}
 use Rattle.ods_request.specs.declared.refusals.Refusal.{Refusal}
 use Rattle.ods_state.specs.Change.{disk}
-use Rattle.ods_state.specs.Moves.{AreTaken, MayTake}
+use Rattle.ods_state.specs.Moves.{AreAllocated, MayAllocate}
 use Rattle.ods_state.specs.Wants.{HasHeaders, Lacks, Wants, lack_of}
 use Rattle.ods_space.proofs.Chains.{same_chain}
 
@@ -32,13 +32,13 @@ wants_are_one I L (SetUser file attributes) hs ks bs cs m n p q = absurd p
 
 module _ (I : List (List ℕ)) (L : VolumeLayout) (r : Request) (headers old : List ℕ) (count : ℕ) (wants : Wants I L r headers old count) where
   -- it takes what it wants
-  pub may_take : (E : Disk) → AreTaken (disk I L) E headers old count → MayTake (disk I L) E r
+  pub may_take : (E : Disk) → AreAllocated (disk I L) E headers old count → MayAllocate (disk I L) E r
   may_take E got = (taken, λ none. absurd (none headers old count wants))
     where
-      taken : (hs bs : List ℕ) (k : ℕ) → Wants I L r hs bs k → AreTaken (disk I L) E hs bs k
+      taken : (hs bs : List ℕ) (k : ℕ) → Wants I L r hs bs k → AreAllocated (disk I L) E hs bs k
       taken hs bs k other =
           let same = wants_are_one I L r headers hs old bs count k wants other in
-          subst (λ l. AreTaken (disk I L) E l bs k) same.0 (subst (λ l. AreTaken (disk I L) E headers l k) same.1 (subst (AreTaken (disk I L) E headers old) same.2 got))
+          subst (λ l. AreAllocated (disk I L) E l bs k) same.0 (subst (λ l. AreAllocated (disk I L) E headers l k) same.1 (subst (AreAllocated (disk I L) E headers old) same.2 got))
 
   -- where this lacks nothing, nothing is lacking
   pub none_lacks : lack_of I L headers count ≡ None → (f : Refusal) → ¬ Lacks I L r f

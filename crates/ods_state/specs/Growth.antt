@@ -9,9 +9,9 @@ use Rattle.ods_header.specs.Pointing.{KeepsForm, KeepsRest}
 use Rattle.ods_space.specs.Layout.{VolumeLayout, header_at, place_of}
 use Rattle.ods_space.specs.Chain.{IsChain}
 use Rattle.ods_space.specs.Files.{IsFile}
-use Rattle.ods_alloc.specs.Extend.{IsBookkeeping, TakesBits, chain_runs, cut}
+use Rattle.ods_alloc.specs.Extend.{IsBookkeeping, AllocatesBits, chain_runs, cut}
 use Rattle.ods_state.specs.Links.{SameLinks}
-use Rattle.ods_state.specs.Wants.{HasHeaders, index_growth, lack_of, taken_blocks, taken_numbers}
+use Rattle.ods_state.specs.Wants.{HasHeaders, index_growth, lack_of, allocated_blocks, allocated_numbers}
 
 -- file n had these headers and blocks; or it is new and had none
 abbrev pub HadHeaders : List (List ℕ) → VolumeLayout → ℕ → List ℕ → List ℕ → Type 0
@@ -25,10 +25,10 @@ all_headers n headers numbers = n ∷ drop 1 headers ++ numbers
 pub record IsTaking (I : List (List ℕ)) (L : VolumeLayout) (n : ℕ) (headers old : List ℕ) (count : ℕ) (numbers : List ℕ) : Type 0 where
   pub above : 3 ≤ n
   pub before : HadHeaders I L n headers old
-  pub all : all_headers n headers numbers ≡ headers ++ taken_numbers I L headers count
+  pub all : all_headers n headers numbers ≡ headers ++ allocated_numbers I L headers count
   pub enough : lack_of I L headers count ≡ None
   -- INDEXF.SYS has a block for each number that is taken
-  pub no_growth : index_growth L (taken_numbers I L headers count) ≡ 0
+  pub no_growth : index_growth L (allocated_numbers I L headers count) ≡ 0
 
 -- c is written for the first header b of a file that is there: it links alike, and keeps its form and its pointers
 pub record IsKeptFirst (b c : List ℕ) (n : ℕ) : Type 0 where
@@ -59,17 +59,17 @@ IsFirstFor (h ∷ hs) b c n = IsKeptFirst b c n
 pub record IsReady (I K : List (List ℕ)) (L : VolumeLayout) (n : ℕ) (headers : List ℕ) (count : ℕ) : Type 0 where
   pub long : length K ≡ length I
   pub first : IsFirstFor headers (header_at I L n) (header_at K L n) n
-  pub elsewhere : (x : ℕ) → place_of L n ≢ Some x → ¬ Contains (taken_blocks I L count) x → block_at K x ≡ block_at I x
+  pub elsewhere : (x : ℕ) → place_of L n ≢ Some x → ¬ Contains (allocated_blocks I L count) x → block_at K x ≡ block_at I x
 
 -- J is I with the file grown
 pub record IsGrowth (I J : List (List ℕ)) (L : VolumeLayout) (n : ℕ) (headers old : List ℕ) (count : ℕ) (numbers : List ℕ) : Type 0 where
   pub taking : IsTaking I L n headers old count numbers
   pub long : length J ≡ length I
-  pub chain : IsChain J L n (drop 1 headers ++ numbers) (old ++ taken_blocks I L count)
-  pub pointers : chain_runs J L (all_headers n headers numbers) ≡ chain_runs I L headers ++ cut (taken_blocks I L count)
+  pub chain : IsChain J L n (drop 1 headers ++ numbers) (old ++ allocated_blocks I L count)
+  pub pointers : chain_runs J L (all_headers n headers numbers) ≡ chain_runs I L headers ++ cut (allocated_blocks I L count)
   -- each other header stays; of these the sequence numbers stay but for new ones, which have one more
   pub stays : (m : ℕ) → ¬ Contains (all_headers n headers numbers) m → header_at J L m ≡ header_at I L m
   pub kept : (m : ℕ) → Contains headers m → sequence_of (header_at J L m) ≡ sequence_of (header_at I L m)
-  pub raised : (m : ℕ) → Contains (taken_numbers I L headers count) m → sequence_of (header_at J L m) ≡ sequence_of (header_at I L m) + 1
-  pub bits : TakesBits I L (taken_blocks I L count) (all_headers n headers numbers) J
-  pub elsewhere : (x : ℕ) → ¬ IsBookkeeping L (all_headers n headers numbers) x → ¬ Contains (taken_blocks I L count) x → block_at J x ≡ block_at I x
+  pub raised : (m : ℕ) → Contains (allocated_numbers I L headers count) m → sequence_of (header_at J L m) ≡ sequence_of (header_at I L m) + 1
+  pub bits : AllocatesBits I L (allocated_blocks I L count) (all_headers n headers numbers) J
+  pub elsewhere : (x : ℕ) → ¬ IsBookkeeping L (all_headers n headers numbers) x → ¬ Contains (allocated_blocks I L count) x → block_at J x ≡ block_at I x

@@ -17,7 +17,7 @@ use Rattle.ods_request.specs.Catalogue.{Catalogue}
 use Rattle.ods_state.specs.Contents.{ShowsBy}
 use Rattle.ods_state.specs.Served.{IsStepOf}
 use Rattle.ods_state.specs.Version.{PastIsSpent}
-use Rattle.ods_state.specs.Wants.{Wants, index_blocks, index_end, index_growth, lack_of, taken_blocks, taken_numbers}
+use Rattle.ods_state.specs.Wants.{Wants, index_blocks, index_end, index_growth, lack_of, allocated_blocks, allocated_numbers}
 
 -- K is I with INDEXF.SYS grown by these blocks: they are zeros and marked as taken, its last header has pointers to them behind its own, and no other block changes
 abbrev pub GrowsIndex : List (List ℕ) → VolumeLayout → List ℕ → List (List ℕ) → Type 0
@@ -38,9 +38,9 @@ GrownIndexIsSound = (I K : List (List ℕ)) (L : VolumeLayout) (blocks : List �
 
 -- What a request takes is then what it took, each of its numbers has a block, and nothing is lacking.
 pub record WantsTheSame (I : List (List ℕ)) (L : VolumeLayout) (headers : List ℕ) (count : ℕ) (K : List (List ℕ)) (M : VolumeLayout) : Type 0 where
-  pub blocks : taken_blocks K M count ≡ taken_blocks I L count
-  pub numbers : taken_numbers K M headers count ≡ taken_numbers I L headers count
-  pub no_growth : index_growth M (taken_numbers K M headers count) ≡ 0
+  pub blocks : allocated_blocks K M count ≡ allocated_blocks I L count
+  pub numbers : allocated_numbers K M headers count ≡ allocated_numbers I L headers count
+  pub no_growth : index_growth M (allocated_numbers K M headers count) ≡ 0
   pub enough : lack_of K M headers count ≡ None
 
 -- a file that had these headers is none of the two maps

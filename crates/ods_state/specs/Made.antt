@@ -13,7 +13,7 @@ use Rattle.ods_directory.specs.declared.slot.Slot.{Slot}
 use Rattle.ods_directory.specs.Entry.{entry_at, is_used}
 use Rattle.ods_directory.specs.Mark.{IsSlot, grown, marked, written}
 use Rattle.ods_mount.specs.Faults.{contents_of, mark_at}
-use Rattle.ods_state.specs.Wants.{HasHeaders, index_end, taken_blocks}
+use Rattle.ods_state.specs.Wants.{HasHeaders, index_end, allocated_blocks}
 
 -- header n of a disk
 abbrev pub header_on : Disk → ℕ → List ℕ
@@ -47,7 +47,7 @@ pub record IndexGrows (D E : Disk) (blocks numbers : List ℕ) : Type 0 where
 
 -- the blocks that were taken are zeros
 abbrev pub AreZeroed : Disk → Disk → ℕ → Type 0
-AreZeroed D E count = All (λ lbn. block_at E.image lbn ≡ zeros) (taken_blocks D.image D.layout count)
+AreZeroed D E count = All (λ lbn. block_at E.image lbn ≡ zeros) (allocated_blocks D.image D.layout count)
 
 -- An entry was put into directory n: it stands at the slot, behind a block of zeros where the slot grows, and no other byte of the blocks changes.
 -- The mark is the slot's: where it moves it is written, with the count of blocks; else the attributes stay.

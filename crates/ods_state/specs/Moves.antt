@@ -18,8 +18,8 @@ use Rattle.ods_request.specs.declared.answers.Answer.{Answer}
 use Rattle.ods_request.specs.declared.answers.Answer.TheVariants.{Created, Entered, Removed}
 use Rattle.ods_space.specs.Chain.{IsChain}
 use Rattle.ods_header.specs.Writing.{deleted}
-use Rattle.ods_alloc.specs.Extend.{GivesBits, IsHeaderPlace, IsIndexBitmap, IsStorageBitmap, TakesBits, chain_runs, cut, is_one_of}
-use Rattle.ods_state.specs.Wants.{HasHeaders, Wants, index_blocks, index_end, taken_blocks, taken_numbers}
+use Rattle.ods_alloc.specs.Extend.{GivesBits, IsHeaderPlace, IsIndexBitmap, IsStorageBitmap, AllocatesBits, chain_runs, cut, is_one_of}
+use Rattle.ods_state.specs.Wants.{HasHeaders, Wants, index_blocks, index_end, allocated_blocks, allocated_numbers}
 use Rattle.ods_state.specs.Made.{AreMade, AreZeroed, IndexGrows, IsEnteredAt, IsErased, header_on}
 
 -- file n of a disk holds this LBN as this block
@@ -39,27 +39,27 @@ abbrev pub IsNextBlock : ℕ → ℕ → List ℕ → ℕ → ℕ → ℕ → Ty
 IsNextBlock m count blocks n vbn lbn = (k : ℕ) × (n ≡ m) × (vbn ≡ count + k + 1) × (slice_get blocks k ≡ Some lbn)
 
 -- Blocks and numbers were taken for a file that had these headers and blocks: its number is the first of all its headers. INDEXF.SYS got as many blocks as these numbers need.
-pub record AreTaken (D E : Disk) (headers blocks : List ℕ) (count : ℕ) : Type 0 where
+pub record AreAllocated (D E : Disk) (headers blocks : List ℕ) (count : ℕ) : Type 0 where
   pub number : ℕ
   pub layout : E.layout ≡ with_places D.layout (index_blocks D.image D.layout headers count)
-  pub chain : HasHeaders E.image E.layout number (headers ++ taken_numbers D.image D.layout headers count) (blocks ++ taken_blocks D.image D.layout count)
-  pub pointers : chain_runs E.image E.layout (headers ++ taken_numbers D.image D.layout headers count) ≡ chain_runs D.image D.layout headers ++ cut (taken_blocks D.image D.layout count)
+  pub chain : HasHeaders E.image E.layout number (headers ++ allocated_numbers D.image D.layout headers count) (blocks ++ allocated_blocks D.image D.layout count)
+  pub pointers : chain_runs E.image E.layout (headers ++ allocated_numbers D.image D.layout headers count) ≡ chain_runs D.image D.layout headers ++ cut (allocated_blocks D.image D.layout count)
   -- the file holds the blocks that it took behind its own, and so does INDEXF.SYS
   pub held : (n vbn lbn : ℕ) → holds_on E n vbn lbn
-      ↔ (holds_on D n vbn lbn ⊎ IsNextBlock number (length blocks) (taken_blocks D.image D.layout count) n vbn lbn
+      ↔ (holds_on D n vbn lbn ⊎ IsNextBlock number (length blocks) (allocated_blocks D.image D.layout count) n vbn lbn
       ⊎ IsNextBlock 1 (length D.layout.index) (index_blocks D.image D.layout headers count) n vbn lbn)
   pub free : (lbn : ℕ) → is_free_block E.image E.layout lbn
-      ≡ (is_free_block D.image D.layout lbn && not (is_one_of (taken_blocks D.image D.layout count ++ index_blocks D.image D.layout headers count) lbn))
+      ≡ (is_free_block D.image D.layout lbn && not (is_one_of (allocated_blocks D.image D.layout count ++ index_blocks D.image D.layout headers count) lbn))
   -- the numbers are counted up to the last for which INDEXF.SYS has a block now
   pub numbers : (n : ℕ) → is_free_number E.image E.layout n
-      ≡ (is_open_number D.image D.layout (last_number E.layout) n && not (is_one_of (taken_numbers D.image D.layout headers count) n))
+      ≡ (is_open_number D.image D.layout (last_number E.layout) n && not (is_one_of (allocated_numbers D.image D.layout headers count) n))
   -- of the two bitmaps just the bits of these change
-  pub bits : TakesBits D.image D.layout (taken_blocks D.image D.layout count ++ index_blocks D.image D.layout headers count) (taken_numbers D.image D.layout headers count) E.image
+  pub bits : AllocatesBits D.image D.layout (allocated_blocks D.image D.layout count ++ index_blocks D.image D.layout headers count) (allocated_numbers D.image D.layout headers count) E.image
   -- each new header has the old sequence number plus one; where there was no block for it, that was 0
-  pub sequences : (n : ℕ) → Contains (taken_numbers D.image D.layout headers count) n → sequence_of (header_on E n) ≡ sequence_of (header_on D n) + 1
+  pub sequences : (n : ℕ) → Contains (allocated_numbers D.image D.layout headers count) n → sequence_of (header_on E n) ≡ sequence_of (header_on D n) + 1
   -- and this is how its headers are made, and how INDEXF.SYS grows
-  pub made : AreMade D E headers (taken_numbers D.image D.layout headers count)
-  pub index : IndexGrows D E (index_blocks D.image D.layout headers count) (taken_numbers D.image D.layout headers count)
+  pub made : AreMade D E headers (allocated_numbers D.image D.layout headers count)
+  pub index : IndexGrows D E (index_blocks D.image D.layout headers count) (allocated_numbers D.image D.layout headers count)
 
 -- the blocks and the numbers of a file were given back
 pub record AreGivenBack (D E : Disk) (number : ℕ) : Type 0 where
@@ -113,7 +113,7 @@ pub record AreCutOff (D E : Disk) (number count : ℕ) : Type 0 where
 
 -- an ID that is created is the first number taken, with its new sequence number
 abbrev pub IsCreatedId : Disk → Disk → Answer → Type 0
-IsCreatedId D E (Created id) = (id.sequence ≡ sequence_of (header_on E id.number)) × (slice_get (taken_numbers D.image D.layout [] 0) 0 ≡ Some id.number)
+IsCreatedId D E (Created id) = (id.sequence ≡ sequence_of (header_on E id.number)) × (slice_get (allocated_numbers D.image D.layout [] 0) 0 ≡ Some id.number)
 IsCreatedId D E _ = Unit {0}
 
 -- The attributes of a new file are zeros; of a new directory they say that its records have 16 bytes, how many blocks it has, and that its names end at byte 0.
@@ -142,9 +142,9 @@ IsNameErased D E dir name (Removed file version) = IsErased D E dir.number (key_
 IsNameErased D E dir name _ = Unit {0}
 
 -- it takes blocks and they are taken, or it takes none and nothing moves
-abbrev pub MayTake : Disk → Disk → Request → Type 0
-MayTake D E r =
-    ((headers : List ℕ) (blocks : List ℕ) (count : ℕ) → Wants D.image D.layout r headers blocks count → AreTaken D E headers blocks count)
+abbrev pub MayAllocate : Disk → Disk → Request → Type 0
+MayAllocate D E r =
+    ((headers : List ℕ) (blocks : List ℕ) (count : ℕ) → Wants D.image D.layout r headers blocks count → AreAllocated D E headers blocks count)
     × (((headers : List ℕ) (blocks : List ℕ) (count : ℕ) → ¬ Wants D.image D.layout r headers blocks count) → NothingMoves D E)
 
 -- the first header of directory dir has other attributes at most, where the request takes no block
@@ -155,12 +155,12 @@ KeepsHeader D E r dir =
 -- what an accepted request moves and makes, case by case
 abbrev pub Moves : Disk → Request → Answer → Disk → Type 0
 Moves D (Create name version count stamp) a E =
-    MayTake D E (Create name version count stamp) × IsCreatedId D E a × HasNewAttributes E a name count × AreZeroed D E count
-Moves D (Extend file count) a E = MayTake D E (Extend file count) × AreZeroed D E count
+    MayAllocate D E (Create name version count stamp) × IsCreatedId D E a × HasNewAttributes E a name count × AreZeroed D E count
+Moves D (Extend file count) a E = MayAllocate D E (Extend file count) × AreZeroed D E count
 Moves D (Truncate file count) a E = AreCutOff D E file.number count
 Moves D (Delete file) a E = AreGivenBack D E file.number
 Moves D (Enter dir name version file) a E =
-    MayTake D E (Enter dir name version file) × KeepsHeader D E (Enter dir name version file) dir × IsNameEntered D E dir name file a
+    MayAllocate D E (Enter dir name version file) × KeepsHeader D E (Enter dir name version file) dir × IsNameEntered D E dir name file a
 Moves D (Remove dir name pick) a E = NothingMoves D E × (header_on E dir.number ≡ header_on D dir.number) × IsNameErased D E dir name a
 Moves D (LookUp dir name pick) a E = NothingMoves D E
 Moves D (Read file vbn) a E = NothingMoves D E
@@ -178,11 +178,11 @@ abbrev pub TouchedByIndex : Disk → List ℕ → ℕ → Type 0
 TouchedByIndex D blocks x = Contains blocks x ⊎ ((blocks ≢ []) × IsHeaderPlace D.layout (index_end D.image D.layout ∷ []) x)
 
 -- the request may change the block at x, where it takes blocks
-abbrev pub TouchedByTaking : Disk → Request → Disk → ℕ → Type 0
-TouchedByTaking D r E x =
+abbrev pub TouchedByAllocating : Disk → Request → Disk → ℕ → Type 0
+TouchedByAllocating D r E x =
     (headers : List ℕ) × (blocks : List ℕ) × (count : ℕ) × Wants D.image D.layout r headers blocks count
-    × (IsIndexBitmap D.layout x ⊎ IsStorageBitmap D.layout x ⊎ IsHeaderPlace D.layout (headers ++ taken_numbers D.image D.layout headers count) x
-    ⊎ Contains (taken_blocks D.image D.layout count) x ⊎ TouchedByIndex D (index_blocks D.image D.layout headers count) x)
+    × (IsIndexBitmap D.layout x ⊎ IsStorageBitmap D.layout x ⊎ IsHeaderPlace D.layout (headers ++ allocated_numbers D.image D.layout headers count) x
+    ⊎ Contains (allocated_blocks D.image D.layout count) x ⊎ TouchedByIndex D (index_blocks D.image D.layout headers count) x)
 
 -- the request may change the block at x, where it gives back what file n has
 abbrev pub TouchedByGiving : Disk → ℕ → ℕ → Type 0
@@ -192,12 +192,12 @@ TouchedByGiving D n x =
 
 -- the request may change the block at x
 abbrev pub Touches : Disk → Request → Disk → ℕ → Type 0
-Touches D (Create name version count stamp) E x = TouchedByTaking D (Create name version count stamp) E x
-Touches D (Extend file count) E x = TouchedByTaking D (Extend file count) E x
+Touches D (Create name version count stamp) E x = TouchedByAllocating D (Create name version count stamp) E x
+Touches D (Extend file count) E x = TouchedByAllocating D (Extend file count) E x
 Touches D (Truncate file count) E x = TouchedByGiving D file.number x
 Touches D (Delete file) E x = TouchedByGiving D file.number x
 Touches D (Enter dir name version file) E x =
-    TouchedByTaking D (Enter dir name version file) E x ⊎ IsHeaderPlace D.layout (dir.number ∷ []) x ⊎ IsBlockOf D dir.number x
+    TouchedByAllocating D (Enter dir name version file) E x ⊎ IsHeaderPlace D.layout (dir.number ∷ []) x ⊎ IsBlockOf D dir.number x
 Touches D (Remove dir name pick) E x = IsBlockOf D dir.number x
 Touches D (Write file vbn block) E x = holds_on D file.number vbn x
 Touches D (SetUser file attributes) E x = IsHeaderPlace D.layout (file.number ∷ []) x

@@ -50,12 +50,12 @@ new_headers zero room runs = 1 + headers_needed (room / 2) runs
 new_headers (suc headers) room runs = headers_needed (room / 2) runs
 
 -- the blocks that are taken: the n lowest free ones, lowest first; all that are free where they are fewer
-abbrev pub taken_blocks : List (List ℕ) → VolumeLayout → ℕ → List ℕ
-taken_blocks I L n = take n (free_blocks I L)
+abbrev pub allocated_blocks : List (List ℕ) → VolumeLayout → ℕ → List ℕ
+allocated_blocks I L n = take n (free_blocks I L)
 
 -- how many new headers a file takes to get n blocks, where it has so many headers, and this room in words behind the pointers of the last
 abbrev pub count_for : List (List ℕ) → VolumeLayout → ℕ → ℕ → ℕ → ℕ
-count_for I L headers room n = new_headers headers room (length (cut (taken_blocks I L n)))
+count_for I L headers room n = new_headers headers room (length (cut (allocated_blocks I L n)))
 
 -- the numbers of the new headers that a file takes to get n blocks, lowest first: free ones, and then such for which INDEXF.SYS has no block yet
 abbrev pub numbers_for : List (List ℕ) → VolumeLayout → ℕ → ℕ → ℕ → List ℕ
@@ -87,16 +87,16 @@ lack_for I L headers room n = first_of (
     ∷ (nat_lt 256 (headers + count_for I L headers room n), refusal.ChainFull) ∷ [])
 
 -- how many new headers the file with these headers takes to get n blocks
-abbrev pub taken_count : List (List ℕ) → VolumeLayout → List ℕ → ℕ → ℕ
-taken_count I L headers n = count_for I L (length headers) (room_in I L headers) n
+abbrev pub allocated_count : List (List ℕ) → VolumeLayout → List ℕ → ℕ → ℕ
+allocated_count I L headers n = count_for I L (length headers) (room_in I L headers) n
 
 -- the numbers of these new headers, lowest first
-abbrev pub taken_numbers : List (List ℕ) → VolumeLayout → List ℕ → ℕ → List ℕ
-taken_numbers I L headers n = numbers_for I L (length headers) (room_in I L headers) n
+abbrev pub allocated_numbers : List (List ℕ) → VolumeLayout → List ℕ → ℕ → List ℕ
+allocated_numbers I L headers n = numbers_for I L (length headers) (room_in I L headers) n
 
 -- the blocks that INDEXF.SYS gets for these new headers
 abbrev pub index_blocks : List (List ℕ) → VolumeLayout → List ℕ → ℕ → List ℕ
-index_blocks I L headers n = blocks_behind I L (taken_numbers I L headers n) n
+index_blocks I L headers n = blocks_behind I L (allocated_numbers I L headers n) n
 
 -- what the volume lacks for the file with these headers to get n blocks
 abbrev pub lack_of : List (List ℕ) → VolumeLayout → List ℕ → ℕ → Option Refusal

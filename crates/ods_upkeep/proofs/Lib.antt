@@ -1,4 +1,15 @@
+pub mod Again
+pub mod Counting
+pub mod Cutting
+pub mod Directing
+pub mod Doing
 pub mod Hiding
+pub mod Listings
 pub mod Lists
+pub mod MayBe
+pub mod Moves
+pub mod Naming
+pub mod OneNaming
 pub mod PutLists
 pub mod Made
+pub mod Gone

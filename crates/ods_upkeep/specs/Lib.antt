@@ -1,6 +1,13 @@
+pub mod Counted
+pub mod Cut
 pub mod Hidden
 pub mod Kinds
 pub mod Left
 pub mod Made
+pub mod Moved
+pub mod Once
 pub mod Pieces
 pub mod PutFor
+pub mod Removed
+pub mod Sources
+pub mod Target

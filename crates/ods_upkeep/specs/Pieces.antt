@@ -7,14 +7,15 @@ use Rattle.ods_records.specs.declared.faults.TextFault.TheVariants as text
 use Rattle.ods_shell.specs.declared.status.Status.{Status}
 use Rattle.ods_shell.specs.declared.status.Status.TheVariants.{Words, Host, Refused}
 use Rattle.ods_shell.specs.declared.facts.Facts.{Facts}
+use Rattle.ods_shell.specs.declared.found.EntryPlace.{EntryPlace}
+use Rattle.ods_shell.specs.Found.{HasPathStatus}
 use Rattle.ods_upkeep.specs.declared.failure.Why.{Why}
-use Rattle.ods_upkeep.specs.declared.found.Place.{Place}
-use Rattle.ods_upkeep.specs.declared.failure.Why.TheVariants.{Path, Request, Text, Put, BadName, IsDirectory, DirectoryType, DirectoryThere, IntoItself, IsId, NoVersion, Several, IsNamed, PastEnd, Hidden}
+use Rattle.ods_upkeep.specs.declared.failure.Why.TheVariants.{Path, Request, Text, Put, BadName, IsDirectory, DirectoryType, DirectoryThere, IntoItself, IsId, Several, IsNamed, PastEnd, Hidden}
 use Rattle.ods_upkeep.specs.PutFor.{HasPutStatus}
 
 -- The exit status of a refusal: want of memory is the host's, words that mean nothing are wrong words, and what is asked for and is not done is refused. That of a path is the path's own.
 abbrev pub HasStatus : Why → Status → Type 0
-HasStatus (Path fault) s = Unit {0}
+HasStatus (Path fault) s = HasPathStatus fault s
 HasStatus (Request refusal.NoMemory) s = s ≡ Host
 HasStatus (Request reason) s = s ≡ Refused
 HasStatus (Text text.NoMemory) s = s ≡ Host
@@ -22,7 +23,6 @@ HasStatus (Text fault) s = s ≡ Refused
 HasStatus (Put fault) s = HasPutStatus fault s
 HasStatus BadName s = s ≡ Words
 HasStatus IsId s = s ≡ Words
-HasStatus NoVersion s = s ≡ Words
 HasStatus Several s = s ≡ Words
 HasStatus IsDirectory s = s ≡ Refused
 HasStatus DirectoryType s = s ≡ Refused
@@ -40,8 +40,8 @@ abbrev pub last_part : List ℕ → List ℕ
 last_part path = after_last ends_folder path
 
 -- the entry stays: it stands in the master directory, file 4, and names a file of the volume's own, 1 to 5
-pub record Stays (place : Option Place) (facts : Option Facts) : Type 0 where
-  pub at : Place
+pub record Stays (place : Option EntryPlace) (facts : Option Facts) : Type 0 where
+  pub at : EntryPlace
   pub file : Facts
   pub entry : place ≡ Some at
   pub known : facts ≡ Some file

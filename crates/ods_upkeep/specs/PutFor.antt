@@ -1,12 +1,13 @@
 -- How a host file is put: with which attributes, why it is not, and for whom.
-use Rattle.std.specs.Prelude.{◌≡◌, ◌≢◌, ◌⊎◌, ℕ, ◌<◌, ◌≤◌, if◌then◌else◌, nat_le, List, ◌++◌, take, drop, Option, Some, None}
+use Rattle.std.specs.Prelude.{◌≡◌, ◌≢◌, ◌⊎◌, ℕ, ◌<◌, ◌≤◌, if◌then◌else◌, nat_le, List, ◌++◌, take, drop, Option, Some, unwrap_or}
 use Rattle.ods_base.specs.declared.file_id.FileId.{FileId}
 use Rattle.ods_base.specs.declared.file_id.Uic.{Uic}
-use Rattle.ods_base.specs.Name.{RadName}
 use Rattle.ods_request.specs.declared.requests.Request.{Request}
 use Rattle.ods_request.specs.declared.requests.Request.TheVariants.{Enter}
+use Rattle.ods_request.specs.Catalogue.{Plain}
 use Rattle.ods_filing.specs.Filed.{Filed, for_another}
 use Rattle.ods_filing.specs.Led.{IsLed, IsObeyed, Fills}
+use Rattle.ods_filing.specs.Put.{Heading, IsAdded, blocks_with}
 use Rattle.ods_records.specs.Attributes.{kind_in}
 use Rattle.ods_records.specs.Faults.{IsFirstFault}
 use Rattle.ods_records.specs.Lines.{longest_of}
@@ -38,20 +39,22 @@ IsUnfit own bytes (Untyped character) = ⊥
 abbrev pub like_greater : List ℕ → List ℕ → List ℕ
 like_greater attributes others = if nat_le (word_at attributes 2) (word_at others 2) then take 4 others ++ drop 4 attributes else take 2 others ++ drop 2 attributes
 
--- a file is entered
-abbrev pub IsEnter : Request → Type 0
-IsEnter r = (dir : FileId) × ((name : RadName) × ((version : Option ℕ) × ((file : FileId) × (r ≡ Enter dir name version file))))
-
--- A file is made for its owner by the owner, and entered by the user who asks.
-pub record IsMadeFor (owner : Uic) (old new : Filed) : Type 0 where
+-- A file is made for its owner by the owner, with this heading, these attributes and these bytes, and entered by the user who asks.
+pub record IsMadeFor (owner : Uic) (dir : FileId) (version : Option ℕ) (heading : Heading) (attributes bytes : List ℕ) (file : FileId) (old new : Filed) : Type 0 where
   -- what the owner's requests leave
   pub made : Filed
   pub filled : IsLed Fills (for_another old owner) made
-  pub entering : Request
-  pub entered : IsObeyed (for_another made old.user) entering new
-  pub enters : IsEnter entering
+  pub added : IsAdded (for_another old owner) heading file (Plain attributes (blocks_with bytes)) made
+  pub entered : IsObeyed (for_another made old.user) (Enter dir heading.name version file) new
 
--- What putting a file leaves: requests of the user, where he is the owner too; else some of his, the file made for the owner, and nothing more.
-abbrev pub IsPut : (Request → Type 0) → Option Uic → Filed → Filed → Type 0
-IsPut Allows None old new = IsLed Allows old new
-IsPut Allows (Some owner) old new = (mid : Filed) × IsLed Allows old mid × IsMadeFor owner mid new
+-- What putting a file leaves: requests of the user, then a file that is made for the owner who is said, or else for the user, and nothing more.
+pub record IsPut (Allows : Request → Type 0) (said : Option Uic) (old new : Filed) : Type 0 where
+  pub mid : Filed
+  pub before : IsLed Allows old mid
+  pub dir : FileId
+  pub version : Option ℕ
+  pub heading : Heading
+  pub attributes : List ℕ
+  pub bytes : List ℕ
+  pub file : FileId
+  pub made : IsMadeFor (unwrap_or said old.user) dir version heading attributes bytes file mid new

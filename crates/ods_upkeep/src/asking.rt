@@ -1,24 +1,38 @@
 //! Requests of a command: the first one that is refused ends it.
-ghost use Rattle.std.specs.Prelude.{◌≡◌, ℕ, IfOk, OnOk, Some};
+ghost use Rattle.std.specs.Prelude.{◌≡◌, ℕ, IfOk, OnErr, OnOk, Some};
 ghost use Rattle.ods_state.specs.Outcome.{CanBeAsked};
 ghost use Rattle.ods_filing.specs.Filed.{IsDone};
-ghost use Rattle.ods_filing.specs.Led.{IsAsked, IsLed, IsObeyed};
-ghost use Rattle.ods_upkeep.specs.Kinds.{Copies};
+ghost use Rattle.ods_filing.specs.Led.{IsAsked, IsObeyed};
+ghost use Rattle.ods_filing.specs.Put.{heading_of};
+ghost use Rattle.ods_upkeep.specs.PutFor.{IsMadeFor};
 
 use crate::failure::Why;
-use ods_base::{DIRECTORY_TYPE, FileId, Name, Pick};
+use ods_base::{DIRECTORY_TYPE, FileId, LAST_VERSION, Name, Pick, Uic};
 use ods_filing::{Filing, NewFile, put_file};
 use ods_request::{Answer, Refusal, Request};
 
 /// Makes a request.
 pub(crate) fn make(filing: &mut Filing, request: Request) -> Result<Answer, Why>
     requires { CanBeAsked request }
-    ensures { IfOk result (λ a. IsDone filing.old request a filing.new) }
+    ensures done { IfOk result (λ a. IsDone filing.old request a filing.new) }
+    ensures asked { IsAsked filing.old request filing.new }
+    ensures unchanged { OnErr result (filing.new ≡ filing.old) }
 {
     match filing.request(&request) {
         Ok(answer) => Ok(answer),
         Err(refusal) => Err(Why::Request(refusal)),
     }
+}
+
+/// Makes a request whose answer is not wanted.
+pub(crate) fn obey(filing: &mut Filing, request: Request) -> Result<(), Why>
+    requires { CanBeAsked request }
+    ensures done { OnOk result (IsObeyed filing.old request filing.new) }
+    ensures asked { IsAsked filing.old request filing.new }
+    ensures unchanged { OnErr result (filing.new ≡ filing.old) }
+{
+    let _answer = make(filing, request)?;
+    Ok(())
 }
 
 /// Enters a file in a directory. A version that is given is 1 to 32,767, or the request is refused.
@@ -29,14 +43,15 @@ pub(crate) fn enter(
     version: Option<u16>,
     file: FileId,
 ) -> Result<(), Why>
-    ensures { OnOk result (IsObeyed filing.old (Request.Enter dir name version file) filing.new) }
+    ensures done { OnOk result (IsObeyed filing.old (Request.Enter dir name version file) filing.new) }
+    ensures asked { IsAsked filing.old (Request.Enter dir name version file) filing.new }
 {
     if let Some(version) = version {
-        if version == 0 || version > 32_767 {
+        if version == 0 || version > LAST_VERSION {
             return Err(Why::Request(Refusal::VersionsFull));
         }
     }
-    let _entered = make(
+    obey(
         filing,
         Request::Enter {
             dir,
@@ -44,31 +59,30 @@ pub(crate) fn enter(
             version,
             file,
         },
-    )?;
-    Ok(())
+    )
 }
 
 /// Removes this very entry.
 pub(crate) fn remove(filing: &mut Filing, dir: FileId, name: Name, version: u16) -> Result<(), Why>
-    ensures { OnOk result (IsObeyed filing.old (Request.Remove dir name (Pick.Exact version)) filing.new) }
+    ensures done { OnOk result (IsObeyed filing.old (Request.Remove dir name (Pick.Exact version)) filing.new) }
+    ensures asked { IsAsked filing.old (Request.Remove dir name (Pick.Exact version)) filing.new }
 {
-    let _removed = make(
+    obey(
         filing,
         Request::Remove {
             dir,
             name,
             pick: Pick::Exact(version),
         },
-    )?;
-    Ok(())
+    )
 }
 
 /// Deletes a file.
 pub(crate) fn delete(filing: &mut Filing, file: FileId) -> Result<(), Why>
-    ensures { OnOk result (IsObeyed filing.old (Request.Delete file) filing.new) }
+    ensures done { OnOk result (IsObeyed filing.old (Request.Delete file) filing.new) }
+    ensures asked { IsAsked filing.old (Request.Delete file) filing.new }
 {
-    let _deleted = make(filing, Request::Delete { file })?;
-    Ok(())
+    obey(filing, Request::Delete { file })
 }
 
 /// The file and the version that stand under a name, where the user may see it.
@@ -86,22 +100,27 @@ pub(crate) fn look_up(
     }
 }
 
-/// Puts a new file, and enters it: under this version, or the next one. Its ident has the version too.
+/// Puts a new file, which its owner makes, and the user who asks enters: under this version, or the next one. Its ident has its own version.
 pub(crate) fn put_new(
     filing: &mut Filing,
+    owner: Uic,
     dir: FileId,
     version: Option<u16>,
     file: &NewFile<'_>,
 ) -> Result<FileId, Why>
-    ensures { OnOk result (IsLed Copies filing.old filing.new) }
+    ensures { IfOk result (λ id. IsMadeFor owner dir version (heading_of file.now) file.now.attributes file.now.bytes.now id filing.old filing.new) }
 {
     if file.name.ext() == DIRECTORY_TYPE {
         return Err(Why::DirectoryType);
     }
-    if file.version == 0 || file.version > 32_767 {
+    if file.version == 0 || file.version > LAST_VERSION {
         return Err(Why::Request(Refusal::VersionsFull));
     }
-    match put_file(filing, file) {
+    let user = filing.user();
+    filing.set_user(owner);
+    let made = put_file(filing, file);
+    filing.set_user(user);
+    match made {
         Ok(id) => {
             enter(filing, dir, file.name, version, id)?;
             Ok(id)

@@ -5,18 +5,16 @@ ghost use Rattle.ods_upkeep.specs.Pieces.{like_those, with_end};
 ghost use Rattle.ods_upkeep.specs.PutFor.{like_greater as like_the_greater};
 
 use crate::failure::Why;
+use ods_base::MAX_BYTES;
 use ods_records::{binary_attributes, end_of_file, record_size};
 use ods_request::Refusal;
-
-/// As many bytes as the blocks of an image have, and one more.
-const TOO_MANY: u64 = 536_870_912;
 
 /// These attributes with the end of file behind so many bytes: F.HIBK, F.EFBK and F.FFBY are set.
 pub(crate) fn ending_at(attributes: [u8; 32], bytes: u64) -> Result<[u8; 32], Why>
     ensures ok { IfOk result (λ new. new ≡ with_end attributes bytes) }
-    ensures err { IfErr result (λ why. (why ≡ Why.Request Refusal.VolumeFull) × (TOO_MANY ≤ bytes)) }
+    ensures err { IfErr result (λ why. (why ≡ Why.Request Refusal.VolumeFull) × (MAX_BYTES ≤ bytes)) }
 {
-    if bytes >= TOO_MANY {
+    if bytes >= MAX_BYTES as u64 {
         return Err(Why::Request(Refusal::VolumeFull));
     }
     let made = binary_attributes(bytes);
@@ -63,7 +61,7 @@ pub(crate) fn like_greater(attributes: [u8; 32], other: &[u8; 32]) -> [u8; 32]
 }
 
 /// Attributes whose first four bytes are these, and all else zeros.
-pub(crate) fn said(form: [u8; 4]) -> [u8; 32]
+pub(crate) fn attributes_of_form(form: [u8; 4]) -> [u8; 32]
     ensures { result ≡ form ++ replicate 28 0 }
 {
     let mut new = [0; 32];

@@ -1,14 +1,14 @@
 //! `cp`: files are made that have the blocks and the attributes of others.
-ghost use Rattle.std.specs.Prelude.{OnOk};
+ghost use Rattle.std.specs.Prelude.{IfOk, OnOk};
 ghost use Rattle.ods_filing.specs.Led.{IsLed};
-ghost use Rattle.ods_upkeep.specs.Kinds.{Copies};
+ghost use Rattle.ods_upkeep.specs.{Kinds.Copies, Target.IsTarget};
 
 use crate::asking::{next_version, put_new};
 use crate::attributes::true_for;
 use crate::failure::{Failure, Why, of_path};
-use crate::found::Found;
 use crate::sources::sources;
-use crate::target::{Target, read_target};
+use crate::target::Target;
+use crate::targets::read_target;
 use ods_base::{DIRECTORY_TYPE, FileId, Name, Uic, parse_name};
 use ods_files::{FileBody, FileFault, Form};
 use ods_filing::{Filing, NewFile};
@@ -16,7 +16,7 @@ use ods_header::print_ident;
 use ods_mount::Mounted;
 use ods_paths::Versions;
 use ods_request::{Refusal, Right, Stamp, permits};
-use ods_shell::{Facts, Kind, PathFault};
+use ods_shell::{Facts, Found, Kind, PathFault};
 use ods_space::ChainFault;
 use std::alloc::Global;
 
@@ -53,7 +53,9 @@ pub(crate) fn target_of(
     volume: &Mounted,
     count: usize,
     to: &str,
-) -> Result<Target, Failure> {
+) -> Result<Target, Failure>
+    ensures { IfOk result (IsTarget volume.now.image volume.now.layout count to.now) }
+{
     match read_target(alloc, volume, to) {
         Ok(target) => {
             if count > 1 && target.name.is_some() {
@@ -118,7 +120,8 @@ fn copy(
 ) -> Result<(), Why>
     ensures { OnOk result (IsLed Copies filing.old filing.new) }
 {
-    let facts = check(found, target, filing.user())?;
+    let user = filing.user();
+    let facts = check(found, target, user)?;
     let name = new_name(found, target, &facts)?;
     let bytes = all_bytes(alloc, filing, facts.file)?;
     let attributes = true_for(facts.attributes, facts.blocks)?;
@@ -130,7 +133,7 @@ fn copy(
         attributes,
         bytes: &bytes,
     };
-    let _copy = put_new(filing, target.directory, target.version, &file)?;
+    let _copy = put_new(filing, user, target.directory, target.version, &file)?;
     Ok(())
 }
 

@@ -6,19 +6,19 @@ ghost use Rattle.ods_upkeep.specs.{Kinds.MakesDirectories, Kinds.Removes, Hidden
 use crate::Removal;
 use crate::asking::{enter, make};
 use crate::failure::{Failure, Why, of_path};
-use crate::found::{Found, LAST_OWN, MASTER, by_names};
 use crate::hidden::hides_entries;
 use crate::meant::{Meant, path_text, read_meant};
 use crate::names::{Names, is_directory_file};
+use crate::own_files::{LAST_OWN, MASTER};
 use crate::owners::owner_of;
 use crate::removing::remove_one;
-use crate::target::{name_of, the_directory};
+use crate::targets::{name_of, the_directory};
 use ods_base::{FileId, Name, Uic};
 use ods_filing::Filing;
 use ods_mount::Mounted;
 use ods_paths::{Files, Place, Versions, has_wildcard};
 use ods_request::{Answer, Refusal, Request, Stamp};
-use ods_shell::{Kind, PathFault};
+use ods_shell::{Found, Kind, PathFault, find_names};
 use ods_walk::listing;
 use std::alloc::Global;
 
@@ -110,7 +110,7 @@ fn new_place(alloc: Global, volume: &Mounted, path: &str) -> Result<(FileId, Nam
     if dir.number == MASTER && meant.name.as_slice() == b"000000".as_slice() {
         return Err(Why::Request(Refusal::Reserved));
     }
-    match found(alloc, volume, &meant, Versions::Every) {
+    match find_meant(alloc, volume, &meant, Versions::Every) {
         Ok(_) => return Err(Why::DirectoryThere),
         Err(Why::Path(PathFault::Nothing)) => {}
         Err(why) => return Err(why),
@@ -122,7 +122,7 @@ fn new_place(alloc: Global, volume: &Mounted, path: &str) -> Result<(FileId, Nam
 }
 
 /// The entries that are meant, in these versions.
-fn found(
+fn find_meant(
     alloc: Global,
     volume: &Mounted,
     meant: &Meant<'_>,
@@ -133,13 +133,14 @@ fn found(
         kind: b"DIR",
         versions: Some(versions),
     };
-    by_names(alloc, volume, &meant.folder, files, None)
+    let (found, _) = find_names(alloc, volume, &meant.folder, files, None, &[])?;
+    Ok(found)
 }
 
 /// Removes empty directories, one after another: a later one may have held an earlier one.
 pub fn remove_directories(alloc: Global, filing: &mut Filing, paths: &[&str]) -> Result<(), Failure>
-    // It is what Remove and Delete leave.
-    ensures { OnOk result (IsLed (Removes false) filing.old filing.new) }
+    // Refused or not, it is what Remove and Delete leave.
+    ensures { IsLed (Removes false) filing.old filing.new }
 {
     for path in paths {
         remove_path(alloc, filing, path)?;
@@ -149,9 +150,9 @@ pub fn remove_directories(alloc: Global, filing: &mut Filing, paths: &[&str]) ->
 
 /// Removes the directories of a path.
 fn remove_path(alloc: Global, filing: &mut Filing, path: &str) -> Result<(), Failure>
-    ensures { OnOk result (IsLed (Removes false) filing.old filing.new) }
+    ensures { IsLed (Removes false) filing.old filing.new }
 {
-    let all = match removed(alloc, filing.mounted(), path) {
+    let all = match find_removed(alloc, filing.mounted(), path) {
         Ok(all) => all,
         Err(why) => return Err(of_path(alloc, path, why)),
     };
@@ -177,10 +178,10 @@ fn remove_path(alloc: Global, filing: &mut Filing, path: &str) -> Result<(), Fai
 }
 
 /// The entries that a path of `rmdir` means.
-fn removed(alloc: Global, volume: &Mounted, path: &str) -> Result<Vec<Found>, Why> {
+fn find_removed(alloc: Global, volume: &Mounted, path: &str) -> Result<Vec<Found>, Why> {
     let text = path_text(alloc, path)?;
     let meant = read_meant(alloc, text.as_bytes())?;
-    found(alloc, volume, &meant, Versions::Highest)
+    find_meant(alloc, volume, &meant, Versions::Highest)
 }
 
 /// Why this is no empty directory that may go.

@@ -43,9 +43,6 @@ pub enum Why {
     /// An ID, where a name is wanted.
     #[error("a name is wanted, and no ID: 'find' shows the names of all files")]
     IsId,
-    /// Names would be removed of which no version is said.
-    #[error("no version is said: say ';*' (in quotes) for all, or --newest")]
-    NoVersion,
     /// Patterns, several files or directories, or several versions, where one is wanted.
     #[error("more than one is meant, where one is wanted: say it without * and ?")]
     Several,
@@ -106,7 +103,10 @@ impl From<Refusal> for Why {
 
 impl From<PathFault> for Why {
     fn from(fault: PathFault) -> Why {
-        Why::Path(fault)
+        match fault {
+            PathFault::NoMemory => Why::Request(Refusal::NoMemory),
+            fault => Why::Path(fault),
+        }
     }
 }
 
@@ -137,7 +137,7 @@ impl Why {
             Why::Path(fault) => fault.status(),
             Why::Put(fault) => fault.status(),
             Why::Request(Refusal::NoMemory) | Why::Text(TextFault::NoMemory) => Status::Host,
-            Why::BadName | Why::IsId | Why::NoVersion | Why::Several => Status::Words,
+            Why::BadName | Why::IsId | Why::Several => Status::Words,
             Why::Request(_)
             | Why::Text(_)
             | Why::IsDirectory

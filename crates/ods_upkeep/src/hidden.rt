@@ -8,7 +8,7 @@ use crate::names::is_directory_file;
 use ods_directory::{DirBlocks, has_hidden, mark_of};
 use ods_header::attributes;
 use ods_mount::{FileBlocks, Mounted};
-use ods_space::{ChainFault, Disk, chain, first_header};
+use ods_space::{ChainFault, Disk, chain, primary_header};
 use std::alloc::{AllocError, Global};
 
 /// Whether the number is that of a directory whose end mark hides used entries.
@@ -34,7 +34,7 @@ fn directory_hides(alloc: Global, disk: &Disk<'_>, number: u16) -> Result<bool, 
 {
     // An image has few blocks, and so has a chain.
     let _ = disk.image.len();
-    let Some(header) = first_header(disk, number) else {
+    let Some(header) = primary_header(disk, number) else {
         unreachable!()
     };
     let lbns = match chain(alloc, disk, number) {

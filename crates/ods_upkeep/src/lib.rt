@@ -1,6 +1,6 @@
 //! What the changing commands of `f11fs` do on a volume: which files their paths mean, and which requests they make.
-//! The clauses say which kinds of requests a command makes. Which requests it makes, and when it is refused, has no
-//! clause: `tests/fs_changes` checks that on the built program.
+//! The clauses say which requests `rm`, `mv` and `truncate` make, and of the other commands which kinds of requests. When a command is refused
+//! has no clause: `tests/fs_changes` checks that on the built program.
 #![tactic(auto)]
 
 mod asked;
@@ -9,11 +9,11 @@ mod attributes;
 mod copying;
 mod directories;
 mod failure;
-mod found;
 mod hidden;
 mod meant;
 mod moving;
 mod names;
+mod own_files;
 mod owners;
 mod parts;
 mod put_fault;
@@ -21,6 +21,7 @@ mod putting;
 mod removing;
 mod sources;
 mod target;
+mod targets;
 mod truncating;
 mod versions;
 mod written;

@@ -3,7 +3,7 @@ ghost use Rattle.std.specs.Prelude.{◌≡◌, ◌++◌, OnOk};
 ghost use Rattle.ods_upkeep.specs.Pieces.{octal_digits};
 
 use crate::failure::Why;
-use crate::target::may_be_directory;
+use crate::targets::may_be_directory;
 use ods_paths::{Files, Folder, Path, Place, Steps, Versions, parse_path};
 use ods_request::Refusal;
 use ods_shell::PathFault;

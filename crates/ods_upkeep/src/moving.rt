@@ -1,21 +1,21 @@
 //! `mv` moves names to other directories, or gives files other names.
-ghost use Rattle.std.specs.Prelude.{OnOk};
+ghost use Rattle.std.specs.Prelude.{◌≡◌, IfOk, OnOk};
 ghost use Rattle.ods_filing.specs.Led.{IsLed};
-ghost use Rattle.ods_upkeep.specs.Kinds.{Renames};
+ghost use Rattle.ods_upkeep.specs.{Kinds.Renames, Moved.IsMoved, Moved.one_moved, Moved.version_for as version_meant, Removed.Does};
 
-use crate::asking::{enter, look_up, remove};
+use crate::asking::{enter, obey, remove};
 use crate::copying::target_of;
 use crate::failure::{Failure, Why, of_path};
-use crate::found::Found;
 use crate::names::is_directory_file;
+use crate::own_files::stays;
 use crate::sources::sources;
 use crate::target::Target;
-use ods_base::{DIRECTORY_TYPE, Listed, Pick};
+use ods_base::{DIRECTORY_TYPE, Listed, Name, Pick};
 use ods_filing::Filing;
 use ods_mount::Mounted;
 use ods_paths::Versions;
-use ods_request::Refusal;
-use ods_shell::Kind;
+use ods_request::{Refusal, Request};
+use ods_shell::{Found, Kind};
 use ods_walk::walk_from;
 use std::alloc::Global;
 
@@ -28,8 +28,10 @@ pub fn move_names(
     paths: &[&str],
     to: &str,
 ) -> Result<(), Failure>
-    // It is what LookUp, Enter and Remove leave.
-    ensures { OnOk result (IsLed Renames filing.old filing.new) }
+    // Refused or not, it is what LookUp, Enter and Remove leave.
+    ensures led { IsLed Renames filing.old filing.new }
+    // Done, each name that is meant has moved to the target, and no other.
+    ensures done { OnOk result (IsMoved paths.now to.now filing.old filing.new) }
 {
     let all = sources(alloc, filing.mounted(), paths, Some(Versions::Highest))?;
     let target = target_of(alloc, filing.mounted(), all.len(), to)?;
@@ -52,7 +54,7 @@ fn check(alloc: Global, volume: &Mounted, found: &Found, target: &Target) -> Res
     let Some(place) = found.place() else {
         return Err(Why::IsId);
     };
-    if found.stays() {
+    if stays(found) {
         return Err(Why::Request(Refusal::Reserved));
     }
     if changes_type(&place.entry, target) {
@@ -115,36 +117,38 @@ fn leads_to(alloc: Global, volume: &Mounted, from: u16, to: u16) -> Result<bool,
 
 /// Moves one name.
 fn rename(filing: &mut Filing, found: &Found, target: &Target) -> Result<(), Why>
-    ensures { OnOk result (IsLed Renames filing.old filing.new) }
+    ensures led { IsLed Renames filing.old filing.new }
+    ensures done { OnOk result (Does filing.old (one_moved target.now found.now.place) filing.new) }
 {
     let Some(place) = found.place() else {
         return Err(Why::IsId);
     };
     let entry = place.entry;
     let name = target.name.unwrap_or(entry.name);
-    let version = version_for(filing, target, name.ext() == DIRECTORY_TYPE, found)?;
+    let version = version_for(filing, target, name)?;
     enter(filing, target.directory, name, version, entry.file)?;
     remove(filing, place.directory, entry.name, entry.version)
 }
 
 /// The version under which a name is entered: the one that is said; of a directory 1, where no version is there.
-fn version_for(
-    filing: &mut Filing,
-    target: &Target,
-    is_directory: bool,
-    found: &Found,
-) -> Result<Option<u16>, Why>
-    ensures { OnOk result (IsLed Renames filing.old filing.new) }
+fn version_for(filing: &mut Filing, target: &Target, name: Name) -> Result<Option<u16>, Why>
+    ensures led { IsLed Renames filing.old filing.new }
+    ensures same { OnOk result (filing.new ≡ filing.old) }
+    ensures version { IfOk result (λ version. version ≡ version_meant target.now.version name) }
 {
-    let Some(place) = found.place() else {
-        return Err(Why::IsId);
+    if let Some(version) = target.version {
+        return Ok(Some(version));
+    }
+    if name.ext() != DIRECTORY_TYPE {
+        return Ok(None);
+    }
+    let request = Request::LookUp {
+        dir: target.directory,
+        name,
+        pick: Pick::Highest,
     };
-    if target.version.is_some() || !is_directory {
-        return Ok(target.version);
-    }
-    let name = target.name.unwrap_or(place.entry.name);
-    match look_up(filing, target.directory, name, Pick::Highest) {
-        Some(_) => Err(Why::Request(Refusal::NameTaken)),
-        None => Ok(Some(1)),
-    }
+    let Err(_) = obey(filing, request) else {
+        return Err(Why::Request(Refusal::NameTaken));
+    };
+    Ok(Some(1))
 }

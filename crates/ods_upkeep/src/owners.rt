@@ -1,7 +1,7 @@
 //! The owner of a new directory.
 ghost use Rattle.ods_upkeep.specs.Made.{IsOwner};
 
-use crate::found::MASTER;
+use crate::own_files::MASTER;
 use ods_base::{FileId, Name, Uic, print_title};
 use ods_paths::numbered_name;
 

@@ -1,16 +1,15 @@
 //! The last part of a path, behind its directories.
 ghost use Rattle.std.specs.Prelude.{◌≡◌, ◌↔◌, IsTrue};
-ghost use Rattle.ods_paths.specs.Numbers.{Has};
+ghost use Rattle.ods_text.specs.Cuts.{Has};
 ghost use Rattle.ods_upkeep.specs.Pieces.{ends_folder, last_part};
 
-use ods_base::place_of;
+use ods_text::has_byte;
 
 /// Whether there is a dot behind the directories of a path.
 pub(crate) fn has_dot(path: &[u8]) -> bool
     ensures { IsTrue result ↔ Has 46 (last_part path.now) }
 {
-    let last = last_part(path);
-    place_of(b'.', last) < last.len()
+    has_byte(b'.', last_part(path))
 }
 
 /// What stands behind the directories of a path.

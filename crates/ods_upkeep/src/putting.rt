@@ -1,26 +1,26 @@
 //! `put`: files of the host are put one by one.
-ghost use Rattle.std.specs.Prelude.{◌≡◌, is_some, Some, None, IfOk, OnOk};
-ghost use Rattle.ods_base.specs.declared.file_id.Uic.{Uic as Id};
+ghost use Rattle.std.specs.Prelude.{◌≡◌, ◌⊎◌, is_some, min, true, None, IfOk, OnOk};
+ghost use Rattle.ods_filing.specs.Filed.{HasGrown, lacking};
 ghost use Rattle.ods_filing.specs.Led.{IsAsked, IsLed};
-ghost use Rattle.ods_upkeep.specs.{Kinds.Copies, Kinds.Puts, PutFor.IsPut, PutFor.IsMadeFor};
+ghost use Rattle.ods_upkeep.specs.{Kinds.Puts, PutFor.IsPut};
 
-use crate::asking::{delete, enter, look_up, next_version, put_new, remove};
+use crate::asking::{delete, look_up, next_version, put_new, remove};
 use crate::copying::target_of;
 use crate::failure::{Failure, Why, of_path};
-use crate::found::find;
 use crate::names::Names;
 use crate::put_fault::PutFault;
-use crate::target::{Target, name_of};
+use crate::target::Target;
+use crate::targets::name_of;
 use crate::versions::Highest;
 use crate::written::{Written, write_host};
 use crate::{HostFile, PutForm};
 use ods_base::{DIRECTORY_TYPE, FileId, Name, Pick, Uic};
-use ods_filing::{Filing, NewFile, put_file};
+use ods_filing::{Filing, NewFile};
 use ods_mount::Mounted;
 use ods_paths::Versions;
 use ods_records::NearText;
 use ods_request::{Answer, Kind as Shown, Refusal, Request, Stamp};
-use ods_shell::{Kind, PathFault};
+use ods_shell::{Kind, PathFault, find_path};
 use std::alloc::Global;
 use std::marker::Model;
 
@@ -68,8 +68,8 @@ impl Putting {
         let count = if several { 2 } else { 1 };
         let target = target_of(alloc, volume, count, to.unwrap_or("[0,0]"))?;
         let like = like_attributes(alloc, volume, like)?;
-        let names = counted(alloc, volume, replace)?;
-        let highest = known(alloc, volume, target.directory, several && !replace)?;
+        let names = count_names(alloc, volume, replace)?;
+        let highest = highest_versions(alloc, volume, target.directory, several && !replace)?;
         Ok(Putting {
             target,
             stamp,
@@ -81,6 +81,17 @@ impl Putting {
         })
     }
 
+    /// Asks for the headers of so many files at once, before the first of them is put, so that they share a few pointers of INDEXF.SYS. Refused, it
+    /// changes nothing, and each file asks for its own. Where files are replaced it asks for none, since they leave theirs.
+    pub fn make_ready(&self, filing: &mut Filing, files: usize)
+        ensures grown { (filing.new ≡ filing.old) ⊎ HasGrown filing.old (lacking filing.old (min files 65535)) filing.new }
+        ensures replaces { self.now.replaces ≡ true → filing.new ≡ filing.old }
+    {
+        if self.names.is_none() && files > 1 {
+            let _ = filing.make_ready(files.min(65_535) as u32);
+        }
+    }
+
     /// Puts one; gives what is to be remarked, if anything.
     pub fn put(
         &mut self,
@@ -88,8 +99,10 @@ impl Putting {
         filing: &mut Filing,
         host: &HostFile<'_>,
     ) -> Result<Option<String>, Failure>
-        // It is what LookUp, Create, Extend, Write, SetUser and Enter leave, and where files are replaced, Stat, Remove and Delete besides.
+        // Its owner makes the file, and the user enters it. Before that he makes room, where files are replaced.
         ensures volume { OnOk result (IsPut (Puts self.old.replaces) self.old.owner filing.old filing.new) }
+        // Where no owner is said, it is what LookUp, Create, Extend, Write, SetUser and Enter leave, and where files are replaced, Stat, Remove and Delete besides.
+        ensures own { self.old.owner ≡ None → OnOk result (IsLed (Puts self.old.replaces) filing.old filing.new) }
         ensures same { self.new ≡ self.old }
     {
         match self.put_one(alloc, filing, host) {
@@ -106,6 +119,7 @@ impl Putting {
         host: &HostFile<'_>,
     ) -> Result<Option<String>, Why>
         ensures volume { OnOk result (IsPut (Puts self.old.replaces) self.old.owner filing.old filing.new) }
+        ensures own { self.old.owner ≡ None → OnOk result (IsLed (Puts self.old.replaces) filing.old filing.new) }
         ensures same { self.new ≡ self.old }
     {
         let name = match self.target.name {
@@ -129,6 +143,7 @@ impl Putting {
         written: &Written<'_>,
     ) -> Result<(), Why>
         ensures volume { OnOk result (IsPut (Puts self.old.replaces) self.old.owner filing.old filing.new) }
+        ensures own { self.old.owner ≡ None → OnOk result (IsLed (Puts self.old.replaces) filing.old filing.new) }
         ensures same { self.new ≡ self.old }
     {
         let dir = self.target.directory;
@@ -145,7 +160,8 @@ impl Putting {
             attributes: written.attributes,
             bytes: written.bytes(),
         };
-        let id = put_for(filing, self.owner, dir, said, &file)?;
+        let owner = self.owner.unwrap_or(filing.user());
+        let id = put_new(filing, owner, dir, said, &file)?;
         if let Some(names) = &mut self.names {
             names.add(id);
         }
@@ -173,7 +189,7 @@ fn like_attributes(
 
 /// The attributes of the one file that a path names.
 fn attributes_of(alloc: Global, volume: &Mounted, path: &str) -> Result<[u8; 32], Why> {
-    let found = find(alloc, volume, path, Some(Versions::Highest))?;
+    let (found, _) = find_path(alloc, volume, path, Some(Versions::Highest), &[])?;
     let [one] = found.as_slice() else {
         return Err(Why::Several);
     };
@@ -186,7 +202,7 @@ fn attributes_of(alloc: Global, volume: &Mounted, path: &str) -> Result<[u8; 32]
 }
 
 /// How many entries name each file, where that is asked for.
-fn counted(alloc: Global, volume: &Mounted, replace: bool) -> Result<Option<Names>, Failure>
+fn count_names(alloc: Global, volume: &Mounted, replace: bool) -> Result<Option<Names>, Failure>
     ensures { IfOk result (λ names. is_some names ≡ replace) }
 {
     if !replace {
@@ -199,7 +215,7 @@ fn counted(alloc: Global, volume: &Mounted, replace: bool) -> Result<Option<Name
 }
 
 /// The highest version of each name in a directory, where that is asked for.
-fn known(
+fn highest_versions(
     alloc: Global,
     volume: &Mounted,
     directory: FileId,
@@ -231,51 +247,6 @@ fn version_of(
         }
     }
     next_version(filing, dir, name, said)
-}
-
-/// Puts a new file, and enters it. Where another owner is said, he makes it, and the user who asks enters it.
-fn put_for(
-    filing: &mut Filing,
-    owner: Option<Uic>,
-    dir: FileId,
-    version: Option<u16>,
-    file: &NewFile<'_>,
-) -> Result<FileId, Why>
-    ensures { OnOk result ((owner ≡ None → IsLed Copies filing.old filing.new) × ((id : Id) → owner ≡ Some id → IsMadeFor id filing.old filing.new)) }
-{
-    match owner {
-        Some(owner) => put_owned(filing, owner, dir, version, file),
-        None => put_new(filing, dir, version, file),
-    }
-}
-
-/// Puts a new file of this owner, who makes it; the user who asks enters it.
-fn put_owned(
-    filing: &mut Filing,
-    owner: Uic,
-    dir: FileId,
-    version: Option<u16>,
-    file: &NewFile<'_>,
-) -> Result<FileId, Why>
-    ensures { OnOk result (IsMadeFor owner filing.old filing.new) }
-{
-    if file.name.ext() == DIRECTORY_TYPE {
-        return Err(Why::DirectoryType);
-    }
-    if file.version == 0 || file.version > 32_767 {
-        return Err(Why::Request(Refusal::VersionsFull));
-    }
-    let user = filing.user();
-    filing.set_user(owner);
-    let made = put_file(filing, file);
-    filing.set_user(user);
-    match made {
-        Ok(id) => {
-            enter(filing, dir, file.name, version, id)?;
-            Ok(id)
-        }
-        Err(refusal) => Err(Why::Request(refusal)),
-    }
 }
 
 /// The name of a host file as a name of the volume. A character is refused that stands for one of the volume's that RSX cannot type.

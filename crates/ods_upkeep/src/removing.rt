@@ -1,20 +1,21 @@
 //! `rm` removes names, and deletes the files that have no name left.
-ghost use Rattle.std.specs.Prelude.{true, OnOk};
-ghost use Rattle.ods_filing.specs.Led.{IsLed, IsObeyed};
+ghost use Rattle.std.specs.Prelude.{◌≡◌, slice_index, false, true, OnOk};
+ghost use Rattle.ods_filing.specs.Led.{IsAsked, IsLed, IsObeyed};
 ghost use Rattle.ods_base.specs.declared.name.Pick.{Pick};
 ghost use Rattle.ods_request.specs.declared.requests.Request.{Request};
 ghost use Rattle.ods_upkeep.specs.Kinds.{Removes};
+ghost use Rattle.ods_upkeep.specs.Removed.{Does, IsRemoved, entry_gone, file_gone, names_left, one_gone};
 
 use crate::Removal;
 use crate::asking::{delete, remove};
 use crate::failure::{Failure, Why, of_path};
-use crate::found::{Found, Place};
 use crate::names::Names;
+use crate::own_files::stays;
 use crate::sources::sources;
 use ods_filing::Filing;
 use ods_paths::Versions;
 use ods_request::Refusal;
-use ods_shell::Kind;
+use ods_shell::{EntryPlace, Facts, Found, Kind};
 use std::alloc::Global;
 
 /// Removes entries, and deletes each file that no entry of any directory names any more. A path has to say its versions, or `newest` is asked for. A
@@ -26,8 +27,10 @@ pub fn remove_files(
     paths: &[&str],
     removal: Removal,
 ) -> Result<(), Failure>
-    // It is what Remove and Delete leave, and where the entries alone go, Remove.
-    ensures { OnOk result (IsLed (Removes removal.entry_alone) filing.old filing.new) }
+    // Refused or not, it is what Remove and Delete leave, and where the entries alone go, Remove.
+    ensures led { IsLed (Removes removal.entry_alone) filing.old filing.new }
+    // Done, each entry that is named has gone, and each file that no entry names any more.
+    ensures done { OnOk result (IsRemoved removal.entry_alone removal.newest paths.now filing.old filing.new) }
 {
     let unsaid = if removal.newest {
         Some(Versions::Highest)
@@ -54,7 +57,7 @@ pub fn remove_files(
 
 /// Why this is not removed, as far as it can be seen before.
 fn check(found: &Found, names: &Names, removal: Removal) -> Result<(), Why> {
-    if found.stays() {
+    if stays(found) {
         return Err(Why::Request(Refusal::Reserved));
     }
     if removal.entry_alone {
@@ -82,24 +85,46 @@ pub(crate) fn remove_one(
     names: &mut Names,
     removal: Removal,
 ) -> Result<(), Why>
-    ensures { OnOk result (IsLed (Removes removal.entry_alone) filing.old filing.new) }
+    ensures led { IsLed (Removes removal.entry_alone) filing.old filing.new }
+    ensures done { OnOk result (Does filing.old (one_gone removal.entry_alone (slice_index names.old) found.now.place found.now.facts) filing.new) }
+    ensures names { OnOk result (slice_index names.new ≡ names_left (slice_index names.old) found.now.place found.now.facts) }
 {
     remove_place(filing, found.place())?;
-    let Some(facts) = found.facts() else {
-        return Ok(());
-    };
-    if found.place().is_some() {
-        names.take(facts.file);
-    }
-    if removal.entry_alone || names.count(facts.file) > 0 {
+    take_name(names, found);
+    if removal.entry_alone {
         return Ok(());
     }
-    delete(filing, facts.file)
+    delete_unnamed(filing, names, found.facts())
+}
+
+/// One entry less names the file, where there is an entry and a file.
+fn take_name(names: &mut Names, found: &Found)
+    ensures { slice_index names.new ≡ names_left (slice_index names.old) found.now.place found.now.facts }
+{
+    if let Some(facts) = found.facts() {
+        if found.place().is_some() {
+            names.take(facts.file);
+        }
+    }
+}
+
+/// Deletes the file, where there is one that no entry names.
+fn delete_unnamed(filing: &mut Filing, names: &Names, facts: Option<Facts>) -> Result<(), Why>
+    ensures led { IsLed (Removes false) filing.old filing.new }
+    ensures done { OnOk result (Does filing.old (file_gone (slice_index names.now) facts) filing.new) }
+{
+    if let Some(facts) = facts {
+        if names.count(facts.file) == 0 {
+            return delete(filing, facts.file);
+        }
+    }
+    Ok(())
 }
 
 /// Removes an entry, where there is one.
-fn remove_place(filing: &mut Filing, place: Option<Place>) -> Result<(), Why>
-    ensures { OnOk result (IsLed (Removes true) filing.old filing.new) }
+fn remove_place(filing: &mut Filing, place: Option<EntryPlace>) -> Result<(), Why>
+    ensures led { IsLed (Removes true) filing.old filing.new }
+    ensures done { OnOk result (Does filing.old (entry_gone place) filing.new) }
 {
     match place {
         Some(place) => remove_at(filing, &place),
@@ -108,8 +133,9 @@ fn remove_place(filing: &mut Filing, place: Option<Place>) -> Result<(), Why>
 }
 
 /// Removes the entry at this place.
-pub(crate) fn remove_at(filing: &mut Filing, place: &Place) -> Result<(), Why>
-    ensures { OnOk result (IsObeyed filing.old (Request.Remove place.now.directory place.now.entry.name (Pick.Exact place.now.entry.version)) filing.new) }
+pub(crate) fn remove_at(filing: &mut Filing, place: &EntryPlace) -> Result<(), Why>
+    ensures done { OnOk result (IsObeyed filing.old (Request.Remove place.now.directory place.now.entry.name (Pick.Exact place.now.entry.version)) filing.new) }
+    ensures asked { IsAsked filing.old (Request.Remove place.now.directory place.now.entry.name (Pick.Exact place.now.entry.version)) filing.new }
 {
     let entry = place.entry;
     remove(filing, place.directory, entry.name, entry.version)

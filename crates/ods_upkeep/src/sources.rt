@@ -1,9 +1,15 @@
 //! The files that the words of a command name, each name once, in the order in which they are changed.
-use crate::failure::{Failure, of_path};
-use crate::found::{Found, find};
+ghost use Rattle.std.specs.Prelude.{◌≡◌, ◌++◌, ◌∷◌, [], ◌⊎◌, List, reverse, IfOk, OnOk};
+ghost use Rattle.ods_shell.specs.declared.found.Found.{Found as One};
+ghost use Rattle.ods_upkeep.specs.Sources.{AreFirst, AreOfPath, AreSources, IsAgain};
+ghost use Rattle.ods_upkeep.specs.Once.{HasKeysOf, key_of};
+
+use crate::failure::{Failure, Why, of_path};
 use ods_mount::Mounted;
 use ods_paths::Versions;
+use ods_shell::{Found, find_path};
 use std::alloc::{AllocError, Global};
+use std::collections::BTreeSet;
 
 /// What these paths find. Of one path the last lines come first, so that of one name the versions rise.
 pub(crate) fn sources(
@@ -11,15 +17,13 @@ pub(crate) fn sources(
     volume: &Mounted,
     paths: &[&str],
     unsaid: Option<Versions>,
-) -> Result<Vec<Found>, Failure> {
+) -> Result<Vec<Found>, Failure>
+    ensures { IfOk result (λ found. AreSources volume.now.image volume.now.layout unsaid paths.now found.items) }
+{
     let mut all = Vec::new(alloc);
     for path in paths {
-        let found = match find(alloc, volume, path, unsaid) {
-            Ok(found) => found,
-            Err(why) => return Err(of_path(alloc, path, why)),
-        };
-        if let Err(error) = add_rising(found, &mut all) {
-            return Err(of_path(alloc, path, error.into()));
+        if let Err(why) = add_found(alloc, volume, path, unsaid, &mut all) {
+            return Err(of_path(alloc, path, why));
         }
     }
     match each_once(alloc, all) {
@@ -28,61 +32,67 @@ pub(crate) fn sources(
     }
 }
 
-/// Adds what was found, the last first.
-fn add_rising(found: Vec<Found>, all: &mut Vec<Found>) -> Result<(), AllocError> {
-    let mut found = found;
+/// Adds what a path finds, the last first.
+fn add_found(
+    alloc: Global,
+    volume: &Mounted,
+    path: &str,
+    unsaid: Option<Versions>,
+    all: &mut Vec<Found>,
+) -> Result<(), Why>
+    ensures { OnOk result ((here : List One) × AreOfPath volume.now.image volume.now.layout unsaid path.now here × (all.new.items ≡ all.old.items ++ reverse here)) }
+{
+    let (mut found, _) = find_path(alloc, volume, path, unsaid, &[])?;
     found.reverse();
-    for one in found {
-        all.push(one)?;
-    }
+    all.append(&mut found)?;
     Ok(())
 }
 
-/// What tells names and files apart: the directory, the name, the type and the version; or the ID.
-fn key(found: &Found) -> [u16; 6] {
+/// What tells names and files apart: of an entry the directory, the type, the version and the name; of a file without one its ID.
+fn key(found: &Found) -> [u16; 7]
+    ensures { result ≡ key_of found.now.place found.now.facts }
+{
     match (&found.place, &found.facts) {
         (Some(place), _) => {
             let words = place.entry.name.words();
             [
+                0,
                 place.directory.number,
+                place.entry.name.ext(),
+                place.entry.version,
                 words[0],
                 words[1],
                 words[2],
-                place.entry.name.ext(),
-                place.entry.version,
             ]
         }
-        (None, Some(facts)) => [0, facts.file.number, facts.file.sequence, 0, 0, 0],
-        (None, None) => [0; 6],
+        (None, Some(facts)) => [1, facts.file.number, facts.file.sequence, 0, 0, 0, 0],
+        (None, None) => [2, 0, 0, 0, 0, 0, 0],
     }
 }
 
 /// These, each name once.
-fn each_once(alloc: Global, all: Vec<Found>) -> Result<Vec<Found>, AllocError> {
-    let mut keys = Vec::new(alloc);
-    for found in &all {
-        keys.push(key(found))?;
-    }
-    keys.sort_unstable();
-    let mut is_taken = vec![in alloc; false; keys.len()]?;
+fn each_once(alloc: Global, all: Vec<Found>) -> Result<Vec<Found>, AllocError>
+    ensures { IfOk result (λ once. AreFirst [] all.items once.items) }
+{
+    let mut seen = BTreeSet::new(alloc);
     let mut once = Vec::new(alloc);
     for found in all {
-        if takes(&keys, &key(&found), &mut is_taken) {
-            once.push(found)?;
-        }
+        add_first(&mut seen, &mut once, found)?;
     }
     Ok(once)
 }
 
-/// Takes the place of a key among the sorted ones; whether it was not taken.
-fn takes(keys: &[[u16; 6]], key: &[u16; 6], is_taken: &mut [bool]) -> bool {
-    let at = keys.partition_point(|other| *other < *key);
-    match is_taken.get_mut(at) {
-        Some(taken) => {
-            let was = *taken;
-            *taken = true;
-            !was
-        }
-        None => true,
+/// Adds this, where its key is not among those that were seen.
+fn add_first(
+    seen: &mut BTreeSet<[u16; 7]>,
+    once: &mut Vec<Found>,
+    found: Found,
+) -> Result<(), AllocError>
+    ensures { OnOk result ((before : List One) → HasKeysOf seen.old before → HasKeysOf seen.new (before ++ found ∷ [])
+        × ((IsAgain before found × (once.new.items ≡ once.old.items)) ⊎ ((¬ IsAgain before found) × (once.new.items ≡ once.old.items ++ found ∷ [])))) }
+{
+    if seen.insert(key(&found))? {
+        once.push(found)?;
     }
+    Ok(())
 }

@@ -1,21 +1,18 @@
 //! `truncate` cuts a file to fewer bytes.
-ghost use Rattle.std.specs.Prelude.{OnOk};
+ghost use Rattle.std.specs.Prelude.{◌≤◌, ◌*◌, nat_lt, if◌then◌else◌, List, [], ◌∷◌, IfOk, OnOk};
 ghost use Rattle.ods_filing.specs.Led.{IsLed};
-ghost use Rattle.ods_upkeep.specs.Kinds.{Cuts};
+ghost use Rattle.ods_request.specs.declared.requests.Request.{Request as Asked};
+ghost use Rattle.ods_upkeep.specs.{Cut.AreCuts, Cut.IsCut, Cut.IsTruncated, Kinds.Cuts, Removed.Does};
 
-use crate::asking::make;
+use crate::asking::obey;
 use crate::attributes::ending_at;
 use crate::failure::{Failure, Why, of_path};
-use crate::found::find;
 use ods_filing::Filing;
 use ods_mount::Mounted;
 use ods_paths::Versions;
 use ods_request::{Refusal, Request};
-use ods_shell::{Facts, Kind, PathFault};
+use ods_shell::{Facts, Kind, PathFault, find_path};
 use std::alloc::Global;
-
-/// As many blocks as an image has at most.
-const MOST_BLOCKS: u64 = 1_048_576;
 
 /// Cuts a file to so many bytes: the blocks behind them go, and F.EFBK, F.FFBY and F.HIBK say so. It never grows.
 pub fn truncate_file(
@@ -24,8 +21,10 @@ pub fn truncate_file(
     path: &str,
     bytes: u64,
 ) -> Result<(), Failure>
-    // It is what Truncate and SetUser leave.
-    ensures { OnOk result (IsLed Cuts filing.old filing.new) }
+    // Refused or not, it is what Truncate and SetUser leave.
+    ensures led { IsLed Cuts filing.old filing.new }
+    // Done, the one file that the path names has so many bytes.
+    ensures done { OnOk result (IsTruncated path.now bytes filing.old filing.new) }
 {
     let facts = match the_file(alloc, filing.mounted(), path, bytes) {
         Ok(facts) => facts,
@@ -38,8 +37,10 @@ pub fn truncate_file(
 }
 
 /// The one file that is meant, where it has so many bytes.
-fn the_file(alloc: Global, volume: &Mounted, path: &str, bytes: u64) -> Result<Facts, Why> {
-    let found = find(alloc, volume, path, Some(Versions::Highest))?;
+fn the_file(alloc: Global, volume: &Mounted, path: &str, bytes: u64) -> Result<Facts, Why>
+    ensures { IfOk result (IsCut volume.now.image volume.now.layout path.now bytes) }
+{
+    let (found, _) = find_path(alloc, volume, path, Some(Versions::Highest), &[])?;
     let [one] = found.as_slice() else {
         return Err(Why::Several);
     };
@@ -60,37 +61,37 @@ fn the_file(alloc: Global, volume: &Mounted, path: &str, bytes: u64) -> Result<F
 
 /// Cuts the file.
 fn cut(filing: &mut Filing, facts: &Facts, bytes: u64) -> Result<(), Why>
-    ensures { OnOk result (IsLed Cuts filing.old filing.new) }
+    requires { bytes ≤ 512 * facts.now.blocks }
+    ensures led { IsLed Cuts filing.old filing.new }
+    ensures done { OnOk result ((requests : List Asked) × AreCuts facts.now bytes requests × Does filing.old requests filing.new) }
 {
     let attributes = ending_at(facts.attributes, bytes)?;
-    let blocks = bytes.div_ceil(512).min(MOST_BLOCKS) as u32;
-    at_most(filing, facts, blocks)?;
+    at_most(filing, facts, bytes.div_ceil(512) as u32)?;
     if attributes == facts.attributes {
         return Ok(());
     }
-    let _set = make(
+    obey(
         filing,
         Request::SetUser {
             file: facts.file,
             attributes,
         },
-    )?;
-    Ok(())
+    )
 }
 
 /// Keeps the first blocks, where there are more.
 fn at_most(filing: &mut Filing, facts: &Facts, blocks: u32) -> Result<(), Why>
-    ensures { OnOk result (IsLed Cuts filing.old filing.new) }
+    ensures led { IsLed Cuts filing.old filing.new }
+    ensures done { OnOk result (Does filing.old (if nat_lt blocks facts.now.blocks then Request.Truncate facts.now.file blocks ∷ [] else []) filing.new) }
 {
     if blocks >= facts.blocks {
         return Ok(());
     }
-    let _cut = make(
+    obey(
         filing,
         Request::Truncate {
             file: facts.file,
             blocks,
         },
-    )?;
-    Ok(())
+    )
 }

@@ -5,18 +5,16 @@ ghost use Rattle.ods_upkeep.specs.Pieces.{with_end};
 ghost use Rattle.ods_upkeep.specs.PutFor.{FitsForm, IsUnfit};
 
 use crate::PutForm;
-use crate::attributes::{ending_at, like as like_of, like_greater, said};
+use crate::attributes::{attributes_of_form, ending_at, like as like_of, like_greater};
 use crate::failure::Why;
 use crate::put_fault::PutFault;
+use ods_base::MAX_BYTES;
 use ods_records::{
     NearText, RecordKind, binary_attributes, is_plain_text, is_text, kind_of, record_size,
     survey_records, text_attributes, text_to_records, why_no_text,
 };
 use ods_request::Refusal;
 use std::alloc::Global;
-
-/// As many bytes as the blocks of an image have, and more.
-const TOO_MANY: usize = 536_870_912;
 
 /// What is written of a host file, and its attributes.
 #[derive(Drop)]
@@ -51,7 +49,7 @@ pub(crate) fn write_host<'a>(
     bytes: &'a [u8],
 ) -> Result<Written<'a>, Why> {
     match (form, like) {
-        (PutForm::Said(four), _) => in_form(&said(four), bytes),
+        (PutForm::Said(four), _) => in_form(&attributes_of_form(four), bytes),
         (PutForm::Binary, Some(like)) => in_form(like, bytes),
         _ => by_contents(alloc, form, like, bytes),
     }
@@ -144,7 +142,7 @@ fn as_records<'a>(alloc: Global, bytes: &'a [u8]) -> Result<Written<'a>, Why> {
         Err(fault) => return Err(Why::Text(fault)),
     };
     let length = records.bytes.as_slice().len();
-    if length >= TOO_MANY {
+    if length >= MAX_BYTES {
         return Err(Why::Request(Refusal::VolumeFull));
     }
     let attributes = text_attributes(records.longest, length as u64);
@@ -160,7 +158,7 @@ fn as_records<'a>(alloc: Global, bytes: &'a [u8]) -> Result<Written<'a>, Why> {
 /// Bytes as they are.
 fn as_bytes<'a>(bytes: &'a [u8]) -> Result<Written<'a>, Why> {
     let length = bytes.len();
-    if length >= TOO_MANY {
+    if length >= MAX_BYTES {
         return Err(Why::Request(Refusal::VolumeFull));
     }
     Ok(Written {

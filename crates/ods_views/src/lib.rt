@@ -1,5 +1,5 @@
-//! Versions of a volume for readers: the value that they take, the operation that leads to the next one, the rule over all of them,
-//! the viewers who look at them beside the lock, and the writer who shows them.
+//! Versions of a volume for readers. A version is a value, an operation leads to the next one, and a rule holds over all of them.
+//! Viewers look at them beside the lock, and the writer shows them.
 #![tactic(auto)]
 
 mod laws;
@@ -16,4 +16,4 @@ pub use rule::{Adding, Adds, Asking, Lists, Looks, View};
 pub use told::{Told, entry_count};
 pub use version::{Change, Version};
 pub use viewer::{ViewFault, Viewer, make_viewers};
-pub use writing::{DeskWriter, add_change, open_writer, publish_change};
+pub use writing::{DeskWriter, MOST_SESSIONS, add_change, open_writer, publish_change};

@@ -11,6 +11,9 @@ use std::alloc::{AllocError, Global};
 use std::snapshot::Snapshot;
 use std::sync::Wait;
 
+/// At most so many sessions sit at a desk.
+pub const MOST_SESSIONS: usize = 8;
+
 /// The writer of a desk with this name.
 pub type DeskWriter<J> = Writer<Version, Change, View, Lists<J>>;
 
@@ -20,7 +23,7 @@ pub fn open_writer<J: Naming>(
     volume: &Volume,
     places: usize,
 ) -> Result<DeskWriter<J>, AllocError>
-    requires places { (0 < places) × (places ≤ 8) }
+    requires places { (0 < places) × (places ≤ MOST_SESSIONS) }
     requires named { (volume.now.mounted ≡ J.mounted) × (volume.now.entries ≡ J.opening) }
     ensures { IfOk result (λ w. IsTied w.desk.place w.desk.shown.value (drop w.behind w.log.items) volume.now) }
 {

@@ -7,9 +7,11 @@ use Rattle.ods_alloc.specs.Counts.{Counts, AreCountsAfter, counts_of}
 use Rattle.ods_mount.specs.Sound.{IsSoundBy}
 use Rattle.ods_request.specs.declared.requests.Request.{Request}
 use Rattle.ods_request.specs.declared.answers.Answer.{Answer}
+use Rattle.ods_request.specs.declared.refusals.Refusal.{Refusal}
 use Rattle.ods_state.specs.declared.known_end.KnownEnd.{KnownEnd}
 use Rattle.ods_state.specs.Ends.{IsKnownIn}
 use Rattle.ods_state.specs.Served.{IsStepOf}
+use Rattle.ods_change.specs.IndexGrown.{IsIndexGrown, IsWhyNoHeaders}
 
 -- the volume is sound, these are its counts, and what is noted of where a file's chain ends is true of it
 pub record IsNoted (D : Disk) (counts : Counts) (end : Option KnownEnd) : Type 0 where
@@ -41,4 +43,17 @@ pub record IsLawfulChange (D : Disk) (p : Parts) : Type 0 where
 -- The change is what a request, answered so, makes of the volume.
 pub record IsChangeFor (D : Disk) (who : Uic) (r : Request) (a : Answer) (p : Parts) : Type 0 where
   pub step : IsStep D who r a (changed D p)
+  pub lawful : IsLawfulChange D p
+
+-- E is the volume D where INDEXF.SYS has headers for so many files more, and nothing else was done
+abbrev pub HasMoreHeaders : Disk → ℕ → Disk → Type 0
+HasMoreHeaders D count E = IsIndexGrown D.image D.layout count E.image E.layout
+
+-- why it cannot have them: there is no memory, or what it takes is not there
+abbrev pub IsWhyNoMore : Disk → ℕ → Refusal → Type 0
+IsWhyNoMore D count f = IsWhyNoHeaders D.image D.layout count f
+
+-- The change makes that of the volume.
+pub record IsChangeOfHeaders (D : Disk) (count : ℕ) (p : Parts) : Type 0 where
+  pub grown : HasMoreHeaders D count (changed D p)
   pub lawful : IsLawfulChange D p

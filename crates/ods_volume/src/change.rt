@@ -4,7 +4,7 @@ ghost use Rattle.ods_request.specs.{declared.refusals.Refusal.Refusal, Catalogue
 ghost use Rattle.ods_state.specs.{Version.IsPresent, Wants.Lacks, Outcome.Accepts, Outcome.CanBeAsked, Outcome.IsReason, Outcome.IsLawfulPlan, Outcome.carried_out, Outcome.entry_of};
 ghost use Rattle.ods_volume.specs.{Kept.AreLinesOf, Preparing.IsPrepared};
 
-use crate::planned::{Prepared, kept, lines_of};
+use crate::planned::{Prepared, keep_request, lines_of};
 use crate::volume::Volume;
 use ods_base::Uic;
 use ods_request::{Answer, CompactRequest, Entry, Listing, Refusal, Request};
@@ -76,7 +76,7 @@ impl Volume {
         let Ok(lines) = lines_of(&answer) else {
             return Err(Refusal::NoMemory);
         };
-        let Ok(kept) = kept(self.entries.allocator(), request, shared) else {
+        let Ok(kept) = keep_request(self.entries.allocator(), request, shared) else {
             return Err(Refusal::NoMemory);
         };
         Ok(Prepared {

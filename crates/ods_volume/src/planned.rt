@@ -47,7 +47,7 @@ pub(crate) fn lines_of(answer: &Answer) -> Result<Option<Listing>, AllocError>
 
 /// The request as the list keeps it: a share of the form that is given, where one is. Only a Write
 /// takes memory for that, or gives its block one owner more.
-pub(crate) fn kept(
+pub(crate) fn keep_request(
     alloc: Global,
     request: &Request,
     shared: Option<&CompactRequest>,

@@ -1,14 +1,16 @@
 //! A sound volume that changes by requests, and keeps no list of them.
-ghost use Rattle.std.specs.Prelude.{◌≡◌, length, unwrap_or, MatchResult, IfOk, IfErr, OnErr};
+ghost use Rattle.std.specs.Prelude.{◌≡◌, length, unwrap_or, MatchResult, IfOk, IfErr, OnOk, OnErr};
 ghost use Rattle.ods_alloc.specs.Counts.{free_counts};
 ghost use Rattle.ods_mount.specs.Sound.{IsSoundBy};
 ghost use Rattle.ods_space.specs.{Disks.on, Free.free_blocks, Free.free_numbers};
 ghost use Rattle.ods_state.specs.{Outcome.CanBeAsked, Served.IsRefusalOf};
-ghost use Rattle.ods_volume.specs.Changing.{IsChangeFor, IsLawfulChange, IsStep, changed};
+ghost use Rattle.ods_change.specs.IndexGrown.{IsWhyNoHeaders};
+ghost use Rattle.ods_volume.specs.Changing.{HasMoreHeaders, IsChangeFor, IsChangeOfHeaders, IsLawfulChange, IsStep, changed};
 
 use crate::prepare::{carry_out, counts_after};
 use ods_alloc::FreeCounts;
 use ods_base::{NoMemory, Uic};
+use ods_change::grow_headers;
 use ods_mount::Mounted;
 use ods_request::{Answer, Refusal, Request};
 use ods_space::{Disk, Draft};
@@ -192,6 +194,46 @@ impl Sound {
                 Ok(answer)
             }
             Err(refusal) => Err(refusal),
+        }
+    }
+    /// What changes where INDEXF.SYS gets headers for so many files more, with all the memory that this takes. The volume stays as it is.
+    fn prepare_headers(&self, count: u32) -> Result<Change, Refusal>
+        ensures { MatchResult result (IsChangeOfHeaders self.now count) (IsWhyNoHeaders self.now.image self.now.layout count) }
+    {
+        let disk = self.mounted.disk();
+        let drafted = match grow_headers(self.alloc, &disk, &self.counts, count) {
+            Ok(drafted) => drafted,
+            Err(refusal) => return Err(refusal),
+        };
+        let Ok(counts) = self.counts.after(&disk, &drafted.draft) else {
+            return Err(Refusal::NoMemory);
+        };
+        // Nothing is noted then of where a file's chain ends.
+        let end = None;
+        let growth = Change {
+            draft: drafted.draft,
+            places: drafted.places,
+            counts,
+            end,
+        };
+        Ok(growth)
+    }
+
+    /// INDEXF.SYS gets headers for so many files more, all at once, so that its last header gets as few pointers for them as it can. Who makes
+    /// many files calls this first: each Create by itself would take a pointer. Refused, it changes nothing.
+    pub fn grow_index(&mut self, count: u32) -> Result<(), Refusal>
+        // It has the lowest free blocks behind its own, and the catalogue is as it was.
+        ensures grown { OnOk result (HasMoreHeaders self.old count self.new) }
+        // Refused, memory is wanted, or what it takes is not there, which is HeadersFull.
+        ensures refused { IfErr result (IsWhyNoHeaders self.old.image self.old.layout count) }
+        ensures unchanged { OnErr result (self.new ≡ self.old) }
+    {
+        match self.prepare_headers(count) {
+            Ok(growth) => {
+                self.apply(growth);
+                Ok(())
+            }
+            Err(lack) => Err(lack),
         }
     }
 }

@@ -22,13 +22,13 @@ pub at_head : {X : Type 0} (x : X) (xs : List X) → Contains (x ∷ xs) x
 at_head x xs = Contains-append_left (x ∷ []) xs x (Contains-push [] x)
 
 -- an element is the first or among the others
-first_or_other : {X : Type 0} (x : X) (xs : List X) (y : X) → Contains (x ∷ xs) y → (x ≡ y) ⊎ Contains xs y
+pub first_or_other : {X : Type 0} (x : X) (xs : List X) (y : X) → Contains (x ∷ xs) y → (x ≡ y) ⊎ Contains xs y
 first_or_other x xs y has = elim (Contains-append_cases (x ∷ []) xs y has) [
   | inl one ↦ elim (Contains-push_cases [] x y one) [ inl none ↦ (let none_below : none.0 < 0 = none.1 in absurd (omega arith)) | inr same ↦ inl same ]
   | inr rest ↦ inr rest
 ]
 
-contains_or_not : (xs : List ℕ) (n : ℕ) → Contains xs n ⊎ ¬ Contains xs n
+pub contains_or_not : (xs : List ℕ) (n : ℕ) → Contains xs n ⊎ ¬ Contains xs n
 contains_or_not [] n = inr (λ none. let none_below : none.0 < 0 = none.1 in absurd (omega arith))
 contains_or_not (x ∷ xs) n = by (cases_eq x n) (contains_or_not xs n)
   where
@@ -37,7 +37,7 @@ contains_or_not (x ∷ xs) n = by (cases_eq x n) (contains_or_not xs n)
     by (inr other) (inl has) = inl (Contains-append_right (x ∷ []) xs n has)
     by (inr other) (inr none) = inr (λ has. elim (first_or_other x xs n has) [ inl same ↦ other same | inr among ↦ none among ])
 
-contains_map : {X Y : Type 0} (f : X → Y) (xs : List X) (x : X) → Contains xs x → Contains (map f xs) (f x)
+pub contains_map : {X Y : Type 0} (f : X → Y) (xs : List X) (x : X) → Contains xs x → Contains (map f xs) (f x)
 contains_map f [] x none = let none_below : none.0 < 0 = none.1 in absurd (omega arith)
 contains_map f (y ∷ xs) x has = elim (first_or_other y xs x has) [
   | inl same ↦ subst (λ z. Contains (f y ∷ map f xs) (f z)) same (at_head (f y) (map f xs))
@@ -52,14 +52,14 @@ all_of_rest P xs ys all = subst (All P) (drop_at xs ys (length xs) refl) (All-dr
 
 module _ (I : List (List ℕ)) (L : VolumeLayout) where
   -- the listings of a directory have the same entries
-  same_entries : (n : ℕ) (xs ys : List Listed) (e : Listed) → IsListing I L n xs → IsListing I L n ys → Contains xs e → Contains ys e
+  pub same_entries : (n : ℕ) (xs ys : List Listed) (e : Listed) → IsListing I L n xs → IsListing I L n ys → Contains xs e → Contains ys e
   same_entries n xs ys e f g has =
       let lbns = same_blocks I L n f.are.lbns g.are.lbns f.are.held g.are.held in
       let same : f.entries ≡ g.entries = f.are.all ∙ ap (λ bs. lines_of (names_of (contents_of I bs) (mark_at I L n bs))) lbns ∙ sym g.are.all in
       Contains-permutation g.entries ys e g.all (subst (λ l. Contains l e) same (Contains-permutation xs f.entries e (IsPermutation-sym f.entries xs f.all) has))
 
   -- one more name leads on
-  pub leads_on : (n : ℕ) (names : List RadName) (m : ℕ) (e : Listed) → LeadsTo I L n names m → HasEntry I L m e → NamesDirectory I L e → LeadsTo I L n (names ++ e.name ∷ []) e.file.number
+  leads_on : (n : ℕ) (names : List RadName) (m : ℕ) (e : Listed) → LeadsTo I L n names m → HasEntry I L m e → NamesDirectory I L e → LeadsTo I L n (names ++ e.name ∷ []) e.file.number
   leads_on n [] m e same has names_it = (e, subst (λ k. HasEntry I L k e) (sym same) has, refl, names_it, refl)
   leads_on n (name ∷ names) m e way has names_it = (way.0, way.1, way.2, way.3, leads_on way.0.file.number names m e way.4 has names_it)
 
@@ -88,7 +88,7 @@ module _ (I : List (List ℕ)) (L : VolumeLayout) where
       ])
 
   -- each line that is to come is on the walk
-  all_come : (entered : List ℕ) (pending lines : List Line) → Walks I L entered pending lines → All (Contains lines) pending
+  pub all_come : (entered : List ℕ) (pending lines : List Line) → Walks I L entered pending lines → All (Contains lines) pending
   all_come entered [] [] walks = All-nil (Contains [])
   all_come entered [] (l ∷ ls) walks = absurd walks
   all_come entered (p ∷ ps) [] walks = absurd walks
@@ -102,27 +102,27 @@ module _ (I : List (List ℕ)) (L : VolumeLayout) where
       All-cons (Contains (l ∷ ls)) p ps (subst (Contains (l ∷ ls)) walks.0 (at_head l ls)) (All-weaker (Contains ls) (Contains (l ∷ ls)) (Contains-append_right (l ∷ []) ls) ps others)
 
   -- each entry of directory n is on one of these lines
-  abbrev IsCovered : ℕ → List Line → Type 0
+  abbrev pub IsCovered : ℕ → List Line → Type 0
   IsCovered n lines = (e : Listed) → HasEntry I L n e → (l : Line) × Contains lines l × (l.directory ≡ n) × (l.entry ≡ e)
 
   covered_more : (n : ℕ) (l : Line) (lines : List Line) → IsCovered n lines → IsCovered n (l ∷ lines)
   covered_more n l lines covered e has = let found = covered e has in (found.0, Contains-append_right (l ∷ []) lines found.0 found.1, found.2, found.3)
 
   -- the entries of a directory whose lines are to come are on the walk
-  covered_by : (path : List RadName) (n : ℕ) (entries : List Listed) (lines : List Line) → IsListing I L n entries → All (Contains lines) (below path n entries) → IsCovered n lines
+  pub covered_by : (path : List RadName) (n : ℕ) (entries : List Listed) (lines : List Line) → IsListing I L n entries → All (Contains lines) (below path n entries) → IsCovered n lines
   covered_by path n entries lines listing come e has =
       let among : Contains entries e = same_entries n has.lines entries e has.listing listing has.among in
       let line : Line = record { path = path; directory = n; entry = e } in
       (line, All-contains (Contains lines) (below path n entries) line come (contains_map (λ (x : Listed). record { path = path; directory = n; entry = x }) entries e among), refl, refl)
 
   -- What is entered at the end of a walk: what was entered before, and directories whose entries are on its lines; and each directory that a line names.
-  record Ends (entered : List ℕ) (lines : List Line) : Type 0 where
-    final : List ℕ
-    grows : (n : ℕ) → Contains entered n → Contains final n
-    covered : (n : ℕ) → Contains final n → Contains entered n ⊎ IsCovered n lines
-    into : (l : Line) → Contains lines l → NamesDirectory I L l.entry → Contains final l.entry.file.number
+  pub record Ends (entered : List ℕ) (lines : List Line) : Type 0 where
+    pub final : List ℕ
+    pub grows : (n : ℕ) → Contains entered n → Contains final n
+    pub covered : (n : ℕ) → Contains final n → Contains entered n ⊎ IsCovered n lines
+    pub into : (l : Line) → Contains lines l → NamesDirectory I L l.entry → Contains final l.entry.file.number
 
-  ends : (entered : List ℕ) (pending lines : List Line) → Walks I L entered pending lines → Ends entered lines
+  pub ends : (entered : List ℕ) (pending lines : List Line) → Walks I L entered pending lines → Ends entered lines
   ends entered [] [] walks = record {
     final = entered;
     grows = λ n has. has;

@@ -1,7 +1,7 @@
 -- A walk under way: what is passed and what is still to come make the whole walk.
-use Rattle.std.proofs.Common.{◌≡◌, ◌⊎◌, inl, inr, ℕ, zero, suc, ◌+◌, ◌<◌, refl, sym, ap, ◌∙◌, subst, Bool, true, false, cond, List, [], ◌∷◌, ◌++◌, length, map, set, get_or, append_assoc, Some, None, arith}
+use Rattle.std.proofs.Common.{◌≡◌, ◌⊎◌, inl, inr, ℕ, ◌+◌, ◌<◌, refl, sym, ap, ◌∙◌, subst, Bool, true, false, cond, List, [], ◌∷◌, ◌++◌, length, map, set, get_or, append_assoc, Some, None, arith}
 use Rattle.std.specs.Prelude.{not, MatchBool, replicate}
-use Rattle.std.specs.List.{All, Contains, count_by, slice_get}
+use Rattle.std.specs.List.{All, Contains, count_by}
 use Rattle.std.specs.Option.{option_map_or}
 use Rattle.std.proofs.lemmas.Bool.{cases_eq}
 use Rattle.std.proofs.lemmas.List.{append-nil, map-append, length-set, get_or-set_same, get_or-set_other, length-replicate, get_or-replicate, take_at, drop_at, length_push}
@@ -12,12 +12,12 @@ use Rattle.ods_space.specs.Layout.{VolumeLayout}
 use Rattle.ods_walk.specs.declared.tables.Entered.{Entered}
 use Rattle.ods_walk.specs.declared.tables.Line.{Line as Placed}
 use Rattle.ods_walk.specs.Listing.{IsListing}
-use Rattle.ods_walk.specs.Complete.{HasEntry, LeadsTo, AreLed}
+use Rattle.ods_walk.specs.Complete.{HasEntry}
 use Rattle.ods_walk.specs.Paths.{path_to, number_at, line_in, led_by, IsWalkButFor}
 use Rattle.ods_walk.specs.Steps.{AreEntered, IsPast, IsStop, from_top, placed}
 use Rattle.ods_walk.specs.Walk.{Line, Walks, IsWalkedInto, below}
-use Rattle.ods_walk.proofs.Completeness.{leads_on}
-use Rattle.ods_walk.proofs.Ways.{way_stays, way_of_new}
+use Rattle.ods_walk.proofs.Reaching.{IsReaching, begin_reaching, keeps_reaching}
+use Rattle.ods_walk.proofs.Ways.{way_stays, way_of_new, get_stays, get_new, number_stays, number_of_new}
 
 -- the place of each of these lines is one of the table
 abbrev pub ArePlaced : List Entered → List Placed → Type 0
@@ -36,7 +36,7 @@ pub record IsUnderWay (I : List (List ℕ)) (L : VolumeLayout) (start : ℕ) (cl
   pub leads : (rest : List Line) → Walks I L entered (map (line_in table) (from_top pile)) rest → Walks I L (start ∷ 4 ∷ closed) (below [] start first) (map (line_in table) lines ++ rest)
   pub lines_placed : ArePlaced table lines
   pub pile_placed : ArePlaced table (from_top pile)
-  pub led : AreLed I L start table
+  pub reaching : IsReaching I L start (4 ∷ closed) table entered lines (from_top pile)
   pub right : AreRight I L table (from_top pile)
 
 -- what a flag says of one thing it says of another that holds just where that does
@@ -84,22 +84,6 @@ fewer_left flags entered n small are new =
     let one : cond {A = ℕ} (not (get_or flags n false)) 1 0 ≡ 1 = ap (λ b. cond {A = ℕ} (not b) 1 0) clear in
     let sums : count_by not (set flags n true) + cond {A = ℕ} (not (get_or flags n false)) 1 0 ≡ count_by not flags + 0 = sum_by-set (λ x. cond (not x) 1 0) flags n true false inside in
     omega arith
-
--- the element at a place of a longer table
-get_stays : (table : List Entered) (e : Entered) (place : ℕ) → place < length table → slice_get (table ++ e ∷ []) place ≡ slice_get table place
-get_stays [] e place within = absurd (omega arith)
-get_stays (x ∷ table) e zero within = refl
-get_stays (x ∷ table) e (suc place) within = get_stays table e place (omega arith)
-
-get_new : (table : List Entered) (e : Entered) → slice_get (table ++ e ∷ []) (length table) ≡ Some e
-get_new [] e = refl
-get_new (x ∷ table) e = get_new table e
-
-pub number_stays : (table : List Entered) (e : Entered) (place : ℕ) → place < length table → number_at (table ++ e ∷ []) place ≡ number_at table place
-number_stays table e place within = ap (λ o. option_map_or (λ (x : Entered). x.number) o 0) (get_stays table e place within)
-
-pub number_of_new : (table : List Entered) (e : Entered) → number_at (table ++ e ∷ []) (length table) ≡ e.number
-number_of_new table e = ap (λ o. option_map_or (λ (x : Entered). x.number) o 0) (get_new table e)
 
 -- a directory that is entered changes no line
 pub lines_stay : (table : List Entered) (e : Entered) (lines : List Placed) → ArePlaced table lines → map (line_in (table ++ e ∷ [])) lines ≡ map (line_in table) lines
@@ -218,23 +202,6 @@ module _ {I : List (List ℕ)} {L : VolumeLayout} where
       rest_right : AreRight I L table (line ∷ from_top rest)
       rest_right = right_behind table stop.passed (line ∷ from_top rest) (subst (AreRight I L table) stop.order u.right)
 
-      -- the directory that is entered is the one to which its path leads
-      new_led : AreLed I L start (table ++ new ∷ [])
-      new_led place within = elim (cases_eq place (length table)) [
-        | inl same ↦ (
-            let from = All-head (λ (x : Placed). x.directory < length table) line (from_top rest) ahead in
-            let has = All-head (λ (x : Placed). HasEntry I L (number_at table x.directory) x.entry) line (from_top rest) rest_right in
-            let way : LeadsTo I L start (path_to table line.directory ++ line.entry.name ∷ []) n =
-            leads_on I L start (path_to table line.directory) (number_at table line.directory) line.entry (u.led line.directory from) has (stop.into u.entered u.are).0 in
-            subst (λ k. LeadsTo I L start (path_to (table ++ new ∷ []) k) (number_at (table ++ new ∷ []) k)) (sym same)
-            (subst (λ p. LeadsTo I L start p (number_at (table ++ new ∷ []) (length table))) (sym (way_of_new table new)) (subst (λ m. LeadsTo I L start (path_to table line.directory ++ line.entry.name ∷ []) m) (sym (number_of_new table new)) way)))
-        | inr other ↦ (
-            let size = length_push table new in
-            let before : place < length table = omega arith in
-            subst (λ p. LeadsTo I L start p (number_at (table ++ new ∷ []) place)) (sym (way_stays table new place before))
-            (subst (λ m. LeadsTo I L start (path_to table place) m) (sym (number_stays table new place before)) (u.led place before)))
-      ]
-
       pub entering : (next : List Placed) (entries : List Listed) → n < 65536 → IsListing I L n entries → from_top next ≡ map (placed (length table)) entries ++ from_top rest
           → IsUnderWay I L start closed (table ++ new ∷ []) after (set flags n true) next
       entering next entries small listing order =
@@ -252,7 +219,9 @@ module _ {I : List (List ℕ)} {L : VolumeLayout} where
             lines_placed = more_placed table new after after_placed;
             pile_placed = All-same (λ (x : Placed). x.directory < length (table ++ new ∷ [])) (from_top next) (map (placed (length table)) entries ++ from_top rest) order
                 (All-append (λ (x : Placed). x.directory < length (table ++ new ∷ [])) (map (placed (length table)) entries) (from_top rest) (new_placed table new entries) (more_placed table new (from_top rest) rest_is_placed));
-            led = new_led;
+            reaching = keeps_reaching u.reaching stop.passed line (from_top rest) stop.order (stop.are u.entered u.are) (stop.into u.entered u.are)
+                (All-head (λ (x : Placed). HasEntry I L (number_at table x.directory) x.entry) line (from_top rest) rest_right) (All-head (λ (x : Placed). x.directory < length table) line (from_top rest) ahead) entries listing
+                after (from_top next) stop.lines order;
             right = All-same (λ (x : Placed). HasEntry I L (number_at (table ++ new ∷ []) x.directory) x.entry) (from_top next) (map (placed (length table)) entries ++ from_top rest) order
                 (All-append (λ (x : Placed). HasEntry I L (number_at (table ++ new ∷ []) x.directory) x.entry) (map (placed (length table)) entries) (from_top rest) (new_right table new entries listing)
                 (more_right table new (from_top rest) rest_is_placed (All-tail (λ (x : Placed). HasEntry I L (number_at table x.directory) x.entry) line (from_top rest) rest_right)));
@@ -272,6 +241,6 @@ begins I L start closed flags pile entries are listing order =
       leads = λ more walks. subst (λ p. Walks I L (start ∷ 4 ∷ closed) p more) pile_is walks;
       lines_placed = All-nil (λ (x : Placed). x.directory < 1);
       pile_placed = All-same (λ (x : Placed). x.directory < 1) (from_top pile) (map (placed 0) entries) order (new_placed [] e entries);
-      led = λ place within. (let first : place ≡ 0 = omega arith in subst (λ k. LeadsTo I L start (path_to (e ∷ []) k) (number_at (e ∷ []) k)) (sym first) refl);
+      reaching = begin_reaching start (4 ∷ closed) entries (from_top pile) listing order;
       right = All-same (λ (x : Placed). HasEntry I L (number_at (e ∷ []) x.directory) x.entry) (from_top pile) (map (placed 0) entries) order (new_right [] e entries listing);
     }

@@ -1,13 +1,14 @@
--- The names that lead to a directory, by the table of those that were entered.
-use Rattle.std.proofs.Common.{◌≡◌, ℕ, ◌+◌, ◌<◌, ◌≤◌, refl, sym, ap, ◌∙◌, subst, false, cond, List, [], ◌∷◌, ◌++◌, length, take, drop, reverse, append_assoc, length-append, Option, Some, None, arith}
+-- The names that lead to a directory and its number, by the table of those that were entered.
+use Rattle.std.proofs.Common.{◌≡◌, ℕ, zero, suc, ◌+◌, ◌<◌, ◌≤◌, refl, sym, ap, ◌∙◌, subst, false, cond, List, [], ◌∷◌, ◌++◌, length, take, drop, reverse, append_assoc, length-append, Option, Some, None, arith}
 use Rattle.std.specs.Prelude.{◌==◌}
 use Rattle.std.specs.List.{slice_get}
+use Rattle.std.specs.Option.{option_map_or}
 use Rattle.std.proofs.lemmas.Bool.{ne_eqb, eq-eqb}
 use Rattle.std.proofs.lemmas.List.{reverse-append, length-reverse, length-take-le, take-append-drop, drop_more}
 use Rattle.std.proofs.lemmas.Option.{slice_get_within, get_or_from_slice_get}
 use Rattle.ods_base.specs.Name.{RadName}
 use Rattle.ods_walk.specs.declared.tables.Entered.{Entered}
-use Rattle.ods_walk.specs.Paths.{led_by, path_in, path_to}
+use Rattle.ods_walk.specs.Paths.{led_by, path_in, path_to, number_at}
 
 -- a place past the table has no way
 none_in : (es : List Entered) (place : ℕ) → length es ≤ place → path_in es place ≡ []
@@ -59,3 +60,19 @@ way_of_new table e = ap (λ l. path_in l (length table)) (reverse_push table e) 
 pub not_led : (path : ℕ → List RadName) (from : Option (ℕ × RadName)) → ((x : ℕ × RadName) → from ≡ Some x → ⊥) → led_by path from ≡ []
 not_led path None none = refl
 not_led path (Some x) none = absurd (none x refl)
+
+-- the element at a place of a longer table
+pub get_stays : (table : List Entered) (e : Entered) (place : ℕ) → place < length table → slice_get (table ++ e ∷ []) place ≡ slice_get table place
+get_stays [] e place within = absurd (omega arith)
+get_stays (x ∷ table) e zero within = refl
+get_stays (x ∷ table) e (suc place) within = get_stays table e place (omega arith)
+
+pub get_new : (table : List Entered) (e : Entered) → slice_get (table ++ e ∷ []) (length table) ≡ Some e
+get_new [] e = refl
+get_new (x ∷ table) e = get_new table e
+
+pub number_stays : (table : List Entered) (e : Entered) (place : ℕ) → place < length table → number_at (table ++ e ∷ []) place ≡ number_at table place
+number_stays table e place within = ap (λ o. option_map_or (λ (x : Entered). x.number) o 0) (get_stays table e place within)
+
+pub number_of_new : (table : List Entered) (e : Entered) → number_at (table ++ e ∷ []) (length table) ≡ e.number
+number_of_new table e = ap (λ o. option_map_or (λ (x : Entered). x.number) o 0) (get_new table e)

@@ -12,7 +12,7 @@ use ods_directory::{DirBlocks, entries, mark_of};
 use ods_header::attributes;
 use ods_mount::FileBlocks;
 use ods_paths::{Shown, compare};
-use ods_space::{ChainFault, Disk, chain, first_header};
+use ods_space::{ChainFault, Disk, chain, primary_header};
 use std::alloc::{AllocError, Global};
 use std::cmp::Ordering;
 
@@ -34,7 +34,7 @@ fn read_entries(alloc: Global, disk: &Disk<'_>, number: u16) -> Result<Vec<Liste
 {
     // An image has few blocks, and so has a chain.
     let _ = disk.image.len();
-    let Some(header) = first_header(disk, number) else {
+    let Some(header) = primary_header(disk, number) else {
         unreachable!()
     };
     let lbns = match chain(alloc, disk, number) {
@@ -88,7 +88,7 @@ impl Titled {
     }
 
     /// What a listing shows of it.
-    fn shown(&self) -> Shown<'_>
+    fn shown_line(&self) -> Shown<'_>
         ensures { line result ≡ shown self.now.entry }
     {
         Shown {
@@ -103,5 +103,5 @@ impl Titled {
 fn compare_titled(one: &Titled, other: &Titled) -> Ordering
     ensures { result ≡ listing_cmp (shown one.now.entry) (shown other.now.entry) }
 {
-    compare(&one.shown(), &other.shown())
+    compare(&one.shown_line(), &other.shown_line())
 }

@@ -1,15 +1,15 @@
 //! The walk over the directories below one: depth first, in the order of listing, each directory entered once.
-ghost use Rattle.std.specs.Prelude.{◌≡◌, ◌++◌, ℕ, List, [], length, map, IfOk, IfSome, IfNone, OnOk, MatchBool};
+ghost use Rattle.std.specs.Prelude.{◌≡◌, ◌++◌, ◌∷◌, ℕ, List, [], length, map, IfOk, IfSome, IfNone, OnOk, MatchBool};
 ghost use Rattle.ods_base.specs.declared.listed.Listed.{Listed as Entry};
 ghost use Rattle.ods_mount.specs.{Faults.IsDirectoryFile, Sound.IsSoundBy};
-ghost use Rattle.ods_walk.specs.{Complete.AreLed, Listing.IsListing, Paths.IsWalk, Paths.IsWalkButFor, Steps.AreEntered, Steps.IsPast, Steps.IsStop, Steps.from_top, Steps.placed, Walk.NamesDirectory, Walk.IsWalkedInto};
+ghost use Rattle.ods_walk.specs.{Complete.AreReached, Listing.IsListing, Paths.IsWalk, Paths.IsWalkButFor, Steps.AreEntered, Steps.IsPast, Steps.IsStop, Steps.from_top, Steps.placed, Walk.NamesDirectory, Walk.IsWalkedInto};
 ghost use Rattle.ods_space.specs.Disks.{on};
 
 use crate::ordering::listing;
 use crate::tables::{Entered, Line, Walk};
 use ods_base::{DIRECTORY_TYPE, Listed};
 use ods_header::{file_sequence, is_directory};
-use ods_space::{Disk, first_header};
+use ods_space::{Disk, primary_header};
 use std::alloc::{AllocError, Global};
 
 /// Goes through all lines below directory `start`. That one and the master directory count as entered.
@@ -17,7 +17,7 @@ pub fn walk_from(alloc: Global, disk: &Disk<'_>, start: u16) -> Result<Walk, All
     requires sound { on IsSoundBy disk.now }
     requires directory { on IsDirectoryFile disk.now start }
     ensures walk { IfOk result (λ walk. on IsWalk disk.now start walk) }
-    ensures led { IfOk result (λ walk. on AreLed disk.now start walk.directories) }
+    ensures reached { IfOk result (λ walk. on AreReached disk.now start (4 ∷ []) walk.directories) }
 {
     walk_past(alloc, disk, start, &[])
 }
@@ -33,7 +33,7 @@ pub fn walk_past(
     requires sound { on IsSoundBy disk.now }
     requires directory { on IsDirectoryFile disk.now start }
     ensures walk { IfOk result (λ walk. on IsWalkButFor disk.now start closed.now walk) }
-    ensures led { IfOk result (λ walk. on AreLed disk.now start walk.directories) }
+    ensures reached { IfOk result (λ walk. on AreReached disk.now start (4 ∷ closed.now) walk.directories) }
 {
     let mut directories = Vec::new(alloc);
     let mut lines = Vec::new(alloc);
@@ -107,7 +107,7 @@ pub fn names_directory(disk: &Disk<'_>, entry: &Listed) -> bool
     if entry.name.ext() != DIRECTORY_TYPE {
         return false;
     }
-    let Some(header) = first_header(disk, entry.file.number) else {
+    let Some(header) = primary_header(disk, entry.file.number) else {
         return false;
     };
     file_sequence(header) == entry.file.sequence && is_directory(entry.file.number, header)

@@ -1,7 +1,7 @@
 //! Paths and patterns: what texts say, what patterns match, the order of a listing, and which versions are picked.
 use ods_paths::{
-    BadPath, Files, Folder, Path, Place, Shown, Versions, compare, has_wildcard, is_pattern,
-    matches, parse_path, picked,
+    BadPath, Files, Folder, Path, Place, Shown, Versions, choose_span, compare, has_wildcard,
+    is_pattern, matches, parse_path,
 };
 use std::cmp::Ordering;
 use std::process::Abort;
@@ -287,7 +287,7 @@ fn versions_are_picked(rt: HostRuntime) {
         (Versions::Every, [true, true, true, true]),
     ];
     for (choice, answers) in rows {
-        let span = picked(choice, &versions);
+        let span = choose_span(choice, &versions);
         for (version, answer) in versions.iter().zip(answers) {
             assert!(rt; span.has(*version) == answer, "{choice:?} {version}");
         }

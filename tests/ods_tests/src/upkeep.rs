@@ -11,8 +11,9 @@ use ods_base::{Image, Uic};
 use ods_cli::sample;
 use ods_filing::Filing;
 use ods_mount::{Mounted, check_image, mount};
+use ods_paths::Versions;
 use ods_request::Stamp;
-use ods_shell::{Target, Wanted, open_contents, targets};
+use ods_shell::{Found, Wanted, find_path, open_contents};
 use ods_upkeep::{Failure, HostFile, PutForm, Putting, Removal, Why};
 use std::alloc::Global;
 use std::process::Abort;
@@ -204,9 +205,9 @@ fn truncate_file(
 /// The paths that a path finds, with a space behind each; nothing where it finds none.
 fn paths(alloc: Global, volume: &Mounted, path: &str) -> Result<String, Fail> {
     let mut text = String::new(alloc);
-    if let Ok(found) = targets(alloc, volume, path) {
-        for target in &found {
-            text.push_str(target.path.as_str())?;
+    if let Ok((found, _)) = find_path(alloc, volume, path, Some(Versions::Highest), &[]) {
+        for one in &found {
+            text.push_str(one.path.as_str())?;
             text.push(' ')?;
         }
     }
@@ -214,15 +215,17 @@ fn paths(alloc: Global, volume: &Mounted, path: &str) -> Result<String, Fail> {
 }
 
 /// The one file of a path.
-fn the(alloc: Global, volume: &Mounted, path: &str) -> Result<Target, Fail> {
-    let mut found = targets(alloc, volume, path).ok().ok_or("nothing there")?;
+fn the(alloc: Global, volume: &Mounted, path: &str) -> Result<Found, Fail> {
+    let (mut found, _) = find_path(alloc, volume, path, Some(Versions::Highest), &[])
+        .ok()
+        .ok_or("nothing there")?;
     found.pop().ok_or("none").map_err(Fail::from)
 }
 
 /// The bytes that are got out of a file.
 fn bytes_of(alloc: Global, volume: &Mounted, path: &str, wanted: Wanted) -> Result<Vec<u8>, Fail> {
-    let target = the(alloc, volume, path)?;
-    let facts = target.facts.ok_or("no file")?;
+    let found = the(alloc, volume, path)?;
+    let facts = found.facts.ok_or("no file")?;
     let got = open_contents(alloc, volume, facts.file.number, wanted)
         .ok()
         .ok_or("contents")?;

@@ -31,7 +31,7 @@ fn tells(
     let checked = check_all(alloc, &image)?;
     assert!(rt; checked.layout.is_some() == has_layout);
     assert!(rt; checked.answer == answer, "{:?}", checked.answer);
-    let faults = checked.faults.kept();
+    let faults = checked.faults.kept_lines();
     assert!(rt; faults.len() == wanted.len(), "{faults:?}");
     assert!(rt; checked.faults.more() == 0 && checked.sharing.more() == 0);
     for i in 0..wanted.len() {

@@ -16,7 +16,7 @@ fn finds(
 ) -> Result<(), Fail> {
     let image = volume.image(alloc)?;
     let checked = check_all(alloc, &image)?;
-    let faults = checked.faults.kept();
+    let faults = checked.faults.kept_lines();
     assert!(rt; faults.is_empty(), "{faults:?}");
     let Some(layout) = &checked.layout else {
         return Err("it has no layout".into());
@@ -28,7 +28,7 @@ fn finds(
     // A list that may keep three keeps the first three, and counts the others.
     for most in [100, 3] {
         let found = findings(alloc, &disk, most, true)?;
-        let kept = found.kept();
+        let kept = found.kept_lines();
         assert!(rt; kept.len() == wanted.len().min(most as usize), "{kept:?}");
         assert!(rt; found.more() == (wanted.len() - kept.len()) as u64);
         for i in 0..kept.len() {

@@ -115,7 +115,7 @@ fn labels_and_defaults(rt: HostRuntime) -> Result<(), Fail> {
         assert!(&rt; Label::parse(text).is_none(), "{text}");
     }
     assert!(&rt; Label::parse("a.1bcdefghij").is_some_and(|l| *l.text() == *b"A.1BCDEFGHIJ"));
-    for (blocks, files) in [(40, 10), (79, 10), (80, 20), (1_048_576, 26_089)] {
+    for (blocks, files) in [(40, 2), (79, 4), (80, 5), (1_048_576, 26_089)] {
         assert!(&rt; default_files(blocks) == files);
     }
     Ok(())

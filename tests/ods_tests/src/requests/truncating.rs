@@ -150,7 +150,7 @@ fn contiguous_file_stays_so(rt: HostRuntime) -> Result<(), Fail> {
 
 /// The first header has no pointer: the second one is cut, and then given back.
 #[test]
-fn first_header_has_no_pointer(rt: HostRuntime) -> Result<(), Fail> {
+fn primary_header_has_no_pointer(rt: HostRuntime) -> Result<(), Fail> {
     let image = in_two_headers(rt.alloc(), c_dat(), &[], &[run(22, 2)])?;
     let mut it = start(&rt, rt.alloc(), image, 9)?;
     plays(&rt, rt.alloc(), &mut it, &[cut(FIRST, 1)])?;

@@ -1,6 +1,7 @@
 //! Replies that sessions print as they give them, beside those that are printed behind a run.
 use super::runs::{Open, Ran, stamp, two_file_volume, two_ran, two_scripts};
-use ods_script::{Printed, sessions_text};
+use ods_cli::Printed;
+use ods_script::sessions_text;
 use ods_share::{Ended, Outcome, Reply, run_keeping};
 use std::alloc::{AllocError, Global};
 use std::test::Fail;

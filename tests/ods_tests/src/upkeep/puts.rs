@@ -2,10 +2,12 @@
 use super::{
     asked, bytes_of, done, filing_for, has, is_refused, paths, put, the, try_put, volume_of,
 };
+use crate::volumes::{Variant, sample_of};
 use ods_base::Uic;
+use ods_mount::mount;
 use ods_records::RecordFault;
 use ods_request::Refusal;
-use ods_shell::{PathFault, Wanted};
+use ods_shell::{PathFault, Wanted, space_of};
 use ods_upkeep::{HostFile, PutFault, PutForm, Putting, Why};
 use std::process::Abort;
 use std::test::Fail;
@@ -108,6 +110,47 @@ fn several_files_go_into_a_directory(rt: HostRuntime) -> Result<(), Fail> {
         None,
     );
     assert!(rt; is_refused(several, "C.TXT", Why::Several));
+    Ok(())
+}
+
+#[test]
+fn headers_come_before_several_files(rt: HostRuntime) -> Result<(), Fail> {
+    let alloc = rt.alloc();
+    let asked = asked()?;
+    let image = Variant {
+        most_files: 20,
+        ..sample_of(40)
+    }
+    .image(alloc)?;
+    let volume = mount(alloc, image).ok().ok_or("a sound image")?;
+    let mut filing = filing_for(alloc, volume, asked.user);
+    let begun = Putting::begin(
+        alloc,
+        filing.mounted(),
+        asked.stamp,
+        None,
+        true,
+        PutForm::ByContents,
+        None,
+        false,
+        None,
+    );
+    let mut putting = begun.ok().ok_or("begun")?;
+    let before = space_of(filing.mounted());
+    assert!(rt; before.free == 18 && before.ready == 11);
+    // Five more than are ready are past H.FMAX, and nothing changes.
+    putting.make_ready(&mut filing, 16);
+    assert!(rt; space_of(filing.mounted()) == before);
+    putting.make_ready(&mut filing, 15);
+    let after = space_of(filing.mounted());
+    assert!(rt; after.free == 14 && after.ready == 15 && after.numbers == before.numbers);
+    let host = HostFile {
+        name: "a.txt",
+        bytes: b"1\n",
+    };
+    putting.put(alloc, &mut filing, &host).ok().ok_or("put")?;
+    let volume = done(alloc, Ok(filing.into_mounted()))?;
+    assert!(rt; has(alloc, &volume, "A.TXT", b"1\n")?);
     Ok(())
 }
 

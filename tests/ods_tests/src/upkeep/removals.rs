@@ -98,7 +98,7 @@ fn what_is_not_removed(rt: HostRuntime) -> Result<(), Fail> {
     let alloc = rt.alloc();
     let asked = asked()?;
     let unsaid = remove_files(alloc, volume_of(alloc, 40)?, &asked, &["CORIMG.SYS"], PLAIN);
-    assert!(rt; is_refused(unsaid, "CORIMG.SYS", Why::NoVersion));
+    assert!(rt; is_refused(unsaid, "CORIMG.SYS", Why::Path(PathFault::NoVersion)));
     let reserved = remove_files(
         alloc,
         volume_of(alloc, 40)?,

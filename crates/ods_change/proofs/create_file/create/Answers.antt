@@ -1,5 +1,5 @@
 use Rattle.std.proofs.Common.{◌≡◌, ℕ, ◌+◌, ◌-◌, ◌≤◌, refl, ap, sym, ◌∙◌, subst, List, [], length, take, drop, get_or, None, Some, arith, rules, inl, inr}
-use Rattle.std.specs.Prelude.{slice_get, unwrap_or}
+use Rattle.std.specs.Prelude.{slice_get}
 use Rattle.std.proofs.lemmas.List.{length-drop, take_all}
 use Rattle.ods_base.specs.declared.file_id.FileId.{FileId}
 use Rattle.ods_header.specs.declared.home.Home.{Home}
@@ -12,15 +12,15 @@ use Rattle.ods_request.specs.declared.refusals.Refusal.TheVariants as refusal
 use Rattle.ods_request.specs.declared.requests.Request.{Request}
 use Rattle.ods_request.specs.declared.requests.Request.TheVariants.{Create}
 use Rattle.ods_state.specs.Served.{IsRefusalOf, IsStepOf}
-use Rattle.ods_state.specs.Wants.{lack_of, taken_blocks, taken_numbers}
+use Rattle.ods_state.specs.Wants.{lack_of, allocated_blocks, allocated_numbers}
 use Rattle.ods_state.specs.Growth.{IsTaking}
 use Rattle.ods_state.proofs.Served.{refused_by_fault, refused_for_memory}
 use Rattle.ods_change.specs.Beginning.{IsBegun}
 use Rattle.ods_change.specs.Creating.{IsMadeFile, IsNewHeaderFor, new_id}
-use Rattle.ods_change.proofs.Begun.{IsAsked, IsKept, can_begin, kept, step_of}
+use Rattle.ods_change.proofs.Begun.{IsAsked, IsKept, kept, step_of}
 use Rattle.ods_change.proofs.CreatingFile.{create_is_step, no_fault, refused_for_lack, too_many}
 use Rattle.ods_change.proofs.NewHeaders.{new_first}
-use Rattle.ods_change.proofs.TakenNumbers.{all_blocks, first_is_open, first_is_taken, new_taking, numbers_there}
+use Rattle.ods_change.proofs.AllocatedNumbers.{all_blocks, first_is_open, first_is_taken, new_taking, numbers_there}
 use Rattle.ods_change.proofs.create_file.create.Goals as goal
 use Rattle.ods_change.proofs.create_file.create.Goals.{After-as_slice-numbers, After-layout_then-then}
 
@@ -48,7 +48,7 @@ module _ (c : After-as_slice-numbers) where
   enough : lack_of c.args.disk.now.image.now c.args.disk.now.layout.now [] c.args.count ≡ None
   enough = c.in-Ok.ensures.ok.enough
 
-  numbers_are : ns ≡ taken_numbers c.args.disk.now.image.now c.args.disk.now.layout.now [] c.args.count
+  numbers_are : ns ≡ allocated_numbers c.args.disk.now.image.now c.args.disk.now.layout.now [] c.args.count
   numbers_are = c.as_slice-numbers.ensures.value ∙ c.in-Ok.ensures.ok.numbers
 
   some : 1 ≤ length ns
@@ -74,11 +74,6 @@ slice_bounds-others-start c =
     let within = some (goal.at.slice_bounds-others-start c).After-as_slice-numbers in
     search rules
 
-pub begin-requires-clause-can : goal.begin-requires-clause-can
-begin-requires-clause-can c =
-    let got = c.in-Ok.ensures.ok in
-    can_begin [] c.args.count c.requires.sound got.enough (c.deref.ensures.value ∙ got.places)
-
 -- the file that is made of what is taken, on the volume with which the request goes on
 module _ (c : After-layout_then-then) where
   abbrev I : List (List ℕ)
@@ -88,7 +83,7 @@ module _ (c : After-layout_then-then) where
   L = c.args.disk.now.layout.now
 
   abbrev K : List (List ℕ)
-  K = applied I c.in-Ok-begin.begun.draft
+  K = applied I c.in-Ok.begun.1.draft
 
   abbrev M : VolumeLayout
   M = c.layout_then-then.result.now
@@ -112,7 +107,7 @@ module _ (c : After-layout_then-then) where
   blocks = c.as_slice-blocks.result.now
 
   abbrev places : List ℕ
-  places = c.in-Ok.taken.places.items
+  places = c.in-Ok.begun.1.places.items
 
   there : lack_of I L [] count ≡ None
   there = c.in-Ok.ensures.ok.enough
@@ -128,20 +123,18 @@ module _ (c : After-layout_then-then) where
   }
 
   begun : IsBegun I L places K M
-  begun =
-      subst (IsBegun I L places K) (sym c.layout_then-then.ensures)
-      (subst (λ l. IsBegun I L l K (unwrap_or c.in-Ok-begin.begun.layout L)) c.deref.ensures.value c.in-Ok-begin.ensures)
+  begun = subst (IsBegun I L places K) (sym c.layout_then-then.ensures) c.in-Ok.ensures.begun
 
   k : IsKept I L [] [] count K M
   k = kept asked begun
 
-  all_are : all ≡ taken_numbers I L [] count
+  all_are : all ≡ allocated_numbers I L [] count
   all_are = c.as_slice-numbers.ensures.value ∙ c.in-Ok.ensures.ok.numbers
 
-  all_now : all ≡ taken_numbers K M [] count
+  all_now : all ≡ allocated_numbers K M [] count
   all_now = all_are ∙ sym k.wants.numbers
 
-  blocks_are : blocks ≡ taken_blocks K M count
+  blocks_are : blocks ≡ allocated_blocks K M count
   blocks_are = c.as_slice-blocks.ensures.value ∙ c.in-Ok.ensures.ok.blocks ∙ sym k.wants.blocks
 
   many : length blocks ≡ count
@@ -164,7 +157,7 @@ module _ (c : After-layout_then-then) where
   high : 6 ≤ n
   high = subst (λ m. 6 ≤ m) (sym n_is) (first_is_open K M count k.wants.enough all all_now).low
 
-  first : slice_get (taken_numbers K M [] 0) 0 ≡ Some n
+  first : slice_get (allocated_numbers K M [] 0) 0 ≡ Some n
   first = first_is_taken K M count k.wants.enough all all_now ∙ ap Some (sym n_is)
 
   header_is : IsNewHeaderFor c.args.who M.home.protection (new_id K M n) c.args.name c.args.version count c.args.stamp c.new_header-header.result
@@ -194,7 +187,7 @@ new_file-requires-clause-taking c =
 pub new_file-requires-clause-lowest : goal.new_file-requires-clause-lowest
 new_file-requires-clause-lowest c =
     let at = (goal.at.new_file-requires-clause-lowest c).After-layout_then-then in
-    blocks_are at ∙ ap (taken_blocks (K at) (M at)) (sym (many at))
+    blocks_are at ∙ ap (allocated_blocks (K at) (M at)) (sym (many at))
 
 pub new_file-requires-clause-runs : goal.new_file-requires-clause-runs
 new_file-requires-clause-runs c = c.as_slice-runs.ensures.value ∙ c.in-Ok.ensures.runs ∙ ap cut (sym c.as_slice-blocks.ensures.value)
@@ -207,12 +200,7 @@ new_file-requires-clause-header c =
 pub returns-in-Ok-new_file : goal.returns-in-Ok-new_file
 returns-in-Ok-new_file c = made (goal.at.returns-in-Ok-new_file c).After-layout_then-then (word (goal.at.returns-in-Ok-new_file c).After-as_slice-numbers c.new_id-file.result c.new_id-file.ensures) (applied c.args.disk.now.image.now c.in-Ok-new_file.draft) c.in-Ok-new_file.ensures
 
-pub returns-in-Err-begin : goal.returns-in-Err-begin
-returns-in-Err-begin c =
-    refused_for_memory c.args.disk.now.image.now c.args.disk.now.layout.now c.args.who (Create c.args.name c.args.version c.args.count c.args.stamp) refl
-    (λ C shown. no_fault c.args.disk.now.image.now c.args.disk.now.layout.now c.args.who c.args.name c.args.version c.args.count c.args.stamp c.if-count-gt65535.false C)
-
-pub returns-in-Err-new_file : goal.returns-in-Err-new_file
-returns-in-Err-new_file c =
+pub returns : goal.returns
+returns c =
     refused_for_memory c.args.disk.now.image.now c.args.disk.now.layout.now c.args.who (Create c.args.name c.args.version c.args.count c.args.stamp) refl
     (λ C shown. no_fault c.args.disk.now.image.now c.args.disk.now.layout.now c.args.who c.args.name c.args.version c.args.count c.args.stamp c.if-count-gt65535.false C)

@@ -8,9 +8,9 @@ use Rattle.ods_alloc.specs.Extend.{CanExtend, Extends}
 use Rattle.ods_state.proofs.Bookkeeping.{well_placed}
 use Rattle.ods_state.proofs.GrowthReady.{ready_layout}
 use Rattle.ods_state.proofs.GrowthChain.{ready_chain}
-use Rattle.ods_state.proofs.GrowthTakes.{can_extend}
+use Rattle.ods_state.proofs.GrowthAllocates.{can_extend}
 use Rattle.ods_state.specs.Growth.{IsReady}
-use Rattle.ods_state.specs.Wants.{taken_blocks}
+use Rattle.ods_state.specs.Wants.{allocated_blocks}
 use Rattle.std.specs.List.{flat_map}
 use Rattle.ods_header.specs.Header.{run_blocks}
 use Rattle.ods_alloc.specs.Zeroed.{IsZeroed}
@@ -38,7 +38,7 @@ module _ (c : In_ok-set) where
   abbrev Z : List (List ℕ)
   Z = applied c.args.disk.now.image.now c.zero_runs.new.draft
 
-  zeroed : IsZeroed I (taken_blocks I L count) Z
+  zeroed : IsZeroed I (allocated_blocks I L count) Z
   zeroed = subst (λ bs. IsZeroed I bs Z) (ap (flat_map run_blocks) c.requires.runs ∙ cut_blocks c.args.blocks.now ∙ c.requires.lowest) (c.in_ok-zero_runs.ensures c.args.disk.now.image.now)
 
   written : IsWritten I Z K L c.args.number c.unwrap-first.result count c.args.header

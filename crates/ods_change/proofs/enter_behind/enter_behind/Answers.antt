@@ -1,5 +1,4 @@
 use Rattle.std.proofs.Common.{ℕ, List, length, refl, ap, sym, ◌∙◌, ◌∷◌, Option, subst}
-use Rattle.std.specs.Prelude.{unwrap_or}
 use Rattle.ods_base.specs.Name.{RadName}
 use Rattle.ods_base.specs.declared.file_id.FileId.{FileId}
 use Rattle.ods_base.specs.declared.file_id.Uic.{Uic}
@@ -13,14 +12,14 @@ use Rattle.ods_state.specs.Served.{IsStepOf}
 use Rattle.ods_state.specs.Wants.{room_in}
 use Rattle.ods_state.proofs.Served.{refused_for_memory}
 use Rattle.ods_change.specs.Beginning.{IsBegun}
-use Rattle.ods_change.specs.Entering.{IsEntering, IsEntryFor, IsTakenFor}
-use Rattle.ods_change.specs.Taking.{IsTakenBy}
-use Rattle.ods_change.proofs.Begun.{IsAsked, IsKept, can_begin, kept, step_of}
+use Rattle.ods_change.specs.Entering.{IsEntering, IsEntryFor, IsAllocatedFor}
+use Rattle.ods_change.specs.Taking.{IsAllocatedBy}
+use Rattle.ods_change.proofs.Begun.{IsAsked, IsKept, kept, step_of}
 use Rattle.ods_change.proofs.BegunDirectories.{asked_by, entry_then, high_directory, taken_then}
 use Rattle.ods_change.proofs.BegunFiles.{end_kept}
 use Rattle.ods_change.proofs.GrowingChain.{has_headers}
 use Rattle.ods_change.proofs.GrowingDirectory.{refused}
-use Rattle.ods_change.proofs.TakingBlocks.{by_numbers}
+use Rattle.ods_change.proofs.AllocatingBlocks.{by_numbers}
 use Rattle.ods_change.proofs.enter_behind.enter_behind.Goals as goal
 use Rattle.ods_change.proofs.enter_behind.enter_behind.Goals.{After-layout_then-then}
 
@@ -33,14 +32,6 @@ returns-in-Err c = λ who name given file e.
     (let end = c.of-end.ensures.end e.own.is.held.others e.own.is.lbns e.own.is.held.whole in (end.0, end.2))
     c.in-Err.ensures.err
 
-pub begin-requires-clause-can : goal.begin-requires-clause-can
-begin-requires-clause-can c =
-    let own = c.requires.entry.4.own.is in
-    let D = c.args.entry.now.disk in
-    let end = c.of-end.ensures.end own.held.others own.lbns own.held.whole in
-    let got = by_numbers (λ h r. IsTakenBy D.image.now D.layout.now h r 1 c.in-Ok.taken) end.0 end.2 c.in-Ok.ensures.ok in
-    can_begin (c.args.entry.now.dir.number ∷ own.held.others) 1 c.requires.sound got.enough (c.deref.ensures.value ∙ got.places)
-
 -- the directory, on the volume with which the request goes on
 module _ (c : After-layout_then-then) where
   abbrev I : List (List ℕ)
@@ -50,7 +41,7 @@ module _ (c : After-layout_then-then) where
   L = c.args.entry.now.disk.layout.now
 
   abbrev K : List (List ℕ)
-  K = applied I c.in-Ok-begin.begun.draft
+  K = applied I c.in-Ok.begun.1.draft
 
   abbrev M : VolumeLayout
   M = c.layout_then-then.result.now
@@ -59,19 +50,17 @@ module _ (c : After-layout_then-then) where
   dir = c.args.entry.now.dir
 
   abbrev places : List ℕ
-  places = c.in-Ok.taken.places.items
+  places = c.in-Ok.begun.1.places.items
 
   begun : IsBegun I L places K M
-  begun =
-      subst (IsBegun I L places K) (sym c.layout_then-then.ensures)
-      (subst (λ l. IsBegun I L l K (unwrap_or c.in-Ok-begin.begun.layout L)) c.deref.ensures.value c.in-Ok-begin.ensures)
+  begun = subst (IsBegun I L places K) (sym c.layout_then-then.ensures) c.in-Ok.ensures.begun
 
   module _ {who : Uic} {name : RadName} {given : Option ℕ} {file : FileId} (e : IsEntryFor I L who dir name given file c.args.entry.now) where
     abbrev headers : List ℕ
     headers = dir.number ∷ e.own.is.held.others
 
-    got : IsTakenBy I L (length headers) (room_in I L headers) 1 c.in-Ok.taken
-    got = let end = c.of-end.ensures.end e.own.is.held.others e.own.is.lbns e.own.is.held.whole in by_numbers (λ h r. IsTakenBy I L h r 1 c.in-Ok.taken) end.0 end.2 c.in-Ok.ensures.ok
+    got : IsAllocatedBy I L (length headers) (room_in I L headers) 1 c.in-Ok.begun.0 places
+    got = let end = c.of-end.ensures.end e.own.is.held.others e.own.is.lbns e.own.is.held.whole in by_numbers (λ h r. IsAllocatedBy I L h r 1 c.in-Ok.begun.0 places) end.0 end.2 c.in-Ok.ensures.ok
 
     asked : IsAsked I L (Enter dir name given file) headers e.own.is.lbns 1 places
     asked = asked_by e c.requires.sound c.requires.grows c.len.ensures.image got.enough got.places
@@ -93,7 +82,7 @@ module _ (c : After-layout_then-then) where
       let has = has_headers some.own.is.held in
       end_kept c.of-end.result has ((k some).has dir.number (high_directory some) has) (k some).own c.of-end.ensures.last
 
-  taken : IsTakenFor K M dir.number c.in-Ok.taken.blocks.items c.in-Ok.taken.numbers.items
+  taken : IsAllocatedFor K M dir.number c.in-Ok.begun.0.blocks.items c.in-Ok.begun.0.numbers.items
   taken = taken_then (k some) ((k some).has dir.number (high_directory some) (has_headers some.own.is.held)) (got some).blocks (got some).numbers
 
 pub with_block-requires-clause-sound : goal.with_block-requires-clause-sound
@@ -113,20 +102,16 @@ with_block-requires-clause-end c = end_is (goal.at.with_block-requires-clause-en
 pub with_block-requires-clause-taken : goal.with_block-requires-clause-taken
 with_block-requires-clause-taken c =
     let at = (goal.at.with_block-requires-clause-taken c).After-layout_then-then in
-    subst (λ ns. IsTakenFor (K at) (M at) (dir at).number c.deref-2.result.now ns) (sym c.deref-3.ensures.value)
-    (subst (λ bs. IsTakenFor (K at) (M at) (dir at).number bs c.in-Ok.taken.numbers.items) (sym c.deref-2.ensures.value) (taken at))
+    subst (λ ns. IsAllocatedFor (K at) (M at) (dir at).number c.deref.result.now ns) (sym c.deref-2.ensures.value)
+    (subst (λ bs. IsAllocatedFor (K at) (M at) (dir at).number bs c.in-Ok.begun.0.numbers.items) (sym c.deref.ensures.value) (taken at))
 
 pub with_block-requires-clause-runs : goal.with_block-requires-clause-runs
-with_block-requires-clause-runs c = c.deref-4.ensures.value ∙ c.in-Ok.ensures.runs ∙ ap cut (sym c.deref-2.ensures.value)
+with_block-requires-clause-runs c = c.deref-3.ensures.value ∙ c.in-Ok.ensures.runs ∙ ap cut (sym c.deref.ensures.value)
 
 pub returns-in-Ok-with_block : goal.returns-in-Ok-with_block
 returns-in-Ok-with_block c = λ who name given file e.
     entered (goal.at.returns-in-Ok-with_block c).After-layout_then-then e (applied c.args.entry.now.disk.image.now c.in-Ok-with_block.draft) c.in-Ok-with_block.ensures
 
-pub returns-in-Err-begin : goal.returns-in-Err-begin
-returns-in-Err-begin c = λ who name given file e.
-    refused_for_memory c.args.entry.now.disk.image.now c.args.entry.now.disk.layout.now who (Enter c.args.entry.now.dir name given file) refl (λ C shown. (e.answered C shown).0)
-
-pub returns-in-Err-with_block : goal.returns-in-Err-with_block
-returns-in-Err-with_block c = λ who name given file e.
+pub returns : goal.returns
+returns c = λ who name given file e.
     refused_for_memory c.args.entry.now.disk.image.now c.args.entry.now.disk.layout.now who (Enter c.args.entry.now.dir name given file) refl (λ C shown. (e.answered C shown).0)

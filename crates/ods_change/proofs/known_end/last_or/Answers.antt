@@ -1,5 +1,5 @@
 use Rattle.std.proofs.Common.{arith}
-use Rattle.ods_change.proofs.TakingBlocks.{last_at}
+use Rattle.ods_alloc.proofs.Scans.{last_at}
 use Rattle.ods_change.proofs.known_end.last_or.Goals as goal
 
 pub returns : goal.returns

@@ -1,6 +1,5 @@
-use Rattle.std.proofs.Common.{◌≡◌, ap, subst, arith, inl, inr, ◌+◌}
+use Rattle.std.proofs.Common.{◌≡◌, subst, arith, inl, inr, ◌+◌}
 use Rattle.std.proofs.lemmas.Bool.{cases_lt}
-use Rattle.ods_mount.proofs.Holders.{file_small}
 use Rattle.ods_check.specs.Faults.{TellsFile}
 use Rattle.ods_check.specs.Lines.{IsLineOf}
 use Rattle.ods_check.proofs.Adding.{adds_none, adds_more}
@@ -38,7 +37,7 @@ loop-number-preserved c =
           let k = c.loop-number.number in
           turn_more turn_of (file_turn 0) (file_turn k) (file_turn (k + 1)) c.args.faults.now old new (omega arith) (omega arith) c.loop-number.invariant.once
           (turn_within turn_of (file_turn k) (file_turn k + 6) (file_turn k) (file_turn (k + 1)) old new (omega arith) (omega arith) c.in_ok-push_file.ensures.once);
-      few = omega arith;
+      few = (let words = c.file_end-number-end.ensures.words in omega arith);
       stamps = stamped_more _ _ _ _ c.in_ok-push_file.ensures.stamps (omega arith);
     }
 
@@ -49,8 +48,7 @@ returns-clause-files c n =
     elim (cases_lt n c.loop-number.number) [
       | inl less ↦ c.loop-number.invariant.files n less
       | inr more ↦ no_file I L n c.loop-number.faults.0 (λ file.
-          let small = file_small I L n file in
-          let same = ap (λ h. h.max_files) c.home.ensures in
+          let low = c.file_end-number-end.ensures.files n file in
           let end = c.loop-number-test.false in
           omega arith)
     ]

@@ -3,8 +3,6 @@ use Rattle.std.specs.Prelude.{MatchBool}
 use Rattle.ods_base.specs.Image.{block_at}
 use Rattle.ods_directory.specs.Names.{HasBadEntry, HasTwins}
 use Rattle.ods_directory.specs.Entry.{used_entries}
-use Rattle.ods_space.specs.Chain.{index_for}
-use Rattle.ods_space.proofs.Sizes.{chain_size}
 use Rattle.ods_mount.specs.Faults.{IsTrueOf, contents_of, mark_at}
 use Rattle.ods_mount.specs.declared.fault.MountFault.TheVariants.{BadDirectory, DuplicateName}
 use Rattle.ods_check.specs.declared.fault_line.FaultLine.TheVariants.{Plain}
@@ -17,18 +15,10 @@ use Rattle.ods_check.specs.Turns.{turn_of, file_turn}
 use Rattle.ods_check.proofs.Turning.{turn_none, turn_if, turn_more}
 use Rattle.ods_check.proofs.chains.push_names.Goals.{In_ok-twins}
 
-pub new-blocks-requires-clause-few : goal.new-blocks-requires-clause-few
-new-blocks-requires-clause-few c =
-    let has = c.requires.whole in
-    let small = chain_size c.args.disk.now.image.now c.args.disk.now.layout.now.home (index_for c.args.disk.now.layout.now c.args.number) c.args.number has.others c.args.lbns.now c.len.ensures.image has.whole.chain in
-    omega arith
-
 -- so it is at the end of the check
 found : (c : In_ok-twins) (P : List (List ℕ) → ℕ → Type 0)
-    → P (map (block_at c.new-blocks.result.image.now) c.new-blocks.result.lbns.now) c.mark_of-mark.result → P (contents_of c.args.disk.now.image.now c.args.lbns.now) (mark_at c.args.disk.now.image.now c.args.disk.now.layout.now c.args.number c.args.lbns.now)
-found c P =
-    moved P c.args.disk.now.image.now _ c.args.lbns.now _ _ c.args.attributes.now c.mark_of-mark.result c.count.result c.new-blocks.ensures.0 c.new-blocks.ensures.1 c.requires.attributes
-    c.count.ensures c.mark_of-mark.ensures
+    → P (map (block_at c.new-blocks.result.image.now) c.new-blocks.result.lbns.now) c.end_mark-mark.result → P (contents_of c.args.disk.now.image.now c.args.lbns.now) (mark_at c.args.disk.now.image.now c.args.disk.now.layout.now c.args.number c.args.lbns.now)
+found c P = moved P c.args.disk.now.image.now _ c.args.disk.now.layout.now c.args.number c.args.lbns.now _ c.end_mark-mark.result c.end_mark-mark.ensures c.new-blocks.ensures.0 c.new-blocks.ensures.1
 
 pub returns-then-not-is_directory_file-clause-adds : goal.returns-then-not-is_directory_file-clause-adds
 returns-then-not-is_directory_file-clause-adds c = adds_none (IsLineOf c.args.disk.now.image.now c.args.disk.now.layout.now) c.args.faults.now

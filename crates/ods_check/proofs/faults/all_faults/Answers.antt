@@ -1,4 +1,5 @@
 use Rattle.std.proofs.Common.{ap, ◌∙◌, rules, sym, subst, arith, ◌≡◌}
+use Rattle.std.specs.List.{All}
 use Rattle.ods_check.specs.declared.fault_line.FaultLine.TheVariants.{Plain}
 use Rattle.ods_check.specs.Lines.{IsLineOf, LineIsTrue}
 use Rattle.ods_check.proofs.Adding.{adds_more, adds_as, adds_either, adds_most, all_added}
@@ -9,9 +10,11 @@ use Rattle.ods_check.specs.Lists.{AreDistinct}
 use Rattle.ods_check.specs.Turns.{turn_of, last_turn}
 use Rattle.ods_check.proofs.Turning.{turn_once, distinct_nil}
 use Rattle.ods_check.proofs.faults.all_faults.Goals as goal
+use Rattle.ods_check.proofs.faults.all_faults.Goals.{In_ok-tell-in-Ok}
 
-pub returns-in_ok-tell-in-Ok-clause-lines : goal.returns-in_ok-tell-in-Ok-clause-lines
-returns-in_ok-tell-in-Ok-clause-lines c =
+-- each line that is told in the end is true
+lines_true : (c : In_ok-tell-in-Ok) → All (LineIsTrue c.args.image.now) c.tell.new.faults.0
+lines_true c =
     let I = c.args.image.now in
     let L = c.in-Ok.found in
     let start = c.new-faults.result in
@@ -21,16 +24,11 @@ returns-in_ok-tell-in-Ok-clause-lines c =
     let told = adds_either (LineIsTrue I) middle end (Plain c.args.known) c.in_ok-tell-in-Ok.ensures.added c.requires in
     all_added (LineIsTrue I) start end (ap (λ l. l.0) c.new-faults.ensures) (adds_more (LineIsTrue I) start middle end added told)
 
+pub returns-in_ok-tell-in-Ok-clause-lines : goal.returns-in_ok-tell-in-Ok-clause-lines
+returns-in_ok-tell-in-Ok-clause-lines c = lines_true (goal.at.returns-in_ok-tell-in-Ok-clause-lines c).In_ok-tell-in-Ok
+
 pub returns-in_ok-tell-in-Ok-clause-true_of : goal.returns-in_ok-tell-in-Ok-clause-true_of
-returns-in_ok-tell-in-Ok-clause-true_of c =
-    let I = c.args.image.now in
-    let L = c.in-Ok.found in
-    let start = c.new-faults.result in
-    let middle = c.push_all.new.faults in
-    let end = c.tell.new.faults in
-    let added = adds_as (IsLineOf I L) (LineIsTrue I) start middle (line_by_layout I L c.in-Ok.ensures.layout) c.in_ok-push_all-in-Ok.ensures.adds in
-    let told = adds_either (LineIsTrue I) middle end (Plain c.args.known) c.in_ok-tell-in-Ok.ensures.added c.requires in
-    all_faults_true I end.0 (all_added (LineIsTrue I) start end (ap (λ l. l.0) c.new-faults.ensures) (adds_more (LineIsTrue I) start middle end added told))
+returns-in_ok-tell-in-Ok-clause-true_of c = all_faults_true c.args.image.now c.tell.new.faults.0 (lines_true (goal.at.returns-in_ok-tell-in-Ok-clause-true_of c).In_ok-tell-in-Ok)
 
 pub returns-in_ok-tell-in-Ok-clause-layout : goal.returns-in_ok-tell-in-Ok-clause-layout
 returns-in_ok-tell-in-Ok-clause-layout c =

@@ -20,7 +20,7 @@ returns-then-is_full-clause-some c none =
     omega arith
 
 pub returns-then-is_told-clause-some : goal.returns-then-is_told-clause-some
-returns-then-is_told-clause-some c none = when_true _ _ c.if-is_told.true c.is_told.ensures (c.kept.ensures ∙ ap (take c.args.faults.now.1) none ∙ take-nil c.args.faults.now.1)
+returns-then-is_told-clause-some c none = when_true _ _ c.if-is_told.true c.is_told.ensures (c.kept_lines.ensures ∙ ap (take c.args.faults.now.1) none ∙ take-nil c.args.faults.now.1)
 
 pub returns-clause-some : goal.returns-clause-some
 returns-clause-some c = some_told c.push.new.self.0 (Plain c.args.known) (told_one _ _ (Plain c.args.known) c.in_ok-push.ensures)
@@ -36,7 +36,7 @@ returns-clause-once c once =
     let room : ¬ (most ≤ length xs) = when_false _ _ c.if-is_full.false c.is_full.ensures in
     let all : take most xs ≡ xs = take_all most xs (omega (arith, room)) in
     let P : List FaultLine → Type 0 = λ l. ¬ Contains l x in
-    let absent : P xs = subst P (c.kept.ensures ∙ all) (when_false _ _ c.if-is_told.false c.is_told.ensures) in
+    let absent : P xs = subst P (c.kept_lines.ensures ∙ all) (when_false _ _ c.if-is_told.false c.is_told.ensures) in
     let apart : AreDistinct (xs ++ x ∷ []) = distinct_append xs (x ∷ []) once (distinct_one x) (λ i j y at also.
     let Q : FaultLine → Type 0 = λ z. z ≡ x in
     let is : y ≡ x = at_place Q (x ∷ []) j y (All-cons Q x [] refl (All-nil Q)) also in

@@ -1,5 +1,4 @@
-use Rattle.std.proofs.Common.{ℕ, ◌*◌, ◌≤◌, sym, ap, subst, arith}
-use Rattle.ods_mount.proofs.Headers.{number_in_bitmap}
+use Rattle.std.proofs.Common.{arith}
 use Rattle.ods_check.specs.Findings.{IsFound, TellsHeader}
 use Rattle.ods_check.proofs.StillTold.{told_header_still}
 use Rattle.ods_check.proofs.Sweeping.{sweeps_more}
@@ -15,11 +14,6 @@ loop-number-preserved c =
 
 pub returns-clause-all : goal.returns-clause-all
 returns-clause-all c n small used =
-    let I = c.args.disk.now.image.now in
-    let L = c.args.disk.now.layout.now in
-    let within = number_in_bitmap I L.home n used in
-    let P : ℕ → Type 0 = λ x. n ≤ 4096 * x in
-    let low : n ≤ 4096 * c.home.result.index_bitmap_size = subst P (ap (λ h. h.index_bitmap_size) (sym c.home.ensures)) within in
-    let last = c.min-last.ensures in
+    let low = c.header_end-number-end.ensures.in_use n small used in
     let end = c.loop-number-test.false in
     c.loop-number.invariant.told n (omega arith) used

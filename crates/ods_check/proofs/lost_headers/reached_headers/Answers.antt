@@ -1,5 +1,4 @@
-use Rattle.std.proofs.Common.{ℕ, ◌*◌, ◌≤◌, sym, ap, subst, arith}
-use Rattle.ods_mount.proofs.Holders.{file_small}
+use Rattle.std.proofs.Common.{ℕ, ◌*◌, ◌≤◌, sym, subst, arith}
 use Rattle.ods_check.specs.Findings.{HasAsHeader}
 use Rattle.ods_check.proofs.Noting.{files_none, files_more, files_all}
 use Rattle.ods_check.proofs.lost_headers.reached_headers.Goals as goal
@@ -21,6 +20,5 @@ loop-number-preserved c =
 pub returns : goal.returns
 returns c =
     let end = c.loop-number-test.false in
-    let last = ap (λ h. h.max_files) c.home.ensures in
     files_all (HasAsHeader c.args.disk.now.image.now c.args.disk.now.layout.now) c.loop-number.number c.loop-number.reached
-    (λ m b h. let small = file_small c.args.disk.now.image.now c.args.disk.now.layout.now m h.1.file in omega arith) c.loop-number.invariant.files
+    (λ m b h. let low = c.file_end-number-end.ensures.files m h.1.file in omega arith) c.loop-number.invariant.files

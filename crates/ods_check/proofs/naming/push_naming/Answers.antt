@@ -1,12 +1,13 @@
-use Rattle.std.proofs.Common.{ℕ, ◌*◌, ◌≤◌, sym, ap, subst, arith}
-use Rattle.ods_mount.proofs.Holders.{file_small}
+use Rattle.std.proofs.Common.{ℕ, ◌*◌, ◌≤◌, refl, sym, subst, arith}
 use Rattle.ods_check.specs.declared.finding.Finding.TheVariants.{NamesNone}
+use Rattle.ods_check.specs.Lists.{Adds}
 use Rattle.ods_check.specs.Findings.{IsFound, NamesFile}
 use Rattle.ods_check.proofs.Adding.{adds_more, told_still}
 use Rattle.ods_check.proofs.Noting.{files_none, files_more, files_all}
-use Rattle.ods_check.proofs.Sweeping.{sweeps_none, sweeps_more}
+use Rattle.ods_check.proofs.Sweeping.{sweeps_none, sweeps_more, each_adds, each_told}
 use Rattle.ods_check.proofs.StillTold.{TellsNames, told_names_still}
 use Rattle.ods_check.proofs.naming.push_naming.Goals as goal
+use Rattle.ods_check.proofs.naming.push_naming.Goals.{In_ok-push_each}
 
 pub loop-number-init : goal.loop-number-init
 loop-number-init c =
@@ -32,26 +33,30 @@ loop-number-preserved c =
       room = subst P (sym told.room) c.loop-number.invariant.room;
     }
 
-pub push_lost_files-requires : goal.push_lost_files-requires
-push_lost_files-requires c =
+pub push_each-requires-clause-fits : goal.push_each-requires-clause-fits
+push_each-requires-clause-fits c =
     let I = c.args.disk.now.image.now in
     let L = c.args.disk.now.layout.now in
     let end = c.loop-number-test.false in
-    let last = ap (λ h. h.max_files) c.home.ensures in
-    files_all (NamesFile I L) c.loop-number.number c.loop-number.named (λ d b h. let small = file_small I L d h.1.has.file in omega arith) c.loop-number.invariant.files
+    files_all (NamesFile I L) c.loop-number.number c.loop-number.named (λ d b h. let low = c.file_end-number-end.ensures.files d h.1.has.file in omega arith) c.loop-number.invariant.files
 
 pub returns-then-not-with_lost-clause-adds : goal.returns-then-not-with_lost-clause-adds
 returns-then-not-with_lost-clause-adds c = c.loop-number.invariant.told.adds
 
+-- the lost files are among the findings
+lost_found : (c : In_ok-push_each) → Adds (IsFound c.args.disk.now.image.now c.args.disk.now.layout.now) c.loop-number.findings c.push_each.new.told
+lost_found c = each_adds _ _ _ _ c.in_ok-push_each.ensures.each (IsFound c.args.disk.now.image.now c.args.disk.now.layout.now) (λ n h. (h, refl))
+
 pub returns-clause-adds : goal.returns-clause-adds
 returns-clause-adds c =
-    adds_more (IsFound c.args.disk.now.image.now c.args.disk.now.layout.now) c.args.findings.now c.loop-number.findings c.push_lost_files.new.findings c.loop-number.invariant.told.adds c.in_ok-push_lost_files.ensures.adds
+    adds_more (IsFound c.args.disk.now.image.now c.args.disk.now.layout.now) c.args.findings.now c.loop-number.findings c.push_each.new.told c.loop-number.invariant.told.adds (lost_found (goal.at.returns-clause-adds c).In_ok-push_each)
+
+pub returns-clause-lost : goal.returns-clause-lost
+returns-clause-lost c wanted = each_told _ _ _ _ c.in_ok-push_each.ensures.each
 
 pub returns-clause-names : goal.returns-clause-names
 returns-clause-names c d line none =
-    let I = c.args.disk.now.image.now in
-    let L = c.args.disk.now.layout.now in
     let end = c.loop-number-test.false in
-    let last = ap (λ h. h.max_files) c.home.ensures in
-    let small = file_small I L d none.0.has.file in
-    told_still (IsFound I L) c.loop-number.findings c.push_lost_files.new.findings (NamesNone d line) c.in_ok-push_lost_files.ensures.adds (c.loop-number.invariant.told.told d (omega arith) line none)
+    let low = c.file_end-number-end.ensures.files d none.0.has.file in
+    told_still (IsFound c.args.disk.now.image.now c.args.disk.now.layout.now) c.loop-number.findings c.push_each.new.told (NamesNone d line) (lost_found (goal.at.returns-clause-names c).In_ok-push_each)
+    (c.loop-number.invariant.told.told d (omega arith) line none)

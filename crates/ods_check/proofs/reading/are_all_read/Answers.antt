@@ -1,6 +1,5 @@
-use Rattle.std.proofs.Common.{◌≡◌, inl, inr, ap, subst, arith}
+use Rattle.std.proofs.Common.{◌≡◌, inl, inr, subst, arith}
 use Rattle.std.proofs.lemmas.Bool.{cases_lt}
-use Rattle.ods_mount.proofs.Holders.{file_small}
 use Rattle.ods_check.specs.Findings.{IsRead}
 use Rattle.ods_check.proofs.Directories.{read_none}
 use Rattle.ods_check.proofs.Telling.{true_holds, false_fails}
@@ -28,7 +27,6 @@ returns c =
       | inl less ↦ c.loop-number.invariant n less
       | inr more ↦ read_none I L n (λ file. absurd (
           let end = c.loop-number-test.false in
-          let last = ap (λ h. h.max_files) c.home.ensures in
-          let small = file_small I L n file in
+          let low = c.file_end-number-end.ensures.files n file in
           omega arith))
     ]

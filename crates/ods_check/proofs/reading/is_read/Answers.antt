@@ -1,22 +1,45 @@
-use Rattle.std.proofs.Common.{◌≡◌, sym, ◌∙◌}
-use Rattle.ods_space.specs.declared.fault.ChainFault.TheVariants.{BadChain, OutsideVolume, NoMemory}
-use Rattle.ods_check.proofs.Directories.{no_blocks, read_none, not_read, read_plain}
+use Rattle.std.proofs.Common.{rules, ◌≡◌, ℕ, List, Ok, map, ap, sym, ◌∙◌, subst}
+use Rattle.ods_base.specs.Image.{block_at}
+use Rattle.ods_directory.specs.Names.{IsDirectory, HasBadEntry, HasTwins}
+use Rattle.ods_directory.specs.Entry.{used_entries}
+use Rattle.ods_space.specs.Files.{HasBlocks, AreInside}
+use Rattle.ods_mount.specs.Faults.{IsDirectoryFile, contents_of, mark_at}
+use Rattle.ods_check.specs.Findings.{IsWholeDirectory}
+use Rattle.ods_check.proofs.Directories.{moved, read_good, unread}
 use Rattle.ods_check.proofs.reading.is_read.Goals as goal
+use Rattle.ods_check.proofs.reading.is_read.Goals.{After-new-blocks}
 
 pub returns-in_default : goal.returns-in_default
-returns-in_default c = read_none c.args.disk.now.image.now c.args.disk.now.layout.now c.args.number c.in_default.ensures.none
+returns-in_default c =
+    let none : IsDirectoryFile c.args.disk.now.image.now c.args.disk.now.layout.now c.args.number → (blocks : List ℕ) → ¬ HasBlocks c.args.disk.now.image.now c.args.disk.now.layout.now c.args.number blocks = search rules in
+    unread c.args.disk.now.image.now c.args.disk.now.layout.now c.args.number c.is_directory.result c.is_directory.ensures none
 
-pub returns-then-not-is_directory_file : goal.returns-then-not-is_directory_file
-returns-then-not-is_directory_file c = read_plain c.args.disk.now.image.now c.args.disk.now.layout.now c.args.number c.if-not-is_directory_file.ensures
+pub new-blocks-requires-clause-inside : goal.new-blocks-requires-clause-inside
+new-blocks-requires-clause-inside c =
+    let d : IsWholeDirectory c.args.disk.now.image.now c.args.disk.now.layout.now c.args.number c.in-Some.directory.lbns.items c.in-Some.directory.mark = search rules in
+    subst (AreInside c.args.disk.now.image.now) (sym c.deref.ensures.value) d.has.whole.inside
 
-pub returns-in-Err-BadChain : goal.returns-in-Err-BadChain
-returns-in-Err-BadChain c =
-    not_read c.args.disk.now.image.now c.args.disk.now.layout.now c.args.number c.if-not-is_directory_file.ensures
-    (no_blocks c.args.disk.now.image.now c.args.disk.now.layout.now c.args.number c.in-Err-BadChain.field-0 c.in-Err-BadChain.ensures.err
-    (λ e. let clash : BadChain ≡ NoMemory = sym c.in-Err-BadChain.field-0-is ∙ e in absurd cc))
+-- the directory, and what is found of the blocks at hand is so of it
+whole : (c : After-new-blocks) → IsWholeDirectory c.args.disk.now.image.now c.args.disk.now.layout.now c.args.number c.in-Some.directory.lbns.items c.in-Some.directory.mark
+whole c = search rules
 
-pub returns-in-Err-OutsideVolume : goal.returns-in-Err-OutsideVolume
-returns-in-Err-OutsideVolume c =
-    not_read c.args.disk.now.image.now c.args.disk.now.layout.now c.args.number c.if-not-is_directory_file.ensures
-    (no_blocks c.args.disk.now.image.now c.args.disk.now.layout.now c.args.number c.in-Err-OutsideVolume.field-0 c.in-Err-OutsideVolume.ensures.err
-    (λ e. let clash : OutsideVolume c.in-Err-OutsideVolume.field-0-0 ≡ NoMemory = sym c.in-Err-OutsideVolume.field-0-is ∙ e in absurd cc))
+found : (c : After-new-blocks) (P : List (List ℕ) → ℕ → Type 0) → P (map (block_at c.new-blocks.result.image.now) c.new-blocks.result.lbns.now) c.in-Some.directory.mark
+    → P (contents_of c.args.disk.now.image.now c.in-Some.directory.lbns.items) (mark_at c.args.disk.now.image.now c.args.disk.now.layout.now c.args.number c.in-Some.directory.lbns.items)
+found c P = moved P c.args.disk.now.image.now _ c.args.disk.now.layout.now c.args.number _ _ _ (whole c) c.new-blocks.ensures.0 (c.new-blocks.ensures.1 ∙ c.deref.ensures.value)
+
+pub returns-in-Ok-Good : goal.returns-in-Ok-Good
+returns-in-Ok-Good c =
+    let all = (goal.at.returns-in-Ok-Good c).After-new-blocks in
+    read_good c.args.disk.now.image.now c.args.disk.now.layout.now c.args.number _ (whole all).has (found all IsDirectory (c.in-Ok-Good.ensures.good (ap Ok c.in-Ok-Good.field-0-is)))
+
+pub returns-in-Ok-BadEntry : goal.returns-in-Ok-BadEntry
+returns-in-Ok-BadEntry c =
+    let all = (goal.at.returns-in-Ok-BadEntry c).After-new-blocks in
+    let bad = found all (λ bs m. HasBadEntry (used_entries bs m)) (c.in-Ok-BadEntry.ensures.bad (ap Ok c.in-Ok-BadEntry.field-0-is)) in
+    λ r. r.good ((whole all).file, _, (whole all).has, bad)
+
+pub returns-in-Ok-Twice : goal.returns-in-Ok-Twice
+returns-in-Ok-Twice c =
+    let all = (goal.at.returns-in-Ok-Twice c).After-new-blocks in
+    let twice = found all (λ bs m. HasTwins (used_entries bs m)) (c.in-Ok-Twice.ensures.twice (ap Ok c.in-Ok-Twice.field-0-is)) in
+    λ r. r.distinct ((whole all).file, _, (whole all).has, twice)

@@ -1,4 +1,4 @@
-use Rattle.std.proofs.Common.{ℕ, ◌*◌, ◌≤◌, sym, ap, subst, arith}
+use Rattle.std.proofs.Common.{ℕ, ◌*◌, ◌≤◌, sym, subst, arith}
 use Rattle.ods_check.specs.Findings.{HasAsHeader}
 use Rattle.ods_check.specs.Marks.{IsOfTwo}
 use Rattle.ods_check.proofs.Noting.{files_none, set_none}
@@ -26,5 +26,5 @@ loop-number-preserved c =
 pub returns : goal.returns
 returns c =
     let end = c.loop-number-test.false in
-    let last = ap (λ h. h.max_files) c.home.ensures in
+    let last = c.file_end-number-end.ensures.last in
     two_all c.args.disk.now.image.now c.args.disk.now.layout.now c.loop-number.number c.loop-number.twice (omega arith) c.loop-number.invariant.two

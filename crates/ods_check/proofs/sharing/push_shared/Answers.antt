@@ -1,7 +1,6 @@
 use Rattle.std.proofs.Common.{◌≡◌, ℕ, ◌≤◌, inl, inr, ap, subst, arith, ◌+◌}
 use Rattle.std.proofs.lemmas.Bool.{cases_lt}
 use Rattle.ods_check.specs.Lines.{IsLineOf}
-use Rattle.ods_mount.proofs.Holders.{file_small}
 use Rattle.ods_check.proofs.Adding.{adds_none, adds_more}
 use Rattle.ods_check.proofs.Others.{TellsOr, has_none, others_more, tells_or_still}
 use Rattle.ods_check.specs.Turns.{turn_of, pair_turn, last_turn}
@@ -35,7 +34,7 @@ loop-number-preserved c =
     record {
       adds = adds_more (IsLineOf I L) c.args.faults.now mid new c.loop-number.invariant.adds e.adds;
       once = turn_more turn_of (pair_turn 0 0) (pair_turn 0 k) (pair_turn 0 (k + 1)) c.args.faults.now mid new (omega arith) (omega arith) c.loop-number.invariant.once e.once;
-      few = omega arith;
+      few = (let words = c.file_end-number-end.ensures.words in omega arith);
       told = λ n low m within. elim (cases_lt n k) [
         | inl less ↦ tells_or_still I L (IsLineOf I L) mid new k xs ys e.adds e.others m n (c.loop-number.invariant.told n less m within)
         | inr more ↦
@@ -52,10 +51,9 @@ returns-clause-all c m n low =
     let I = c.args.disk.now.image.now in
     let L = c.args.disk.now.layout.now in
     let end = c.loop-number-test.false in
-    let last = ap (λ x. x.max_files) c.home.ensures in
     elim (cases_lt n c.loop-number.number) [
       | inl less ↦ c.loop-number.invariant.told n less m low
-      | inr more ↦ inl (λ b share. absurd (let small = file_small I L n share.3.file.file in omega arith))
+      | inr more ↦ inl (λ b share. absurd (let low = c.file_end-number-end.ensures.files n share.3.file.file in omega arith))
     ]
 
 pub returns-clause-adds : goal.returns-clause-adds

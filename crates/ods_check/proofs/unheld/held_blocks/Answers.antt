@@ -1,6 +1,5 @@
-use Rattle.std.proofs.Common.{ℕ, ◌*◌, ◌≤◌, length, sym, ap, subst, arith}
+use Rattle.std.proofs.Common.{ℕ, ◌*◌, ◌≤◌, length, sym, subst, arith}
 use Rattle.ods_space.specs.Files.{Holds}
-use Rattle.ods_mount.proofs.Holders.{file_small}
 use Rattle.ods_check.proofs.Noting.{files_none, files_more, files_all}
 use Rattle.ods_check.proofs.unheld.held_blocks.Goals as goal
 
@@ -31,5 +30,4 @@ returns c =
     let I = c.args.disk.now.image.now in
     let L = c.args.disk.now.layout.now in
     let end = c.loop-number-test.false in
-    let last = ap (λ h. h.max_files) c.home.ensures in
-    files_all (λ m b. (v : ℕ) × Holds I L m v b) c.loop-number.number c.loop-number.held (λ m b held. let small = file_small I L m held.1.file.file in omega arith) c.loop-number.invariant.files
+    files_all (λ m b. (v : ℕ) × Holds I L m v b) c.loop-number.number c.loop-number.held (λ m b held. let low = c.file_end-number-end.ensures.files m held.1.file.file in omega arith) c.loop-number.invariant.files

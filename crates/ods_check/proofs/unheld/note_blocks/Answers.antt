@@ -1,38 +1,26 @@
-use Rattle.std.proofs.Common.{◌≡◌, ◌⊎◌, ℕ, ◌+◌, true, List, Some, slice_get, inl, inr, sym, ◌∙◌, subst}
-use Rattle.ods_space.specs.declared.fault.ChainFault.TheVariants.{BadChain, OutsideVolume, NoMemory}
-use Rattle.ods_space.specs.Files.{Holds}
+use Rattle.std.proofs.Common.{rules, ◌≡◌, ◌⊎◌, ℕ, true, List, Some, slice_get, sym, subst, arith}
+use Rattle.ods_space.specs.Files.{HasBlocks, AreInside}
 use Rattle.ods_mount.specs.Tables.{has}
-use Rattle.ods_mount.proofs.Each.{holds_at, held_at}
-use Rattle.ods_mount.proofs.Holders.{not_held}
+use Rattle.ods_check.specs.Findings.{HasBlock}
 use Rattle.ods_check.specs.Sets.{IsSetOf}
-use Rattle.ods_check.proofs.Noting.{set_as, set_same}
+use Rattle.ods_check.proofs.Noting.{set_same}
+use Rattle.ods_check.proofs.Pairs.{blocks_more}
 use Rattle.ods_check.proofs.unheld.note_blocks.Goals as goal
 
-pub returns-in-Ok-clause-with : goal.returns-in-Ok-clause-with
-returns-in-Ok-clause-with c =
-    let I = c.args.disk.now.image.now in
-    let L = c.args.disk.now.layout.now in
-    let n = c.args.number in
-    let xs = c.in-Ok.lbns.items in
-    let has_blocks = c.in-Ok.ensures.ok in
-    let At : List ℕ → ℕ → Type 0 = λ ys b. (j : ℕ) × (slice_get ys j ≡ Some b) in
-    let P : List ℕ → Type 0 = λ ys. IsSetOf (λ b. (has c.args.held.now b ≡ true) ⊎ At ys b) c.insert_all.new.set in
-    let s : P xs = subst P c.deref.ensures.value c.insert_all.ensures.with in
-    set_as (λ b. (has c.args.held.now b ≡ true) ⊎ At xs b) (λ b. (has c.args.held.now b ≡ true) ⊎ ((v : ℕ) × Holds I L n v b)) c.insert_all.new.set
-    (λ b o. elim o [ inl m ↦ inl m | inr (j, at) ↦ inr (j + 1, holds_at I L n xs j b has_blocks at) ])
-    (λ b o. elim o [ inl m ↦ inl m | inr (v, held) ↦ (let at = held_at I L n xs v b has_blocks held in inr (at.0, at.2)) ])
-    s
+pub returns-in_default-clause-with : goal.returns-in_default-clause-with
+returns-in_default-clause-with c =
+    let none : (blocks : List ℕ) → ¬ HasBlocks c.args.disk.now.image.now c.args.disk.now.layout.now c.args.number blocks = search rules in
+    set_same (HasBlock c.args.disk.now.image.now c.args.disk.now.layout.now c.args.number) c.args.held.now (λ b p. none p.1.blocks p.1.file)
 
-pub returns-in-Err-BadChain-clause-with : goal.returns-in-Err-BadChain-clause-with
-returns-in-Err-BadChain-clause-with c =
-    let I = c.args.disk.now.image.now in
-    let L = c.args.disk.now.layout.now in
-    let n = c.args.number in
-    set_same (λ b. (v : ℕ) × Holds I L n v b) c.args.held.now (λ b p. not_held I L n b c.in-Err-BadChain.field-0 c.in-Err-BadChain.ensures.err (λ e. let clash : BadChain ≡ NoMemory = sym c.in-Err-BadChain.field-0-is ∙ e in absurd cc) p.0 p.1)
+pub insert_all-requires : goal.insert_all-requires
+insert_all-requires c k d low =
+    let own : HasBlocks c.args.disk.now.image.now c.args.disk.now.layout.now c.args.number c.in-Some.lbns.items = search rules in
+    let here = subst (AreInside c.args.disk.now.image.now) (sym c.deref.ensures.value) own.whole.inside k d low in
+    let room = c.requires.room in
+    omega arith
 
-pub returns-in-Err-OutsideVolume-clause-with : goal.returns-in-Err-OutsideVolume-clause-with
-returns-in-Err-OutsideVolume-clause-with c =
-    let I = c.args.disk.now.image.now in
-    let L = c.args.disk.now.layout.now in
-    let n = c.args.number in
-    set_same (λ b. (v : ℕ) × Holds I L n v b) c.args.held.now (λ b p. not_held I L n b c.in-Err-OutsideVolume.field-0 c.in-Err-OutsideVolume.ensures.err (λ e. let clash : OutsideVolume c.in-Err-OutsideVolume.field-0-0 ≡ NoMemory = sym c.in-Err-OutsideVolume.field-0-is ∙ e in absurd cc) p.0 p.1)
+pub returns-clause-with : goal.returns-clause-with
+returns-clause-with c =
+    let own : HasBlocks c.args.disk.now.image.now c.args.disk.now.layout.now c.args.number c.in-Some.lbns.items = search rules in
+    let P : List ℕ → Type 0 = λ ys. IsSetOf (λ b. (has c.args.held.now b ≡ true) ⊎ ((j : ℕ) × (slice_get ys j ≡ Some b))) c.insert_all.new.set in
+    blocks_more c.args.disk.now.image.now c.args.disk.now.layout.now c.args.number _ c.args.held.now c.insert_all.new.set own (subst P c.deref.ensures.value c.insert_all.ensures.with)

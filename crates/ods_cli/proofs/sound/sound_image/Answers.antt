@@ -18,6 +18,6 @@ returns-in-Ok g c =
     let read = rw c.in-Ok.is at c.in_ok-image.ensures in (
       read.0,
       read.1,
-      of_image (λ m. m.image) (λ n. n.number) (λ n. string_bytes n.line) c.mounted.result read.0 (g.R.Read.remaining c.read_image.new.reader) c.in-Ok.image
-          read.2 c.mounted.ensures.ok c.mounted.ensures.err,
+      of_image (λ m. m.image) (λ n. n.number) (λ n. string_bytes n.line) c.mount_image.result read.0 (g.R.Read.remaining c.read_image.new.reader) c.in-Ok.image
+          read.2 c.mount_image.ensures.ok c.mount_image.ensures.err,
     )

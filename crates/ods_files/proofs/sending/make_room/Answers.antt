@@ -9,14 +9,14 @@ returns-in-Ok-clause-ok g c start bytes at way =
     let contents = g.W.Write.contents in
     let P : List ℕ → Type 0 = λ piece. IsSending bytes start (contents c.args.writer.now) at c.args.before piece in
     let told = c.in-Ok.ensures.ok in
-    let sent = piece_sent bytes start (contents c.args.writer.now) (contents c.send_piece.new.writer) at c.args.before c.deref.result.now (subst P (sym c.deref.ensures.0) way) told.1 in
+    let sent = piece_sent bytes start (contents c.args.writer.now) (contents c.write_piece.new.writer) at c.args.before c.deref.result.now (subst P (sym c.deref.ensures.0) way) told.1 in
     rw (c.clear.ensures, told.0) sent
 
 pub returns-in-Err-clause-err : goal.returns-in-Err-clause-err
 returns-in-Err-clause-err g c start bytes at way few =
     let contents = g.W.Write.contents in
     let P : List ℕ → Type 0 = λ piece. IsSending bytes start (contents c.args.writer.now) at c.args.before piece in
-    let Q : ℕ → Type 0 = λ n. TookBytes start (contents c.send_piece.new.writer) bytes n in
+    let Q : ℕ → Type 0 = λ n. TookBytes start (contents c.write_piece.new.writer) bytes n in
     let told = c.in-Err.ensures.err in
-    subst Q (sym told.2) (piece_broken bytes start (contents c.args.writer.now) (contents c.send_piece.new.writer) at c.args.before told.0 c.deref.result.now
+    subst Q (sym told.2) (piece_broken bytes start (contents c.args.writer.now) (contents c.write_piece.new.writer) at c.args.before told.0 c.deref.result.now
     (subst P (sym c.deref.ensures.0) way) few told.1 told.3)

@@ -23,14 +23,14 @@ loop-k-preserved g c =
     let P : ℕ → Type 0 = λ n. IsSending bytes (g.W.Write.contents c.args.writer.now) (g.W.Write.contents c.send_on.new.writer) n c.in-Ok.after c.send_on.new.piece.items in
     subst P next.1 (c.in-Ok.ensures.ok (g.W.Write.contents c.args.writer.now) bytes (min (512 * c.loop-k.k) c.args.size) c.loop-k.invariant next.0)
 
-pub returns-in-Err-send_piece-clause-err : goal.returns-in-Err-send_piece-clause-err
-returns-in-Err-send_piece-clause-err g c =
+pub returns-in-Err-write_piece-clause-err : goal.returns-in-Err-write_piece-clause-err
+returns-in-Err-write_piece-clause-err g c =
     let contents = g.W.Write.contents in
     let bytes = take c.args.size (image_bytes (contents_of c.args.image.now c.args.lbns.now)) in
     let long = sized c.args.image.now c.args.lbns.now c.args.size c.len.ensures.image.blocks c.requires.inside c.requires.size in
     let few : min (512 * c.loop-k.k) c.args.size ≤ length bytes = omega (arith, long) in
     let P : List ℕ → Type 0 = λ piece. IsSending bytes (contents c.args.writer.now) (contents c.loop-k.writer) (min (512 * c.loop-k.k) c.args.size) c.loop-k.written piece in
-    let Q : ℕ → Type 0 = λ n. TookBytes (contents c.args.writer.now) (contents c.send_piece.new.writer) bytes n in
-    let told = c.in-Err-send_piece.ensures.err in
-    subst Q (sym told.2) (piece_broken bytes (contents c.args.writer.now) (contents c.loop-k.writer) (contents c.send_piece.new.writer) (min (512 * c.loop-k.k) c.args.size) c.loop-k.written told.0 c.deref.result.now
+    let Q : ℕ → Type 0 = λ n. TookBytes (contents c.args.writer.now) (contents c.write_piece.new.writer) bytes n in
+    let told = c.in-Err-write_piece.ensures.err in
+    subst Q (sym told.2) (piece_broken bytes (contents c.args.writer.now) (contents c.loop-k.writer) (contents c.write_piece.new.writer) (min (512 * c.loop-k.k) c.args.size) c.loop-k.written told.0 c.deref.result.now
     (subst P (sym c.deref.ensures.0) c.loop-k.invariant) few told.1 told.3)

@@ -7,6 +7,6 @@ returns-then-not-is_well_indexed-clause-err c =
     let bad : IsBadlyIndexed c.args.disk.now.layout.now c.args.home_lbn = c.if-not-is_well_indexed.ensures in
     elim bad [
       | inl few ↦ inl few
-      | inr (inl other) ↦ inr (inl other)
+      | inr (inl (i, other)) ↦ inr (inl (i, other.0, other.1))
       | inr (inr (first, second)) ↦ inr (inr (inl (c.args.home_lbn, c.requires, first, second)))
     ]

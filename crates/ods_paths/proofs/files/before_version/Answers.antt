@@ -1,5 +1,5 @@
 use Rattle.ods_paths.specs.Paths.{begins_version}
-use Rattle.ods_paths.proofs.Firsts.{front_is}
+use Rattle.ods_text.proofs.Firsts.{front_is}
 use Rattle.ods_paths.proofs.files.before_version.Goals as goal
 
 pub returns : goal.returns

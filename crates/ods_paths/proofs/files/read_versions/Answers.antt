@@ -1,6 +1,6 @@
-use Rattle.std.proofs.Common.{◌∙◌, sym, arith}
+use Rattle.std.proofs.Common.{◌∙◌, arith}
 use Rattle.ods_paths.specs.Paths.{begins_version}
-use Rattle.ods_paths.proofs.Firsts.{first_is, back_is}
+use Rattle.ods_text.proofs.Firsts.{first_is, back_is}
 use Rattle.ods_paths.proofs.VersionTexts.{none_said, some_said, bad_said}
 use Rattle.ods_paths.proofs.files.read_versions.Goals as goal
 

@@ -1,5 +1,5 @@
 use Rattle.std.proofs.Common.{arith}
-use Rattle.ods_paths.proofs.VersionTexts.{no_exact, not_exact, the_exact}
+use Rattle.ods_paths.proofs.VersionTexts.{no_exact, the_exact}
 use Rattle.ods_paths.proofs.versions.read_exact.Goals as goal
 
 pub returns-in_default : goal.returns-in_default

@@ -1,4 +1,4 @@
-use Rattle.std.proofs.Common.{◌≡◌, ◌≢◌, ℕ, List, ◌↔◌, Bool, true, false}
+use Rattle.std.proofs.Common.{◌≡◌, ◌≢◌, ℕ, List, ◌↔◌, Bool, false}
 use Rattle.std.specs.Bool.{IsTrue}
 use Rattle.ods_paths.proofs.VersionTexts.{highest_version, lowest_version, every_version, given_version}
 use Rattle.ods_paths.proofs.versions.read_version.Goals as goal

@@ -1,9 +1,12 @@
 use Rattle.std.proofs.Common.{◌≡◌, ℕ, List, refl, subst, sym, rules}
 use Rattle.std.specs.Prelude.{IfOk}
-use Rattle.ods_share.specs.declared.script.Action.{Action}
-use Rattle.ods_share.specs.declared.script.Action.TheVariants as action
-use Rattle.ods_share.specs.declared.script.Ask.TheVariants as ask
-use Rattle.ods_script.specs.Spelling.{IsTheOne, IsUic, IsPair, IsId, IsNumber, IsHex}
+use Rattle.ods_ask.specs.declared.script.Action.{Action}
+use Rattle.ods_ask.specs.declared.script.Action.TheVariants as action
+use Rattle.ods_ask.specs.declared.script.Ask.TheVariants as ask
+use Rattle.ods_text.specs.Cuts.{IsPair}
+use Rattle.ods_text.specs.Numbers.{IsNumber}
+use Rattle.ods_text.specs.One.{IsTheOne}
+use Rattle.ods_script.specs.Spelling.{IsUic, IsId, IsHex}
 use Rattle.ods_script.specs.Naming.{IsNewName, IsGivenName, IsWantedName}
 use Rattle.ods_script.specs.Commands.{Behind}
 use Rattle.ods_script.specs.Said.{said}

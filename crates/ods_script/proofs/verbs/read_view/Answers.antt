@@ -1,7 +1,10 @@
 use Rattle.std.proofs.Common.{refl, subst, sym, rules}
-use Rattle.ods_share.specs.declared.script.Action.TheVariants as action
-use Rattle.ods_share.specs.declared.script.Look.TheVariants as look
-use Rattle.ods_script.specs.Spelling.{IsTheOne, IsPair, IsId, IsNumber}
+use Rattle.ods_ask.specs.declared.script.Action.TheVariants as action
+use Rattle.ods_ask.specs.declared.script.Look.TheVariants as look
+use Rattle.ods_text.specs.Cuts.{IsPair}
+use Rattle.ods_text.specs.Numbers.{IsNumber}
+use Rattle.ods_text.specs.One.{IsTheOne}
+use Rattle.ods_script.specs.Spelling.{IsId}
 use Rattle.ods_script.specs.Naming.{IsWantedName}
 use Rattle.ods_script.specs.Commands.{Viewed}
 use Rattle.ods_script.specs.Said.{said}

@@ -1,5 +1,8 @@
 use Rattle.std.proofs.Common.{ℕ, List, Some, sym, subst}
-use Rattle.ods_script.specs.Spelling.{IsTheOne, IsPair, IsId, IsNumber, IsHex}
+use Rattle.ods_text.specs.Cuts.{IsPair}
+use Rattle.ods_text.specs.Numbers.{IsNumber}
+use Rattle.ods_text.specs.One.{IsTheOne}
+use Rattle.ods_script.specs.Spelling.{IsId, IsHex}
 use Rattle.ods_script.specs.Commands.{Behind}
 use Rattle.ods_script.specs.Spoken as spoken
 use Rattle.ods_script.specs.declared.verbs.Verb.TheVariants.{Write}

@@ -3,7 +3,7 @@ use Rattle.std.specs.Prelude.{slice_index_or}
 use Rattle.std.specs.Vec.{vec_capacity}
 use Rattle.std.specs.Vec.Iter.{into_iter_items, into_iter_len}
 use Rattle.ods_views.specs.Viewers.{newly}
-use Rattle.ods_share.specs.declared.script.Script.{Script}
+use Rattle.ods_ask.specs.declared.script.Script.{Script}
 use Rattle.ods_share.proofs.threads.begin_all.Given as goal
 
 abbrev pub invariant-loop-script : goal.invariant-loop-script

@@ -1,11 +1,12 @@
-use Rattle.std.proofs.Common.{rules, ◌≡◌, ◌+◌, ◌<◌, ◌≤◌, ◌++◌, [], ◌∷◌, refl, sym, ap, ◌∙◌, subst, take, length, map, List, Some, arith}
+use Rattle.std.proofs.Common.{rules, ◌≡◌, ◌+◌, ◌<◌, ◌++◌, [], ◌∷◌, refl, sym, ap, ◌∙◌, subst, take, length, map, List, Some, arith}
 use Rattle.std.specs.Prelude.{slice_get}
 use Rattle.std.proofs.lemmas.List.{take_more, length-take-le}
 use Rattle.std.proofs.lemmas.Option.{get_or_from_slice_get, slice_get_read}
 use Rattle.ods_paths.specs.Views.{said_files}
 use Rattle.ods_shell.specs.declared.folders.Directory.{Directory}
-use Rattle.ods_shell.specs.declared.finding.Line.{Line}
+use Rattle.ods_walk.specs.declared.tables.Line.{Line}
 use Rattle.ods_shell.specs.Found.{AreFound, placed}
+use Rattle.ods_shell.specs.Ways.{AreMet}
 use Rattle.ods_shell.proofs.FoundMore.{found_more}
 use Rattle.ods_shell.proofs.finding.find_open.Goals as goal
 
@@ -23,3 +24,6 @@ loop-place-preserved c =
     let more = found_more c.args.volume.now.image c.args.volume.now.layout (said_files c.args.files.now) c.args.unsaid 0 at (take at all) d c.loop-place.lines.items c.in_ok-entries.entries.items size c.loop-place.invariant c.in_ok-entries.ensures in
     subst (λ ds. AreFound c.args.volume.now.image c.args.volume.now.layout (said_files c.args.files.now) c.args.unsaid 0 ds c.add_lines.new.lines.items) (sym took)
     (subst (λ (ls : List Line). AreFound c.args.volume.now.image c.args.volume.now.layout (said_files c.args.files.now) c.args.unsaid 0 (take at all ++ d ∷ []) ls) (sym added) more)
+
+pub returns-clause-met : goal.returns-clause-met
+returns-clause-met c = subst (λ (ds : List Directory). AreMet c.args.closed.now ds c.directories.new.closed.met.items) c.new.ensures.items c.in_ok-found.ensures.met

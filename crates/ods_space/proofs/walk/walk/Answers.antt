@@ -5,7 +5,7 @@ use Rattle.ods_space.proofs.walk.walk.Goals as goal
 
 pub returns-in_default : goal.returns-in_default
 returns-in_default g c others blocks chain =
-    walk_none c.args.image.now c.args.home.now (g.N.Notes.placed_by c.args.notes.now) c.args.number c.most.result c.known.result.now (c.known.ensures c.args.notes.now [] c.requires) (c.most.ensures c.args.notes.now [] c.requires) c.in_default.ensures.none blocks (others, chain)
+    walk_none c.args.image.now c.args.home.now (g.N.Notes.placed_by c.args.notes.now) c.args.number c.most.result c.known_index.result.now (c.known_index.ensures c.args.notes.now [] c.requires) (c.most.ensures c.args.notes.now [] c.requires) c.in_default.ensures.none blocks (others, chain)
 
 pub returns-then-next_number-eq0 : goal.returns-then-next_number-eq0
 returns-then-next_number-eq0 g c =
@@ -13,7 +13,7 @@ returns-then-next_number-eq0 g c =
     let noted = c.in_default-note.ensures c.args.notes.now w.front w.noted in
     let all = w.front ++ blocks_of c.loop-segment.block.now in
     let last : next_number_of c.loop-segment.block.now ≡ 0 = sym c.next_number.ensures ∙ c.if-next_number-eq0.true in
-    let leads = walk_last c.args.image.now c.args.home.now (g.N.Notes.placed_by c.args.notes.now) c.args.number c.most.result c.known.result.now
+    let leads = walk_last c.args.image.now c.args.home.now (g.N.Notes.placed_by c.args.notes.now) c.args.number c.most.result c.known_index.result.now
     w.front c.loop-segment.segment w.here c.loop-segment.block.now w.at all refl last in
     (leads.0, all, leads.1, noted)
 
@@ -29,8 +29,8 @@ loop-segment-preserved g c =
       way = record {
         front = all;
         here = next_number_of c.loop-segment.block.now;
-        at = walk_next c.args.image.now c.args.home.now index c.args.number c.most-most.result c.known-in-loop-segment.result.now w.front c.loop-segment.segment w.here c.loop-segment.block.now w.at
-            all refl c.in-Some-next_block.next.now (c.loop-segment.segment + 1) (omega arith) (c.known-in-loop-segment.ensures c.args.notes.now all noted) (c.most-most.ensures c.args.notes.now all noted)
+        at = walk_next c.args.image.now c.args.home.now index c.args.number c.most-most.result c.known_index-in-loop-segment.result.now w.front c.loop-segment.segment w.here c.loop-segment.block.now w.at
+            all refl c.in-Some-next_block.next.now (c.loop-segment.segment + 1) (omega arith) (c.known_index-in-loop-segment.ensures c.args.notes.now all noted) (c.most-most.ensures c.args.notes.now all noted)
             (λ e. c.if-next_number-eq0.false (c.next_number.ensures ∙ e)) link.0 link.1;
         noted = noted;
         few = few_more c.args.image.now c.args.home.now index c.args.number (g.N.Notes.has c.args.notes.now c.loop-segment.notes) c.loop-segment.segment c.loop-segment.block.now c.len.ensures.image w;
@@ -43,6 +43,6 @@ returns-in_default-next_block g c others blocks chain =
     let index = g.N.Notes.placed_by c.args.notes.now in
     let all = w.front ++ blocks_of c.loop-segment.block.now in
     let noted = c.in_default-note.ensures c.args.notes.now w.front w.noted in
-    walk_end c.args.image.now c.args.home.now index c.args.number c.most-most.result c.known-in-loop-segment.result.now w.front c.loop-segment.segment w.here c.loop-segment.block.now w.at
-    all refl (c.loop-segment.segment + 1) (omega arith) (c.known-in-loop-segment.ensures c.args.notes.now all noted) (c.most-most.ensures c.args.notes.now all noted)
+    walk_end c.args.image.now c.args.home.now index c.args.number c.most-most.result c.known_index-in-loop-segment.result.now w.front c.loop-segment.segment w.here c.loop-segment.block.now w.at
+    all refl (c.loop-segment.segment + 1) (omega arith) (c.known_index-in-loop-segment.ensures c.args.notes.now all noted) (c.most-most.ensures c.args.notes.now all noted)
     (λ e. c.if-next_number-eq0.false (c.next_number.ensures ∙ e)) c.in_default-next_block.ensures.none blocks (others, chain)

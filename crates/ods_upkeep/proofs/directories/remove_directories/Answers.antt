@@ -5,4 +5,7 @@ pub loop-path-init : goal.loop-path-init
 loop-path-init c = stays c.args.filing.now
 
 pub loop-path-preserved : goal.loop-path-preserved
-loop-path-preserved c = then_led c.loop-path.invariant c.in_ok-remove_path.ensures
+loop-path-preserved c = then_led c.loop-path.invariant c.remove_path.ensures
+
+pub returns-in_err-remove_path : goal.returns-in_err-remove_path
+returns-in_err-remove_path c = then_led c.loop-path.invariant c.remove_path.ensures

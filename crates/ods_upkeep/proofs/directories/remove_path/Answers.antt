@@ -5,4 +5,7 @@ pub loop-found-2-init : goal.loop-found-2-init
 loop-found-2-init c = stays c.args.filing.now
 
 pub loop-found-2-preserved : goal.loop-found-2-preserved
-loop-found-2-preserved c = then_led c.loop-found-2.invariant c.in_default-remove_one.ensures
+loop-found-2-preserved c = then_led c.loop-found-2.invariant c.remove_one.ensures.led
+
+pub returns-in-Err-remove_one : goal.returns-in-Err-remove_one
+returns-in-Err-remove_one c = then_led c.loop-found-2.invariant c.remove_one.ensures.led

@@ -14,7 +14,7 @@ returns-in_default-look_up-clause-volume c = asked (LookUp c.args.dir c.args.nam
 gone : (c : In_ok-remove) → IsLed (Puts (is_some c.args.names.now)) c.args.filing.now c.remove.new.filing
 gone c =
     room_made (is_some c.args.names.now) (ap is_some c.in-Some.is) c.args.filing.now c.look_up.new.filing c.is_plain.new.filing c.remove.new.filing c.args.dir c.args.name c.match-version.pick
-    c.in-Some-look_up.file c.in-Some-look_up.version c.look_up.ensures c.in_ok-is_there.ensures c.in_ok-remove.ensures
+    c.in-Some-look_up.file c.in-Some-look_up.version c.look_up.ensures c.in_ok-is_there.ensures c.in_ok-remove.ensures.done
 
 pub returns-then-not-is_there-clause-volume : goal.returns-then-not-is_there-clause-volume
 returns-then-not-is_there-clause-volume c = gone (goal.at.returns-then-not-is_there-clause-volume c).In_ok-remove
@@ -25,4 +25,4 @@ returns-then-count-gt0-clause-volume c = gone (goal.at.returns-then-count-gt0-cl
 pub returns-clause-volume : goal.returns-clause-volume
 returns-clause-volume c =
     let does : is_some c.args.names.now ≡ true = ap is_some c.in-Some.is in
-    then_obeyed (Delete c.in-Some-look_up.file) does (gone (goal.at.returns-clause-volume c).In_ok-remove) c.in_ok-delete.ensures
+    then_obeyed (Delete c.in-Some-look_up.file) does (gone (goal.at.returns-clause-volume c).In_ok-remove) c.in_ok-delete.ensures.done

@@ -1,10 +1,11 @@
-use Rattle.std.proofs.Common.{rules, ◌≡◌, ◌<◌, refl, sym, ap, ◌∙◌, subst, [], ◌∷◌, ◌++◌, set, map, length, true, false, arith}
-use Rattle.std.specs.Prelude.{IfSome, IfNone, None, replicate}
+use Rattle.std.proofs.Common.{rules, ◌≡◌, ◌<◌, sym, ap, ◌∙◌, subst, [], ◌∷◌, ◌++◌, set, map, length, true, arith}
+use Rattle.std.specs.Prelude.{IfSome, IfNone, None}
 use Rattle.std.proofs.lemmas.List.{append-nil}
 use Rattle.ods_walk.specs.Steps.{AreEntered, IsPast, IsStop, from_top, placed}
-use Rattle.ods_walk.proofs.Going.{IsUnderWay, entered_more, entered_none, fewer_left, arrived, entering, begins}
+use Rattle.ods_walk.proofs.Going.{IsUnderWay, entered_more, fewer_left, arrived, entering, begins}
+use Rattle.ods_walk.proofs.Reaching.{reaches_all}
 use Rattle.ods_walk.proofs.walking.walk_past.Goals as goal
-use Rattle.ods_walk.proofs.walking.walk_past.Goals.{In-Some}
+use Rattle.ods_walk.proofs.walking.walk_past.Goals.{In-Some, In_default}
 
 pub directories-init : goal.directories-init
 directories-init c =
@@ -50,11 +51,16 @@ directories-preserved c =
     subst (λ t. IsUnderWay c.args.disk.now.image.now c.args.disk.now.layout.now c.args.start c.args.closed.now t c.next_directory.new.lines.items (set c.directories.is_entered.items n true) c.put_lines-in-Some.new.pile.items) (sym c.in_ok-push-2.ensures.items)
     (entering u (stopped (goal.at.directories-preserved c).In-Some) c.put_lines-in-Some.new.pile.items put.0 small put.1 order)
 
-pub returns-clause-walk : goal.returns-clause-walk
-returns-clause-walk c =
-    arrived c.directories.invariant c.next_directory.new.lines.items
-    (subst (λ f. IsPast c.args.disk.now.image.now c.args.disk.now.layout.now f c.directories.pile.items c.directories.lines.items c.next_directory.new.lines.items) c.deref.ensures.value
-    (subst (λ r. IfNone r (IsPast c.args.disk.now.image.now c.args.disk.now.layout.now c.deref.result.now c.directories.pile.items c.directories.lines.items c.next_directory.new.lines.items)) c.in_default.is c.in_ok-line.ensures.none))
+-- where no line is left
+past : (c : In_default) → IsPast c.args.disk.now.image.now c.args.disk.now.layout.now c.directories.is_entered.items c.directories.pile.items c.directories.lines.items c.next_directory.new.lines.items
+past c =
+    subst (λ f. IsPast c.args.disk.now.image.now c.args.disk.now.layout.now f c.directories.pile.items c.directories.lines.items c.next_directory.new.lines.items) c.deref.ensures.value
+    (subst (λ r. IfNone r (IsPast c.args.disk.now.image.now c.args.disk.now.layout.now c.deref.result.now c.directories.pile.items c.directories.lines.items c.next_directory.new.lines.items)) c.in_default.is c.in_ok-line.ensures.none)
 
-pub returns-clause-led : goal.returns-clause-led
-returns-clause-led c = c.directories.invariant.led
+pub returns-clause-walk : goal.returns-clause-walk
+returns-clause-walk c = arrived c.directories.invariant c.next_directory.new.lines.items (past (goal.at.returns-clause-walk c).In_default)
+
+pub returns-clause-reached : goal.returns-clause-reached
+returns-clause-reached c =
+    let u = c.directories.invariant in
+    reaches_all u.reaching ((past (goal.at.returns-clause-reached c).In_default).are u.entered u.are)

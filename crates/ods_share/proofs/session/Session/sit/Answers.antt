@@ -1,8 +1,8 @@
 use Rattle.std.proofs.Common.{◌≡◌, ◌+◌, ◌∷◌, [], ◌++◌, List, drop, take, length, arith, sym, subst, ap, ◌∙◌}
 use Rattle.std.specs.Vec.{vec_capacity}
 use Rattle.std.proofs.lemmas.List.{take_more, drop_more}
-use Rattle.ods_share.specs.declared.script.Command.{Command}
-use Rattle.ods_share.specs.declared.outcome.Reply.{Reply}
+use Rattle.ods_ask.specs.declared.script.Command.{Command}
+use Rattle.ods_ask.specs.declared.outcome.Reply.{Reply}
 use Rattle.ods_share.specs.Keeping.{TellsOn}
 use Rattle.ods_share.specs.Sittings.{sitting, stands}
 use Rattle.ods_share.specs.Scripts.{Runs, fulls_in, start}

@@ -1,6 +1,6 @@
 use Rattle.std.proofs.Common.{◌+◌, ◌<◌, ◌≤◌, List, drop, take, length}
 use Rattle.std.specs.Vec.{vec_capacity}
-use Rattle.ods_share.specs.declared.outcome.Reply.{Reply}
+use Rattle.ods_ask.specs.declared.outcome.Reply.{Reply}
 use Rattle.ods_share.specs.Sittings.{sitting, room_for}
 use Rattle.ods_share.specs.Scripts.{Runs, fulls_of, start}
 use Rattle.ods_share.proofs.session.Session.sit.Given as goal

@@ -51,14 +51,14 @@ returns-in_default c = record {
       absurd (cc);
 }
 
-pub returns-in_default-kept : goal.returns-in_default-kept
-returns-in_default-kept c = record {
+pub returns-in_default-keep_request : goal.returns-in_default-keep_request
+returns-in_default-keep_request c = record {
   full = search rules;
   refused = λ C f room present e.
       absurd (step_has_none (state_of c.self.inside) c.self.invariant.lawful c.args.who c.args.request.now c.prepare.new.answer (applied c.self.inside.sound.image c.in-Ok.change.changes) (with_places c.self.inside.sound.layout c.in-Ok.change.places) c.in-Ok.ensures.step C f (subst (λ w. IsPresent w C) (sym c.self.view_is) present) e);
   plan = search rules;
   lacking = search rules;
-  reason = no_memory c.in_default-kept.ensures.err;
+  reason = no_memory c.in_default-keep_request.ensures.err;
   memory = search rules;
 }
 
@@ -73,8 +73,8 @@ returns c = record {
       let entry : Request → Entry = λ r. entry_of c.args.session c.args.nth c.args.who r c.prepare.new.answer in
       let plan : Request → Plan = λ r. record { entry = entry r; changes = d.changes; places = d.places; counts = d.counts; end = d.end } in
       let here : IsLawfulPlan c.args.self.now (plan c.args.request.now) = subst (λ w. IsLawfulPlan w (plan c.args.request.now)) c.self.view_is lawful in (
-        subst (λ r. IsLawfulPlan c.args.self.now (plan r)) (sym c.in-Ok-kept.ensures.ok) here,
-        ap entry c.in-Ok-kept.ensures.ok,
+        subst (λ r. IsLawfulPlan c.args.self.now (plan r)) (sym c.in-Ok-keep_request.ensures.ok) here,
+        ap entry c.in-Ok-keep_request.ensures.ok,
       );
   lacking = λ f lacks.
       absurd (c.in-Ok.ensures.step.enough f (subst (λ (w : State). Lacks w.image w.layout c.args.request.now f) (sym c.self.view_is) lacks));

@@ -1,0 +1,7 @@
+use Rattle.std.proofs.Common.{rules}
+use Rattle.f11fs.proofs.Places.{taken_there}
+use Rattle.f11fs.proofs.early.Early.take.Goals as goal
+
+pub returns-in-Some-clause-some : goal.returns-in-Some-clause-some
+returns-in-Some-clause-some c = λ place one first at.
+    taken_there c.args.self.now.taken.items c.remove.new.self.items c.in-Some.place place one c.remove.result _ c.place_at.result (search rules) c.in-Some.is c.remove.ensures.items c.remove.ensures.value first at

@@ -1,0 +1,59 @@
+-- Host files: their names, and what is read of them.
+use Rattle.std.specs.Prelude.{◌≡◌, ◌≢◌, ◌⊎◌, ℕ, List, ◌∷◌, ◌++◌, [], Option, Some, MatchOption, Bool, true, false, IfOk, IfErr, ◌-◌, ◌≤◌, vec_len, codes, string_bytes}
+use Rattle.std.specs.List.{position}
+use Rattle.std.specs.Str.{bytes_eq}
+use Rattle.std.specs.Borrow.{Bor}
+use Rattle.fs_host.specs.Names.{LacksSlash}
+use Rattle.fs_host.specs.declared.host_fault.HostFault.{HostFault}
+use Rattle.fs_host.specs.declared.host_fault.HostFault.TheVariants as reason
+use Rattle.fs_reads.specs.declared.stop.Stop.{Stop}
+use Rattle.fs_reads.specs.declared.stop.Stop.TheVariants as stop
+use Rattle.fs_reads.specs.declared.stop.WordFault.TheVariants as word
+use Rattle.fs_words.specs.declared.actions.Action.{Action}
+use Rattle.fs_words.specs.declared.actions.Action.TheVariants as action
+use Rattle.fs_words.specs.declared.actions.PutWords.{PutWords}
+use Rattle.fs_words.specs.declared.actions.Change.TheVariants as change
+use Rattle.f11fs.specs.declared.early.Early.{Early}
+use Rattle.f11fs.specs.declared.early.Taken.{Taken}
+
+-- the name is what stands behind the last slash of a path, or all of it where there is none
+abbrev pub IsLastPart : List ℕ → List ℕ → Type 0
+IsLastPart path name = LacksSlash name × ((path ≡ name) ⊎ ((folder : List ℕ) × (path ≡ folder ++ 47 ∷ name)))
+
+-- the place of the first that was read at this path
+abbrev pub first_at : List ℕ → List Taken → Option ℕ
+first_at path taken = position (λ one. bytes_eq (string_bytes one.path) path) taken
+
+-- nothing is read for another command than a put
+abbrev pub IsNoPut : Action → Type 0
+IsNoPut asked = (how : PutWords) → asked ≢ action.Change (change.Put how)
+
+-- A file was read to the end, behind those that were read before, and so much less may be read from now on; where there was no room, nothing was.
+abbrev pub AddsReading : List ℕ → Early → Early → Type 0
+AddsReading path old new = MatchOption old.room (new ≡ old) (λ room.
+    (one : Taken) × (new.taken.items ≡ old.taken.items ++ one ∷ []) × (string_bytes one.path ≡ path)
+    × IfOk one.bytes (λ bytes. (vec_len bytes ≤ room) × (new.room ≡ Some (room - vec_len bytes))) × IfErr one.bytes (λ _. new.room ≡ Some room))
+
+-- there is no room for the bytes of this file
+abbrev pub IsTooLarge : Bor (List ℕ) → ℕ → Stop → Type 0
+IsTooLarge path room s = ((size : ℕ) × (s ≡ stop.Word path (word.Large size room))) ⊎ (s ≡ stop.Word path (word.LargeStream room))
+
+-- reading it failed
+abbrev pub IsUnread : Bor (List ℕ) → Stop → Type 0
+IsUnread path s = (fault : HostFault) × (s ≡ stop.Word path (word.Unread fault))
+
+-- the commands come from standard input
+abbrev pub reads_commands : Action → Bool
+reads_commands (action.Commands file keep_going) = bytes_eq file.now (codes "-")
+reads_commands (action.Ls long ids below) = false
+reads_commands (action.Find lost) = false
+reads_commands action.Stat = false
+reads_commands (action.Cat wanted) = false
+reads_commands (action.Get wanted target) = false
+reads_commands action.Df = false
+reads_commands (action.Du top) = false
+reads_commands (action.Check all) = false
+reads_commands (action.Rescue text) = false
+reads_commands (action.Cmp all) = false
+reads_commands (action.Change change) = false
+reads_commands (action.Init blocks files label) = false

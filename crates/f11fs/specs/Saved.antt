@@ -1,0 +1,40 @@
+-- How a run ends that changes an image: what is locked, and what is saved of it.
+use Rattle.std.specs.Prelude.{◌≡◌, ◌⊎◌, ℕ, List, Bool, Result, Ok, Err, IsTrue}
+use Rattle.std.specs.Borrow.{Bor}
+use Rattle.fs_host.specs.Faults.{may_end_locking, may_end_saving, may_end_writing}
+use Rattle.fs_host.specs.declared.faults.SaveFault.{SaveFault}
+use Rattle.fs_reads.specs.Volumes.{IsNoVolume}
+use Rattle.fs_reads.specs.declared.stop.Stop.{Stop}
+use Rattle.fs_reads.specs.declared.stop.Stop.TheVariants as stop
+use Rattle.fs_reads.specs.declared.stop.WordFault.TheVariants as word
+use Rattle.fs_reads.specs.declared.volume.VolumeFault.{VolumeFault}
+use Rattle.ods_shell.specs.declared.status.Status.{Status}
+use Rattle.ods_shell.specs.declared.status.Status.TheVariants as status
+use Rattle.f11fs.specs.declared.changing.Finished.{Finished}
+use Rattle.f11fs.specs.declared.changing.Finished.TheVariants as ended
+
+-- all is done, or the host left something undone behind an image that is saved
+abbrev pub IsSavedStatus : Status → Type 0
+IsSavedStatus s = (s ≡ status.Done) ⊎ (s ≡ status.Host)
+
+-- the status of a run that ended so
+abbrev pub EndsSaved : Finished → Type 0
+EndsSaved (ended.Told s) = s ≡ status.Done
+EndsSaved (ended.Saved s) = IsSavedStatus s
+
+-- why an image is not locked, or has no volume
+abbrev pub IsNotLocked : Bor (List ℕ) → Bool → Bool → Stop → Type 0
+IsNotLocked path writes force s =
+    ((fault : SaveFault) × IsTrue (may_end_locking writes force fault) × (s ≡ stop.Word path (word.Unsaved fault)))
+    ⊎ (((fault : VolumeFault) × IsNoVolume path fault s) ⊎ (s ≡ stop.NoMemory))
+
+-- the image is saved in a new file at this path, or it is said why it is not
+abbrev pub IsWrittenTo : Bor (List ℕ) → Result Finished Stop → Type 0
+IsWrittenTo path (Ok f) = (s : Status) × (f ≡ ended.Saved s)
+IsWrittenTo path (Err s) = (fault : SaveFault) × IsTrue (may_end_writing fault) × (s ≡ stop.Word path (word.Unsaved fault))
+
+-- why an image is not saved in its place: it is shorter than its volume, or the host does not take it
+abbrev pub IsNotSaved : Bor (List ℕ) → Bool → Bool → Bool → Stop → Type 0
+IsNotSaved path force backup break_links s =
+    (s ≡ stop.Word path word.Short)
+    ⊎ ((fault : SaveFault) × IsTrue (may_end_saving force backup break_links fault) × (s ≡ stop.Word path (word.Unsaved fault)))

@@ -1,0 +1,34 @@
+-- What a locked image keeps of its file.
+use Rattle.std.specs.Prelude.{◌≡◌, ℕ, Bool, List, Option, string_bytes}
+use Rattle.fs_host.specs.declared.containers.Extent.{Extent}
+use Rattle.fs_host.specs.declared.saving.Locked.{Locked}
+
+-- the bytes behind the volume that was read
+abbrev pub bytes_kept : Locked → List ℕ
+bytes_kept locked = locked.behind.items
+
+-- the remark on its length
+abbrev pub remark_kept : Locked → Option Extent
+remark_kept locked = locked.extent
+
+-- the bits of its mode
+abbrev pub mode_kept : Locked → ℕ
+mode_kept locked = locked.mode
+
+-- another process may have it open
+abbrev pub force_kept : Locked → Bool
+force_kept locked = locked.force
+
+-- its path
+abbrev pub path_kept : Locked → List ℕ
+path_kept locked = string_bytes locked.path
+
+-- the size that it had when it was locked
+abbrev pub size_kept : Locked → ℕ
+size_kept locked = locked.mark.size
+
+-- all stays but the place in the file
+abbrev pub KeepsAll : Locked → Locked → Type 0
+KeepsAll old new =
+    (bytes_kept new ≡ bytes_kept old) × (remark_kept new ≡ remark_kept old) × (mode_kept new ≡ mode_kept old)
+    × (force_kept new ≡ force_kept old) × (path_kept new ≡ path_kept old) × (size_kept new ≡ size_kept old)

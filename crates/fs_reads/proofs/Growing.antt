@@ -1,0 +1,15 @@
+-- Texts to whose end something is appended.
+use Rattle.std.proofs.Common.{◌≡◌, ℕ, Bool, true, false, List, [], ◌++◌, refl, sym, ap, ◌∙◌, append_assoc, append-nil, cond}
+use Rattle.fs_reads.specs.Shown.{Extends}
+
+pub extends_same : (xs : List ℕ) → Extends xs xs
+extends_same xs = ([], sym (append-nil xs))
+
+-- one step behind another
+pub extends_on : (xs ys zs : List ℕ) → Extends xs ys → Extends ys zs → Extends xs zs
+extends_on xs ys zs p q = (p.0 ++ q.0, q.1 ∙ ap (λ l. l ++ q.0) p.1 ∙ append_assoc xs p.0 q.0)
+
+-- what is pushed, or refused
+pub extends_pushed : (b : Bool) (xs more ys : List ℕ) → ys ≡ cond b (xs ++ more) xs → Extends xs ys
+extends_pushed true xs more ys e = (more, e)
+extends_pushed false xs more ys e = ([], e ∙ sym (append-nil xs))

@@ -1,0 +1,17 @@
+use Rattle.std.proofs.Common.{sym, subst, List, ℕ}
+use Rattle.ods_paths.specs.Paths.{Folder, Says, Within}
+use Rattle.ods_paths.specs.Views.{folder as said_folder, said, said_files}
+use Rattle.ods_shell.specs.Ways.{AreMeant}
+use Rattle.fs_reads.proofs.finding.found_by.Goals as goal
+
+pub returns-else-is_nothing-clause-ok : goal.returns-else-is_nothing-clause-ok
+returns-else-is_nothing-clause-ok c = λ shut counts.
+    let arm = c.in-Ok-Within in
+    let found = c.in_ok-found-in-Ok-Within in (
+      said_folder arm.folder,
+      said_files arm.files,
+      subst (λ (text : List ℕ). Says text (Within (said_folder arm.folder) (said_files arm.files))) c.as_bytes.ensures.value
+          (subst (λ p. Says c.as_bytes.result.now (said p)) arm.field-0-is arm.ensures),
+      subst (λ (f : Folder). AreMeant c.args.volume.now.image c.args.volume.now.layout shut f found.found.directories.items) c.to_search-folder.ensures (found.ensures.directories shut counts),
+      found.ensures.lines,
+    )

@@ -1,0 +1,49 @@
+-- Which files a user may read, and why not.
+use Rattle.std.specs.Prelude.{◌≡◌, ℕ, true, false, List, [], ◌∷◌, ◌++◌, ◌⊎◌, Option, Some, None}
+use Rattle.std.specs.List.{All, Contains}
+use Rattle.ods_base.specs.declared.file_id.Uic.{Uic}
+use Rattle.ods_request.specs.Rights.{permits}
+use Rattle.ods_request.specs.declared.rights.Right.TheVariants as right
+use Rattle.ods_space.specs.Layout.{VolumeLayout}
+use Rattle.ods_shell.specs.Facts.{AreFacts}
+use Rattle.ods_shell.specs.declared.facts.Facts.{Facts}
+use Rattle.ods_shell.specs.declared.facts.Kind.TheVariants.{Directory}
+use Rattle.ods_shell.specs.declared.form.FormFault.{FormFault}
+use Rattle.ods_shell.specs.declared.folders.Directory.{Directory as Met}
+use Rattle.ods_shell.specs.declared.status.Status.{Status}
+use Rattle.ods_shell.specs.declared.status.Status.TheVariants as status
+use Rattle.fs_reads.specs.declared.reading.Unread.{Unread}
+use Rattle.fs_reads.specs.declared.reading.Unread.TheVariants as unread
+
+-- the user has the right to read the file; where no user is said, each file is read
+abbrev pub MayRead : Option Uic → Facts → Type 0
+MayRead user facts = (who : Uic) → user ≡ Some who → permits who facts.owner facts.protection right.Read ≡ true
+
+-- this user has not that right
+abbrev pub IsDenied : Option Uic → Facts → Unread → Type 0
+IsDenied user facts (unread.Denied who) = (user ≡ Some who) × (permits who facts.owner facts.protection right.Read ≡ false)
+IsDenied user facts (unread.Form fault) = ⊥
+
+-- why nothing is got out of the file of these facts: this user may not read it, or may, and it has not what is wanted
+abbrev pub IsUnread : Option Uic → Facts → (FormFault → Type 0) → Unread → Type 0
+IsUnread user facts Lacks (unread.Denied who) = (user ≡ Some who) × (permits who facts.owner facts.protection right.Read ≡ false)
+IsUnread user facts Lacks (unread.Form fault) = MayRead user facts × Lacks fault
+
+-- file n is a directory whose names this user may not read
+abbrev pub IsClosedTo : List (List ℕ) → VolumeLayout → Uic → ℕ → Type 0
+IsClosedTo I L who n = (facts : Facts) × AreFacts I L n facts × (facts.kind ≡ Directory) × (permits who facts.owner facts.protection right.Read ≡ false)
+
+-- just these directories are closed to the user; none where no user is said
+abbrev pub AreClosedTo : List (List ℕ) → VolumeLayout → Option Uic → List ℕ → Type 0
+AreClosedTo I L None closed = closed ≡ []
+AreClosedTo I L (Some who) closed = All (IsClosedTo I L who) closed × ((n : ℕ) → IsClosedTo I L who n → Contains closed n)
+
+-- number n comes behind the others where it is that of a closed directory
+abbrev pub AddsClosed : List (List ℕ) → VolumeLayout → Uic → ℕ → List ℕ → List ℕ → Type 0
+AddsClosed I L who n old new = (IsClosedTo I L who n × (new ≡ old ++ n ∷ [])) ⊎ ((¬ IsClosedTo I L who n) × (new ≡ old))
+
+-- the status of a command that goes on past these closed directories
+abbrev pub IsClosedStatus : Option Uic → List Met → Status → Type 0
+IsClosedStatus None met s = s ≡ status.Done
+IsClosedStatus (Some who) [] s = s ≡ status.Done
+IsClosedStatus (Some who) (first ∷ others) s = s ≡ status.Refused

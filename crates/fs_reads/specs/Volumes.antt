@@ -1,0 +1,57 @@
+-- Why there is no volume in a file of the host.
+use Rattle.std.specs.Prelude.{◌≡◌, ◌≢◌, ◌⊎◌, ℕ, List, Option, None}
+use Rattle.std.specs.Borrow.{Bor}
+use Rattle.fs_host.specs.declared.host_fault.HostFault.{HostFault}
+use Rattle.ods_base.specs.declared.faults.ImageError.{ImageError}
+use Rattle.ods_base.specs.declared.faults.ImageError.TheVariants as image
+use Rattle.ods_mount.specs.Faults.{FaultIsTrue}
+use Rattle.ods_mount.specs.declared.fault.MountFault.{MountFault}
+use Rattle.ods_mount.specs.declared.fault.MountFault.TheVariants as mount
+use Rattle.fs_reads.specs.declared.looks.Look.{Look}
+use Rattle.fs_reads.specs.declared.stop.Stop.{Stop}
+use Rattle.fs_reads.specs.declared.stop.Stop.TheVariants as stop
+use Rattle.fs_reads.specs.declared.stop.WordFault.TheVariants as word
+use Rattle.fs_reads.specs.declared.volume.VolumeFault.{VolumeFault}
+use Rattle.fs_reads.specs.declared.volume.VolumeFault.TheVariants as fault
+
+-- why there is no image: reading failed, for this reason, or memory did, or the bytes are refused, which may look like something
+abbrev pub IsNotRead : ImageError → HostFault → VolumeFault → Type 0
+IsNotRead image.ReadFailed why f = f ≡ fault.Read why
+IsNotRead image.NoMemory why f = f ≡ fault.NoMemory
+IsNotRead image.NotWholeBlocks why f = (look : Option Look) × (f ≡ fault.Image image.NotWholeBlocks look)
+IsNotRead image.TooBig why f = (look : Option Look) × (f ≡ fault.Image image.TooBig look)
+
+-- why an image is not mounted: a fault is true of it, or memory failed
+abbrev pub IsNotMounted : List (List ℕ) → VolumeFault → Type 0
+IsNotMounted I (fault.Read why) = ⊥
+IsNotMounted I fault.NoMemory = Unit {0}
+IsNotMounted I (fault.Image refusal look) = ⊥
+IsNotMounted I (fault.Volume refusal look) = FaultIsTrue I refusal
+
+-- what a mount says is handed on: want of memory, or a fault of the image
+abbrev pub IsFaultOf : MountFault → VolumeFault → Type 0
+IsFaultOf said (fault.Read why) = ⊥
+IsFaultOf said fault.NoMemory = said ≡ mount.NoMemory
+IsFaultOf said (fault.Image refusal look) = ⊥
+IsFaultOf said (fault.Volume refusal look) = (refusal ≡ said) × (said ≢ mount.NoMemory)
+
+-- how a command ends where there is no volume at its path
+abbrev pub IsNoVolume : Bor (List ℕ) → VolumeFault → Stop → Type 0
+IsNoVolume path (fault.Read why) s = s ≡ stop.Word path (word.Unread why)
+IsNoVolume path fault.NoMemory s = s ≡ stop.NoMemory
+IsNoVolume path (fault.Image refusal look) s = s ≡ stop.Image path (fault.Image refusal look)
+IsNoVolume path (fault.Volume refusal look) s = s ≡ stop.Image path (fault.Volume refusal look)
+
+-- what the bytes look like, where that is known
+abbrev pub look_in : VolumeFault → Option Look
+look_in (fault.Read why) = None
+look_in fault.NoMemory = None
+look_in (fault.Image refusal look) = look
+look_in (fault.Volume refusal look) = look
+
+-- why no image is opened: its file is not read, or its bytes are refused
+abbrev pub IsNotOpened : VolumeFault → Type 0
+IsNotOpened (fault.Read why) = Unit {0}
+IsNotOpened fault.NoMemory = Unit {0}
+IsNotOpened (fault.Image refusal look) = (refusal ≡ image.NotWholeBlocks) ⊎ (refusal ≡ image.TooBig)
+IsNotOpened (fault.Volume refusal look) = ⊥

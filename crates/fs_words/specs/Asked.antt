@@ -1,0 +1,111 @@
+-- What a command asks for, by what a parse found behind its name.
+use Rattle.std.specs.Prelude.{◌≡◌, ℕ, Bool, true, false, List, [], codes, Option, Some, None, MatchOption, unwrap_or}
+use Rattle.std.specs.Borrow.{Bor}
+use Rattle.clap.specs.declared.parser.matches.ArgMatches.{ArgMatches}
+use Rattle.clap.specs.Words.{first_value, found_of, one_text}
+use Rattle.ods_base.specs.declared.file_id.Uic.{Uic}
+use Rattle.ods_records.specs.Forms.{IsForm}
+use Rattle.ods_records.specs.declared.kind.Wanted.{Wanted}
+use Rattle.ods_records.specs.declared.kind.Wanted.TheVariants.{ByKind, Text, Binary, Raw}
+use Rattle.ods_text.specs.Numbers.{IsNumber, IsLargeNumber}
+use Rattle.fs_words.specs.declared.actions.Action.{Action}
+use Rattle.fs_words.specs.declared.actions.Action.TheVariants as action
+use Rattle.fs_words.specs.declared.actions.Change.{Change}
+use Rattle.fs_words.specs.declared.actions.Change.TheVariants as change
+use Rattle.fs_words.specs.declared.actions.PutWords.{PutWords}
+use Rattle.fs_words.specs.declared.verbs.Verb.{Verb}
+use Rattle.fs_words.specs.declared.verbs.Verb.TheVariants as verb
+use Rattle.fs_words.specs.Devices.{device_size}
+use Rattle.fs_words.specs.Users.{IsSaid}
+use Rattle.fs_words.specs.Values.{IsValue, value_of}
+
+-- an option without a value is set, or is not
+pub record IsSet (m : ArgMatches) (option : List ℕ) (set : Bool) : Type 0 where
+  pub absent : one_text (found_of m) option ≡ None → set ≡ false
+  pub said : one_text (found_of m) option ≡ Some (codes "true") → set ≡ true
+  pub unsaid : one_text (found_of m) option ≡ Some (codes "false") → set ≡ false
+
+-- the text of an option
+abbrev pub text_of : ArgMatches → List ℕ → Option (List ℕ)
+text_of m option = first_value (found_of m) option
+
+abbrev pub IsLs : ArgMatches → Action → Type 0
+IsLs m a = (long ids below : Bool) × IsSet m (codes "-l") long × IsSet m (codes "-i") ids × IsSet m (codes "-R") below × (a ≡ action.Ls long ids below)
+
+abbrev pub IsFind : ArgMatches → Action → Type 0
+IsFind m a = (lost : Bool) × IsSet m (codes "--lost") lost × (a ≡ action.Find lost)
+
+-- the form that is wanted: the first of the three options that is set
+abbrev pub IsWanted : ArgMatches → Wanted → Type 0
+IsWanted m Text = IsSet m (codes "-t") true
+IsWanted m Binary = IsSet m (codes "-t") false × IsSet m (codes "-b") true
+IsWanted m Raw = IsSet m (codes "-t") false × IsSet m (codes "-b") false × IsSet m (codes "--raw") true
+IsWanted m ByKind = IsSet m (codes "-t") false × IsSet m (codes "-b") false × IsSet m (codes "--raw") false
+
+abbrev pub IsCat : ArgMatches → Action → Type 0
+IsCat m a = (wanted : Wanted) × IsWanted m wanted × (a ≡ action.Cat wanted)
+
+abbrev pub IsGet : ArgMatches → Option (Bor (List ℕ)) → Action → Type 0
+IsGet m out a = (wanted : Wanted) × IsWanted m wanted × (a ≡ action.Get wanted out)
+
+abbrev pub IsDu : ArgMatches → Action → Type 0
+IsDu m a = (top : Option ℕ) × IsValue IsNumber (text_of m (codes "--top")) top × (a ≡ action.Du top)
+
+abbrev pub IsCheck : ArgMatches → Action → Type 0
+IsCheck m a = (all : Bool) × IsSet m (codes "--all") all × (a ≡ action.Check all)
+
+abbrev pub IsRescue : ArgMatches → Action → Type 0
+IsRescue m a = (text : Bool) × IsSet m (codes "--text") text × (a ≡ action.Rescue text)
+
+abbrev pub IsCmp : ArgMatches → Action → Type 0
+IsCmp m a = (all : Bool) × IsSet m (codes "--all") all × (a ≡ action.Cmp all)
+
+pub record IsPutSo (m : ArgMatches) (p : PutWords) : Type 0 where
+  pub text : IsSet m (codes "-t") p.text
+  pub binary : IsSet m (codes "-b") p.binary
+  pub form : IsValue IsForm (text_of m (codes "--form")) p.form
+  pub like : value_of p.like ≡ text_of m (codes "--like")
+  pub replace : IsSet m (codes "--replace") p.replace
+  pub owner : IsValue IsSaid (text_of m (codes "--owner")) p.owner
+
+abbrev pub IsPut : ArgMatches → Action → Type 0
+IsPut m a = (p : PutWords) × IsPutSo m p × (a ≡ action.Change (change.Put p))
+
+abbrev pub IsRm : ArgMatches → Action → Type 0
+IsRm m a = (alone newest : Bool) × IsSet m (codes "--entry") alone × IsSet m (codes "--newest") newest × (a ≡ action.Change (change.Rm alone newest))
+
+abbrev pub IsMkdir : ArgMatches → Action → Type 0
+IsMkdir m a = (names : Option ℕ) × (owner : Option Uic) × IsValue IsNumber (text_of m (codes "--names")) names × IsValue IsSaid (text_of m (codes "--owner")) owner × (a ≡ action.Change (change.Mkdir names owner))
+
+abbrev pub IsTruncate : ArgMatches → Action → Type 0
+IsTruncate m a = (bytes : ℕ) × IsValue IsLargeNumber (text_of m (codes "bytes")) (Some bytes) × (a ≡ action.Change (change.Truncate bytes))
+
+-- the size of a volume: that of a device, or where there is none of that name the number
+abbrev pub IsSize : List ℕ → ℕ → Type 0
+IsSize text blocks = MatchOption (device_size text) (IsNumber text blocks) (λ size. blocks ≡ size)
+
+abbrev pub IsInit : ArgMatches → Action → Type 0
+IsInit m a = (blocks : ℕ) × (files : Option ℕ) × (label : Option (Bor (List ℕ))) × IsSize (unwrap_or (text_of m (codes "size")) []) blocks × IsValue IsNumber (text_of m (codes "--files")) files
+    × (value_of label ≡ text_of m (codes "--label")) × (a ≡ action.Init blocks files label)
+
+-- What each command asks for; `out` is what -o says.
+abbrev pub Asks : Verb → ArgMatches → Option (Bor (List ℕ)) → Action → Type 0
+Asks verb.Ls m out a = IsLs m a
+Asks verb.Find m out a = IsFind m a
+Asks verb.Stat m out a = a ≡ action.Stat
+Asks verb.Cat m out a = IsCat m a
+Asks verb.Get m out a = IsGet m out a
+Asks verb.Df m out a = a ≡ action.Df
+Asks verb.Du m out a = IsDu m a
+Asks verb.Check m out a = IsCheck m a
+Asks verb.Rescue m out a = IsRescue m a
+Asks verb.Cmp m out a = IsCmp m a
+Asks verb.Put m out a = IsPut m a
+Asks verb.Cp m out a = a ≡ action.Change change.Cp
+Asks verb.Mv m out a = a ≡ action.Change change.Mv
+Asks verb.Rm m out a = IsRm m a
+Asks verb.Mkdir m out a = IsMkdir m a
+Asks verb.Rmdir m out a = a ≡ action.Change change.Rmdir
+Asks verb.Truncate m out a = IsTruncate m a
+Asks verb.Init m out a = IsInit m a
+Asks verb.File m out a = ⊥

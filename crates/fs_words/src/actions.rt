@@ -1,0 +1,102 @@
+//! What commands ask for.
+use ods_base::Uic;
+use ods_records::Wanted;
+
+/// A command.
+#[derive(Clone, Copy, Debug, PartialEq, Eq, Drop)]
+pub enum Action<'a> {
+    /// Lists names; with columns for what is known of each file where `long`, for IDs where `ids`; of directories with all below them where `below`.
+    Ls {
+        long: bool,
+        ids: bool,
+        below: bool,
+    },
+    /// Finds files; only those that no directory names where `lost`.
+    Find {
+        lost: bool,
+    },
+    /// Shows what is known of files.
+    Stat,
+    /// Writes files to standard output.
+    Cat(Wanted),
+    /// Writes files to the host: to this target, or where there is none into the working folder or to the last word.
+    Get {
+        wanted: Wanted,
+        target: Option<&'a str>,
+    },
+    /// Shows how much of the volume is used.
+    Df,
+    /// How many blocks directories have, or the largest files where a number is said.
+    Du {
+        top: Option<u32>,
+    },
+    /// What is wrong with the image, all of it where `all`.
+    Check {
+        all: bool,
+    },
+    /// Copies files out of an image that may be refused; records as lines where `text`.
+    Rescue {
+        text: bool,
+    },
+    /// What differs between two images, IDs, dates, owners and protection too where `all`.
+    Cmp {
+        all: bool,
+    },
+    /// Changes the volume.
+    Change(Change<'a>),
+    /// Makes an image of this many blocks, with room for this many files beside the five reserved ones, where a number is said.
+    Init {
+        blocks: u32,
+        files: Option<u32>,
+        label: Option<&'a str>,
+    },
+    /// Obeys the commands in this file of the host, or in standard input where it is `-`; past those that are refused where `keep_going`.
+    Commands {
+        file: &'a str,
+        keep_going: bool,
+    },
+}
+
+/// A command that changes a volume. Its paths stand in the words.
+#[derive(Clone, Copy, Debug, PartialEq, Eq, Drop)]
+pub enum Change<'a> {
+    /// Puts files of the host.
+    Put(PutWords<'a>),
+    /// Copies files.
+    Cp,
+    /// Moves names, or gives files other names.
+    Mv,
+    /// Removes names with their files: the entry alone where `entry_alone`, the highest version where `newest`.
+    Rm {
+        entry_alone: bool,
+        newest: bool,
+    },
+    /// Makes directories with room for this many names, where a number is said, and of this owner, where one is.
+    Mkdir {
+        names: Option<u32>,
+        owner: Option<Uic>,
+    },
+    /// Removes empty directories.
+    Rmdir,
+    /// Cuts a file behind this many bytes.
+    Truncate {
+        bytes: u64,
+    },
+}
+
+/// How files are put.
+#[derive(Clone, Copy, Debug, PartialEq, Eq, Drop)]
+pub struct PutWords<'a> {
+    /// Lines as records.
+    pub text: bool,
+    /// Bytes as they are.
+    pub binary: bool,
+    /// Bytes as they are, of this form: the first four bytes of the attributes.
+    pub form: Option<[u8; 4]>,
+    /// The path of the file whose attributes the new ones get.
+    pub like: Option<&'a str>,
+    /// The file of that name is replaced.
+    pub replace: bool,
+    /// Whose the new files are, where an owner is said.
+    pub owner: Option<Uic>,
+}

@@ -1,0 +1,176 @@
+//! Rows that say how a command is written, with its options and the words behind it.
+ghost use Rattle.std.specs.Prelude.{◌≡◌, ◌++◌, ◌∷◌, [], IfOk, false, map};
+ghost use Rattle.clap.specs.Simple.{app_of, new_app};
+ghost use Rattle.clap.specs.Walk.{rule_of};
+ghost use Rattle.fs_words.specs.{Kinds.IsKindOf, Kinds.IsSpelledOf, Rules.as_paths, Rules.letter_in, Rules.name_of, Rules.others, Rules.rule_for, Rules.rule_in, Rules.rules_in, Rules.spelled_as, Rules.with_rules};
+
+use clap::{Arg, ArgAction, Command, value_parser};
+use std::alloc::{AllocError, Global};
+
+/// A command: how it is used, what it does, and the arguments that are its own.
+#[derive(Clone, Copy)]
+pub(crate) struct Row<'a> {
+    pub usage: &'a str,
+    pub about: &'a str,
+    pub arguments: &'a [Argument<'a>],
+    /// Which arguments cannot stand together, by their names.
+    pub conflicts: &'a [(&'a str, &'a str)],
+}
+
+/// An argument of a command. The first text is its name in a parse; of an option it is how the option is written, as `-l` or `--top`. The last text is
+/// its help. The text between them names its value in the help.
+#[derive(Clone, Copy)]
+pub(crate) enum Argument<'a> {
+    /// An option without a value.
+    Flag(&'a str, &'a str),
+    /// An option with a text.
+    Text(&'a str, &'a str, &'a str),
+    /// An option with a number of 32 bits.
+    Number(&'a str, &'a str, &'a str),
+    /// One word.
+    Word(&'a str, &'a str, &'a str),
+    /// One word that is a number of 64 bits.
+    LargeNumber(&'a str, &'a str, &'a str),
+    /// Any number of paths.
+    Paths,
+    /// One path or more.
+    SomePaths,
+    /// Two paths or more.
+    TwoPaths,
+}
+
+/// What the help says of paths.
+const PATHS_HELP: &str = "Paths on the volume, such as '[1,2]NOTES.TXT;3' or 1,2/NOTES.TXT";
+
+/// The command of this name and a row, as clap takes it.
+pub(crate) fn command_in<'a>(
+    alloc: Global,
+    name: &'a str,
+    row: &Row<'a>,
+) -> Result<Command<'a>, AllocError>
+    ensures { IfOk result (λ c. app_of c ≡ with_rules (rules_in row.now) (new_app name.entry.now)) }
+{
+    let mut command = Command::new(alloc, name)
+        .override_usage(row.usage)
+        .about(row.about);
+    for argument in row.arguments {
+        command = command.arg(argument_in(alloc, argument, row.conflicts)?)?;
+    }
+    Ok(command)
+}
+
+/// An argument as clap takes it, with those of the arguments that it cannot stand with.
+fn argument_in<'a>(
+    alloc: Global,
+    argument: &Argument<'a>,
+    conflicts: &[(&'a str, &'a str)],
+) -> Result<Arg<'a>, AllocError>
+    ensures rule { IfOk result (λ a. rule_of a ≡ rule_in conflicts.now argument.now) }
+    ensures apart { IfOk result (λ a. map (λ s. s.now) a.conflicts.items ≡ others (name_of argument.now) conflicts.now) }
+    ensures local { IfOk result (λ a. a.global ≡ false) }
+{
+    let id = name_in(argument);
+    let arg = of_kind(Arg::new(alloc, id), argument);
+    let arg = with_conflicts(arg, id, conflicts)?;
+    Ok(arg)
+}
+
+/// An argument of this name with those that it cannot stand with.
+fn with_conflicts<'a>(
+    arg: Arg<'a>,
+    id: &str,
+    conflicts: &[(&'a str, &'a str)],
+) -> Result<Arg<'a>, AllocError>
+    ensures same { IfOk result (λ a. a ≡ record arg.entry { conflicts = a.conflicts }) }
+    ensures apart { IfOk result (λ a. map (λ s. s.now) a.conflicts.items ≡ map (λ s. s.now) arg.entry.conflicts.items ++ others id.now conflicts.now) }
+{
+    let mut arg = arg;
+    for pair in conflicts {
+        arg = with_conflict(arg, id, pair)?;
+    }
+    Ok(arg)
+}
+
+/// An argument of this name with one of a pair, where the name is that of the other.
+fn with_conflict<'a>(
+    arg: Arg<'a>,
+    id: &str,
+    pair: &(&'a str, &'a str),
+) -> Result<Arg<'a>, AllocError>
+    ensures same { IfOk result (λ a. a ≡ record arg.entry { conflicts = a.conflicts }) }
+    ensures apart { IfOk result (λ a. map (λ s. s.now) a.conflicts.items ≡ map (λ s. s.now) arg.entry.conflicts.items ++ others id.now (pair.now ∷ [])) }
+{
+    let (one, other) = *pair;
+    if one != id {
+        return Ok(arg);
+    }
+    let arg = arg.conflicts_with(other)?;
+    Ok(arg)
+}
+
+/// The name of an argument in a parse.
+fn name_in<'a>(argument: &Argument<'a>) -> &'a str
+    ensures { result.now ≡ name_of argument.now }
+{
+    match *argument {
+        Argument::Flag(id, _)
+        | Argument::Text(id, _, _)
+        | Argument::Number(id, _, _)
+        | Argument::Word(id, _, _)
+        | Argument::LargeNumber(id, _, _) => id,
+        Argument::Paths | Argument::SomePaths | Argument::TwoPaths => "path",
+    }
+}
+
+/// An argument of its kind.
+fn of_kind<'a>(arg: Arg<'a>, argument: &Argument<'a>) -> Arg<'a>
+    ensures rule { rule_of result ≡ rule_for argument.now (rule_of arg.entry) }
+    ensures same { IsKindOf arg.entry result }
+{
+    match *argument {
+        Argument::Flag(id, help) => with_spelling(arg, id).help(help).action(ArgAction::SetTrue),
+        Argument::Text(id, value, help) => with_spelling(arg, id).value_name(value).help(help),
+        Argument::Number(id, value, help) => with_spelling(arg, id)
+            .value_name(value)
+            .value_parser(value_parser!(u32))
+            .help(help),
+        Argument::Word(_, value, help) => arg.value_name(value).required(true).help(help),
+        Argument::LargeNumber(_, value, help) => arg
+            .value_name(value)
+            .required(true)
+            .value_parser(value_parser!(u64))
+            .help(help),
+        Argument::Paths => paths(arg, 0),
+        Argument::SomePaths => paths(arg, 0).required(true),
+        Argument::TwoPaths => paths(arg, 2).required(true),
+    }
+}
+
+/// Paths, at least so many where any are said.
+fn paths<'a>(arg: Arg<'a>, least: usize) -> Arg<'a>
+    ensures rule { rule_of result ≡ as_paths least (rule_of arg.entry) }
+    ensures same { IsKindOf arg.entry result }
+{
+    arg.value_name("PATH").num_args(least..).help(PATHS_HELP)
+}
+
+/// An option as it is written: `--` and a word, or `-` and a letter.
+pub(crate) fn with_spelling<'a>(arg: Arg<'a>, option: &'a str) -> Arg<'a>
+    ensures rule { rule_of result ≡ spelled_as option.entry.now (rule_of arg.entry) }
+    ensures same { IsSpelledOf arg.entry result }
+{
+    match option.strip_prefix("--") {
+        Some(word) => arg.long(word),
+        None => arg.short(letter_of(option)),
+    }
+}
+
+/// The letter of an option, which is ASCII.
+fn letter_of(option: &str) -> char
+    ensures { result ≡ letter_in option.now }
+{
+    match option.as_bytes().get(1) {
+        Some(letter) => char::from(*letter),
+        None => '-',
+    }
+}

@@ -1,0 +1,102 @@
+//! The commands: each has a file with its row, and with what its words ask for.
+ghost use Rattle.std.specs.Prelude.{◌≡◌, IfOk};
+ghost use Rattle.clap.specs.Simple.{app_of};
+ghost use Rattle.fs_words.specs.{Asked.Asks, Rules.command_app, Rules.own_rules, Rules.rules_in};
+
+mod cat;
+mod check;
+mod cmp;
+mod cp;
+mod df;
+mod du;
+mod find;
+mod get;
+mod init;
+mod ls;
+mod mkdir;
+mod mv;
+mod put;
+mod rescue;
+mod rm;
+mod rmdir;
+mod stat;
+mod truncate;
+
+use crate::actions::{Action, Change};
+use crate::arguments::{Row, command_in};
+use crate::forms::wanted_form;
+use crate::hints::wanting;
+use crate::verbs::Verb;
+use clap::{ArgMatches, Command};
+use ods_words::WordsFault;
+use std::alloc::{AllocError, Global};
+
+/// A command with what is its own alone.
+#[tactic(auto, unfolding(crate::specs::Rules::own_rules, crate::specs::Rules::command_app))]
+pub(crate) fn command_of<'a>(alloc: Global, verb: Verb) -> Result<Command<'a>, AllocError>
+    ensures { IfOk result (λ c. app_of c ≡ command_app verb) }
+{
+    match verb {
+        Verb::Ls => row_command(alloc, verb, &ls::ROW),
+        Verb::Find => row_command(alloc, verb, &find::ROW),
+        Verb::Stat => row_command(alloc, verb, &stat::ROW),
+        Verb::Cat => row_command(alloc, verb, &cat::ROW),
+        Verb::Get => row_command(alloc, verb, &get::ROW),
+        Verb::Df => row_command(alloc, verb, &df::ROW),
+        Verb::Du => row_command(alloc, verb, &du::ROW),
+        Verb::Check => row_command(alloc, verb, &check::ROW),
+        Verb::Rescue => row_command(alloc, verb, &rescue::ROW),
+        Verb::Cmp => row_command(alloc, verb, &cmp::ROW),
+        Verb::Put => row_command(alloc, verb, &put::ROW),
+        Verb::Cp => row_command(alloc, verb, &cp::ROW),
+        Verb::Mv => row_command(alloc, verb, &mv::ROW),
+        Verb::Rm => row_command(alloc, verb, &rm::ROW),
+        Verb::Mkdir => row_command(alloc, verb, &mkdir::ROW),
+        Verb::Rmdir => row_command(alloc, verb, &rmdir::ROW),
+        Verb::Truncate => row_command(alloc, verb, &truncate::ROW),
+        Verb::Init => row_command(alloc, verb, &init::ROW),
+        Verb::File => Ok(Command::new(alloc, verb.name())),
+    }
+}
+
+/// A command by its row.
+fn row_command<'a>(alloc: Global, verb: Verb, row: &Row<'a>) -> Result<Command<'a>, AllocError>
+    requires { rules_in row.now ≡ own_rules verb }
+    ensures { IfOk result (λ c. app_of c ≡ command_app verb) }
+{
+    let command = command_in(alloc, verb.name(), row)?;
+    Ok(command)
+}
+
+/// What the words of a command ask for; `out` is what `-o` says.
+pub(crate) fn action_of<'a>(
+    alloc: Global,
+    verb: Verb,
+    own: &ArgMatches<'a>,
+    out: Option<&'a str>,
+) -> Result<Action<'a>, WordsFault>
+    ensures { IfOk result (Asks verb own.now out.entry) }
+{
+    match verb {
+        Verb::Ls => Ok(ls::action(own)),
+        Verb::Find => Ok(find::action(own)),
+        Verb::Stat => Ok(Action::Stat),
+        Verb::Cat => Ok(Action::Cat(wanted_form(own))),
+        Verb::Get => Ok(get::action(own, out)),
+        Verb::Df => Ok(Action::Df),
+        Verb::Du => du::action(alloc, own),
+        Verb::Check => Ok(check::action(own)),
+        Verb::Rescue => Ok(rescue::action(own)),
+        Verb::Cmp => Ok(cmp::action(own)),
+        Verb::Put => put::action(alloc, own),
+        Verb::Cp => Ok(Action::Change(Change::Cp)),
+        Verb::Mv => Ok(Action::Change(Change::Mv)),
+        Verb::Rm => Ok(rm::action(own)),
+        Verb::Mkdir => mkdir::action(alloc, own),
+        Verb::Rmdir => Ok(Action::Change(Change::Rmdir)),
+        Verb::Truncate => truncate::action(alloc, own),
+        Verb::Init => init::action(alloc, own),
+        // No name of a command gives it.
+        Verb::File => Err(wanting(alloc, false)?),
+    }
+}

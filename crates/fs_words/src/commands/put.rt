@@ -1,0 +1,82 @@
+//! `put`: puts files of the host.
+ghost use Rattle.std.specs.Prelude.{IfOk};
+ghost use Rattle.ods_records.specs.Forms.{IsForm};
+ghost use Rattle.fs_words.specs.Values.{IsValue, value_of};
+ghost use Rattle.fs_words.specs.Asked.{IsPut};
+
+use crate::actions::{Action, Change, PutWords};
+use crate::arguments::{Argument, Row};
+use crate::said::wrong;
+use crate::users::owner_of;
+use clap::ArgMatches;
+use ods_records::parse_form;
+use ods_words::WordsFault;
+use std::alloc::Global;
+
+/// What the help says of forms.
+const FORM_HELP: &str = "Store the bytes as they are, as records of this form.
+KIND is fixed, variable, sequenced, stream or undefined.
+CONTROL is none, cr, ftn or print; each may have +blk after it.
+SIZE is the record size, at most 32767";
+
+/// How `put` is written.
+pub(crate) const ROW: Row<'static> = Row {
+    usage: "f11fs IMAGE put [OPTIONS] [-t|-b] [--form FORM | --like PATH] [--replace] [--owner OWNER] HOST.. [PATH]",
+    about: "Copy host files (- is standard input) into the volume. A file is stored as text records if that is lossless, otherwise as bytes",
+    arguments: &[
+        Argument::Flag("-t", "Store each line as a record"),
+        Argument::Flag("-b", "Store the bytes as they are"),
+        Argument::Text("--form", "KIND,CONTROL,SIZE", FORM_HELP),
+        Argument::Text(
+            "--like",
+            "PATH",
+            "Copy the record type and carriage control of this file. Take the larger record size.\nWith -b: copy all attributes of this file but the end of file",
+        ),
+        Argument::Flag("--replace", "Replace the file. Default: add a version"),
+        Argument::Text(
+            "--owner",
+            "OWNER",
+            "Create the new files as this owner. The user of -u enters them in the directory",
+        ),
+        Argument::SomePaths,
+    ],
+    conflicts: &[
+        ("-t", "-b"),
+        ("-t", "--form"),
+        ("-t", "--like"),
+        ("--form", "--like"),
+    ],
+};
+
+/// What its words ask for.
+pub(crate) fn action<'a>(alloc: Global, own: &ArgMatches<'a>) -> Result<Action<'a>, WordsFault>
+    ensures { IfOk result (IsPut own.now) }
+{
+    let form = form_of(alloc, own.get_str("--form"))?;
+    let owner = owner_of(alloc, own)?;
+    Ok(Action::Change(Change::Put(PutWords {
+        text: own.get_flag("-t"),
+        binary: own.get_flag("-b"),
+        form,
+        like: own.get_str("--like"),
+        replace: own.get_flag("--replace"),
+        owner,
+    })))
+}
+
+/// The form that the value of `--form` says, where there is one: the first four bytes of the attributes.
+fn form_of(alloc: Global, text: Option<&str>) -> Result<Option<[u8; 4]>, WordsFault>
+    ensures { IfOk result (IsValue IsForm (value_of text.entry)) }
+{
+    let Some(text) = text else {
+        return Ok(None);
+    };
+    match parse_form(text.as_bytes()) {
+        Some(form) => Ok(Some(form)),
+        None => Err(wrong(
+            alloc,
+            text,
+            "is no form, as variable,cr,0; put --help has the words",
+        )?),
+    }
+}

@@ -1,0 +1,39 @@
+//! The options of `cat` and `get` for the form in which files come.
+ghost use Rattle.fs_words.specs.Asked.{IsWanted};
+
+use crate::arguments::Argument;
+use clap::ArgMatches;
+use ods_records::Wanted;
+
+/// `-t`.
+pub(crate) const TEXT: Argument<'static> = Argument::Flag(
+    "-t",
+    "Write records as lines. Default if it is lossless",
+);
+
+/// `-b`.
+pub(crate) const BINARY: Argument<'static> = Argument::Flag(
+    "-b",
+    "Write the bytes up to the end of file",
+);
+
+/// `--raw`.
+pub(crate) const RAW: Argument<'static> = Argument::Flag("--raw", "Write the bytes of all blocks");
+
+/// One form is asked for at most.
+pub(crate) const FORMS_APART: [(&str, &str); 3] = [("-t", "-b"), ("-t", "--raw"), ("-b", "--raw")];
+
+/// The form that is asked for. Clap has refused two of them.
+pub(crate) fn wanted_form(own: &ArgMatches<'_>) -> Wanted
+    ensures { IsWanted own.now result }
+{
+    if own.get_flag("-t") {
+        Wanted::Text
+    } else if own.get_flag("-b") {
+        Wanted::Binary
+    } else if own.get_flag("--raw") {
+        Wanted::Raw
+    } else {
+        Wanted::ByKind
+    }
+}

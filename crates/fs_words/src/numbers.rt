@@ -1,0 +1,40 @@
+//! The numbers that words say, in decimal.
+ghost use Rattle.std.specs.Prelude.{◌++◌, IfOk, codes};
+ghost use Rattle.ods_text.specs.Numbers.{IsLargeNumber, IsNumber};
+ghost use Rattle.ods_words.specs.Telling.{IsWrong};
+ghost use Rattle.fs_words.specs.Values.{IsValue, value_of};
+
+use ods_text::{read_decimal, read_large};
+use ods_words::WordsFault;
+use std::alloc::{AllocError, Global};
+
+/// The number that the value of an option says, where there is one. Clap has refused a word that is no number.
+pub(crate) fn number_of(alloc: Global, text: Option<&str>) -> Result<Option<u32>, WordsFault>
+    ensures { IfOk result (IsValue IsNumber (value_of text.entry)) }
+{
+    let Some(text) = text else {
+        return Ok(None);
+    };
+    match read_decimal(text.as_bytes()) {
+        Some(number) => Ok(Some(number)),
+        None => Err(odd_number(alloc, text)?),
+    }
+}
+
+/// The number that a word says, which may need 64 bits.
+pub(crate) fn large_number_of(alloc: Global, text: &str) -> Result<u64, WordsFault>
+    ensures { IfOk result (IsLargeNumber text.now) }
+{
+    match read_large(text.as_bytes()) {
+        Some(number) => Ok(number),
+        None => Err(odd_number(alloc, text)?),
+    }
+}
+
+/// That a number has a sign or a leading zero.
+fn odd_number(alloc: Global, text: &str) -> Result<WordsFault, AllocError>
+    ensures { IfOk result (IsWrong (codes "error: '" ++ text.now ++ codes "' is no number: it has a sign or a leading zero")) }
+{
+    let line = format!(in alloc; "error: '{text}' is no number: it has a sign or a leading zero")?;
+    Ok(WordsFault::Wrong(line))
+}

@@ -1,0 +1,49 @@
+//! How words name users.
+ghost use Rattle.std.specs.Prelude.{IfOk, codes};
+ghost use Rattle.clap.specs.Words.{first_value, found_of};
+ghost use Rattle.ods_text.specs.One.{IsTheOne};
+ghost use Rattle.fs_words.specs.{Users.IsSaid, Values.IsValue, Values.value_of};
+
+use crate::said::wrong;
+use clap::ArgMatches;
+use ods_base::Uic;
+use ods_text::{read_user, read_user_in_brackets};
+use ods_words::WordsFault;
+use std::alloc::Global;
+
+/// The user that a text says, as `[1,2]` or `1,2`, in octal.
+pub(crate) fn user_of(text: &str) -> Option<Uic>
+    ensures { IsTheOne (IsSaid text.now) result }
+{
+    if let Some((group, member)) = read_user_in_brackets(text.as_bytes()) {
+        return Some(Uic { group, member });
+    }
+    let Some((group, member)) = read_user(text.as_bytes()) else {
+        return None;
+    };
+    Some(Uic { group, member })
+}
+
+/// The user that the value of an option says, where there is one; `why` is what is wrong with another text.
+pub(crate) fn said_user(
+    alloc: Global,
+    text: Option<&str>,
+    why: &str,
+) -> Result<Option<Uic>, WordsFault>
+    ensures { IfOk result (IsValue IsSaid (value_of text.entry)) }
+{
+    let Some(text) = text else {
+        return Ok(None);
+    };
+    match user_of(text) {
+        Some(user) => Ok(Some(user)),
+        None => Err(wrong(alloc, text, why)?),
+    }
+}
+
+/// The owner that `--owner` says.
+pub(crate) fn owner_of(alloc: Global, own: &ArgMatches<'_>) -> Result<Option<Uic>, WordsFault>
+    ensures { IfOk result (IsValue IsSaid (first_value (found_of own.now) (codes "--owner"))) }
+{
+    said_user(alloc, own.get_str("--owner"), "is no owner, as [1,2]")
+}

@@ -1,6 +1,0 @@
-use Rattle.std.proofs.Common.{ℕ, ◌<◌}
-use Rattle.ods_check.specs.Lines.{IsElsewhere}
-use Rattle.ods_check.proofs.index_faults.first_misplaced.Given as goal
-
-abbrev pub invariant-loop-i : goal.invariant-loop-i
-invariant-loop-i l = (k : ℕ) → k < l.i → ¬ IsElsewhere l.layout k

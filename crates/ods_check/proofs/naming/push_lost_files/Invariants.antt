@@ -1,8 +1,0 @@
-use Rattle.std.specs.List.{Contains}
-use Rattle.ods_check.specs.declared.finding.Finding.TheVariants.{LostFile}
-use Rattle.ods_check.specs.Findings.{IsFound, IsLostFile, id_at}
-use Rattle.ods_check.proofs.Sweeping.{Sweeps}
-use Rattle.ods_check.proofs.naming.push_lost_files.Given as goal
-
-abbrev pub invariant-loop-number : goal.invariant-loop-number
-invariant-loop-number l = Sweeps (IsFound l.fn.disk.image.now l.fn.disk.layout.now) (λ n found. IsLostFile l.fn.disk.image.now l.fn.disk.layout.now n → Contains found (LostFile (id_at l.fn.disk.image.now l.fn.disk.layout.now n))) l.initial.findings l.findings l.number

@@ -1,0 +1,15 @@
+use Rattle.std.proofs.Common.{sym, ◌∙◌}
+use Rattle.std.proofs.lemmas.Bool.{eqb-true}
+use Rattle.ods_paths.specs.Views.{said}
+use Rattle.ods_paths.proofs.PathTexts.{in_brackets, not_closed, closed_at_once}
+use Rattle.ods_paths.proofs.PlaceTexts.{some_length}
+use Rattle.ods_paths.proofs.paths.parse_bracketed.Goals as goal
+
+pub returns-in_default : goal.returns-in_default
+returns-in_default c = not_closed c.args.rest.now c.in_default.ensures.place
+
+pub returns-then-is_empty : goal.returns-then-is_empty
+returns-then-is_empty c = closed_at_once c.args.rest.now c.in-Some.folder.now c.in-Some.ensures.place.1 (eqb-true _ _ (sym c.is_empty.ensures ∙ c.if-is_empty.true))
+
+pub returns : goal.returns
+returns c = in_brackets said c.args.rest.now c.in-Some.folder.now c.in-Some.files.now c.within.result c.in-Some.ensures.place.0 c.in-Some.ensures.place.1 c.in-Some.ensures.place.2 (some_length _ c.in-Some.folder.now c.is_empty.ensures c.if-is_empty.false) c.within.ensures

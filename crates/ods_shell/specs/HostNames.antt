@@ -1,0 +1,52 @@
+-- The names that files get on a host.
+use Rattle.std.specs.Prelude.{◌≡◌, ◌≢◌, ℕ, ◌&&◌, ◌==◌, ◌⊎◌, Bool, if◌then◌else◌, List, [], ◌∷◌, ◌++◌, length, slice_index, encode_utf8, Option, Some, None}
+use Rattle.std.specs.Char.{to_ascii_lowercase}
+use Rattle.std.specs.Fmt.{decimal}
+use Rattle.std.specs.List.{before_first, flat_map}
+use Rattle.std.specs.Str.{chars}
+use Rattle.ods_base.specs.Name.{title, type_text}
+use Rattle.ods_header.specs.Text.{ident_text}
+use Rattle.ods_shell.specs.declared.facts.Facts.{Facts}
+use Rattle.ods_shell.specs.declared.found.EntryPlace.{EntryPlace}
+
+-- a letter in small letters
+abbrev pub small_letter : ℕ → List ℕ
+small_letter c = encode_utf8 (to_ascii_lowercase c)
+
+-- a text in small letters
+abbrev pub small_text : List ℕ → List ℕ
+small_text text = flat_map small_letter (chars text)
+
+-- the three words of a name, its type and its version; zeros where a file is named by its ID
+abbrev pub key_at : Option EntryPlace → List ℕ
+key_at None = 0 ∷ 0 ∷ 0 ∷ 0 ∷ 0 ∷ []
+key_at (Some place) =
+    slice_index place.entry.name.words 0 ∷ slice_index place.entry.name.words 1 ∷ slice_index place.entry.name.words 2 ∷ place.entry.name.ext ∷ place.entry.version ∷ []
+
+-- two keys have one name and one type
+abbrev pub is_one_name : List ℕ → List ℕ → Bool
+is_one_name a b =
+    (slice_index a 0 == slice_index b 0) && (slice_index a 1 == slice_index b 1) && (slice_index a 2 == slice_index b 2) && (slice_index a 3 == slice_index b 3)
+
+-- what stands before the `;` of a text, or all
+abbrev pub before_version : List ℕ → List ℕ
+before_version text = before_first (λ b. b == 59) text
+
+-- the text without a dot at its end
+abbrev pub IsWithoutDot : List ℕ → List ℕ → Type 0
+IsWithoutDot text kept = (text ≡ kept ++ 46 ∷ []) ⊎ ((kept ≡ text) × ((front : List ℕ) → text ≢ front ++ 46 ∷ []))
+
+-- a type in small letters behind a dot; nothing where there is none
+abbrev pub small_type : List ℕ → List ℕ
+small_type kind = if length kind == 0 then [] else 46 ∷ small_text kind
+
+-- the name of an entry in small letters, with its version where that is wanted
+abbrev pub placed_name : EntryPlace → Bool → List ℕ
+placed_name place with_version =
+    small_text (title place.entry.name) ++ small_type (type_text place.entry.name) ++ (if with_version then 46 ∷ decimal place.entry.version else [])
+
+-- the name of a file on a host: by its entry, or by the name in its header
+abbrev pub IsHostName : Option EntryPlace → Option Facts → Bool → List ℕ → Type 0
+IsHostName (Some place) facts with_version text = text ≡ placed_name place with_version
+IsHostName None (Some facts) with_version text = (kept : List ℕ) × IsWithoutDot (before_version (ident_text facts.ident)) kept × (text ≡ small_text kept)
+IsHostName None None with_version text = text ≡ []

@@ -1,0 +1,38 @@
+-- The objects that are printed as JSON. Their members stand in the order of their names.
+use Rattle.std.specs.Prelude.{ℕ, List, [], ◌∷◌, ◌++◌, codes}
+use Rattle.ods_header.specs.Text.{file_id_text, ident_text}
+use Rattle.serde_json.specs.Data.{Members, no_members, number, object, put, string, unsigned}
+use Rattle.serde_json.specs.Written.{compact_text}
+use Rattle.ods_shell.specs.Facts.{created_in, kind_word, revised_in, revision_in}
+use Rattle.ods_shell.specs.Texts.{shown_date, shown_rights, shown_user}
+use Rattle.ods_shell.specs.declared.facts.Facts.{Facts}
+use Rattle.ods_shell.specs.declared.space.Space.{Space}
+
+-- the members, and a text under this name
+unfoldable pub with_text : List ℕ → List ℕ → Members → Members
+with_text name text ms = put name (string text) ms
+
+-- the members, and a number under this name
+unfoldable pub with_number : List ℕ → ℕ → Members → Members
+with_number name n ms = put name (number (unsigned n)) ms
+
+-- an object, and a line feed
+unfoldable pub object_line : Members → List ℕ
+object_line ms = compact_text (object ms) ++ 10 ∷ []
+
+-- the members, and what is known of a file
+abbrev pub with_facts : Facts → Members → Members
+with_facts facts ms =
+    with_text (codes "revised") (shown_date (revised_in facts.ident)) (with_text (codes "created") (shown_date (created_in facts.ident))
+    (with_text (codes "protection") (shown_rights facts.protection) (with_text (codes "owner") (shown_user facts.owner)
+    (with_text (codes "kind") (kind_word facts.kind) (with_number (codes "bytes") facts.bytes (with_number (codes "blocks") facts.blocks ms))))))
+
+-- what is known of a file that a path names
+abbrev pub stat_members : List ℕ → Facts → Members
+stat_members path facts =
+    with_facts facts (with_number (codes "revision") (revision_in facts.ident) (with_text (codes "name") (ident_text facts.ident)
+    (with_text (codes "id") (file_id_text facts.file) (with_text (codes "path") path no_members))))
+
+-- the members, and how many blocks a volume has, how many are free, and the longest free run
+unfoldable pub with_block_counts : Space → Members → Members
+with_block_counts s ms = with_number (codes "largest_free_run") s.longest (with_number (codes "free") s.free (with_number (codes "blocks") s.blocks ms))

@@ -1,0 +1,116 @@
+-- Which directories the folder of a path means.
+use Rattle.std.specs.Prelude.{◌≡◌, ◌≢◌, ◌⊎◌, ℕ, Bool, true, false, List, [], ◌∷◌, ◌++◌, map, codes, nat_eq, Option, Some, None}
+use Rattle.std.specs.List.{All, Contains, IsDistinct}
+use Rattle.ods_base.specs.Name.{RadName, title}
+use Rattle.ods_base.specs.declared.listed.Listed.{Listed}
+use Rattle.ods_space.specs.Layout.{VolumeLayout}
+use Rattle.ods_mount.specs.Faults.{IsDirectoryFile}
+use Rattle.ods_paths.specs.Numbers.{IsNumberedName}
+use Rattle.ods_paths.specs.Paths.{Files, Folder, Place, Master, Numbered, Named}
+use Rattle.ods_paths.specs.declared.versions.Versions.TheVariants.{Highest}
+use Rattle.ods_walk.specs.Complete.{LeadsPast}
+use Rattle.ods_walk.specs.Walk.{NamesDirectory}
+use Rattle.ods_shell.specs.Choosing.{AreThose, IsChosen, IsPicked}
+use Rattle.ods_shell.specs.Found.{AreLinesOf}
+use Rattle.ods_shell.specs.declared.folders.Directory.{Directory}
+
+-- the entry leads on: it names a directory, and not the master directory, which is file 4
+pub record LeadsOn (I : List (List ℕ)) (L : VolumeLayout) (e : Listed) : Type 0 where
+  pub names : NamesDirectory I L e
+  pub other : e.file.number ≢ 4
+
+-- the ways on from directory n: those of its entries that lead on, in the order of a listing
+abbrev pub AreOpenWays : List (List ℕ) → VolumeLayout → ℕ → List Listed → Type 0
+AreOpenWays I L n ways = (lines : List Listed) × AreLinesOf I L n lines × AreThose (LeadsOn I L) lines ways
+
+-- no way leads on from a closed directory
+abbrev pub AreWays : List (List ℕ) → VolumeLayout → List ℕ → ℕ → List Listed → Type 0
+AreWays I L closed n ways = (Contains closed n × (ways ≡ [])) ⊎ ((¬ Contains closed n) × AreOpenWays I L n ways)
+
+-- the directory that an entry of this one names
+abbrev pub IsBelow : List RadName → Listed → Directory → Type 0
+IsBelow names e d = (d.number ≡ e.file.number) × (d.names.items ≡ names ++ e.name ∷ [])
+
+-- those that these entries name, in their order
+abbrev pub AreNamedIn : List RadName → List Listed → List Directory → Type 0
+AreNamedIn names [] found = found ≡ []
+AreNamedIn names (e ∷ entries) found = (d : Directory) × (rest : List Directory) × (found ≡ d ∷ rest) × IsBelow names e d × AreNamedIn names entries rest
+
+-- a step of a path is a name, or a pattern for one, and stands for any type; of a name with several versions the highest is meant
+abbrev pub step_files : List ℕ → Files
+step_files step = record { name = step; kind = codes "*"; versions = None }
+
+-- From this directory a step leads to these.
+abbrev pub IsStep : List (List ℕ) → VolumeLayout → List ℕ → List ℕ → Directory → List Directory → Type 0
+IsStep I L closed step from found =
+    (ways : List Listed) × (those : List Listed) × AreWays I L closed from.number ways × AreThose (IsChosen (step_files step) Highest ways) ways those × AreNamedIn from.names.items those found
+
+-- From these directories, one after another, a step leads to these.
+abbrev pub AreSteps : List (List ℕ) → VolumeLayout → List ℕ → List ℕ → List Directory → List Directory → Type 0
+AreSteps I L closed step [] found = found ≡ []
+AreSteps I L closed step (from ∷ others) found = (next : List Directory) × (rest : List Directory) × (found ≡ next ++ rest) × IsStep I L closed step from next × AreSteps I L closed step others rest
+
+-- The steps lead on, each from where the one before led to.
+abbrev pub AreLedTo : List (List ℕ) → VolumeLayout → List ℕ → List (List ℕ) → List Directory → List Directory → Type 0
+AreLedTo I L closed [] from found = found ≡ from
+AreLedTo I L closed (step ∷ steps) from found = (next : List Directory) × AreSteps I L closed step from next × AreLedTo I L closed steps next found
+
+-- a group or a member is the one that is said, or none is said
+abbrev pub IsMeant : Option ℕ → ℕ → Type 0
+IsMeant None n = Unit {0}
+IsMeant (Some said) n = n ≡ said
+
+-- the name is that of a group and a member that are meant
+abbrev pub HasNumbers : Option ℕ → Option ℕ → Listed → Type 0
+HasNumbers group member e = (g : ℕ) × (m : ℕ) × IsNumberedName (title e.name) g m × IsMeant group g × IsMeant member m
+
+-- of a name with several versions the highest is meant
+abbrev pub IsNumberedWay : Option ℕ → Option ℕ → List Listed → Listed → Type 0
+IsNumberedWay group member ways e = HasNumbers group member e × IsPicked Highest ways e
+
+-- the master directory, to which no names lead
+abbrev pub AreMaster : List Directory → Type 0
+AreMaster found = (master : Directory) × (found ≡ master ∷ []) × (master.number ≡ 4) × (master.names.items ≡ [])
+
+-- the directories of a place, closed ones too
+abbrev pub AreStarts : List (List ℕ) → VolumeLayout → List ℕ → Place → List Directory → Type 0
+AreStarts I L closed Master found = AreMaster found
+AreStarts I L closed (Numbered group member) found =
+    (ways : List Listed) × (those : List Listed) × AreWays I L closed 4 ways × AreThose (IsNumberedWay group member ways) ways those × AreNamedIn [] those found
+AreStarts I L closed (Named steps) found = (master : List Directory) × AreMaster master × AreLedTo I L closed steps master found
+
+-- just the open ones of these directories
+abbrev pub AreOpen : List ℕ → List Directory → List Directory → Type 0
+AreOpen closed [] found = found ≡ []
+AreOpen closed (d ∷ starts) found =
+    (Contains closed d.number × AreOpen closed starts found) ⊎ ((¬ Contains closed d.number) × (rest : List Directory) × (found ≡ d ∷ rest) × AreOpen closed starts rest)
+
+-- names lead to the directory from one of these that is open, and past closed ones
+abbrev pub IsBelowOne : List (List ℕ) → VolumeLayout → List ℕ → List Directory → Directory → Type 0
+IsBelowOne I L closed starts d =
+    (start : Directory) × (names : List RadName) × Contains starts start × (¬ Contains closed start.number) × (d.names.items ≡ start.names.items ++ names)
+    × LeadsPast I L (4 ∷ closed) start.number names d.number
+
+-- The open ones of these directories, and all to which names lead from them past closed ones: each number once.
+pub record AreAllBelow (I : List (List ℕ)) (L : VolumeLayout) (closed : List ℕ) (starts found : List Directory) : Type 0 where
+  pub only : (d : Directory) → Contains found d → IsBelowOne I L closed starts d
+  pub all : (start : Directory) (names : List RadName) (n : ℕ) → Contains starts start → ¬ Contains closed start.number → IsDirectoryFile I L start.number → LeadsPast I L (4 ∷ closed) start.number names n
+      → Contains (map (λ d. d.number) found) n
+  pub once : IsDistinct nat_eq (map (λ d. d.number) found)
+
+-- of these directories the open ones; or, where all below belong to them, those and all below
+abbrev pub AreOpenOrBelow : List (List ℕ) → VolumeLayout → List ℕ → Bool → List Directory → List Directory → Type 0
+AreOpenOrBelow I L closed false starts found = AreOpen closed starts found
+AreOpenOrBelow I L closed true starts found = AreAllBelow I L closed starts found
+
+-- the directories that a folder means, but for closed ones and those to which only names in closed ones lead
+abbrev pub AreMeant : List (List ℕ) → VolumeLayout → List ℕ → Folder → List Directory → Type 0
+AreMeant I L closed folder found = (starts : List Directory) × AreStarts I L closed folder.place starts × AreOpenOrBelow I L closed folder.below starts found
+
+-- directories that are closed were met besides, or none
+abbrev pub AreMet : List ℕ → List Directory → List Directory → Type 0
+AreMet closed before after = (more : List Directory) × (after ≡ before ++ more) × All (λ d. Contains closed d.number) more
+
+-- What is found past closed directories counts as found past these: just the closed ones; or none, where no closed one was met on the way.
+abbrev pub CountAsClosed : List ℕ → List Directory → List ℕ → Type 0
+CountAsClosed closed met shut = (shut ≡ closed) ⊎ ((met ≡ []) × (shut ≡ []))

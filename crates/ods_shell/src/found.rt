@@ -1,0 +1,199 @@
+//! The files that a path names: the one finder of the commands that read and of those that change.
+ghost use Rattle.std.specs.Prelude.{◌≡◌, ◌≢◌, ◌⊎◌, ◌++◌, ◌∷◌, ℕ, List, [], IfOk, IfErr, OnOk, Some, slice_get};
+ghost use Rattle.ods_paths.specs.{Paths.Said, Paths.Says, Views.files as said_files, Views.folder as said_folder};
+ghost use Rattle.ods_shell.specs.declared.facts.Facts.{Facts as Known};
+ghost use Rattle.ods_shell.specs.Facts.{AreFacts};
+ghost use Rattle.ods_shell.specs.declared.folders.Directory.{Directory as Holder};
+ghost use Rattle.ods_shell.specs.declared.found.Found.{Found as One};
+ghost use Rattle.ods_shell.specs.Named.{AreLines, AreNamed, AreNamedBy, AreNotNamed, AreWithin, IsEntryOf, IsFileOf, IsPathFault};
+ghost use Rattle.ods_shell.specs.Ways.{AreMet, CountAsClosed};
+
+use crate::facts::{Facts, facts_by_id};
+use crate::finding::find_open;
+use crate::folders::Directory;
+use crate::path_fault::PathFault;
+use crate::texts::{push_id, push_path};
+use ods_base::{FileId, Listed};
+use ods_mount::Mounted;
+use ods_paths::{Files, Folder, Path, Versions, parse_path};
+use ods_space::sequence;
+use ods_walk::Line;
+use std::alloc::{AllocError, Global};
+
+/// Where an entry stands: the directory, and the entry.
+#[derive(Clone, Copy)]
+pub struct EntryPlace {
+    pub directory: FileId,
+    pub entry: Listed,
+}
+
+/// What a path names: an entry, or a file by its ID.
+#[derive(Drop)]
+pub struct Found {
+    /// Its path, as it is shown.
+    pub path: String,
+    /// The entry; `None` of a file that is named by its ID.
+    pub place: Option<EntryPlace>,
+    /// What is known of the file; `None` where the entry names no file.
+    pub facts: Option<Facts>,
+}
+
+impl Found {
+    /// The entry.
+    pub fn place(&self) -> Option<EntryPlace>
+        ensures { result ≡ self.now.place }
+    {
+        self.place
+    }
+
+    /// What is known of the file.
+    pub fn facts(&self) -> Option<Facts>
+        ensures { result ≡ self.now.facts }
+    {
+        self.facts
+    }
+}
+
+/// What a path names, in the order of a listing. `unsaid` are the versions that are meant where the path says none; where that is `None` either,
+/// the path is refused. Of these closed directories no names are read, and those that are on the way come back too.
+pub fn find_path(
+    alloc: Global,
+    volume: &Mounted,
+    path: &str,
+    unsaid: Option<Versions>,
+    closed: &[u16],
+) -> Result<(Vec<Found>, Vec<Directory>), PathFault>
+    ensures named { IfOk result (λ r. (says : Said) × Says path.now says
+        × ((shut : List ℕ) → CountAsClosed closed.now r.1.items shut → AreNamedBy volume.now.image volume.now.layout shut says unsaid r.0.items)) }
+    ensures met { IfOk result (λ r. AreMet closed.now [] r.1.items) }
+    ensures some { IfOk result (λ r. r.0.items ≡ [] → r.1.items ≢ []) }
+    ensures err { IfErr result (IsPathFault volume.now.image volume.now.layout path.now unsaid) }
+{
+    match parse_path(path.as_bytes()) {
+        Ok(Path::File(file)) => Ok((find_file(alloc, volume, file)?, Vec::new(alloc))),
+        Ok(Path::Within(_, None)) => Err(PathFault::NoName),
+        Ok(Path::Within(folder, Some(files))) => {
+            find_names(alloc, volume, &folder, files, unsaid, closed)
+        }
+        Err(bad) => Err(PathFault::Bad(bad)),
+    }
+}
+
+/// The file with this ID.
+fn find_file(alloc: Global, volume: &Mounted, file: FileId) -> Result<Vec<Found>, PathFault>
+    ensures ok { IfOk result (λ found. IsFileOf volume.now.image volume.now.layout file found.items) }
+    ensures err { IfErr result (λ fault. (fault ≡ PathFault.NoMemory)
+        ⊎ ((fault ≡ PathFault.NoSuchFile) × ((facts : Known) → AreFacts volume.now.image volume.now.layout file.number facts → facts.file ≢ file))) }
+{
+    let Some(facts) = facts_by_id(volume, file) else {
+        return Err(PathFault::NoSuchFile);
+    };
+    match named_by_id(alloc, file, facts) {
+        Ok(found) => Ok(found),
+        Err(AllocError) => Err(PathFault::NoMemory),
+    }
+}
+
+/// The file of which this is known, by its ID.
+fn named_by_id(alloc: Global, file: FileId, facts: Facts) -> Result<Vec<Found>, AllocError>
+    ensures { IfOk result (λ found. (one : One) × (found.items ≡ one ∷ []) × (one.place ≡ None) × (one.facts ≡ Some facts)) }
+{
+    let mut path = String::new(alloc);
+    push_id(&mut path, file)?;
+    let mut all = Vec::new(alloc);
+    all.push(Found {
+        path,
+        place: None,
+        facts: Some(facts),
+    })?;
+    Ok(all)
+}
+
+/// What names of files stand for in directories that a path says: as `find_path` finds it.
+pub fn find_names(
+    alloc: Global,
+    volume: &Mounted,
+    folder: &Folder<'_>,
+    files: Files<'_>,
+    unsaid: Option<Versions>,
+    closed: &[u16],
+) -> Result<(Vec<Found>, Vec<Directory>), PathFault>
+    ensures named { IfOk result (λ r. (shut : List ℕ) → CountAsClosed closed.now r.1.items shut
+        → AreNamed volume.now.image volume.now.layout shut (said_folder folder.now) (said_files files.entry) unsaid r.0.items) }
+    ensures met { IfOk result (λ r. AreMet closed.now [] r.1.items) }
+    ensures some { IfOk result (λ r. r.0.items ≡ [] → r.1.items ≢ []) }
+    ensures err { IfErr result (AreNotNamed volume.now.image volume.now.layout (said_folder folder.now) (said_files files.entry) unsaid) }
+{
+    let Some(versions) = files.versions.or(unsaid) else {
+        return Err(PathFault::NoVersion);
+    };
+    let found = match find_open(alloc, volume, folder, &Some(files), versions, closed) {
+        Ok(found) => found,
+        Err(AllocError) => return Err(PathFault::NoMemory),
+    };
+    if found.lines.is_empty() && found.closed.is_empty() {
+        return Err(PathFault::Nothing);
+    }
+    match files_of(alloc, volume, &found.directories, &found.lines) {
+        Ok(all) => Ok((all, found.closed)),
+        Err(AllocError) => Err(PathFault::NoMemory),
+    }
+}
+
+/// What these lines of these directories name, in their order.
+fn files_of(
+    alloc: Global,
+    volume: &Mounted,
+    directories: &[Directory],
+    lines: &[Line],
+) -> Result<Vec<Found>, AllocError>
+    ensures { IfOk result (λ found. AreWithin directories.now lines.now → AreLines volume.now.image volume.now.layout directories.now lines.now found.items) }
+{
+    let mut all = Vec::new(alloc);
+    for line in lines {
+        add_line(alloc, volume, directories, line, &mut all)?;
+    }
+    Ok(all)
+}
+
+/// Adds what a line names, where its directory is one of these.
+fn add_line(
+    alloc: Global,
+    volume: &Mounted,
+    directories: &[Directory],
+    line: &Line,
+    all: &mut Vec<Found>,
+) -> Result<(), AllocError>
+    ensures { OnOk result ((directory : Holder) → slice_get directories.now line.now.directory ≡ Some directory
+        → (one : One) × (all.new.items ≡ all.old.items ++ one ∷ []) × IsEntryOf volume.now.image volume.now.layout directory line.now.entry one) }
+{
+    let Some(directory) = directories.get(line.directory) else {
+        return Ok(());
+    };
+    all.push(file_at(alloc, volume, directory, &line.entry)?)?;
+    Ok(())
+}
+
+/// What an entry of a directory names.
+fn file_at(
+    alloc: Global,
+    volume: &Mounted,
+    directory: &Directory,
+    entry: &Listed,
+) -> Result<Found, AllocError>
+    ensures { IfOk result (IsEntryOf volume.now.image volume.now.layout directory.now entry.now) }
+{
+    let mut path = String::new(alloc);
+    push_path(&mut path, &directory.names, entry)?;
+    Ok(Found {
+        path,
+        place: Some(EntryPlace {
+            directory: FileId {
+                number: directory.number,
+                sequence: sequence(&volume.disk(), directory.number),
+            },
+            entry: *entry,
+        }),
+        facts: facts_by_id(volume, entry.file),
+    })
+}

@@ -1,0 +1,246 @@
+//! The directories to which the steps of a path lead.
+ghost use Rattle.std.specs.Prelude.{◌≡◌, ◌+◌, ◌<◌, ◌++◌, ◌∷◌, ℕ, List, [], IfOk, OnOk, MatchBool, IsSortedByKey, Some, length, slice_get, take};
+ghost use Rattle.ods_base.specs.declared.listed.Listed.{Listed as Entry};
+ghost use Rattle.ods_paths.specs.{Order.listing_cmp, Paths.Numbered, Patterns.capitals, Views.place as said_place};
+ghost use Rattle.ods_walk.specs.Listing.{shown};
+ghost use Rattle.ods_shell.specs.Choosing.{AreThose};
+ghost use Rattle.ods_shell.specs.declared.folders.Directory.{Directory as One};
+ghost use Rattle.ods_shell.specs.Ways.{AreMet, AreNamedIn, AreStarts, AreSteps, AreWays, CountAsClosed, HasNumbers, IsMeant, IsNumberedWay, IsStep, LeadsOn};
+
+use crate::choosing::{chosen, is_highest};
+use crate::folders::{Closed, Directory, MASTER, directory_of, lines_of, master};
+use ods_base::{Listed, Name, print_title};
+use ods_mount::Mounted;
+use ods_paths::{Files, Place, Steps, Versions, numbered_name};
+use std::alloc::{AllocError, Global};
+
+/// The entries of a directory that lead on, in the order of a listing; none of a closed one, which is noted.
+fn ways_from(
+    alloc: Global,
+    volume: &Mounted,
+    number: u16,
+    names: &[Name],
+    closed: &mut Closed<'_>,
+) -> Result<Vec<Listed>, AllocError>
+    ensures ways { IfOk result (λ ways. (shut : List ℕ) → CountAsClosed closed.old.numbers.now closed.new.met.items shut
+        → AreWays volume.now.image volume.now.layout shut number ways.items) }
+    ensures sorted { IfOk result (λ ways. IsSortedByKey shown listing_cmp ways.items) }
+    ensures same { closed.new.numbers ≡ closed.old.numbers }
+    ensures met { OnOk result (AreMet closed.old.numbers.now closed.old.met.items closed.new.met.items) }
+{
+    let mut ways = Vec::new(alloc);
+    if closed.stops(alloc, number, names)? {
+        return Ok(ways);
+    }
+    let lines = lines_of(alloc, volume, number)?;
+    for line in &lines {
+        add_way(volume, line, &mut ways)?;
+    }
+    Ok(ways)
+}
+
+/// Adds this entry, where it leads on.
+fn add_way(volume: &Mounted, entry: &Listed, ways: &mut Vec<Listed>) -> Result<(), AllocError>
+    ensures { OnOk result ((before : List Entry) → AreThose (LeadsOn volume.now.image volume.now.layout) before ways.old.items
+        → AreThose (LeadsOn volume.now.image volume.now.layout) (before ++ entry.now ∷ []) ways.new.items) }
+{
+    if leads_on(volume, entry) {
+        ways.push(*entry)?;
+    }
+    Ok(())
+}
+
+/// Whether an entry names a directory that is not the master directory.
+fn leads_on(volume: &Mounted, entry: &Listed) -> bool
+    ensures { MatchBool result (LeadsOn volume.now.image volume.now.layout entry.now) (¬ LeadsOn volume.now.image volume.now.layout entry.now) }
+{
+    match directory_of(volume, entry) {
+        Some(number) => number != MASTER,
+        None => false,
+    }
+}
+
+/// The directories of a group and a member in the master directory, of all where there is `None`.
+pub(crate) fn find_numbered(
+    alloc: Global,
+    volume: &Mounted,
+    group: Option<u8>,
+    member: Option<u8>,
+    closed: &mut Closed<'_>,
+) -> Result<Vec<Directory>, AllocError>
+    ensures found { IfOk result (λ found. (shut : List ℕ) → CountAsClosed closed.old.numbers.now closed.new.met.items shut
+        → AreStarts volume.now.image volume.now.layout shut (Numbered group member) found.items) }
+    ensures same { closed.new.numbers ≡ closed.old.numbers }
+    ensures met { OnOk result (AreMet closed.old.numbers.now closed.old.met.items closed.new.met.items) }
+{
+    let ways = ways_from(alloc, volume, MASTER, &[], closed)?;
+    let those = numbered_ways(alloc, &ways, group, member)?;
+    let mut found = Vec::new(alloc);
+    add_named(alloc, &[], &those, &mut found)?;
+    Ok(found)
+}
+
+/// Of these ways those whose names are of the group and the member, and of one name the highest version.
+fn numbered_ways(
+    alloc: Global,
+    ways: &[Listed],
+    group: Option<u8>,
+    member: Option<u8>,
+) -> Result<Vec<Listed>, AllocError>
+    requires { IsSortedByKey shown listing_cmp ways.now }
+    ensures { IfOk result (λ those. AreThose (IsNumberedWay group member ways.now) ways.now those.items) }
+{
+    let mut those = Vec::new(alloc);
+    for place in 0..ways.len() {
+        add_numbered(ways, place, group, member, &mut those)?;
+    }
+    Ok(those)
+}
+
+/// Adds the way at this place, where it is one of those.
+fn add_numbered(
+    ways: &[Listed],
+    place: usize,
+    group: Option<u8>,
+    member: Option<u8>,
+    those: &mut Vec<Listed>,
+) -> Result<(), AllocError>
+    requires sorted { IsSortedByKey shown listing_cmp ways.now }
+    requires inside { place < length ways.now }
+    ensures { OnOk result (AreThose (IsNumberedWay group member ways.now) (take place ways.now) those.old.items
+        → AreThose (IsNumberedWay group member ways.now) (take (place + 1) ways.now) those.new.items) }
+{
+    let way = ways[place];
+    if is_numbered_way(ways, place, &way, group, member) {
+        those.push(way)?;
+    }
+    Ok(())
+}
+
+/// Whether this way, which stands at this place, is one of those.
+fn is_numbered_way(
+    ways: &[Listed],
+    place: usize,
+    way: &Listed,
+    group: Option<u8>,
+    member: Option<u8>,
+) -> bool
+    requires sorted { IsSortedByKey shown listing_cmp ways.now }
+    requires there { slice_get ways.now place ≡ Some way.now }
+    ensures { MatchBool result (IsNumberedWay group member ways.now way.now) (¬ IsNumberedWay group member ways.now way.now) }
+{
+    has_numbers(way, group, member) && is_highest(ways, place, way)
+}
+
+/// Whether the name of an entry is that of a group and a member that are meant.
+fn has_numbers(entry: &Listed, group: Option<u8>, member: Option<u8>) -> bool
+    ensures { MatchBool result (HasNumbers group member entry.now) (¬ HasNumbers group member entry.now) }
+{
+    let title = print_title(&entry.name);
+    match numbered_name(title.as_bytes()) {
+        Some((g, m)) => is_meant(group, g) && is_meant(member, m),
+        None => false,
+    }
+}
+
+/// Whether a group or member is the one that is meant, or each is.
+fn is_meant(meant: Option<u8>, found: u8) -> bool
+    ensures { MatchBool result (IsMeant meant found) (¬ IsMeant meant found) }
+{
+    match meant {
+        Some(meant) => meant == found,
+        None => true,
+    }
+}
+
+/// The directories of names, or of patterns for them, each within the one before.
+pub(crate) fn find_named(
+    alloc: Global,
+    volume: &Mounted,
+    steps: &Steps<'_>,
+    closed: &mut Closed<'_>,
+) -> Result<Vec<Directory>, AllocError>
+    ensures found { IfOk result (λ found. (shut : List ℕ) → CountAsClosed closed.old.numbers.now closed.new.met.items shut
+        → AreStarts volume.now.image volume.now.layout shut (said_place (Place.Named steps.now)) found.items) }
+    ensures same { closed.new.numbers ≡ closed.old.numbers }
+    ensures met { OnOk result (AreMet closed.old.numbers.now closed.old.met.items closed.new.met.items) }
+{
+    let mut found = Vec::new(alloc);
+    found.push(master(alloc))?;
+    for step in steps.text.split(|c| *c == steps.separator) {
+        found = follow_step(alloc, volume, &found, step, closed)?;
+    }
+    Ok(found)
+}
+
+/// The directories to which a step leads from these, one after another.
+fn follow_step(
+    alloc: Global,
+    volume: &Mounted,
+    from: &[Directory],
+    step: &[u8],
+    closed: &mut Closed<'_>,
+) -> Result<Vec<Directory>, AllocError>
+    ensures found { IfOk result (λ found. (shut : List ℕ) → CountAsClosed closed.old.numbers.now closed.new.met.items shut
+        → AreSteps volume.now.image volume.now.layout shut (capitals step.now) from.now found.items) }
+    ensures same { closed.new.numbers ≡ closed.old.numbers }
+    ensures met { OnOk result (AreMet closed.old.numbers.now closed.old.met.items closed.new.met.items) }
+{
+    let mut found = Vec::new(alloc);
+    for directory in from {
+        add_steps(alloc, volume, directory, step, closed, &mut found)?;
+    }
+    Ok(found)
+}
+
+/// Adds the directories to which a step leads from this one.
+fn add_steps(
+    alloc: Global,
+    volume: &Mounted,
+    from: &Directory,
+    step: &[u8],
+    closed: &mut Closed<'_>,
+    found: &mut Vec<Directory>,
+) -> Result<(), AllocError>
+    ensures found { OnOk result ((next : List One) × (found.new.items ≡ found.old.items ++ next)
+        × ((shut : List ℕ) → CountAsClosed closed.old.numbers.now closed.new.met.items shut → IsStep volume.now.image volume.now.layout shut (capitals step.now) from.now next)) }
+    ensures same { closed.new.numbers ≡ closed.old.numbers }
+    ensures met { OnOk result (AreMet closed.old.numbers.now closed.old.met.items closed.new.met.items) }
+{
+    let ways = ways_from(alloc, volume, from.number, &from.names, closed)?;
+    let step_files = Files {
+        name: step,
+        kind: b"*",
+        versions: None,
+    };
+    let those = chosen(alloc, &ways, &step_files, Versions::Highest)?;
+    add_named(alloc, &from.names, &those, found)
+}
+
+/// Adds the directories that these entries name, which stand in the one to which these names lead.
+fn add_named(
+    alloc: Global,
+    names: &[Name],
+    entries: &[Listed],
+    found: &mut Vec<Directory>,
+) -> Result<(), AllocError>
+    ensures { OnOk result ((more : List One) × (found.new.items ≡ found.old.items ++ more) × AreNamedIn names.now entries.now more) }
+{
+    for entry in entries {
+        found.push(Directory {
+            number: entry.file.number,
+            names: longer(alloc, names, &entry.name)?,
+        })?;
+    }
+    Ok(())
+}
+
+/// The names and one more.
+pub(crate) fn longer(alloc: Global, names: &[Name], name: &Name) -> Result<Vec<Name>, AllocError>
+    ensures { IfOk result (λ all. all.items ≡ names.now ++ name.now ∷ []) }
+{
+    let mut all = Vec::new(alloc);
+    all.extend_from_slice(names)?;
+    all.push(*name)?;
+    Ok(all)
+}

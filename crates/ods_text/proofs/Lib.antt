@@ -1,0 +1,4 @@
+pub mod Firsts
+pub mod InBrackets
+pub mod Numerals
+pub mod Places

@@ -1,0 +1,99 @@
+-- Where names go: the target that a path says.
+use Rattle.std.specs.Prelude.{◌≡◌, ◌⊎◌, ◌<◌, ℕ, false, List, [], ◌∷◌, ◌++◌, codes, Option, Some, None}
+use Rattle.ods_text.specs.Cuts.{Lacks}
+use Rattle.ods_base.specs.Name.{RadName, Spells}
+use Rattle.ods_base.specs.declared.file_id.FileId.{FileId}
+use Rattle.ods_base.specs.declared.name.Pick.TheVariants as pick
+use Rattle.ods_space.specs.Layout.{VolumeLayout}
+use Rattle.ods_paths.specs.declared.versions.Versions.{Versions}
+use Rattle.ods_paths.specs.declared.versions.Versions.TheVariants.{Exact, Highest, Lowest, Every}
+use Rattle.ods_paths.specs.Paths.{File, Files, Folder, Said, Says, Within}
+use Rattle.ods_paths.specs.Patterns.{has_wildcard}
+use Rattle.ods_shell.specs.declared.facts.Facts.{Facts}
+use Rattle.ods_shell.specs.declared.facts.Kind.TheVariants.{Directory}
+use Rattle.ods_shell.specs.declared.folders.Directory.{Directory as Holder}
+use Rattle.ods_shell.specs.declared.found.Found.{Found}
+use Rattle.ods_shell.specs.Facts.{AreFacts}
+use Rattle.ods_shell.specs.Named.{AreNamed}
+use Rattle.ods_shell.specs.Ways.{AreMeant}
+use Rattle.ods_upkeep.specs.Hidden.{HidesEntries}
+use Rattle.ods_upkeep.specs.Pieces.{last_part}
+use Rattle.ods_upkeep.specs.declared.target.Target.{Target}
+
+-- the ID of the one directory that a folder means
+pub record IsTheDirectory (I : List (List ℕ)) (L : VolumeLayout) (folder : Folder) (file : FileId) : Type 0 where
+  pub directory : Holder
+  pub one : AreMeant I L [] folder (directory ∷ [])
+  pub facts : Facts
+  pub are : AreFacts I L directory.number facts
+  pub same : facts.file ≡ file
+
+-- a directory, where each file keeps its name
+pub record IsWhole (file : FileId) (to : Target) : Type 0 where
+  pub directory : to.directory ≡ file
+  pub name : to.name ≡ None
+  pub version : to.version ≡ None
+
+-- a path with this type may name a directory: the type is DIR; or there is none, and no dot either
+abbrev pub MayBeDirectory : List ℕ → List ℕ → Type 0
+MayBeDirectory path kind = (kind ≡ codes "DIR") ⊎ ((kind ≡ []) × Lacks 46 (last_part path))
+
+-- the directory of this name in the folder, the highest version
+pub record IsDirectoryNamed (I : List (List ℕ)) (L : VolumeLayout) (folder : Folder) (name : List ℕ) (file : FileId) : Type 0 where
+  pub found : Found
+  pub one : AreNamed I L [] folder (record { name = name; kind = codes "DIR"; versions = Some Highest }) None (found ∷ [])
+  pub facts : Facts
+  pub known : found.facts ≡ Some facts
+  pub is : facts.kind ≡ Directory
+  pub same : facts.file ≡ file
+
+-- just one was found, which is this directory
+pub record IsAlone (all : List Found) (file : FileId) : Type 0 where
+  pub found : Found
+  pub one : all ≡ found ∷ []
+  pub facts : Facts
+  pub known : found.facts ≡ Some facts
+  pub is : facts.kind ≡ Directory
+  pub same : facts.file ≡ file
+
+-- the version that a name gets is said; or it is the next one
+abbrev pub SaysVersion : Option Versions → Option ℕ → Type 0
+SaysVersion None version = version ≡ None
+SaysVersion (Some Highest) version = version ≡ None
+SaysVersion (Some (Exact said)) version = version ≡ Some said
+SaysVersion (Some Lowest) version = ⊥
+SaysVersion (Some Every) version = ⊥
+
+-- the path names a directory that is there, and no version
+pub record IsInto (I : List (List ℕ)) (L : VolumeLayout) (path : List ℕ) (folder : Folder) (files : Files) (file : FileId) : Type 0 where
+  pub unsaid : SaysVersion files.versions None
+  pub may_be : MayBeDirectory path files.kind
+  pub there : IsDirectoryNamed I L folder files.name file
+
+-- the path gives a name in the one directory that its folder means
+pub record GivesName (I : List (List ℕ)) (L : VolumeLayout) (folder : Folder) (files : Files) (to : Target) : Type 0 where
+  pub directory : IsTheDirectory I L folder to.directory
+  pub name : RadName
+  pub spelled : Spells (files.name ++ 46 ∷ files.kind) name pick.Highest
+  pub given : to.name ≡ Some name
+  pub version : SaysVersion files.versions to.version
+
+-- no pattern
+pub record AreExact (files : Files) : Type 0 where
+  pub name : has_wildcard files.name ≡ false
+  pub kind : has_wildcard files.kind ≡ false
+
+-- the target of a path that says this
+abbrev pub IsTargetOf : List (List ℕ) → VolumeLayout → List ℕ → Said → Target → Type 0
+IsTargetOf I L path (File file) to = IsWhole file to × ((facts : Facts) × AreFacts I L file.number facts × (facts.file ≡ file) × (facts.kind ≡ Directory))
+IsTargetOf I L path (Within folder None) to = (file : FileId) × IsTheDirectory I L folder file × IsWhole file to
+IsTargetOf I L path (Within folder (Some files)) to =
+    AreExact files × (((file : FileId) × IsInto I L path folder files file × IsWhole file to) ⊎ (((file : FileId) → ¬ IsInto I L path folder files file) × GivesName I L folder files to))
+
+-- The target that a path says for so many files. A name is that of one file, and a directory that hides entries takes none.
+pub record IsTarget (I : List (List ℕ)) (L : VolumeLayout) (count : ℕ) (path : List ℕ) (to : Target) : Type 0 where
+  pub says : Said
+  pub said : Says path says
+  pub target : IsTargetOf I L path says to
+  pub shows : ¬ HidesEntries I L to.directory.number
+  pub one : 1 < count → to.name ≡ None
