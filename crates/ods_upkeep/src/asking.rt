@@ -1,5 +1,5 @@
 //! Requests of a command: the first one that is refused ends it.
-ghost use Rattle.std.specs.Prelude.{◌≡◌, ℕ, IfOk, OnErr, OnOk, Some};
+ghost use Rattle.std.specs.Prelude.{◌≡◌, IfOk, OnErr, OnOk};
 ghost use Rattle.ods_state.specs.Outcome.{CanBeAsked};
 ghost use Rattle.ods_filing.specs.Filed.{IsDone};
 ghost use Rattle.ods_filing.specs.Led.{IsAsked, IsObeyed};
@@ -85,21 +85,6 @@ pub(crate) fn delete(filing: &mut Filing, file: FileId) -> Result<(), Why>
     obey(filing, Request::Delete { file })
 }
 
-/// The file and the version that stand under a name, where the user may see it.
-pub(crate) fn look_up(
-    filing: &mut Filing,
-    dir: FileId,
-    name: Name,
-    pick: Pick,
-) -> Option<(FileId, u16)>
-    ensures { IsAsked filing.old (Request.LookUp dir name pick) filing.new }
-{
-    match filing.request(&Request::LookUp { dir, name, pick }) {
-        Ok(Answer::Found(file, version)) => Some((file, version)),
-        _ => None,
-    }
-}
-
 /// Puts a new file, which its owner makes, and the user who asks enters: under this version, or the next one. Its ident has its own version.
 pub(crate) fn put_new(
     filing: &mut Filing,
@@ -126,24 +111,5 @@ pub(crate) fn put_new(
             Ok(id)
         }
         Err(refusal) => Err(Why::Request(refusal)),
-    }
-}
-
-/// The version under which a name is entered next, where the user may see the directory; else 1.
-pub(crate) fn next_version(
-    filing: &mut Filing,
-    dir: FileId,
-    name: Name,
-    version: Option<u16>,
-) -> u16
-    ensures looked { IsAsked filing.old (Request.LookUp dir name Pick.Highest) filing.new }
-    ensures said { (said : ℕ) → version ≡ Some said → result ≡ said }
-{
-    if let Some(version) = version {
-        return version;
-    }
-    match look_up(filing, dir, name, Pick::Highest) {
-        Some((_, highest)) => highest.saturating_add(1),
-        None => 1,
     }
 }

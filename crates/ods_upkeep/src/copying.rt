@@ -1,14 +1,15 @@
 //! `cp`: files are made that have the blocks and the attributes of others.
-ghost use Rattle.std.specs.Prelude.{IfOk, OnOk};
+ghost use Rattle.std.specs.Prelude.{OnOk};
 ghost use Rattle.ods_filing.specs.Led.{IsLed};
-ghost use Rattle.ods_upkeep.specs.{Kinds.Copies, Target.IsTarget};
+ghost use Rattle.ods_upkeep.specs.Kinds.{Copies};
 
-use crate::asking::{next_version, put_new};
+use crate::asking::put_new;
 use crate::attributes::true_for;
 use crate::failure::{Failure, Why, of_path};
+use crate::looking::next_version;
 use crate::sources::sources;
 use crate::target::Target;
-use crate::targets::read_target;
+use crate::targets::target_of;
 use ods_base::{DIRECTORY_TYPE, FileId, Name, Uic, parse_name};
 use ods_files::{FileBody, FileFault, Form};
 use ods_filing::{Filing, NewFile};
@@ -45,26 +46,6 @@ pub fn copy_files(
         }
     }
     Ok(())
-}
-
-/// The target of so many files: a name is that of one.
-pub(crate) fn target_of(
-    alloc: Global,
-    volume: &Mounted,
-    count: usize,
-    to: &str,
-) -> Result<Target, Failure>
-    ensures { IfOk result (IsTarget volume.now.image volume.now.layout count to.now) }
-{
-    match read_target(alloc, volume, to) {
-        Ok(target) => {
-            if count > 1 && target.name.is_some() {
-                return Err(of_path(alloc, to, Why::Several));
-            }
-            Ok(target)
-        }
-        Err(why) => Err(of_path(alloc, to, why)),
-    }
 }
 
 /// What is known of the file, where this user may copy it to this target.

@@ -10,6 +10,7 @@ mod copying;
 mod directories;
 mod failure;
 mod hidden;
+mod looking;
 mod meant;
 mod moving;
 mod names;

@@ -4,12 +4,12 @@ ghost use Rattle.ods_filing.specs.Led.{IsLed};
 ghost use Rattle.ods_upkeep.specs.{Kinds.Renames, Moved.IsMoved, Moved.one_moved, Moved.version_for as version_meant, Removed.Does};
 
 use crate::asking::{enter, obey, remove};
-use crate::copying::target_of;
 use crate::failure::{Failure, Why, of_path};
 use crate::names::is_directory_file;
 use crate::own_files::stays;
 use crate::sources::sources;
 use crate::target::Target;
+use crate::targets::target_of;
 use ods_base::{DIRECTORY_TYPE, Listed, Name, Pick};
 use ods_filing::Filing;
 use ods_mount::Mounted;

@@ -4,13 +4,13 @@ ghost use Rattle.ods_filing.specs.Filed.{HasGrown, lacking};
 ghost use Rattle.ods_filing.specs.Led.{IsAsked, IsLed};
 ghost use Rattle.ods_upkeep.specs.{Kinds.Puts, PutFor.IsPut};
 
-use crate::asking::{delete, look_up, next_version, put_new, remove};
-use crate::copying::target_of;
+use crate::asking::{delete, put_new, remove};
 use crate::failure::{Failure, Why, of_path};
+use crate::looking::{look_up, next_version};
 use crate::names::Names;
 use crate::put_fault::PutFault;
 use crate::target::Target;
-use crate::targets::name_of;
+use crate::targets::{name_of, target_of};
 use crate::versions::Highest;
 use crate::written::{Written, write_host};
 use crate::{HostFile, PutForm};

@@ -9,9 +9,9 @@ ghost use Rattle.ods_shell.specs.declared.folders.Directory.{Directory as Holder
 ghost use Rattle.ods_shell.specs.Facts.{AreFacts};
 ghost use Rattle.ods_shell.specs.Ways.{AreMeant};
 ghost use Rattle.ods_upkeep.specs.Hidden.{HidesEntries};
-ghost use Rattle.ods_upkeep.specs.Target.{AreExact, GivesName, IsAlone, IsDirectoryNamed, IsInto, IsTargetOf, IsTheDirectory, IsWhole, MayBeDirectory, SaysVersion};
+ghost use Rattle.ods_upkeep.specs.Target.{AreExact, GivesName, IsAlone, IsDirectoryNamed, IsInto, IsTarget, IsTargetOf, IsTheDirectory, IsWhole, MayBeDirectory, SaysVersion};
 
-use crate::failure::Why;
+use crate::failure::{Failure, Why, of_path};
 use crate::hidden::hides_entries;
 use crate::parts::has_dot;
 use crate::target::Target;
@@ -21,9 +21,29 @@ use ods_paths::{Files, Folder, Path, Versions, has_wildcard, parse_path};
 use ods_shell::{Found, Kind, PathFault, facts_by_id, facts_of, find_names, find_open};
 use std::alloc::Global;
 
+/// The target of so many files: a name is that of one.
+pub(crate) fn target_of(
+    alloc: Global,
+    volume: &Mounted,
+    count: usize,
+    to: &str,
+) -> Result<Target, Failure>
+    ensures { IfOk result (IsTarget volume.now.image volume.now.layout count to.now) }
+{
+    match read_target(alloc, volume, to) {
+        Ok(target) => {
+            if count > 1 && target.name.is_some() {
+                return Err(of_path(alloc, to, Why::Several));
+            }
+            Ok(target)
+        }
+        Err(why) => Err(of_path(alloc, to, why)),
+    }
+}
+
 /// The target that a path says: a directory that is there, or a name in one. A directory that hides entries is refused, since a name that is
 /// entered there could be one of them.
-pub(crate) fn read_target(alloc: Global, volume: &Mounted, to: &str) -> Result<Target, Why>
+fn read_target(alloc: Global, volume: &Mounted, to: &str) -> Result<Target, Why>
     ensures { IfOk result (λ target. (says : Said) × Says to.now says × IsTargetOf volume.now.image volume.now.layout to.now says target
         × ¬ HidesEntries volume.now.image volume.now.layout target.directory.number) }
 {
