@@ -13,3 +13,7 @@ pub mod OneNaming
 pub mod PutLists
 pub mod Made
 pub mod Gone
+pub mod LawsShown
+pub mod LawsNames
+pub mod LawsUndone
+pub mod LawsGot

@@ -2,6 +2,7 @@ pub mod Counted
 pub mod Cut
 pub mod Hidden
 pub mod Kinds
+pub mod Laws
 pub mod Left
 pub mod Made
 pub mod Moved
