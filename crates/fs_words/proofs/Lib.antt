@@ -1,3 +1,6 @@
 pub mod Naming
 pub mod LineEnds
 pub mod Listed
+pub mod AllSimple
+pub mod LeftWords
+pub mod Unknown

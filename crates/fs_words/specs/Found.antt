@@ -15,6 +15,8 @@ use Rattle.fs_words.specs.declared.words.Words.{Words}
 use Rattle.fs_words.specs.Asked.{Asks}
 use Rattle.fs_words.specs.Days.{is_true_stamp}
 use Rattle.fs_words.specs.Options.{has_value, option_serves, option_text, prints_plans}
+use Rattle.fs_words.specs.Parses.{IsParseOf}
+use Rattle.fs_words.specs.Rules.{whole_app}
 use Rattle.fs_words.specs.Saying.{IsFlag, paths_among, text_said}
 use Rattle.fs_words.specs.Users.{IsSaid}
 use Rattle.fs_words.specs.Values.{IsValue, value_of}
@@ -57,10 +59,10 @@ pub record IsFound (path : Bor (List ℕ)) (s : Said) (v : Verb) (a : Action) (w
   pub saving : IsSaving s v w.saving
   pub blocks : IsValue IsNumber (text_said s (codes "--blocks")) w.blocks
 
--- the words of a command: what it asks for by its own, and what stands beside that
-abbrev pub AreOfCommand : Bor (List ℕ) → Verb → Option (Bor ArgMatches) → Words → Type 0
-AreOfCommand image v before w = (s : Said) × (m : Bor ArgMatches) × (out : Option (Bor (List ℕ))) × (a : Action)
-    × (s.before ≡ before) × (s.own ≡ Some m) × (value_of out ≡ text_said s (codes "-o")) × Asks v m.now out a × IsFound image s v a w
+-- the words of a command: what it asks for by those behind its name, and what stands beside that
+abbrev pub AreOfCommand : Bor (List ℕ) → Verb → List (List ℕ) → Option (Bor ArgMatches) → Words → Type 0
+AreOfCommand image v words before w = (s : Said) × (m : Bor ArgMatches) × (out : Option (Bor (List ℕ))) × (a : Action)
+    × IsParseOf (whole_app v) words m.now × (s.before ≡ before) × (s.own ≡ Some m) × (value_of out ≡ text_said s (codes "-o")) × Asks v m.now out a × IsFound image s v a w
 
 -- the words before a file of commands
 abbrev pub AreOfFile : Bor (List ℕ) → Bor (List ℕ) → Bor ArgMatches → Words → Type 0

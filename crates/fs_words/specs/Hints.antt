@@ -1,9 +1,11 @@
--- Which command a word that is none is near to.
+-- What is said of words that lack a command or name an unknown one, and which command a word that is none is near to.
 use Rattle.std.specs.Prelude.{◌≡◌, ◌≤◌, ◌<◌, ℕ, List, [], ◌∷◌, ◌++◌, codes, Option, Some, None, All, MatchBool, MatchOption, find, option_map, if◌then◌else◌, length, nat_le, nat_lt}
 use Rattle.std.specs.Str.{bytes_eq, chars}
 use Rattle.strsim.specs.Edits.{osa_table}
 use Rattle.fs_words.specs.declared.verbs.Verb.{Verb}
-use Rattle.fs_words.specs.Names.{verb_text, verbs}
+use Rattle.ods_words.specs.Telling.{IsWrong}
+use Rattle.ods_words.specs.declared.fault.WordsFault.{WordsFault}
+use Rattle.fs_words.specs.Names.{verb_named, verb_text, verbs}
 
 -- what other programs call the commands
 abbrev pub habits : List (List ℕ × List ℕ)
@@ -37,3 +39,35 @@ abbrev pub IsNear : List ℕ → Option (List ℕ) → Type 0
 IsNear word near = MatchOption (habit_named word)
     (MatchBool (nat_lt 16 (length word)) (near ≡ None) ((v : Option Verb) × IsClosest word verbs v × (near ≡ name_where v)))
     (λ (name : List ℕ). near ≡ Some name)
+
+-- how the words stand
+unfoldable pub usage : List ℕ
+usage = codes "usage: f11fs [OPTIONS] IMAGE COMMAND [WORD..]\nf11fs --help names the commands"
+
+-- a command is wanting
+unfoldable pub wanting_line : List ℕ
+wanting_line = codes "error: a command is wanting\n" ++ usage
+
+-- a word is no command, and this one is near
+unfoldable pub near_line : List ℕ → List ℕ → List ℕ
+near_line word name = codes "f11fs: '" ++ (word ++ (codes "' is no command; '" ++ (name ++ codes "' is near")))
+
+-- a word is no command, and none is near
+unfoldable pub strange_line : List ℕ → List ℕ
+strange_line word = codes "f11fs: '" ++ word ++ codes "' is no command; f11fs --help names them"
+
+abbrev pub unknown_line : List ℕ → Option (List ℕ) → List ℕ
+unknown_line word (Some name) = near_line word name
+unknown_line word None = strange_line word
+
+-- a word is no command; IMAGE stands behind it
+unfoldable pub misplaced_line : List ℕ → List ℕ → List ℕ
+misplaced_line image word = codes "f11fs: '" ++ (word ++ (codes "' is no command; IMAGE stands first: f11fs " ++ (word ++ (codes " " ++ image))))
+
+-- what is said of a word that is no command
+abbrev pub IsUnknown : List ℕ → WordsFault → Type 0
+IsUnknown word fault = (near : Option (List ℕ)) × IsNear word near × IsWrong (unknown_line word near) fault
+
+-- what is said of it behind IMAGE, which may be the name of a command
+abbrev pub IsMisplaced : List ℕ → List ℕ → WordsFault → Type 0
+IsMisplaced image word fault = MatchOption (verb_named image) (IsUnknown word fault) (λ (v : Verb). IsWrong (misplaced_line image word) fault)

@@ -11,3 +11,5 @@ pub mod Lines
 pub mod Rules
 pub mod Kinds
 pub mod Hints
+pub mod Parses
+pub mod Parts

@@ -1,6 +1,7 @@
 //! The messages for words that lack a command or name an unknown one.
-ghost use Rattle.std.specs.Prelude.{◌++◌, IfOk, codes, if◌then◌else◌};
+ghost use Rattle.std.specs.Prelude.{IfOk, if◌then◌else◌};
 ghost use Rattle.ods_words.specs.Telling.{IsWrong};
+ghost use Rattle.fs_words.specs.{Hints.IsMisplaced, Hints.IsUnknown, Hints.misplaced_line, Hints.near_line, Hints.strange_line, Hints.unknown_line, Hints.usage, Hints.wanting_line, Values.value_of};
 
 use crate::verbs::{Verb, nearest};
 use ods_words::{WordsFault, say_wrong};
@@ -11,8 +12,9 @@ const USAGE: &str =
     "usage: f11fs [OPTIONS] IMAGE COMMAND [WORD..]\nf11fs --help names the commands";
 
 /// That words are wanting: all of them, or the command.
+#[tactic(auto, unfolding(crate::specs::Hints::usage, crate::specs::Hints::wanting_line))]
 pub(crate) fn wanting(alloc: Global, all: bool) -> Result<WordsFault, AllocError>
-    ensures { IfOk result (IsWrong (if all then USAGE.now else codes "error: a command is wanting\n" ++ USAGE.now)) }
+    ensures { IfOk result (IsWrong (if all then usage else wanting_line)) }
 {
     if all {
         return say_wrong(alloc, USAGE);
@@ -21,24 +23,57 @@ pub(crate) fn wanting(alloc: Global, all: bool) -> Result<WordsFault, AllocError
 }
 
 /// That the word behind the image is no command; the image may stand behind it.
-pub(crate) fn before_image(
-    alloc: Global,
-    image: &str,
-    word: &str,
-) -> Result<WordsFault, AllocError> {
-    if Verb::of_name(image).is_some() {
-        return Ok(WordsFault::Wrong(format!(in alloc;
-            "f11fs: '{word}' is no command; IMAGE stands first: f11fs {word} {image}"
-        )?));
+pub(crate) fn before_image(alloc: Global, image: &str, word: &str) -> Result<WordsFault, AllocError>
+    ensures { IfOk result (IsMisplaced image.now word.now) }
+{
+    match Verb::of_name(image) {
+        Some(_) => misplaced(alloc, image, word),
+        None => no_command(alloc, word),
     }
-    no_command(alloc, word)
+}
+
+/// That a word is no command, and that the image stands behind it.
+#[tactic(auto, unfolding(crate::specs::Hints::misplaced_line))]
+fn misplaced(alloc: Global, image: &str, word: &str) -> Result<WordsFault, AllocError>
+    ensures { IfOk result (IsWrong (misplaced_line image.now word.now)) }
+{
+    Ok(WordsFault::Wrong(format!(in alloc;
+        "f11fs: '{word}' is no command; IMAGE stands first: f11fs {word} {image}"
+    )?))
 }
 
 /// That a word is no command, and which one is near.
-pub(crate) fn no_command(alloc: Global, word: &str) -> Result<WordsFault, AllocError> {
-    let line = match nearest(alloc, word)? {
-        Some(name) => format!(in alloc; "f11fs: '{word}' is no command; '{name}' is near")?,
-        None => format!(in alloc; "f11fs: '{word}' is no command; f11fs --help names them")?,
-    };
+pub(crate) fn no_command(alloc: Global, word: &str) -> Result<WordsFault, AllocError>
+    ensures { IfOk result (IsUnknown word.now) }
+{
+    let near = nearest(alloc, word)?;
+    unknown(alloc, word, near)
+}
+
+/// That a word is no command, and that this one is near, or none.
+fn unknown(alloc: Global, word: &str, near: Option<&str>) -> Result<WordsFault, AllocError>
+    ensures { IfOk result (IsWrong (unknown_line word.now (value_of near.entry))) }
+{
+    match near {
+        Some(name) => say_near(alloc, word, name),
+        None => say_strange(alloc, word),
+    }
+}
+
+/// That a word is no command, and that this one is near.
+#[tactic(auto, unfolding(crate::specs::Hints::near_line))]
+fn say_near(alloc: Global, word: &str, name: &str) -> Result<WordsFault, AllocError>
+    ensures { IfOk result (IsWrong (near_line word.now name.now)) }
+{
+    let line = format!(in alloc; "f11fs: '{word}' is no command; '{name}' is near")?;
+    Ok(WordsFault::Wrong(line))
+}
+
+/// That a word is no command, and that none is near.
+#[tactic(auto, unfolding(crate::specs::Hints::strange_line))]
+fn say_strange(alloc: Global, word: &str) -> Result<WordsFault, AllocError>
+    ensures { IfOk result (IsWrong (strange_line word.now)) }
+{
+    let line = format!(in alloc; "f11fs: '{word}' is no command; f11fs --help names them")?;
     Ok(WordsFault::Wrong(line))
 }

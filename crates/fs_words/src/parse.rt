@@ -1,11 +1,11 @@
 //! The words in two parts: what stands before the command, and the command with what stands behind it. An image may have any name, so a word is a
 //! command by its place alone.
 ghost use Rattle.std.specs.Prelude.{◌≡◌, ◌-◌, IfErr, IfOk, drop, length, map, true};
-ghost use Rattle.clap.specs.Simple.{HasMatchesOf, app_of};
+ghost use Rattle.clap.specs.Simple.{app_of};
 ghost use Rattle.clap.specs.Takes.{takes};
 ghost use Rattle.clap.specs.Values.{kind_of};
 ghost use Rattle.ods_words.specs.Telling.{IsToldOf};
-ghost use Rattle.fs_words.specs.{Rules.choice_rule, Rules.front_app, Rules.image_rules, Rules.program_app, Rules.whole_app, Rules.with_rules, Saying.rest_among};
+ghost use Rattle.fs_words.specs.{Parses.IsKindAt, Parses.IsParseOf, Rules.choice_rule, Rules.front_app, Rules.image_rules, Rules.program_app, Rules.whole_app, Rules.with_rules, Saying.rest_among};
 
 use crate::commands::command_of;
 use crate::help::{ABOUT, AFTER_HELP, VERSION};
@@ -23,8 +23,9 @@ pub(crate) fn first_matches<'a, S: AsStr>(
     words: &'a [S],
     has_image: bool,
 ) -> Result<ArgMatches<'a>, Error>
-    ensures found { IfOk result (HasMatchesOf (program_app has_image) (map S.text words.entry.now)) }
+    ensures found { IfOk result (IsParseOf (program_app has_image) (map S.text words.entry.now)) }
     ensures refused { IfErr result (λ e. takes (program_app has_image) (map S.text words.entry.now) ≡ true → kind_of e ≡ ErrorKind.OutOfMemory) }
+    ensures kinds { IfErr result (λ e. IsKindAt (program_app has_image) (map S.text words.entry.now) (kind_of e)) }
 {
     let command = program(alloc, has_image)?;
     command.try_get_matches_from(words)
@@ -56,14 +57,22 @@ pub(crate) fn rest_of<'a, S>(before: &ArgMatches<'a>, words: &'a [S]) -> &'a [S]
         .unwrap_or(&[])
 }
 
+/// The words behind the first one.
+pub(crate) fn behind_first<'a, S>(words: &'a [S]) -> &'a [S]
+    ensures { result.now ≡ drop 1 words.now }
+{
+    words.get(1..).unwrap_or(&[])
+}
+
 /// What is found behind the name of a command.
 pub(crate) fn command_matches<'a, S: AsStr>(
     alloc: Global,
     verb: Verb,
     words: &'a [S],
 ) -> Result<ArgMatches<'a>, Error>
-    ensures found { IfOk result (HasMatchesOf (whole_app verb) (map S.text words.entry.now)) }
+    ensures found { IfOk result (IsParseOf (whole_app verb) (map S.text words.entry.now)) }
     ensures refused { IfErr result (λ e. takes (whole_app verb) (map S.text words.entry.now) ≡ true → kind_of e ≡ ErrorKind.OutOfMemory) }
+    ensures kinds { IfErr result (λ e. IsKindAt (whole_app verb) (map S.text words.entry.now) (kind_of e)) }
 {
     let command = whole_command(alloc, verb)?;
     command.try_get_matches_from(words)

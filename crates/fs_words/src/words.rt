@@ -1,7 +1,7 @@
 //! What the words of a command line, or of a line in a file of commands, ask for.
-ghost use Rattle.std.specs.Prelude.{◌≡◌, ◌++◌, ◌&&◌, true, All, IfOk, OnOk, codes, is_some, not};
+ghost use Rattle.std.specs.Prelude.{◌≡◌, ◌++◌, ◌&&◌, true, All, IfOk, OnOk, codes, drop, is_some, map, not};
 ghost use Rattle.ods_words.specs.Telling.{IsWrong};
-ghost use Rattle.fs_words.specs.{Found.AreOfCommand, Found.AreOfFile, Found.IsFound, Found.IsSaving, Found.IsStamp, Found.PlansWhereJson, Found.ServesWhereSaid, Names.verb_text, Options.option_serves, Options.option_text, Options.options, Saying.text_said, Values.IsValue};
+ghost use Rattle.fs_words.specs.{Found.AreOfCommand, Found.AreOfFile, Found.IsFound, Found.IsSaving, Found.IsStamp, Found.PlansWhereJson, Found.ServesWhereSaid, Names.verb_text, Options.option_serves, Options.option_text, Options.options, Parts.AreWordsOf, Parts.IsLineOf, Saying.text_said, Values.IsValue};
 
 use crate::actions::Action;
 use crate::commands::action_of;
@@ -9,7 +9,7 @@ use crate::days::is_true_day;
 use crate::hints::{before_image, no_command, wanting};
 use crate::numbers::number_of;
 use crate::options::{CHOICES, Choice, prints_only_plans, serves};
-use crate::parse::{command_matches, first_matches, rest_of, tell};
+use crate::parse::{behind_first, command_matches, first_matches, rest_of, tell};
 use crate::said::{Said, wrong};
 use crate::users::said_user;
 use crate::verbs::Verb;
@@ -67,8 +67,9 @@ impl Saving<'_> {
 }
 
 /// What the words after the program's name ask for.
-/// No clause covers what they ask for; `tests/fs` checks it on the built program.
-pub fn parse_words<'a, S: AsStr>(alloc: Global, words: &'a [S]) -> Result<Words<'a>, WordsFault> {
+pub fn parse_words<'a, S: AsStr>(alloc: Global, words: &'a [S]) -> Result<Words<'a>, WordsFault>
+    ensures found { IfOk result (AreWordsOf (map S.text words.entry.now)) }
+{
     let before = match first_matches(alloc, words, true) {
         Ok(before) => before,
         Err(error) => return Err(tell(alloc, &error, words)?),
@@ -97,7 +98,9 @@ pub fn parse_line<'a, S: AsStr>(
     alloc: Global,
     image: &'a str,
     words: &'a [S],
-) -> Result<Option<Words<'a>>, WordsFault> {
+) -> Result<Option<Words<'a>>, WordsFault>
+    ensures found { IfOk result (IsLineOf image.entry (map S.text words.entry.now)) }
+{
     if words.is_empty() {
         return Ok(None);
     }
@@ -148,9 +151,9 @@ fn obeyed_words<'a, S: AsStr>(
     words: &'a [S],
     before: Option<&ArgMatches<'a>>,
 ) -> Result<Words<'a>, WordsFault>
-    ensures { IfOk result (AreOfCommand image.entry verb before.entry) }
+    ensures { IfOk result (AreOfCommand image.entry verb (map S.text (drop 1 words.entry.now)) before.entry) }
 {
-    let own = match command_matches(alloc, verb, words.get(1..).unwrap_or(&[])) {
+    let own = match command_matches(alloc, verb, behind_first(words)) {
         Ok(own) => own,
         Err(error) => return Err(tell(alloc, &error, words)?),
     };

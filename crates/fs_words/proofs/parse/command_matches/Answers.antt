@@ -1,13 +1,21 @@
-use Rattle.std.proofs.Common.{ap, subst, true, ◌≡◌, map}
+use Rattle.std.proofs.Common.{subst, true, ◌≡◌, map}
 use Rattle.std.specs.Prelude.{IfErr, IfOk}
+use Rattle.clap.specs.Faults.{fault_of, is_simple_and_free}
+use Rattle.clap.specs.Kinds.{FailsBy}
 use Rattle.clap.specs.Simple.{App, HasMatchesOf}
 use Rattle.clap.specs.Takes.{takes}
 use Rattle.clap.specs.Values.{kind_of}
 use Rattle.clap.specs.declared.error.kind.ErrorKind.TheVariants.{OutOfMemory}
+use Rattle.fs_words.specs.Rules.{whole_app}
+use Rattle.fs_words.proofs.AllSimple.{parsed, refused, whole_simple}
 use Rattle.fs_words.proofs.parse.command_matches.Goals as goal
 
 pub returns : goal.returns
-returns g c = record {
-  found = subst (λ (a : App). IfOk c.try_get_matches_from.result (HasMatchesOf a (map g.S.AsStr.text c.args.words.now))) c.in_ok-command.ensures c.try_get_matches_from.ensures.matches;
-  refused = subst (λ (a : App). IfErr c.try_get_matches_from.result (λ e. takes a (map g.S.AsStr.text c.args.words.now) ≡ true → kind_of e ≡ OutOfMemory)) c.in_ok-command.ensures c.try_get_matches_from.ensures.passes;
-}
+returns g c =
+    let words = map g.S.AsStr.text c.args.words.now in
+    let kinds = subst (λ (a : App). is_simple_and_free a ≡ true → FailsBy (fault_of a words) c.try_get_matches_from.result) c.in_ok-command.ensures c.try_get_matches_from.ensures.kinds in
+    record {
+      found = parsed (whole_app c.args.verb) words c.try_get_matches_from.result (whole_simple c.args.verb) (subst (λ (a : App). IfOk c.try_get_matches_from.result (HasMatchesOf a words)) c.in_ok-command.ensures c.try_get_matches_from.ensures.matches) kinds;
+      refused = subst (λ (a : App). IfErr c.try_get_matches_from.result (λ e. takes a words ≡ true → kind_of e ≡ OutOfMemory)) c.in_ok-command.ensures c.try_get_matches_from.ensures.passes;
+      kinds = refused (whole_app c.args.verb) words c.try_get_matches_from.result kinds;
+    }
