@@ -1,4 +1,5 @@
 mod Closing
+mod FilesGot
 mod Growing
 mod Likeness
 mod Lines

@@ -1,6 +1,7 @@
 -- Which files a user may read, and why not.
-use Rattle.std.specs.Prelude.{◌≡◌, ℕ, true, false, List, [], ◌∷◌, ◌++◌, ◌⊎◌, Option, Some, None}
-use Rattle.std.specs.List.{All, Contains}
+use Rattle.std.specs.Prelude.{◌≡◌, ℕ, true, false, List, [], ◌∷◌, ◌++◌, ◌⊎◌, Option, Some, None, codes}
+use Rattle.std.specs.Fmt.{radix_digits}
+use Rattle.std.specs.List.{All, Contains, flat_map}
 use Rattle.ods_base.specs.declared.file_id.Uic.{Uic}
 use Rattle.ods_request.specs.Rights.{permits}
 use Rattle.ods_request.specs.declared.rights.Right.TheVariants as right
@@ -10,6 +11,7 @@ use Rattle.ods_shell.specs.declared.facts.Facts.{Facts}
 use Rattle.ods_shell.specs.declared.facts.Kind.TheVariants.{Directory}
 use Rattle.ods_shell.specs.declared.form.FormFault.{FormFault}
 use Rattle.ods_shell.specs.declared.folders.Directory.{Directory as Met}
+use Rattle.ods_shell.specs.Texts.{shown_directory}
 use Rattle.ods_shell.specs.declared.status.Status.{Status}
 use Rattle.ods_shell.specs.declared.status.Status.TheVariants as status
 use Rattle.fs_reads.specs.declared.reading.Unread.{Unread}
@@ -47,3 +49,15 @@ abbrev pub IsClosedStatus : Option Uic → List Met → Status → Type 0
 IsClosedStatus None met s = s ≡ status.Done
 IsClosedStatus (Some who) [] s = s ≡ status.Done
 IsClosedStatus (Some who) (first ∷ others) s = s ≡ status.Refused
+
+-- a user: [g,m], both in octal
+unfoldable pub user_text : Uic → List ℕ
+user_text who = 91 ∷ radix_digits 8 false who.group ++ 44 ∷ radix_digits 8 false who.member ++ 93 ∷ []
+
+-- what is said of a directory whose names this user may not read
+unfoldable pub denied_text : Uic → List ℕ
+denied_text who = codes ": denied to " ++ user_text who ++ 10 ∷ []
+
+-- a line for each of these directories, as a path names it
+abbrev pub closed_text : Uic → List Met → List ℕ
+closed_text who met = flat_map (λ directory. shown_directory directory.names.items ++ denied_text who) met

@@ -1,6 +1,7 @@
 -- The exit status with which a command ends: of each fault of a word, and of a command that went on to its end or did not.
-use Rattle.std.specs.Prelude.{◌≡◌, ◌≢◌, ℕ, Bool, true, false, List, ◌++◌, Result, Ok, Err, ◌⊎◌, codes, string_bytes}
+use Rattle.std.specs.Prelude.{◌≡◌, ◌≢◌, ℕ, Bool, true, false, List, ◌++◌, Result, Ok, Err, ◌⊎◌, IsTrue, codes, string_bytes}
 use Rattle.std.specs.Borrow.{Bor}
+use Rattle.fs_host.specs.Faults.{is_reason}
 use Rattle.fs_host.specs.Texts.{shown_text}
 use Rattle.ods_shell.specs.Found.{HasPathStatus}
 use Rattle.ods_shell.specs.declared.path_fault.PathFault.TheVariants.{NoMemory as NoMemoryFor}
@@ -53,10 +54,6 @@ abbrev pub SaysLine : List ℕ → Stop → Type 0
 SaysLine line (stop.Lines lines own) = string_bytes lines ≡ line
 SaysLine line other = Unit {0}
 
--- the status of a file that is got: it is done, refused, or the host does not take it
-abbrev pub IsFileStatus : Status → Type 0
-IsFileStatus s = (s ≡ status.Done) ⊎ ((s ≡ status.Refused) ⊎ (s ≡ status.Host))
-
 -- the status of a check: nothing is found, and then this holds, or something is
 abbrev pub EndsCheck : Type 0 → Status → Type 0
 EndsCheck Holds s = ((s ≡ status.Done) × Holds) ⊎ (s ≡ status.Found)
@@ -76,3 +73,9 @@ abbrev pub EndsPath : Bor (List ℕ) → Stop → Type 0
 EndsPath path (stop.Path word why) = (word ≡ path) × (why ≢ NoMemoryFor)
 EndsPath path stop.NoMemory = Unit {0}
 EndsPath path other = ⊥
+
+-- how a command ends that prints: memory is wanting, or the host does not take what is printed
+abbrev pub EndsPrinting : Stop → Type 0
+EndsPrinting (stop.Unwritten why) = IsTrue (is_reason why)
+EndsPrinting stop.NoMemory = Unit {0}
+EndsPrinting other = ⊥

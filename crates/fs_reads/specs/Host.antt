@@ -1,7 +1,10 @@
--- What is found at a path of the host, and how a file that is to be written there would end.
-use Rattle.std.specs.Prelude.{◌≡◌, ◌≢◌, Bool, true, false}
+-- What is found at a path of the host, and how the writing of a file there ends.
+use Rattle.std.specs.Prelude.{◌≡◌, ◌≢◌, ◌⊎◌, Bool, true, false, IsTrue}
+use Rattle.std.specs.declared.io.Error.{Error}
+use Rattle.fs_host.specs.Faults.{is_reason, may_end_finish}
+use Rattle.fs_host.specs.Reasons.{reason_of}
 use Rattle.fs_host.specs.declared.host_fault.HostFault.{HostFault}
-use Rattle.fs_host.specs.declared.host_fault.HostFault.TheVariants.{NotThere}
+use Rattle.fs_host.specs.declared.host_fault.HostFault.TheVariants.{NoMemory, NotThere}
 use Rattle.fs_reads.specs.declared.host_files.There.{There}
 use Rattle.fs_reads.specs.declared.host_files.There.TheVariants as there
 use Rattle.fs_reads.specs.declared.host_files.Written.{Written}
@@ -26,3 +29,28 @@ WouldEnd replaces written.Done = Unit {0}
 WouldEnd replaces written.IsThere = replaces ≡ false
 WouldEnd replaces (written.Unmade why) = why ≢ NotThere
 WouldEnd replaces (written.Failed why) = ⊥
+
+-- the host says so of a call, or memory was refused
+abbrev pub IsSaid : HostFault → Type 0
+IsSaid why = ((error : Error) × (why ≡ reason_of error)) ⊎ (why ≡ NoMemory)
+
+-- how the writing of a new file ends, which takes its name then
+abbrev pub EndsFilling : Bool → Written → Type 0
+EndsFilling replaces written.Done = Unit {0}
+EndsFilling replaces written.IsThere = Unit {0}
+EndsFilling replaces (written.Unmade why) = ⊥
+EndsFilling replaces (written.Failed why) = IsTrue (is_reason why) ⊎ IsTrue (may_end_finish replaces why)
+
+-- how the writing into a stream or a device ends
+abbrev pub EndsPouring : Written → Type 0
+EndsPouring written.Done = Unit {0}
+EndsPouring written.IsThere = ⊥
+EndsPouring (written.Unmade why) = IsSaid why
+EndsPouring (written.Failed why) = IsTrue (is_reason why)
+
+-- how the writing of a file ends: where one is there that may not be replaced, it may not be made, or it fails
+abbrev pub EndsWriting : Bool → Written → Type 0
+EndsWriting replaces written.Done = Unit {0}
+EndsWriting replaces written.IsThere = Unit {0}
+EndsWriting replaces (written.Unmade why) = Unit {0}
+EndsWriting replaces (written.Failed why) = IsTrue (is_reason why) ⊎ IsTrue (may_end_finish replaces why)

@@ -9,3 +9,4 @@ pub mod Written
 pub mod Named
 pub mod Host
 pub mod Folders
+pub mod Gets

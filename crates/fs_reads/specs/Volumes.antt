@@ -1,6 +1,8 @@
 -- Why there is no volume in a file of the host.
-use Rattle.std.specs.Prelude.{◌≡◌, ◌≢◌, ◌⊎◌, ℕ, List, Option, None}
+use Rattle.std.specs.Prelude.{◌≡◌, ◌≢◌, ◌⊎◌, ◌||◌, ℕ, Bool, true, false, List, Option, Some, None, if◌then◌else◌}
 use Rattle.std.specs.Borrow.{Bor}
+use Rattle.fs_host.specs.declared.containers.Extent.{Extent}
+use Rattle.fs_host.specs.declared.containers.Extent.TheVariants as extent
 use Rattle.fs_host.specs.declared.host_fault.HostFault.{HostFault}
 use Rattle.ods_base.specs.declared.faults.ImageError.{ImageError}
 use Rattle.ods_base.specs.declared.faults.ImageError.TheVariants as image
@@ -55,3 +57,15 @@ IsNotOpened (fault.Read why) = Unit {0}
 IsNotOpened fault.NoMemory = Unit {0}
 IsNotOpened (fault.Image refusal look) = (refusal ≡ image.NotWholeBlocks) ⊎ (refusal ≡ image.TooBig)
 IsNotOpened (fault.Volume refusal look) = ⊥
+
+-- the image is shorter than its volume
+abbrev pub is_short : Extent → Bool
+is_short (extent.Shorter blocks all) = true
+is_short (extent.Longer count) = false
+is_short (extent.Simh count) = false
+is_short (extent.Vhd count) = false
+
+-- what is said of an image: that it is shorter than its volume, and that it is longer where that is told
+abbrev pub said_extent : Bool → Option Extent → Option Extent
+said_extent tells_behind None = None
+said_extent tells_behind (Some extent) = if tells_behind || is_short extent then Some extent else None

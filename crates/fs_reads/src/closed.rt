@@ -1,7 +1,8 @@
 //! Directories whose names a user may not read.
-ghost use Rattle.std.specs.Prelude.{◌≡◌, ◌⊎◌, [], None, IfErr, IfOk, OnOk, MatchBool};
-ghost use Rattle.fs_reads.specs.Denied.{AddsClosed, AreClosedTo, IsClosedStatus, IsClosedTo};
-ghost use Rattle.fs_reads.specs.Ends.{StopsWith};
+ghost use Rattle.std.specs.Prelude.{◌≡◌, ◌⊎◌, [], ◌++◌, None, IfErr, IfOk, IfSome, OnOk, MatchBool, string_bytes};
+ghost use Rattle.fs_reads.specs.Denied.{AddsClosed, AreClosedTo, IsClosedStatus, IsClosedTo, closed_text, denied_text, user_text};
+ghost use Rattle.fs_reads.specs.Ends.{SaysLine, StopsWith};
+ghost use Rattle.ods_shell.specs.Texts.{shown_directory};
 ghost use Rattle.fs_reads.specs.declared.stop.Stop.{Stop as End};
 ghost use Rattle.ods_shell.specs.declared.status.Status.{Status as Code};
 
@@ -60,13 +61,39 @@ fn is_closed(volume: &Mounted, number: u16, user: Uic) -> bool
 }
 
 /// A line for each of these directories, which this user may not read.
-fn closed_lines(alloc: Global, closed: &[Directory], user: Uic) -> Result<String, AllocError> {
+fn closed_lines(alloc: Global, closed: &[Directory], user: Uic) -> Result<String, AllocError>
+    ensures { IfOk result (λ lines. string_bytes lines ≡ closed_text user closed.now) }
+{
     let mut lines = String::new(alloc);
     for directory in closed {
-        push_directory(&mut lines, &directory.names)?;
-        writeln!(lines, ": denied to [{:o},{:o}]", user.group, user.member)?;
+        push_closed_line(&mut lines, directory, user)?;
     }
     Ok(lines)
+}
+
+/// Appends the line of a directory, which this user may not read.
+fn push_closed_line(lines: &mut String, directory: &Directory, user: Uic) -> Result<(), AllocError>
+    ensures { OnOk result (string_bytes lines.new ≡ string_bytes lines.old ++ shown_directory directory.now.names.items ++ denied_text user) }
+{
+    push_directory(lines, &directory.names)?;
+    push_denied(lines, user)
+}
+
+/// Appends what is said of a directory, which this user may not read.
+fn push_denied(lines: &mut String, user: Uic) -> Result<(), AllocError>
+    ensures { OnOk result (string_bytes lines.new ≡ string_bytes lines.old ++ denied_text user) }
+{
+    lines.push_str(": denied to ")?;
+    push_user(lines, user)?;
+    lines.push_str("\n")
+}
+
+/// Appends a user, `[g,m]` in octal.
+#[tactic(auto, unfolding(crate::specs::Denied::user_text))]
+fn push_user(lines: &mut String, user: Uic) -> Result<(), AllocError>
+    ensures { OnOk result (string_bytes lines.new ≡ string_bytes lines.old ++ user_text user) }
+{
+    write!(lines, "[{:o},{:o}]", user.group, user.member)
 }
 
 /// Says of each closed directory that this user may not read it, and gives the status for that.
@@ -99,6 +126,7 @@ pub(crate) fn stop_at_closed<'a>(
 ) -> Result<(), Stop<'a>>
     ensures ok { OnOk result ((user ≡ None) ⊎ (closed.now ≡ [])) }
     ensures err { IfErr result (λ stop. StopsWith stop Code.Refused ⊎ (stop ≡ End.NoMemory)) }
+    ensures lines { IfErr result (λ stop. IfSome user (λ who. SaysLine (closed_text who closed.now) stop)) }
 {
     let Some(user) = user else {
         return Ok(());

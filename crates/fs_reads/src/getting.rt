@@ -1,8 +1,14 @@
 //! `get`: files of a volume, written to files of the host.
-ghost use Rattle.std.specs.Prelude.{◌≡◌, ◌≤◌, ◌↔◌, ◌++◌, ◌⊎◌, IfOk, IsSome, length};
+ghost use Rattle.std.specs.Prelude.{◌≡◌, ◌≤◌, ◌<◌, ◌↔◌, ◌++◌, ◌⊎◌, ◌==◌, ℕ, List, Option, Ok, Err, false, true, IfErr, IfOk, IfSome, IsSome, IsTrue, MatchResult, length, string_bytes};
+ghost use Rattle.std.specs.Borrow.{Bor};
+ghost use Rattle.std.specs.Fs.{IsDir, file_type};
+ghost use Rattle.std.specs.List.{All, ends_with, list_any};
 ghost use Rattle.std.specs.Option.{option_to_list};
-ghost use Rattle.fs_reads.specs.Ends.{IsFileStatus};
+ghost use Rattle.fs_reads.specs.Ends.{may_name};
+ghost use Rattle.fs_reads.specs.Gets.{AreGot, AreSaid, EndsGet, GoesTo, IsAmong, IsGettable, path_within, says_all_versions as says_all};
 ghost use Rattle.fs_reads.specs.Written.{status_written};
+ghost use Rattle.fs_reads.specs.declared.stop.Stop.{Stop as End};
+ghost use Rattle.ods_shell.specs.Contents.{IsGot, IsNotGot};
 ghost use Rattle.ods_shell.specs.declared.status.Status.{Status as Code};
 
 use crate::closed::closed_to;
@@ -13,15 +19,16 @@ use crate::reading::open_found;
 use crate::stop::{Stop, WordFault, send};
 use fs_host::{HostFault, Shown};
 use fs_words::Words;
+use ods_base::Uic;
 use ods_mount::Mounted;
 use ods_shell::{Contents, Found, Status, Versioned, Wanted, pair_object};
-use std::alloc::AllocError;
+use std::alloc::{AllocError, Global};
 use std::collections::BTreeSet;
-use std::fs;
-use std::fs::File;
+use std::fs::{File, Metadata};
 use std::os::unix::fs::MetadataExt;
 use std::rt::Files;
 use std::time::Clock;
+use std::{fs, io};
 
 /// Where files are written to.
 #[derive(Clone, Copy, PartialEq, Eq)]
@@ -58,40 +65,110 @@ pub(crate) fn get<'a, R: Files<File = File> + Clock + AllocGlobal + Print + Epri
     said: Option<&'a str>,
     wanted: Wanted,
     progress: &mut Progress,
-) -> Result<Status, Stop<'a>> {
-    let (paths, said) = match said {
-        Some(host) => (words.paths.as_slice(), Some(host)),
-        None => last_word(&words.paths),
-    };
-    let to = match said {
-        None => Destination::Folder("."),
-        Some("-") => Destination::Output,
-        Some(host) if is_folder(rt, host) => Destination::Folder(host),
-        Some(host) => {
-            if paths.len() > 1 {
-                return Err(Stop::Word(host, WordFault::NoFolder));
-            }
-            Destination::File(host)
-        }
-    };
+) -> Result<Status, Stop<'a>>
+    ensures status { IfOk result (λ s. may_name s ≡ true) }
+    ensures done { IfOk result (λ s. s ≡ Code.Done → (paths : List (Bor (List ℕ))) × ((target : Option (Bor (List ℕ))) × AreSaid words.now.paths.items said.entry paths target
+        × AreGot volume.now.image volume.now.layout words.now.user (λ n. IsGot volume.now.image volume.now.layout n wanted) paths)) }
+{
+    let (paths, target) = split_words(&words.paths, said);
+    let to = choose_destination(rt, target, paths.len())?;
     let closed = closed_to(rt.alloc(), volume, words.user)?;
-    let mut status = Status::Done;
     let mut all = Vec::new(rt.alloc());
-    let mut with_versions = false;
-    for path in paths {
-        with_versions = with_versions || path.ends_with(";*") || path.ends_with(":*");
-        status = status.or(add_named(rt, volume, *path, &closed, words.user, &mut all)?);
-    }
+    let named = add_paths(rt, volume, paths, &closed, words.user, &mut all)?;
     let how = How {
         image: words.image,
         wanted,
-        with_versions,
+        with_versions: say_all_versions(paths),
         force: words.force,
         only_tells: words.saving.only_tells,
         json: words.json,
         reader: Reader::of(words),
     };
-    Ok(status.or(get_all(rt, volume, &all, to, how, progress)?))
+    Ok(named.or(get_all(rt, volume, &all, to, how, progress)?))
+}
+
+/// The words that are paths, and where files go to: to what is said, or where nothing is to the last word of two or more.
+fn split_words<'a, 'b>(
+    words: &'b [&'a str],
+    said: Option<&'a str>,
+) -> (&'b [&'a str], Option<&'a str>)
+    ensures { AreSaid words.now said.entry result.0.now result.1 }
+{
+    match said {
+        Some(host) => (words, Some(host)),
+        None => last_word(words),
+    }
+}
+
+/// Where the files of so many paths go.
+fn choose_destination<'a, R: Files>(
+    rt: &R,
+    target: Option<&'a str>,
+    paths: usize,
+) -> Result<Destination<'a>, Stop<'a>>
+    ensures ok { IfOk result (GoesTo paths target.entry) }
+    ensures err { IfErr result (λ stop. (1 < paths) × IsSome target.entry × IfSome target.entry (λ host. stop ≡ End.Word host WordFault.NoFolder)) }
+{
+    match target {
+        None => Ok(Destination::Folder(".")),
+        Some("-") => Ok(Destination::Output),
+        Some(host) => choose_at(host, is_folder(fs::metadata(rt, host)), paths),
+    }
+}
+
+/// Where the files of so many paths go that go to this file or folder of the host.
+fn choose_at<'a>(host: &'a str, is_folder: bool, paths: usize) -> Result<Destination<'a>, Stop<'a>>
+    ensures folder { is_folder ≡ true → result ≡ Ok (Destination.Folder host.entry) }
+    ensures file { is_folder ≡ false → paths ≤ 1 → result ≡ Ok (Destination.File host.entry) }
+    ensures err { is_folder ≡ false → 1 < paths → result ≡ Err (End.Word host.entry WordFault.NoFolder) }
+{
+    if is_folder {
+        Ok(Destination::Folder(host))
+    } else if paths > 1 {
+        Err(Stop::Word(host, WordFault::NoFolder))
+    } else {
+        Ok(Destination::File(host))
+    }
+}
+
+/// Adds the files that these paths name; a path that names none and a closed directory are said, and no fault of the command.
+fn add_paths<'a, R: AllocGlobal + Eprint>(
+    rt: &R,
+    volume: &Mounted,
+    paths: &[&str],
+    closed: &[u16],
+    user: Option<Uic>,
+    all: &mut Vec<Found>,
+) -> Result<Status, Stop<'a>>
+    ensures status { IfOk result (λ s. may_name s ≡ true) }
+    ensures done { IfOk result (λ s. s ≡ Code.Done → All (λ path. IsAmong volume.now.image volume.now.layout user closed.now all.new.items path.now) paths.now) }
+{
+    let mut status = Status::Done;
+    for path in paths {
+        status = status.or(add_named(rt, volume, *path, closed, user, all)?);
+    }
+    Ok(status)
+}
+
+/// Whether one of the paths says that all versions are meant.
+fn say_all_versions(paths: &[&str]) -> bool
+    ensures { result ≡ list_any (λ path. says_all path.now) paths.now }
+{
+    paths.iter().any(|path| says_all_versions(*path))
+}
+
+/// Whether a path says that all versions are meant.
+fn says_all_versions(path: &str) -> bool
+    ensures { result ≡ says_all path.now }
+{
+    ends_so(path, ";*") || ends_so(path, ":*")
+}
+
+/// Whether a path ends so.
+fn ends_so(path: &str, end: &str) -> bool
+    ensures { result ≡ ends_with (λ x y. x == y) path.now end.now }
+{
+    path.ends_with(end)
 }
 
 /// The words but for the last one, which is the destination, where there are two or more.
@@ -105,9 +182,11 @@ fn last_word<'a, 'b>(words: &'b [&'a str]) -> (&'b [&'a str], Option<&'a str>)
     }
 }
 
-/// Whether the host has a folder of this name.
-fn is_folder<R: Files>(rt: &R, path: &str) -> bool {
-    match fs::metadata(rt, path) {
+/// Whether this is what the host says of a folder.
+fn is_folder(found: io::Result<Metadata>) -> bool
+    ensures { MatchResult found (λ metadata. IsTrue result ↔ IsDir (file_type metadata)) (λ _. result ≡ false) }
+{
+    match found {
         Ok(metadata) => metadata.is_dir(),
         Err(_) => false,
     }
@@ -121,7 +200,10 @@ fn get_all<'a, R: Files<File = File> + Clock + AllocGlobal + Print + Eprint>(
     to: Destination<'a>,
     how: How<'_>,
     progress: &mut Progress,
-) -> Result<Status, Stop<'a>> {
+) -> Result<Status, Stop<'a>>
+    ensures status { IfOk result (λ s. may_name s ≡ true) }
+    ensures done { IfOk result (λ s. s ≡ Code.Done → All (IsGettable how.entry.reader.user (λ n. IsGot volume.now.image volume.now.layout n how.entry.wanted)) files.now) }
+{
     if let Destination::File(host) = to {
         if files.len() > 1 {
             return Err(Stop::Word(host, WordFault::NoFolder));
@@ -130,23 +212,40 @@ fn get_all<'a, R: Files<File = File> + Clock + AllocGlobal + Print + Eprint>(
     let versions = Versioned::of(rt.alloc(), files)?;
     let mut written = BTreeSet::new(rt.alloc());
     let mut status = Status::Done;
-    for (before, found) in files.iter().enumerate() {
-        let done = match to {
-            Destination::Output if how.only_tells => get_file(rt, volume, found, "-", how)?,
-            Destination::Output => cat_file(rt, volume, found, how.wanted, how.reader)?,
-            Destination::File(path) => get_file(rt, volume, found, path, how)?,
-            Destination::Folder(folder) => {
-                let with_version = how.with_versions || versions.has_other(found);
-                let name = found.host_name(rt.alloc(), with_version)?;
-                get_into(rt, volume, found, folder, name, how, &mut written)?
-            }
-        };
+    let mut before = 0u64;
+    for found in files {
+        let done = get_one(rt, volume, found, to, how, &versions, &mut written)?;
         status = status.or(done);
         if to != Destination::Output {
-            progress.show(rt, before as u64, files.len() as u64);
+            progress.show(rt, before, files.len() as u64);
         }
+        before = before.saturating_add(1);
     }
     Ok(status)
+}
+
+/// Gets one file to its destination.
+fn get_one<'a, R: Files<File = File> + AllocGlobal + Print + Eprint>(
+    rt: &R,
+    volume: &Mounted,
+    found: &Found,
+    to: Destination<'_>,
+    how: How<'_>,
+    versions: &Versioned,
+    written: &mut BTreeSet<String>,
+) -> Result<Status, Stop<'a>>
+    ensures { IfOk result (EndsGet how.entry.reader.user (λ n. IsGot volume.now.image volume.now.layout n how.entry.wanted) (λ n. IsNotGot volume.now.image volume.now.layout n how.entry.wanted) found.now) }
+{
+    match to {
+        Destination::Output if how.only_tells => get_file(rt, volume, found, "-", how),
+        Destination::Output => Ok(cat_file(rt, volume, found, how.wanted, how.reader)?),
+        Destination::File(path) => get_file(rt, volume, found, path, how),
+        Destination::Folder(folder) => {
+            let with_version = how.with_versions || versions.has_other(found);
+            let name = found.host_name(rt.alloc(), with_version)?;
+            get_into(rt, volume, found, folder, name, how, written)
+        }
+    }
 }
 
 /// Gets one file into a folder, under a name that is none of those that were written.
@@ -159,9 +258,9 @@ fn get_into<'a, R: Files<File = File> + AllocGlobal + Print + Eprint>(
     how: How<'_>,
     written: &mut BTreeSet<String>,
 ) -> Result<Status, Stop<'a>>
-    ensures { IfOk result IsFileStatus }
+    ensures { IfOk result (EndsGet how.entry.reader.user (λ n. IsGot volume.now.image volume.now.layout n how.entry.wanted) (λ n. IsNotGot volume.now.image volume.now.layout n how.entry.wanted) found.now) }
 {
-    let path = format!(in rt.alloc(); "{folder}/{}", name.as_str())?;
+    let path = path_within(rt.alloc(), folder, name.as_str())?;
     if written.contains(&name) && (how.force || how.only_tells) {
         let (from, path) = (found.path.as_str(), Shown(path.as_str()));
         let _ = eprintln!(rt; "f11fs: {from}: {path} has been written by this command");
@@ -174,6 +273,13 @@ fn get_into<'a, R: Files<File = File> + AllocGlobal + Print + Eprint>(
     Ok(done)
 }
 
+/// The path of a file of this name in a folder of the host.
+fn path_within(alloc: Global, folder: &str, name: &str) -> Result<String, AllocError>
+    ensures { IfOk result (λ path. string_bytes path ≡ path_within folder.now name.now) }
+{
+    format!(in alloc; "{folder}/{name}")
+}
+
 /// Gets one file into a file of the host. A file that is refused, and a file of the host that is there, are said, and no fault of the command.
 fn get_file<'a, R: Files<File = File> + AllocGlobal + Print + Eprint>(
     rt: &R,
@@ -182,7 +288,7 @@ fn get_file<'a, R: Files<File = File> + AllocGlobal + Print + Eprint>(
     host: &str,
     how: How<'_>,
 ) -> Result<Status, Stop<'a>>
-    ensures { IfOk result IsFileStatus }
+    ensures { IfOk result (EndsGet how.entry.reader.user (λ n. IsGot volume.now.image volume.now.layout n how.entry.wanted) (λ n. IsNotGot volume.now.image volume.now.layout n how.entry.wanted) found.now) }
 {
     let path = found.path.as_str();
     match open_found(rt.alloc(), volume, found, how.wanted, how.reader.user) {

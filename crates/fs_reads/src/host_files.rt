@@ -1,9 +1,10 @@
 //! Files of the host that are written: whole under their names, or not at all.
 ghost use Rattle.std.specs.Prelude.{◌≡◌, IfErr, IsTrue};
 ghost use Rattle.fs_host.specs.Faults.{may_end_beginning};
-ghost use Rattle.fs_reads.specs.Host.{IsFoundThere, WouldEnd, unseen_by};
+ghost use Rattle.fs_reads.specs.Host.{EndsFilling, EndsPouring, EndsWriting, IsFoundThere, WouldEnd, unseen_by};
 
-use fs_host::{HostFault, NewFile, Noting, end_of_links};
+use crate::pouring::pour;
+use fs_host::{HostFault, NewFile, end_of_links};
 use ods_shell::Contents;
 use std::fs;
 use std::fs::{File, Metadata, OpenOptions};
@@ -52,7 +53,9 @@ pub(crate) fn write_host<R: Files<File = File> + AllocGlobal>(
     contents: &Contents<'_>,
     host: &str,
     replaces: bool,
-) -> Written {
+) -> Written
+    ensures { EndsWriting replaces result }
+{
     let old = match found_at(rt, host, replaces) {
         There::Kept => return Written::IsThere,
         There::Closed(fault) => return Written::Unmade(fault),
@@ -140,11 +143,11 @@ fn fill<R: Files<File = File>>(
     new: NewFile,
     contents: &Contents<'_>,
     replaces: bool,
-) -> Written {
+) -> Written
+    ensures { EndsFilling replaces result }
+{
     let mut new = new;
-    let mut noting = Noting::new(new.file());
-    if contents.write_to(&mut noting).is_err() {
-        let why = noting.why();
+    if let Err(why) = pour(contents, new.file()) {
         new.give_up(rt);
         return Written::Failed(why);
     }
@@ -156,16 +159,17 @@ fn fill<R: Files<File = File>>(
 }
 
 /// Writes into a stream or a device.
-fn write_into<R: Files<File = File>>(rt: &R, contents: &Contents<'_>, host: &str) -> Written {
+fn write_into<R: Files<File = File>>(rt: &R, contents: &Contents<'_>, host: &str) -> Written
+    ensures { EndsPouring result }
+{
     let mut options = OpenOptions::new();
     options.write(true).truncate(true);
     let mut file = match options.open(rt, host) {
         Ok(file) => file,
         Err(error) => return Written::Unmade(HostFault::of(&error)),
     };
-    let mut noting = Noting::new(&mut file);
-    match contents.write_to(&mut noting) {
+    match pour(contents, &mut file) {
         Ok(()) => Written::Done,
-        Err(_) => Written::Failed(noting.why()),
+        Err(why) => Written::Failed(why),
     }
 }

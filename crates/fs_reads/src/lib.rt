@@ -13,6 +13,7 @@ mod listing;
 mod looks;
 mod obeying;
 mod output;
+mod pouring;
 mod printing;
 mod progress;
 mod reading;

@@ -1,13 +1,15 @@
 //! `cat`: files of a volume, written to standard output.
-ghost use Rattle.std.specs.Prelude.{◌≡◌, ◌⊎◌, true, IfErr, IfOk};
-ghost use Rattle.fs_reads.specs.{Ends.may_name, Named.AddsNamed};
+ghost use Rattle.std.specs.Prelude.{◌≡◌, ◌≢◌, true, IfErr, IfOk};
+ghost use Rattle.std.specs.List.{All};
+ghost use Rattle.fs_reads.specs.{Ends.EndsPrinting, Ends.may_name, Gets.AreGot, Gets.EndsFile, Gets.IsGettable, Gets.IsPathGot, Named.AddsNamed};
+ghost use Rattle.ods_shell.specs.{Contents.IsGot, Contents.IsNotGot};
 ghost use Rattle.fs_reads.specs.declared.stop.Stop.{Stop as End};
 ghost use Rattle.ods_shell.specs.declared.status.Status.{Status as Code};
 
 use crate::closed::{closed_to, say_closed};
+use crate::pouring::pour;
 use crate::reading::{Unread, open_found};
 use crate::stop::{Stop, say_about};
-use fs_host::Noting;
 use fs_words::Words;
 use ods_base::Uic;
 use ods_mount::Mounted;
@@ -40,15 +42,53 @@ pub(crate) fn cat<'a, R: AllocGlobal + Print + Eprint>(
     volume: &Mounted,
     words: &Words<'a>,
     wanted: Wanted,
-) -> Result<Status, Stop<'a>> {
+) -> Result<Status, Stop<'a>>
+    ensures status { IfOk result (λ s. may_name s ≡ true) }
+    ensures done { IfOk result (λ s. s ≡ Code.Done → AreGot volume.now.image volume.now.layout words.now.user (λ n. IsGot volume.now.image volume.now.layout n wanted) words.now.paths.items) }
+    ensures err { IfErr result EndsPrinting }
+{
     let closed = closed_to(rt.alloc(), volume, words.user)?;
     let mut status = Status::Done;
     for path in &words.paths {
-        let mut files = Vec::new(rt.alloc());
-        status = status.or(add_named(rt, volume, *path, &closed, words.user, &mut files)?);
-        for found in &files {
-            status = status.or(cat_file(rt, volume, found, wanted, Reader::of(words))?);
-        }
+        status = status.or(cat_path(rt, volume, *path, &closed, wanted, Reader::of(words))?);
+    }
+    Ok(status)
+}
+
+/// Writes the files that a path names to standard output, and says of those that are refused.
+fn cat_path<'a, R: AllocGlobal + Print + Eprint>(
+    rt: &R,
+    volume: &Mounted,
+    path: &str,
+    closed: &[u16],
+    wanted: Wanted,
+    reader: Reader,
+) -> Result<Status, Stop<'a>>
+    ensures status { IfOk result (λ s. may_name s ≡ true) }
+    ensures done { IfOk result (λ s. s ≡ Code.Done → IsPathGot volume.now.image volume.now.layout reader.user (λ n. IsGot volume.now.image volume.now.layout n wanted) closed.now path.now) }
+    ensures err { IfErr result EndsPrinting }
+{
+    let mut files = Vec::new(rt.alloc());
+    let named = add_named(rt, volume, path, closed, reader.user, &mut files)?;
+    let written = cat_files(rt, volume, &files, wanted, reader)?;
+    Ok(named.or(written))
+}
+
+/// Writes these files to standard output, and says of those that are refused.
+fn cat_files<'a, R: AllocGlobal + Print + Eprint>(
+    rt: &R,
+    volume: &Mounted,
+    files: &[Found],
+    wanted: Wanted,
+    reader: Reader,
+) -> Result<Status, Stop<'a>>
+    ensures status { IfOk result (λ s. may_name s ≡ true) }
+    ensures done { IfOk result (λ s. s ≡ Code.Done → All (IsGettable reader.user (λ n. IsGot volume.now.image volume.now.layout n wanted)) files.now) }
+    ensures err { IfErr result EndsPrinting }
+{
+    let mut status = Status::Done;
+    for found in files {
+        status = status.or(cat_file(rt, volume, found, wanted, reader)?);
     }
     Ok(status)
 }
@@ -89,17 +129,16 @@ pub(crate) fn cat_file<'a, R: AllocGlobal + Print + Eprint>(
     wanted: Wanted,
     reader: Reader,
 ) -> Result<Status, Stop<'a>>
-    ensures { IfOk result (λ s. (s ≡ Code.Done) ⊎ (s ≡ Code.Refused)) }
+    ensures ok { IfOk result (EndsFile reader.user (λ n. IsGot volume.now.image volume.now.layout n wanted) (λ n. IsNotGot volume.now.image volume.now.layout n wanted) found.now) }
+    ensures err { IfErr result EndsPrinting }
 {
     let path = found.path.as_str();
     match open_found(rt.alloc(), volume, found, wanted, reader.user) {
         Ok(got) => {
             say_remark(rt, path, &got.remark, reader.quiet);
-            let mut output = io::writer(rt);
-            let mut noting = Noting::new(&mut output);
-            match got.contents.write_to(&mut noting) {
+            match pour(&got.contents, &mut io::writer(rt)) {
                 Ok(()) => Ok(Status::Done),
-                Err(_) => Err(Stop::Unwritten(noting.why())),
+                Err(why) => Err(Stop::Unwritten(why)),
             }
         }
         Err(fault) => say_unread(rt, path, fault),
@@ -121,7 +160,7 @@ pub(crate) fn say_unread<'a, R: Eprint>(
     path: &str,
     fault: Unread,
 ) -> Result<Status, Stop<'a>>
-    ensures ok { IfOk result (λ s. s ≡ Code.Refused) }
+    ensures ok { IfOk result (λ s. (s ≡ Code.Refused) × (fault ≢ Unread.Form FormFault.NoMemory)) }
     ensures err { IfErr result (λ stop. (stop ≡ End.NoMemory) × (fault ≡ Unread.Form FormFault.NoMemory)) }
 {
     match fault {

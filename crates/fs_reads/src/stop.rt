@@ -1,6 +1,6 @@
 //! Why a command ends before it is done: what is said of that on standard error, and the exit status. `say_end` alone says it.
 ghost use Rattle.std.specs.Prelude.{◌≡◌, ◌⊎◌, IfOk, IfErr, IfSome};
-ghost use Rattle.fs_reads.specs.Ends.{EndsWith, HasWordStatus, SaysLine, StopsWith, about_line};
+ghost use Rattle.fs_reads.specs.Ends.{EndsPrinting, EndsWith, HasWordStatus, SaysLine, StopsWith, about_line};
 ghost use Rattle.fs_reads.specs.declared.stop.Stop.{Stop as End};
 ghost use Rattle.fs_reads.specs.declared.stop.Stop.TheVariants as ends;
 ghost use Rattle.ods_shell.specs.declared.status.Status.{Status as Code};
@@ -226,7 +226,8 @@ fn say_refused<R: Eprint>(rt: &R, path: &str, fault: VolumeFault) {
 
 /// Writes a text to standard output.
 pub fn send<'a, R: Print>(rt: &R, text: &str) -> Result<Status, Stop<'a>>
-    ensures { IfOk result (λ s. s ≡ Code.Done) }
+    ensures ok { IfOk result (λ s. s ≡ Code.Done) }
+    ensures err { IfErr result EndsPrinting }
 {
     let mut output = io::writer(rt);
     let mut noting = Noting::new(&mut output);

@@ -1,7 +1,7 @@
 //! The volume of an image in a file.
 ghost use Rattle.std.specs.Prelude.{◌≡◌, IfErr, IfOk, Ok, option_map};
 ghost use Rattle.ods_shell.specs.Remedies.{advice_words};
-ghost use Rattle.fs_reads.specs.{Advised.advice_for, Volumes.IsFaultOf, Volumes.IsNoVolume, Volumes.IsNotMounted, Volumes.IsNotOpened, Volumes.IsNotRead, Volumes.look_in};
+ghost use Rattle.fs_reads.specs.{Advised.advice_for, Volumes.IsFaultOf, Volumes.IsNoVolume, Volumes.IsNotMounted, Volumes.IsNotOpened, Volumes.IsNotRead, Volumes.look_in, Volumes.said_extent as extent_said};
 ghost use Rattle.fs_reads.specs.declared.volume.VolumeFault.{VolumeFault as Fault};
 
 use crate::looks::{Look, looks_like};
@@ -84,9 +84,18 @@ pub(crate) fn open_image<R: Files<File = File> + AllocGlobal>(
 
 /// Says of an image that it is shorter than its volume; and where `tells_behind` that it is longer, which is no fault.
 pub fn say_extent<R: Eprint>(rt: &R, path: &str, extent: Option<Extent>, tells_behind: bool) {
+    if let Some(extent) = said_extent(extent, tells_behind) {
+        say_about(rt, path, extent);
+    }
+}
+
+/// What is to be said of the image.
+fn said_extent(extent: Option<Extent>, tells_behind: bool) -> Option<Extent>
+    ensures { result ≡ extent_said tells_behind extent }
+{
     match extent {
-        Some(extent) if tells_behind || extent.is_short() => { say_about(rt, path, extent) }
-        _ => {}
+        Some(extent) if tells_behind || extent.is_short() => Some(extent),
+        _ => None,
     }
 }
 

@@ -1,0 +1,35 @@
+use Rattle.std.proofs.Common.{rules, ◌≡◌, ◌≤◌, ℕ, List, Option, true, length, refl, subst, Some}
+use Rattle.std.specs.List.{All, slice_get}
+use Rattle.std.proofs.lemmas.List.{take_all}
+use Rattle.std.proofs.lemmas.Option.{slice_get_read}
+use Rattle.ods_shell.specs.Contents.{IsGot, IsNotGot}
+use Rattle.ods_shell.specs.declared.form.FormFault.{FormFault}
+use Rattle.ods_shell.specs.declared.form.Remark.{Remark}
+use Rattle.ods_shell.specs.declared.found.Found.{Found}
+use Rattle.fs_reads.specs.Ends.{may_name}
+use Rattle.fs_reads.specs.Gets.{IsGettable}
+use Rattle.fs_reads.proofs.FilesGot.{both_done, either_holds, get_done, get_may, one_more}
+use Rattle.fs_reads.proofs.getting.get_all.Goals as goal
+
+pub loop-found-preserved : goal.loop-found-preserved
+loop-found-preserved g c =
+    let user = c.args.how.reader.user in
+    let Gives : ℕ → List ℕ → Option Remark → Type 0 = λ n. IsGot c.args.volume.now.image c.args.volume.now.layout n c.args.how.wanted in
+    let Lacks : ℕ → FormFault → Type 0 = λ n. IsNotGot c.args.volume.now.image c.args.volume.now.layout n c.args.how.wanted in
+    let found : Found = c.found-item.result in
+    let at : slice_get c.args.files.now c.loop-found.found-index ≡ Some found = slice_get_read c.args.files.now _ c.loop-found.found-index found refl c.loop-found-test.true c.found-item.is in
+    let old = c.loop-found.status in
+    let s = c.in_ok-done.done in
+    let new = c.or-status.result in
+    record {
+      may = either_holds (λ x. may_name x ≡ true) old s new c.or-status.ensures.done c.or-status.ensures.fault c.loop-found.invariant.may (get_may user Gives Lacks found s c.in_ok-done.ensures);
+      done = λ e.
+          let both = both_done old s new c.or-status.ensures.done c.or-status.ensures.fault e in
+          one_more (IsGettable user Gives) c.args.files.now c.loop-found.found-index found at (c.loop-found.invariant.done both.0) (get_done user Gives Lacks found s c.in_ok-done.ensures both.1);
+    }
+
+pub returns-clause-done : goal.returns-clause-done
+returns-clause-done g c = λ e.
+    let Gives : ℕ → List ℕ → Option Remark → Type 0 = λ n. IsGot c.args.volume.now.image c.args.volume.now.layout n c.args.how.wanted in
+    let past : length c.args.files.now ≤ c.loop-found.found-index = search rules in
+    subst (All (IsGettable c.args.how.reader.user Gives)) (take_all c.loop-found.found-index c.args.files.now past) (c.loop-found.invariant.done e)

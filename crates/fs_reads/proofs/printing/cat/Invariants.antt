@@ -1,0 +1,14 @@
+-- The paths so far are got, where nothing was wrong.
+use Rattle.std.proofs.Common.{◌≡◌, true, take}
+use Rattle.std.specs.List.{All}
+use Rattle.ods_shell.specs.Contents.{IsGot}
+use Rattle.ods_shell.specs.declared.status.Status.TheVariants as status
+use Rattle.fs_reads.specs.Ends.{may_name}
+use Rattle.fs_reads.specs.Gets.{IsPathGot}
+use Rattle.fs_reads.proofs.printing.cat.Given as goal
+
+abbrev pub invariant-loop-path : goal.invariant-loop-path
+invariant-loop-path g l = record {
+  may : may_name l.status ≡ true;
+  done : l.status ≡ status.Done → All (λ path. IsPathGot l.volume.image l.volume.layout l.words.user (λ n. IsGot l.volume.image l.volume.layout n l.wanted) l.closed.items path.now) (take l.path-index l.path-items);
+}

@@ -1,0 +1,37 @@
+use Rattle.std.proofs.Common.{rules, ◌≡◌, ◌≤◌, ℕ, List, Option, true, length, refl, subst, Some}
+use Rattle.std.specs.List.{All, slice_get}
+use Rattle.std.proofs.lemmas.List.{take_all}
+use Rattle.std.proofs.lemmas.Option.{slice_get_read}
+use Rattle.ods_shell.specs.Contents.{IsGot, IsNotGot}
+use Rattle.ods_shell.specs.declared.found.Found.{Found}
+use Rattle.ods_shell.specs.declared.status.Status.TheVariants as status
+use Rattle.ods_shell.specs.declared.form.FormFault.{FormFault}
+use Rattle.ods_shell.specs.declared.form.Remark.{Remark}
+use Rattle.fs_reads.specs.Ends.{may_name}
+use Rattle.fs_reads.specs.Gets.{EndsFile, IsGettable}
+use Rattle.fs_reads.proofs.FilesGot.{both_done, either_holds, file_done, file_may, one_more}
+use Rattle.fs_reads.proofs.printing.cat_files.Goals as goal
+
+pub loop-found-preserved : goal.loop-found-preserved
+loop-found-preserved g c =
+    let user = c.args.reader.user in
+    let Gives : ℕ → List ℕ → Option Remark → Type 0 = λ n. IsGot c.args.volume.now.image c.args.volume.now.layout n c.args.wanted in
+    let Lacks : ℕ → FormFault → Type 0 = λ n. IsNotGot c.args.volume.now.image c.args.volume.now.layout n c.args.wanted in
+    let found : Found = c.found-item.result in
+    let old = c.loop-found.status in
+    let s = c.in_ok-cat_file.field-0 in
+    let new = c.or-status.result in
+    let at : slice_get c.args.files.now c.loop-found.found-index ≡ Some found = slice_get_read c.args.files.now _ c.loop-found.found-index found refl c.loop-found-test.true c.found-item.is in
+    let ends : EndsFile user Gives Lacks found s = c.in_ok-cat_file.ensures.ok in
+    record {
+      may = either_holds (λ x. may_name x ≡ true) old s new c.or-status.ensures.done c.or-status.ensures.fault c.loop-found.invariant.may (file_may user Gives Lacks found s ends);
+      done = λ e.
+          let both = both_done old s new c.or-status.ensures.done c.or-status.ensures.fault e in
+          one_more (IsGettable user Gives) c.args.files.now c.loop-found.found-index found at (c.loop-found.invariant.done both.0) (file_done user Gives Lacks found s ends both.1);
+    }
+
+pub returns-clause-done : goal.returns-clause-done
+returns-clause-done g c = λ e.
+    let Gives : ℕ → List ℕ → Option Remark → Type 0 = λ n. IsGot c.args.volume.now.image c.args.volume.now.layout n c.args.wanted in
+    let past : length c.args.files.now ≤ c.loop-found.found-index = search rules in
+    subst (All (IsGettable c.args.reader.user Gives)) (take_all c.loop-found.found-index c.args.files.now past) (c.loop-found.invariant.done e)

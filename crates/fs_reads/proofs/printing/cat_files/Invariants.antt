@@ -1,0 +1,14 @@
+-- The files so far are got, where nothing was wrong.
+use Rattle.std.proofs.Common.{◌≡◌, true, take}
+use Rattle.std.specs.List.{All}
+use Rattle.ods_shell.specs.Contents.{IsGot}
+use Rattle.ods_shell.specs.declared.status.Status.TheVariants as status
+use Rattle.fs_reads.specs.Ends.{may_name}
+use Rattle.fs_reads.specs.Gets.{IsGettable}
+use Rattle.fs_reads.proofs.printing.cat_files.Given as goal
+
+abbrev pub invariant-loop-found : goal.invariant-loop-found
+invariant-loop-found g l = record {
+  may : may_name l.status ≡ true;
+  done : l.status ≡ status.Done → All (IsGettable l.reader.user (λ n. IsGot l.volume.image l.volume.layout n l.wanted)) (take l.found-index l.files);
+}
