@@ -1,15 +1,26 @@
 -- What putting a file leaves of the volume, for the user and for the file's owner.
-use Rattle.std.proofs.Common.{◌≡◌, ◌⊎◌, ◌∙◌, ap, sym, subst, inl, inr, ℕ, List, Bool, Option, Some, None}
-use Rattle.std.specs.Prelude.{unwrap_or, Result, Ok, Err, OnOk, OnErr}
+use Rattle.std.proofs.Common.{◌≡◌, ◌∙◌, refl, ap, sym, subst, inl, inr, ℕ, List, [], ◌∷◌, Bool, true, false, cond, Option, Some, None, is_some, map}
+use Rattle.std.specs.Prelude.{nat_eq, slice_index, unwrap_or}
+use Rattle.std.specs.List.{All}
+use Rattle.std.specs.Option.{option_or}
+use Rattle.std.proofs.lemmas.List.Elements.{All-cons, All-nil}
+use Rattle.ods_base.specs.Name.{RadName}
 use Rattle.ods_base.specs.declared.file_id.FileId.{FileId}
 use Rattle.ods_base.specs.declared.file_id.Uic.{Uic}
-use Rattle.ods_request.specs.declared.requests.Request.TheVariants.{Enter}
-use Rattle.ods_filing.specs.Filed.{Filed, HasGrown, for_another}
-use Rattle.ods_filing.specs.Led.{IsLed, IsObeyed}
+use Rattle.ods_base.specs.declared.name.Pick.TheVariants.{Exact, Highest}
+use Rattle.ods_request.specs.declared.requests.Request.{Request}
+use Rattle.ods_request.specs.declared.requests.Request.TheVariants.{Delete, Enter, LookUp, Remove, Stat}
+use Rattle.ods_filing.specs.Filed.{Filed, for_another}
+use Rattle.ods_filing.specs.Led.{Asks, IsLed, IsObeyed, Permits}
 use Rattle.ods_filing.specs.Put.{Heading}
-use Rattle.ods_filing.proofs.Led.{allows_more, same_user, then_led, then_obeyed}
+use Rattle.ods_filing.proofs.Led.{allows_more, led_to, obeyed, same_user, stays, then_led, then_obeyed}
+use Rattle.ods_upkeep.specs.HostPut.{AreCountedOn, AreNotedOn, IsHostPut, IsPutAs, IsStill, IsVersionFor}
 use Rattle.ods_upkeep.specs.Kinds.{Copies, Puts}
+use Rattle.ods_upkeep.specs.Left.{InPut, replaces}
 use Rattle.ods_upkeep.specs.PutFor.{IsMadeFor, IsPut}
+use Rattle.ods_upkeep.specs.Removed.{Does}
+use Rattle.ods_upkeep.specs.Rooms.{IsFreed, IsRoomMade, IsThere, counts_left, file_left, pick_for}
+use Rattle.ods_upkeep.specs.Versions.{Noted}
 use Rattle.ods_upkeep.proofs.Lists.{copies_puts, fills_copies}
 
 -- a file that the user makes for himself
@@ -21,20 +32,97 @@ own_made dir version heading attributes bytes file old new owner is made =
     let user : made.made.user ≡ old.user = same_user made.filled ∙ is in
     then_obeyed (Enter dir heading.name version file) tt first (subst (λ u. IsObeyed (for_another made.made u) (Enter dir heading.name version file) new) (sym user) made.entered)
 
--- requests of the user, and then the file
-pub put_done : (replaces : Bool) (said : Option Uic) (old mid new : Filed) (user owner : Uic) (dir : FileId) (version : Option ℕ) (heading : Heading) (attributes bytes : List ℕ) (file : FileId)
-    → IsLed (Puts replaces) old mid → user ≡ mid.user → owner ≡ unwrap_or said user → IsMadeFor owner dir version heading attributes bytes file mid new → IsPut (Puts replaces) said old new
-put_done replaces said old mid new user owner dir version heading attributes bytes file led is owns made = record {
-  mid = mid;
-  before = led;
-  dir = dir;
-  version = version;
-  heading = heading;
-  attributes = attributes;
-  bytes = bytes;
-  file = file;
-  made = subst (λ u. IsMadeFor u dir version heading attributes bytes file mid new) (owns ∙ ap (λ u. unwrap_or said u) (is ∙ same_user led)) made;
-}
+-- requests of an allowed kind, each accepted
+does_led : {Allows : Request → Type 0} {old new : Filed} (requests : List Request) → All (Permits Allows) (map Asks requests) → Does old requests new → IsLed Allows old new
+does_led requests fits done = record { deeds = map Asks requests; allowed = fits; leads = done }
+
+-- the file that no entry names may be deleted
+deletes : (b : Bool) (file : FileId) → All (Permits (Puts true)) (map Asks (cond b (Delete file ∷ []) []))
+deletes true file = All-cons (Permits (Puts true)) (Asks (Delete file)) [] refl (All-nil (Permits (Puts true)))
+deletes false file = All-nil (Permits (Puts true))
+
+file_leaves : (there : Bool) (counts : ℕ → ℕ) (file : FileId) → All (Permits (Puts true)) (map Asks (file_left there counts file))
+file_leaves true counts file = deletes (nat_eq (counts file.number) 0) file
+file_leaves false counts file = All-nil (Permits (Puts true))
+
+-- it is looked at
+shown_led : (there : Bool) (file : FileId) (old new : Filed) → IsThere old file there new → IsLed (Puts true) old new
+shown_led true file old new shown = obeyed (Stat file) refl (_, shown.1)
+shown_led false file old new shown = led_to new shown.1 (stays old)
+
+freed_led : (dir : FileId) (name : RadName) (said : Option ℕ) (version : ℕ) (before after : List ℕ) (old new : Filed) → IsFreed dir name said version before after old new → IsLed (Puts true) old new
+freed_led dir name said version before after old new freed =
+    let r = freed.replaced in
+    let left : List Request = file_left r.there (counts_left r.there (slice_index before) freed.file) freed.file in
+    let gone : IsLed (Puts true) r.known new =
+    does_led (Remove dir name (Exact version) ∷ left)
+    (All-cons (Permits (Puts true)) (Asks (Remove dir name (Exact version))) (map Asks left) refl (file_leaves r.there (counts_left r.there (slice_index before) freed.file) freed.file)) r.gone in
+    then_led (obeyed (LookUp dir name (pick_for said)) tt (_, freed.found)) (then_led (shown_led r.there freed.file freed.seen r.known r.shown) gone)
+
+-- room is made
+pub room_led : (dir : FileId) (name : RadName) (said free : Option ℕ) (before after : Option (List ℕ)) (old new : Filed) → IsRoomMade dir name said free before after old new
+    → IsLed (Puts (is_some before)) old new
+room_led dir name said free None after old new room = led_to new room.2 (stays old)
+room_led dir name said free (Some before) after old new room = elim room [
+  | inl none ↦ led_to new none.0.2 (stays old)
+  | inr one ↦ freed_led dir name said one.0 before one.1.0 old new one.1.3
+]
+
+-- the version is known, or looked up
+pub version_led : (replaces : Bool) (highest : Option Noted) (old : Filed) (dir : FileId) (name : RadName) (said : Option ℕ) (version : ℕ) (new : Filed)
+    → IsVersionFor highest old dir name said version new → IsLed (Puts replaces) old new
+version_led replaces highest old dir name (Some said) version new is = led_to new is.1 (stays old)
+version_led replaces (Some noted) old dir name None version new is = led_to new is.1 (stays old)
+version_led replaces None old dir name None version new is = elim is [
+  | inl one ↦ obeyed (LookUp dir name Highest) tt (_, one.1.1)
+  | inr none ↦ led_to new none.0.2 (stays old)
+]
+
+-- what is put, by what each step of it leaves
+pub put_as : (p q : InPut) (name : RadName) (attributes bytes all : List ℕ) (old mid seen new : Filed) (free said : Option ℕ) (left : Option (List ℕ)) (version : ℕ) (user owner : Uic) (file : FileId)
+    → IsRoomMade p.target.directory name p.target.version free p.names left old mid → said ≡ option_or free p.target.version
+    → IsVersionFor p.highest mid p.target.directory name said version seen → user ≡ seen.user → owner ≡ unwrap_or p.owner user → bytes ≡ all
+    → IsMadeFor owner p.target.directory said (record { name = name; version = version; stamp = p.stamp }) attributes bytes file seen new
+    → AreCountedOn left file q.names → AreNotedOn p.highest name version q.highest → IsStill p q → IsPutAs p name attributes all old q new
+put_as p q name attributes bytes all old mid seen new free said left version user owner file room is next asks owns same made counted noted still =
+    let dir = p.target.directory in
+    let heading : Heading = record { name = name; version = version; stamp = p.stamp } in
+    let led : IsLed (Puts (is_some p.names)) old seen =
+    then_led (room_led dir name p.target.version free p.names left old mid room) (version_led (is_some p.names) p.highest mid dir name said version seen next) in
+    let whose : owner ≡ unwrap_or p.owner old.user = owns ∙ ap (λ u. unwrap_or p.owner u) (asks ∙ same_user led) in
+    record {
+      free = free;
+      left = left;
+      mid = mid;
+      room = room;
+      version = version;
+      seen = seen;
+      next = subst (λ s. IsVersionFor p.highest mid dir name s version seen) is next;
+      file = file;
+      made = subst (λ u. IsMadeFor u dir (option_or free p.target.version) heading attributes all file seen new) whose
+          (subst (λ s. IsMadeFor owner dir s heading attributes all file seen new) is (subst (λ b. IsMadeFor owner dir said heading attributes b file seen new) same made));
+      counted = counted;
+      noted = noted;
+      still = still;
+    }
+
+-- it is what the user's requests leave, and then a file that is made for its owner
+pub put_is : (p q : InPut) (host bytes : List ℕ) (old new : Filed) → IsHostPut p host bytes old q new → IsPut (Puts (replaces p)) p.owner old new
+put_is p q host bytes old new is =
+    let put = is.put in
+    let dir = p.target.directory in
+    let said = option_or put.free p.target.version in
+    record {
+      mid = put.seen;
+      before = then_led (room_led dir is.name p.target.version put.free p.names put.left old put.mid put.room) (version_led (replaces p) p.highest put.mid dir is.name said put.version put.seen put.next);
+      dir = dir;
+      version = said;
+      heading = record { name = is.name; version = put.version; stamp = p.stamp };
+      attributes = is.attributes;
+      bytes = is.stored;
+      file = put.file;
+      made = put.made;
+    }
 
 -- where no owner is said, all of it is asked for by the user
 pub own_put : (replaces : Bool) (said : Option Uic) (old new : Filed) → IsPut (Puts replaces) said old new → said ≡ None → IsLed (Puts replaces) old new

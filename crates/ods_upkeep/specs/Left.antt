@@ -1,8 +1,26 @@
 -- What contracts see of files that are being put.
-use Rattle.std.specs.Prelude.{Bool, Option}
+use Rattle.std.specs.Prelude.{ℕ, Bool, List, Option, is_some}
 use Rattle.ods_base.specs.declared.file_id.Uic.{Uic}
+use Rattle.ods_upkeep.specs.declared.asked.PutForm.{PutForm}
+use Rattle.ods_upkeep.specs.declared.target.Target.{Target}
+use Rattle.ods_upkeep.specs.Versions.{Noted}
 
--- whether files are replaced, and whose the new files are where another is said than who asks
+-- what is known before a file is put
 pub record InPut : Type 0 where
-  pub replaces : Bool
+  -- where it goes
+  pub target : Target
+  -- its date and time of creation
+  pub stamp : List ℕ
+  -- the form of its bytes, and the attributes of the file that it is to be like
+  pub form : PutForm
+  pub like : Option (List ℕ)
+  -- whose it is, where another is said than who asks
   pub owner : Option Uic
+  -- how often entries name each file, where files are replaced
+  pub names : Option (List ℕ)
+  -- the highest versions of the target's names, where several files are put and none is replaced
+  pub highest : Option Noted
+
+-- files are replaced
+abbrev pub replaces : InPut → Bool
+replaces p = is_some p.names

@@ -1,25 +1,33 @@
 -- What rm asks for: entries go, and then each file that no entry names any more.
-use Rattle.std.specs.Prelude.{◌==◌, ℕ, Bool, true, false, if◌then◌else◌, List, [], ◌∷◌, ◌++◌, map, Option, Some, None}
+use Rattle.std.specs.Prelude.{◌≡◌, ◌⊎◌, ◌==◌, ◌<◌, ℕ, Bool, true, false, if◌then◌else◌, List, [], ◌∷◌, ◌++◌, map, Option, Some, None}
 use Rattle.std.specs.Borrow.{Bor}
+use Rattle.std.specs.String.{string_bytes}
 use Rattle.ods_base.specs.declared.name.Pick.TheVariants.{Exact}
 use Rattle.ods_paths.specs.declared.versions.Versions.{Versions}
 use Rattle.ods_paths.specs.declared.versions.Versions.TheVariants.{Highest}
-use Rattle.ods_request.specs.declared.requests.Request.{Request}
+use Rattle.ods_request.specs.declared.refusals.Refusal.TheVariants.{Reserved}
+use Rattle.ods_request.specs.declared.requests.Request.{Request as Asked}
 use Rattle.ods_request.specs.declared.requests.Request.TheVariants.{Delete, Remove}
 use Rattle.ods_filing.specs.Filed.{Filed}
 use Rattle.ods_filing.specs.Led.{Asks, Leads}
 use Rattle.ods_shell.specs.declared.facts.Facts.{Facts}
+use Rattle.ods_shell.specs.declared.facts.Kind.TheVariants.{Directory}
 use Rattle.ods_shell.specs.declared.found.EntryPlace.{EntryPlace}
 use Rattle.ods_shell.specs.declared.found.Found.{Found}
 use Rattle.ods_upkeep.specs.Counted.{AreCounts, one_less}
+use Rattle.ods_upkeep.specs.Pieces.{Stays}
+use Rattle.ods_upkeep.specs.Refused.{AreNoSources, AreNotKept, HasPath, IsFirstKept, IsOutOfMemory, StopsAt}
 use Rattle.ods_upkeep.specs.Sources.{AreSources}
+use Rattle.ods_upkeep.specs.declared.failure.Failure.{Failure}
+use Rattle.ods_upkeep.specs.declared.failure.Why.{Why}
+use Rattle.ods_upkeep.specs.declared.failure.Why.TheVariants.{Path, Request, Text, Put, BadName, IsDirectory, DirectoryType, DirectoryThere, IntoItself, IsId, Several, IsNamed, PastEnd, Hidden}
 
 -- just these requests of the user, one after another, each accepted
-abbrev pub Does : Filed → List Request → Filed → Type 0
+abbrev pub Does : Filed → List Asked → Filed → Type 0
 Does old requests new = Leads old (map Asks requests) new
 
 -- this very entry goes
-abbrev pub entry_gone : Option EntryPlace → List Request
+abbrev pub entry_gone : Option EntryPlace → List Asked
 entry_gone None = []
 entry_gone (Some p) = Remove p.directory p.entry.name (Exact p.entry.version) ∷ []
 
@@ -30,17 +38,17 @@ names_left names (Some p) None = names
 names_left names None known = names
 
 -- the file is deleted, if no entry names it any more
-abbrev pub file_gone : (ℕ → ℕ) → Option Facts → List Request
+abbrev pub file_gone : (ℕ → ℕ) → Option Facts → List Asked
 file_gone names None = []
 file_gone names (Some facts) = if names facts.file.number == 0 then Delete facts.file ∷ [] else []
 
 -- one goes: its entry, and its file unless the entry alone is meant
-abbrev pub one_gone : Bool → (ℕ → ℕ) → Option EntryPlace → Option Facts → List Request
+abbrev pub one_gone : Bool → (ℕ → ℕ) → Option EntryPlace → Option Facts → List Asked
 one_gone true names place known = entry_gone place
 one_gone false names place known = entry_gone place ++ file_gone (names_left names place known) known
 
 -- these go, one after another, where entries name each file so often
-abbrev pub removals : Bool → (ℕ → ℕ) → List Found → List Request
+abbrev pub removals : Bool → (ℕ → ℕ) → List Found → List Asked
 removals entry_alone names [] = []
 removals entry_alone names (f ∷ found) = one_gone entry_alone names f.place f.facts ++ removals entry_alone (names_left names f.place f.facts) found
 
@@ -49,8 +57,55 @@ abbrev pub unsaid_versions : Bool → Option Versions
 unsaid_versions true = Some Highest
 unsaid_versions false = None
 
--- Each entry that these paths name has gone, and, unless the entries alone are meant, each file that no entry names then. Nothing else was done.
+-- a file is there that is a directory
+abbrev pub IsOfDirectory : Option Facts → Type 0
+IsOfDirectory None = ⊥
+IsOfDirectory (Some facts) = facts.kind ≡ Directory
+
+-- a file is there that entries name
+abbrev pub HasNames : (ℕ → ℕ) → Option Facts → Type 0
+HasNames names None = ⊥
+HasNames names (Some facts) = 0 < names facts.file.number
+
+-- Why one may not go: it stays; it has no entry, and the entry alone is meant; or the file is meant too, and is a directory, or is named by its ID while entries name it.
+abbrev pub MayNotGo : Bool → (ℕ → ℕ) → Found → Why → Type 0
+MayNotGo entry_alone names f (Request reason) = (reason ≡ Reserved) × Stays f.place f.facts
+MayNotGo entry_alone names f IsId = (entry_alone ≡ true) × (f.place ≡ None)
+MayNotGo entry_alone names f IsDirectory = (entry_alone ≡ false) × IsOfDirectory f.facts
+MayNotGo entry_alone names f IsNamed = (entry_alone ≡ false) × (f.place ≡ None) × HasNames names f.facts
+MayNotGo entry_alone names f (Path fault) = ⊥
+MayNotGo entry_alone names f (Text fault) = ⊥
+MayNotGo entry_alone names f (Put fault) = ⊥
+MayNotGo entry_alone names f BadName = ⊥
+MayNotGo entry_alone names f DirectoryType = ⊥
+MayNotGo entry_alone names f DirectoryThere = ⊥
+MayNotGo entry_alone names f IntoItself = ⊥
+MayNotGo entry_alone names f Several = ⊥
+MayNotGo entry_alone names f PastEnd = ⊥
+MayNotGo entry_alone names f Hidden = ⊥
+
+-- Each entry that these paths name has gone, and, unless the entries alone are meant, each file that no entry names then. All may go, and nothing else was done.
 abbrev pub IsRemoved : Bool → Bool → List (Bor (List ℕ)) → Filed → Filed → Type 0
 IsRemoved entry_alone newest paths old new =
     (found : List Found) × ((names : ℕ → ℕ) × AreSources old.image old.layout (unsaid_versions newest) paths found × AreCounts old.image old.layout names
-    × Does old (removals entry_alone names found) new)
+    × AreNotKept (MayNotGo entry_alone names) found × Does old (removals entry_alone names found) new)
+
+-- These go, one after another, up to one, of which a request is not done.
+abbrev pub StopsGoing : Bool → (ℕ → ℕ) → List Found → Filed → Filed → Failure → Type 0
+StopsGoing entry_alone names [] old new failure = ⊥
+StopsGoing entry_alone names (f ∷ found) old new failure =
+    (HasPath failure (string_bytes f.path) × StopsAt old (one_gone entry_alone names f.place f.facts) new failure.why)
+    ⊎ ((mid : Filed) × Does old (one_gone entry_alone names f.place f.facts) mid × StopsGoing entry_alone (names_left names f.place f.facts) found mid new failure)
+
+-- why not all of these go: one may not, and nothing was done; or a request is not done
+abbrev pub AreNotGone : Bool → (ℕ → ℕ) → List Found → Filed → Filed → Failure → Type 0
+AreNotGone entry_alone names found old new failure =
+    ((new ≡ old) × IsFirstKept (MayNotGo entry_alone names) found failure)
+    ⊎ (AreNotKept (MayNotGo entry_alone names) found × StopsGoing entry_alone names found old new failure)
+
+-- Why not all that these paths name goes, and what was done before: there are no sources, or no memory to count names, and nothing was done; or not all of the sources go.
+abbrev pub IsNotRemoved : Bool → Bool → List (Bor (List ℕ)) → Filed → Filed → Failure → Type 0
+IsNotRemoved entry_alone newest paths old new failure =
+    ((new ≡ old) × AreNoSources old.image old.layout (unsaid_versions newest) paths failure)
+    ⊎ ((found : List Found) × AreSources old.image old.layout (unsaid_versions newest) paths found
+    × (((new ≡ old) × IsOutOfMemory failure) ⊎ ((names : ℕ → ℕ) × AreCounts old.image old.layout names × AreNotGone entry_alone names found old new failure)))

@@ -1,10 +1,12 @@
 -- Where names go: the target that a path says.
-use Rattle.std.specs.Prelude.{◌≡◌, ◌⊎◌, ◌<◌, ℕ, false, List, [], ◌∷◌, ◌++◌, codes, Option, Some, None}
+use Rattle.std.specs.Prelude.{◌≡◌, ◌≢◌, ◌⊎◌, ◌<◌, ℕ, false, List, [], ◌∷◌, ◌++◌, length, codes, Option, Some, None, IfSome}
 use Rattle.ods_text.specs.Cuts.{Lacks}
 use Rattle.ods_base.specs.Name.{RadName, Spells}
 use Rattle.ods_base.specs.declared.file_id.FileId.{FileId}
 use Rattle.ods_base.specs.declared.name.Pick.TheVariants as pick
 use Rattle.ods_space.specs.Layout.{VolumeLayout}
+use Rattle.ods_paths.specs.declared.bad.BadPath.{BadPath}
+use Rattle.ods_paths.specs.Bad.{IsBad}
 use Rattle.ods_paths.specs.declared.versions.Versions.{Versions}
 use Rattle.ods_paths.specs.declared.versions.Versions.TheVariants.{Exact, Highest, Lowest, Every}
 use Rattle.ods_paths.specs.Paths.{File, Files, Folder, Said, Says, Within}
@@ -13,11 +15,15 @@ use Rattle.ods_shell.specs.declared.facts.Facts.{Facts}
 use Rattle.ods_shell.specs.declared.facts.Kind.TheVariants.{Directory}
 use Rattle.ods_shell.specs.declared.folders.Directory.{Directory as Holder}
 use Rattle.ods_shell.specs.declared.found.Found.{Found}
+use Rattle.ods_shell.specs.declared.path_fault.PathFault.TheVariants as fault
 use Rattle.ods_shell.specs.Facts.{AreFacts}
-use Rattle.ods_shell.specs.Named.{AreNamed}
+use Rattle.ods_shell.specs.Named.{AreNamed, IsKnown}
 use Rattle.ods_shell.specs.Ways.{AreMeant}
 use Rattle.ods_upkeep.specs.Hidden.{HidesEntries}
 use Rattle.ods_upkeep.specs.Pieces.{last_part}
+use Rattle.ods_upkeep.specs.Refused.{no_memory}
+use Rattle.ods_upkeep.specs.declared.failure.Why.{Why}
+use Rattle.ods_upkeep.specs.declared.failure.Why.TheVariants.{Path, BadName, IsId, Several, Hidden}
 use Rattle.ods_upkeep.specs.declared.target.Target.{Target}
 
 -- the ID of the one directory that a folder means
@@ -97,3 +103,57 @@ pub record IsTarget (I : List (List ℕ)) (L : VolumeLayout) (count : ℕ) (path
   pub target : IsTargetOf I L path says to
   pub shows : ¬ HidesEntries I L to.directory.number
   pub one : 1 < count → to.name ≡ None
+
+-- a folder means no directory, or one of which nothing is known
+abbrev pub MeansNothing : List (List ℕ) → VolumeLayout → Folder → Type 0
+MeansNothing I L folder = AreMeant I L [] folder [] ⊎ ((directory : Holder) × AreMeant I L [] folder (directory ∷ []) × ((facts : Facts) → ¬ AreFacts I L directory.number facts))
+
+-- a folder means more than one directory
+abbrev pub MeansSeveral : List (List ℕ) → VolumeLayout → Folder → Type 0
+MeansSeveral I L folder = (all : List Holder) × AreMeant I L [] folder all × (1 < length all)
+
+-- why a folder does not say one directory: it means none or several, or there is no memory to see which
+abbrev pub IsNoDirectory : List (List ℕ) → VolumeLayout → Folder → Why → Type 0
+IsNoDirectory I L folder why = ((why ≡ Path fault.Nothing) × MeansNothing I L folder) ⊎ (((why ≡ Several) × MeansSeveral I L folder) ⊎ (why ≡ no_memory))
+
+-- the ID is that of no file, or of one that is no directory
+abbrev pub IsIdOfNone : List (List ℕ) → VolumeLayout → FileId → Why → Type 0
+IsIdOfNone I L file why = (why ≡ IsId) × ((known : Option Facts) × IsKnown I L file known × IfSome known (λ facts. facts.kind ≢ Directory))
+
+-- versions that say none for one name
+abbrev pub SaysNoVersion : Option Versions → Type 0
+SaysNoVersion versions = (version : Option ℕ) → ¬ SaysVersion versions version
+
+-- why these characters with this type are no name: they spell none, or there is no memory to see it
+abbrev pub IsNoName : List ℕ → List ℕ → Why → Type 0
+IsNoName name kind why = ((why ≡ BadName) × ((n : RadName) → ¬ Spells (name ++ 46 ∷ kind) n pick.Highest)) ⊎ (why ≡ no_memory)
+
+-- one directory is meant, none of the name is there, and what is said is no name
+abbrev pub GivesNoName : List (List ℕ) → VolumeLayout → List ℕ → Folder → Files → Why → Type 0
+GivesNoName I L path folder files why =
+    ((file : FileId) → ¬ IsInto I L path folder files file) × ((directory : FileId) × IsTheDirectory I L folder directory × IsNoName files.name files.kind why)
+
+-- why files in a folder say no target: patterns or several versions are said, the folder does not say one directory, or the name is none
+abbrev pub AreNoTarget : List (List ℕ) → VolumeLayout → List ℕ → Folder → Files → Why → Type 0
+AreNoTarget I L path folder files why =
+    ((why ≡ Several) × ((¬ AreExact files) ⊎ SaysNoVersion files.versions)) ⊎ (IsNoDirectory I L folder why ⊎ GivesNoName I L path folder files why)
+
+-- why a path that says this says no target
+abbrev pub IsNoTargetOf : List (List ℕ) → VolumeLayout → List ℕ → Said → Why → Type 0
+IsNoTargetOf I L path (File file) why = IsIdOfNone I L file why
+IsNoTargetOf I L path (Within folder None) why = IsNoDirectory I L folder why
+IsNoTargetOf I L path (Within folder (Some files)) why = AreNoTarget I L path folder files why
+
+-- why a target is closed: its directory hides entries, or there is no memory to see whether it does
+abbrev pub IsClosed : List (List ℕ) → VolumeLayout → Target → Why → Type 0
+IsClosed I L to why = ((why ≡ Hidden) × HidesEntries I L to.directory.number) ⊎ (why ≡ no_memory)
+
+-- Why a path says no target: it is no path, it says what is no target, or its target is closed.
+abbrev pub SaysNoTarget : List (List ℕ) → VolumeLayout → List ℕ → Why → Type 0
+SaysNoTarget I L path why =
+    ((bad : BadPath) × (why ≡ Path (fault.Bad bad)) × IsBad path bad)
+    ⊎ ((says : Said) × Says path says × (IsNoTargetOf I L path says why ⊎ ((to : Target) × IsTargetOf I L path says to × IsClosed I L to why)))
+
+-- Why a path has no target for so many files: it says none; or it gives a name, and there are several.
+abbrev pub IsNoTarget : List (List ℕ) → VolumeLayout → ℕ → List ℕ → Why → Type 0
+IsNoTarget I L count path why = SaysNoTarget I L path why ⊎ ((why ≡ Several) × (1 < count) × ((to : Target) × IsTarget I L 1 path to × (to.name ≢ None)))

@@ -1,10 +1,12 @@
 //! Requests of a command: the first one that is refused ends it.
-ghost use Rattle.std.specs.Prelude.{◌≡◌, IfOk, OnErr, OnOk};
+ghost use Rattle.std.specs.Prelude.{◌≡◌, IfErr, IfOk, OnErr, OnOk};
 ghost use Rattle.ods_state.specs.Outcome.{CanBeAsked};
 ghost use Rattle.ods_filing.specs.Filed.{IsDone};
 ghost use Rattle.ods_filing.specs.Led.{IsAsked, IsObeyed};
 ghost use Rattle.ods_filing.specs.Put.{heading_of};
 ghost use Rattle.ods_upkeep.specs.PutFor.{IsMadeFor};
+ghost use Rattle.ods_upkeep.specs.Refused.{IsNotDone, IsRefusedBy};
+ghost use Rattle.ods_upkeep.specs.Unfiled.{IsUnfiled};
 
 use crate::failure::Why;
 use ods_base::{DIRECTORY_TYPE, FileId, LAST_VERSION, Name, Pick, Uic};
@@ -16,6 +18,7 @@ pub(crate) fn make(filing: &mut Filing, request: Request) -> Result<Answer, Why>
     requires { CanBeAsked request }
     ensures done { IfOk result (λ a. IsDone filing.old request a filing.new) }
     ensures asked { IsAsked filing.old request filing.new }
+    ensures refused { IfErr result (IsRefusedBy filing.old request) }
     ensures unchanged { OnErr result (filing.new ≡ filing.old) }
 {
     match filing.request(&request) {
@@ -29,13 +32,14 @@ pub(crate) fn obey(filing: &mut Filing, request: Request) -> Result<(), Why>
     requires { CanBeAsked request }
     ensures done { OnOk result (IsObeyed filing.old request filing.new) }
     ensures asked { IsAsked filing.old request filing.new }
+    ensures refused { IfErr result (IsRefusedBy filing.old request) }
     ensures unchanged { OnErr result (filing.new ≡ filing.old) }
 {
     let _answer = make(filing, request)?;
     Ok(())
 }
 
-/// Enters a file in a directory. A version that is given is 1 to 32,767, or the request is refused.
+/// Enters a file in a directory. Where a version is given that is not 1 to 32,767, it is not asked for.
 pub(crate) fn enter(
     filing: &mut Filing,
     dir: FileId,
@@ -45,6 +49,8 @@ pub(crate) fn enter(
 ) -> Result<(), Why>
     ensures done { OnOk result (IsObeyed filing.old (Request.Enter dir name version file) filing.new) }
     ensures asked { IsAsked filing.old (Request.Enter dir name version file) filing.new }
+    ensures refused { IfErr result (IsNotDone filing.old (Request.Enter dir name version file)) }
+    ensures unchanged { OnErr result (filing.new ≡ filing.old) }
 {
     if let Some(version) = version {
         if version == 0 || version > LAST_VERSION {
@@ -66,6 +72,8 @@ pub(crate) fn enter(
 pub(crate) fn remove(filing: &mut Filing, dir: FileId, name: Name, version: u16) -> Result<(), Why>
     ensures done { OnOk result (IsObeyed filing.old (Request.Remove dir name (Pick.Exact version)) filing.new) }
     ensures asked { IsAsked filing.old (Request.Remove dir name (Pick.Exact version)) filing.new }
+    ensures refused { IfErr result (IsRefusedBy filing.old (Request.Remove dir name (Pick.Exact version))) }
+    ensures unchanged { OnErr result (filing.new ≡ filing.old) }
 {
     obey(
         filing,
@@ -81,6 +89,8 @@ pub(crate) fn remove(filing: &mut Filing, dir: FileId, name: Name, version: u16)
 pub(crate) fn delete(filing: &mut Filing, file: FileId) -> Result<(), Why>
     ensures done { OnOk result (IsObeyed filing.old (Request.Delete file) filing.new) }
     ensures asked { IsAsked filing.old (Request.Delete file) filing.new }
+    ensures refused { IfErr result (IsRefusedBy filing.old (Request.Delete file)) }
+    ensures unchanged { OnErr result (filing.new ≡ filing.old) }
 {
     obey(filing, Request::Delete { file })
 }
@@ -93,7 +103,9 @@ pub(crate) fn put_new(
     version: Option<u16>,
     file: &NewFile<'_>,
 ) -> Result<FileId, Why>
-    ensures { IfOk result (λ id. IsMadeFor owner dir version (heading_of file.now) file.now.attributes file.now.bytes.now id filing.old filing.new) }
+    ensures made { IfOk result (λ id. IsMadeFor owner dir version (heading_of file.now) file.now.attributes file.now.bytes.now id filing.old filing.new) }
+    // After a refusal the volume may have the file in part.
+    ensures refused { IfErr result (IsUnfiled dir version (heading_of file.now) file.now.bytes.now filing.new) }
 {
     if file.name.ext() == DIRECTORY_TYPE {
         return Err(Why::DirectoryType);

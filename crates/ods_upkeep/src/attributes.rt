@@ -1,6 +1,8 @@
 //! The attributes of files that are made or cut.
-ghost use Rattle.std.specs.Prelude.{◌≡◌, ◌≤◌, ◌++◌, replicate, IfErr, IfOk};
+ghost use Rattle.std.specs.Prelude.{◌≡◌, ◌≤◌, ◌*◌, ◌++◌, replicate, IfErr, IfOk};
+ghost use Rattle.ods_files.specs.Body.{are_zeros as all_zeros};
 ghost use Rattle.ods_request.specs.declared.refusals.Refusal.{Refusal};
+ghost use Rattle.ods_upkeep.specs.Copied.{true_for as true_attributes};
 ghost use Rattle.ods_upkeep.specs.Pieces.{like_those, with_end};
 ghost use Rattle.ods_upkeep.specs.PutFor.{like_greater as like_the_greater};
 
@@ -25,11 +27,14 @@ pub(crate) fn ending_at(attributes: [u8; 32], bytes: u64) -> Result<[u8; 32], Wh
 
 /// These attributes for a file of so many blocks: F.HIBK is their count, and an end of file behind them is theirs. Attributes of zeros, by which all
 /// blocks count, stay.
-pub(crate) fn true_for(attributes: [u8; 32], blocks: u32) -> Result<[u8; 32], Why> {
-    let bytes = 512 * u64::from(blocks);
-    if attributes.iter().all(|byte| *byte == 0) {
+pub(crate) fn true_for(attributes: [u8; 32], blocks: u32) -> Result<[u8; 32], Why>
+    ensures ok { IfOk result (λ new. new ≡ true_attributes attributes blocks) }
+    ensures err { IfErr result (λ why. (why ≡ Why.Request Refusal.VolumeFull) × (MAX_BYTES ≤ 512 * blocks)) }
+{
+    if are_zeros(&attributes) {
         return Ok(attributes);
     }
+    let bytes = 512 * u64::from(blocks);
     let all = ending_at(attributes, bytes)?;
     if end_of_file(&attributes) > bytes {
         return Ok(all);
@@ -37,6 +42,13 @@ pub(crate) fn true_for(attributes: [u8; 32], blocks: u32) -> Result<[u8; 32], Wh
     let mut new = attributes;
     new[4..8].copy_from_slice(&all[4..8]);
     Ok(new)
+}
+
+/// Whether nothing was ever written into the attributes.
+fn are_zeros(attributes: &[u8; 32]) -> bool
+    ensures { result ≡ all_zeros attributes.now }
+{
+    attributes.iter().all(|byte| *byte == 0)
 }
 
 /// These attributes with the record type, the record attributes and the record size of others.

@@ -1,7 +1,13 @@
 //! `cp`: files are made that have the blocks and the attributes of others.
-ghost use Rattle.std.specs.Prelude.{OnOk};
+ghost use Rattle.std.specs.Prelude.{◌≡◌, IfErr, IfOk, OnOk, Some};
+ghost use Rattle.ods_base.specs.Name.{RadName, Spells};
+ghost use Rattle.ods_base.specs.declared.name.Pick.{Pick};
+ghost use Rattle.ods_files.specs.Body.{Body, HasBody, bytes_in};
+ghost use Rattle.ods_header.specs.Text.{ident_text};
 ghost use Rattle.ods_filing.specs.Led.{IsLed};
-ghost use Rattle.ods_upkeep.specs.Kinds.{Copies};
+ghost use Rattle.ods_shell.specs.HostNames.{before_version};
+ghost use Rattle.ods_upkeep.specs.{Copied.IsCopied, Copied.IsCopiedTo, Copied.IsCopyable, Copied.IsUncopyable, Copied.IsUnread, Copied.NamesCopy, Copied.why_unread as why_for, Kinds.Copies};
+ghost use Rattle.ods_upkeep.specs.{Copied.AreCopied, Uncopied.IsFirstUncopyable, Uncopied.IsNotCopied, Uncopied.IsNotCopiedTo, Uncopied.MayAllBeCopied, Uncopied.StopsCopying};
 
 use crate::asking::put_new;
 use crate::attributes::true_for;
@@ -31,25 +37,56 @@ pub fn copy_files(
     to: &str,
 ) -> Result<(), Failure>
     // It is what LookUp, Create, Extend, Write, SetUser and Enter leave.
-    ensures { OnOk result (IsLed Copies filing.old filing.new) }
+    ensures led { OnOk result (IsLed Copies filing.old filing.new) }
+    // Done, each file that is meant is copied to the target, and nothing else was done.
+    ensures done { OnOk result (IsCopiedTo stamp paths.now to.now filing.old filing.new) }
+    // Refused, it is so for a reason that holds, and of the path that the failure says.
+    ensures refused { IfErr result (IsNotCopiedTo stamp paths.now to.now filing.old filing.new) }
 {
     let all = sources(alloc, filing.mounted(), paths, Some(Versions::Highest))?;
     let target = target_of(alloc, filing.mounted(), all.len(), to)?;
-    for found in &all {
-        if let Err(why) = check(found, &target, filing.user()) {
-            return Err(of_path(alloc, &found.path, why));
-        }
-    }
-    for found in &all {
-        if let Err(why) = copy(alloc, filing, found, &target, stamp) {
+    check_all(alloc, &all, &target, filing.user())?;
+    copy_all(alloc, filing, &all, &target, stamp)
+}
+
+/// Why one of these files is not copied to this target, the first one, as far as it can be seen before.
+fn check_all(alloc: Global, all: &[Found], target: &Target, user: Uic) -> Result<(), Failure>
+    ensures ok { OnOk result (MayAllBeCopied user target.now all.now) }
+    ensures err { IfErr result (IsFirstUncopyable user target.now all.now) }
+{
+    for found in all {
+        if let Err(why) = check(found, target, user) {
             return Err(of_path(alloc, &found.path, why));
         }
     }
     Ok(())
 }
 
-/// What is known of the file, where this user may copy it to this target.
-fn check(found: &Found, target: &Target, user: Uic) -> Result<Facts, Why> {
+/// Copies these files, one after another.
+fn copy_all(
+    alloc: Global,
+    filing: &mut Filing,
+    all: &[Found],
+    target: &Target,
+    stamp: Stamp,
+) -> Result<(), Failure>
+    ensures led { OnOk result (IsLed Copies filing.old filing.new) }
+    ensures done { OnOk result (AreCopied target.now stamp all.now filing.old filing.new) }
+    ensures refused { IfErr result (StopsCopying target.now stamp all.now filing.old filing.new) }
+{
+    for found in all {
+        if let Err(why) = copy(alloc, filing, found, target, stamp) {
+            return Err(of_path(alloc, &found.path, why));
+        }
+    }
+    Ok(())
+}
+
+/// What is known of the file, and the name of its copy, where this user may copy it to this target.
+fn check(found: &Found, target: &Target, user: Uic) -> Result<(Facts, Name), Why>
+    ensures ok { IfOk result (λ r. IsCopyable user target.now found.now r.0 r.1) }
+    ensures err { IfErr result (IsUncopyable user target.now found.now) }
+{
     let Some(facts) = found.facts() else {
         return Err(Why::Path(PathFault::NoSuchFile));
     };
@@ -62,21 +99,33 @@ fn check(found: &Found, target: &Target, user: Uic) -> Result<Facts, Why> {
     if !permits(&user, &facts.owner, facts.protection, Right::Read) {
         return Err(Why::Request(Refusal::Denied));
     }
-    if new_name(found, target, &facts)?.ext() == DIRECTORY_TYPE {
+    let name = new_name(found, target, &facts)?;
+    if name.ext() == DIRECTORY_TYPE {
         return Err(Why::DirectoryType);
     }
-    Ok(facts)
+    Ok((facts, name))
 }
 
 /// The name of the copy: the one that is said, that of the entry, or that of the header.
-fn new_name(found: &Found, target: &Target, facts: &Facts) -> Result<Name, Why> {
+fn new_name(found: &Found, target: &Target, facts: &Facts) -> Result<Name, Why>
+    ensures ok { IfOk result (NamesCopy target.now found.now facts.now) }
+    ensures err { IfErr result (λ why. (why ≡ Why.BadName) × ((name : RadName) → ¬ NamesCopy target.now found.now facts.now name)) }
+{
     if let Some(name) = target.name {
         return Ok(name);
     }
     if let Some(place) = found.place() {
         return Ok(place.entry.name);
     }
-    let text = print_ident(&facts.ident);
+    name_in(&facts.ident)
+}
+
+/// The name in the ident area of a header.
+fn name_in(ident: &[u8; 46]) -> Result<Name, Why>
+    ensures ok { IfOk result (λ name. Spells (before_version (ident_text ident.now)) name Pick.Highest) }
+    ensures err { IfErr result (λ why. (why ≡ Why.BadName) × ((name : RadName) → ¬ Spells (before_version (ident_text ident.now)) name Pick.Highest)) }
+{
+    let text = print_ident(ident);
     match parse_name(without_version(text.as_str()).as_bytes()) {
         Ok((name, _)) => Ok(name),
         Err(_) => Err(Why::BadName),
@@ -84,7 +133,10 @@ fn new_name(found: &Found, target: &Target, facts: &Facts) -> Result<Name, Why> 
 }
 
 /// What stands before the `;` of a name.
-fn without_version(text: &str) -> &str {
+#[tactic(auto, using(crate::proofs::Idents::all_before))]
+fn without_version(text: &str) -> &str
+    ensures { result.now ≡ before_version text.now }
+{
     match text.split_once(';') {
         Some((full, _)) => full,
         None => text,
@@ -99,11 +151,12 @@ fn copy(
     target: &Target,
     stamp: Stamp,
 ) -> Result<(), Why>
-    ensures { OnOk result (IsLed Copies filing.old filing.new) }
+    ensures led { OnOk result (IsLed Copies filing.old filing.new) }
+    ensures done { OnOk result (IsCopied target.now stamp found.now filing.old filing.new) }
+    ensures refused { IfErr result (IsNotCopied target.now stamp found.now filing.old filing.new) }
 {
     let user = filing.user();
-    let facts = check(found, target, user)?;
-    let name = new_name(found, target, &facts)?;
+    let (facts, name) = check(found, target, user)?;
     let bytes = all_bytes(alloc, filing, facts.file)?;
     let attributes = true_for(facts.attributes, facts.blocks)?;
     let version = next_version(filing, target.directory, name, target.version);
@@ -119,17 +172,30 @@ fn copy(
 }
 
 /// The bytes of all blocks of a file.
-fn all_bytes(alloc: Global, filing: &Filing, file: FileId) -> Result<Vec<u8>, Why> {
+fn all_bytes(alloc: Global, filing: &Filing, file: FileId) -> Result<Vec<u8>, Why>
+    ensures ok { IfOk result (λ bytes. (body : Body) × HasBody filing.now.image filing.now.layout file.number body × (bytes_in Form.Raw body ≡ Some bytes.items)) }
+    ensures err { IfErr result (IsUnread filing.now.image filing.now.layout file.number) }
+{
     let disk = filing.disk();
     let body = match FileBody::open(alloc, &disk, file.number) {
         Ok(body) => body,
-        Err(FileFault::Chain(ChainFault::NoMemory)) => {
-            return Err(Why::Request(Refusal::NoMemory));
-        }
-        Err(_) => return Err(Why::Path(PathFault::NoSuchFile)),
+        Err(fault) => return Err(why_unread(fault)),
     };
-    match body.read(alloc, Form::Raw)? {
-        Some(bytes) => Ok(bytes),
-        None => Err(Why::Path(PathFault::NoSuchFile)),
+    match body.read(alloc, Form::Raw) {
+        Ok(Some(bytes)) => Ok(bytes),
+        Ok(None) => Err(Why::Path(PathFault::NoSuchFile)),
+        Err(_) => Err(Why::Request(Refusal::NoMemory)),
+    }
+}
+
+/// Why the bytes of a file are not read.
+fn why_unread(fault: FileFault) -> Why
+    ensures { result ≡ why_for fault }
+{
+    match fault {
+        FileFault::Chain(ChainFault::NoMemory) => Why::Request(Refusal::NoMemory),
+        FileFault::Chain(ChainFault::BadChain) => Why::Path(PathFault::NoSuchFile),
+        FileFault::Chain(ChainFault::OutsideVolume(_)) => Why::Path(PathFault::NoSuchFile),
+        FileFault::NoSuchFile => Why::Path(PathFault::NoSuchFile),
     }
 }

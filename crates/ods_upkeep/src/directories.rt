@@ -1,7 +1,10 @@
 //! `mkdir` and `rmdir`: directories are made and removed.
-ghost use Rattle.std.specs.Prelude.{◌≡◌, false, length, Some, IfOk, OnOk};
-ghost use Rattle.ods_filing.specs.Led.{IsLed};
-ghost use Rattle.ods_upkeep.specs.{Kinds.MakesDirectories, Kinds.Removes, Hidden.HidesEntries, Made.AreMade, Made.IsCreated, Made.IsMade};
+ghost use Rattle.std.specs.Prelude.{◌≡◌, ◌≢◌, ◌↔◌, false, [], codes, IsTrue, Some, None, IfOk, IfErr, MatchBool, MatchResult, OnOk};
+ghost use Rattle.std.specs.List.{All};
+ghost use Rattle.ods_filing.specs.{Filed.IsDone, Led.IsLed};
+ghost use Rattle.ods_paths.specs.{Paths.Master as said_master, Patterns.capitals, Views.folder as said_folder, Views.place as said_place};
+ghost use Rattle.ods_shell.specs.Named.{AreNamed, AreNotNamed};
+ghost use Rattle.ods_upkeep.specs.{Emptied.AreEmptied, Emptied.IsEmptied, Emptied.IsEmptyDirectory, Emptied.IsSought, Kinds.MakesDirectories, Kinds.Removes, Made.AreMade, Made.IsMade, Made.IsNewPlace, Made.blocks_for, Made.directories_named, Meant.IsBelowAnother, Refused.IsRefusedBy, Unemptied.AreNotEmptied, Unemptied.IsNotEmptied, Unemptied.IsNotEmpty, Unemptied.IsNotSought, Unemptied.IsOneNotEmpty, Unmade.AreNotMade, Unmade.IsNoNewPlace, Unmade.IsNotMade};
 
 use crate::Removal;
 use crate::asking::{enter, make};
@@ -11,15 +14,15 @@ use crate::meant::{Meant, path_text, read_meant};
 use crate::names::{Names, is_directory_file};
 use crate::own_files::{LAST_OWN, MASTER};
 use crate::owners::owner_of;
-use crate::removing::remove_one;
+use crate::removing::remove_all;
 use crate::targets::{name_of, the_directory};
 use ods_base::{FileId, Name, Uic};
 use ods_filing::Filing;
 use ods_mount::Mounted;
 use ods_paths::{Files, Place, Versions, has_wildcard};
 use ods_request::{Answer, Refusal, Request, Stamp};
-use ods_shell::{Found, Kind, PathFault, find_names};
-use ods_walk::listing;
+use ods_shell::{Found, Kind, PathFault, find_names, lines_of};
+use ods_text::is_text;
 use std::alloc::Global;
 
 /// Makes directories, each with room for so many names, or one block, and enters them under version 1, one after another: a later one may lie
@@ -32,10 +35,12 @@ pub fn make_directories(
     names: u32,
     owner: Option<Uic>,
 ) -> Result<(), Failure>
-    // Each is made by Create of its owner and Enter of the user.
-    ensures made { OnOk result (AreMade owner stamp filing.old (length paths.now) filing.new) }
+    // Each directory that is meant is new, and is made by Create of its owner and Enter of the user. Nothing else is done.
+    ensures made { OnOk result (AreMade owner names stamp paths.now filing.old filing.new) }
     // Where the user himself is said, it is what his Create and Enter leave.
     ensures own { owner ≡ Some filing.old.user → OnOk result (IsLed MakesDirectories filing.old filing.new) }
+    // Refused, it is so for a reason that holds, and of the path that the failure says. Those before it are made.
+    ensures refused { IfErr result (AreNotMade owner names stamp paths.now filing.old filing.new) }
 {
     for path in paths {
         if let Err(why) = make_directory(alloc, filing, stamp, path, names, owner) {
@@ -54,7 +59,7 @@ fn make_directory(
     names: u32,
     owner: Option<Uic>,
 ) -> Result<(), Why>
-    ensures { OnOk result (IsMade owner stamp filing.old filing.new) }
+    ensures { MatchResult result (λ _. IsMade owner names stamp path.now filing.old filing.new) (IsNotMade owner names stamp path.now filing.old filing.new) }
 {
     let (dir, name) = new_place(alloc, filing.mounted(), path)?;
     let user = filing.user();
@@ -66,39 +71,61 @@ fn make_directory(
 
 /// Makes the file of a directory with room for so many names, or one block.
 fn create(filing: &mut Filing, name: Name, names: u32, stamp: Stamp) -> Result<FileId, Why>
-    ensures { IfOk result (λ file. IsCreated filing.old name stamp file filing.new) }
+    ensures { MatchResult result (λ file. IsDone filing.old (Request.Create name 1 (blocks_for names) stamp) (Answer.Created file) filing.new)
+        (λ why. IsRefusedBy filing.old (Request.Create name 1 (blocks_for names) stamp) why × (filing.new ≡ filing.old)) }
 {
+    let _ = filing.disk();
     let made = make(
         filing,
         Request::Create {
             name,
             version: 1,
-            blocks: names.div_ceil(32).max(1),
+            blocks: blocks_for(names),
             stamp,
         },
     )?;
     match made {
         Answer::Created(file) => Ok(file),
         // Create is answered by the new file.
-        _ => Err(Why::Path(PathFault::NoSuchFile)),
+        _ => unreachable!(),
     }
 }
 
-/// Whether the path of a new directory lies below another directory than the master. RSX knows no such directories.
-/// It has no clause.
-pub fn is_below_another(alloc: Global, path: &str) -> bool {
+/// How many blocks a directory has with room for so many names.
+fn blocks_for(names: u32) -> u32
+    ensures { result ≡ blocks_for names }
+{
+    let blocks = names.div_ceil(32);
+    if blocks == 0 {
+        return 1;
+    }
+    blocks
+}
+
+/// Whether the path of a new directory lies below another directory than the master. RSX knows no such directories. It says no, too, where there is
+/// no memory to see it.
+pub fn is_below_another(alloc: Global, path: &str) -> bool
+    ensures { IsTrue result → IsBelowAnother path.now }
+{
     let Ok(text) = path_text(alloc, path) else {
         return false;
     };
     match read_meant(alloc, text.as_bytes()) {
-        Ok(meant) => !matches!(meant.folder.place, Place::Master),
+        Ok(meant) => !is_master_place(&meant.folder.place),
         Err(_) => false,
     }
 }
 
+/// Whether the place is the master directory.
+fn is_master_place(place: &Place<'_>) -> bool
+    ensures { MatchBool result (said_place place.now ≡ said_master) (said_place place.now ≢ said_master) }
+{
+    matches!(place, Place::Master)
+}
+
 /// Where a directory is made: the directory above it, and its name, which is there in no version.
 fn new_place(alloc: Global, volume: &Mounted, path: &str) -> Result<(FileId, Name), Why>
-    ensures { IfOk result (λ place. ¬ HidesEntries volume.now.image volume.now.layout place.0.number) }
+    ensures { MatchResult result (λ place. IsNewPlace volume.now.image volume.now.layout path.now place.0 place.1) (IsNoNewPlace volume.now.image volume.now.layout path.now) }
 {
     let text = path_text(alloc, path)?;
     let meant = read_meant(alloc, text.as_bytes())?;
@@ -107,18 +134,25 @@ fn new_place(alloc: Global, volume: &Mounted, path: &str) -> Result<(FileId, Nam
     }
     let dir = the_directory(alloc, volume, &meant.folder)?;
     let name = name_of(alloc, &meant.name, b"DIR")?;
-    if dir.number == MASTER && meant.name.as_slice() == b"000000".as_slice() {
+    if is_master(dir, &meant.name) {
         return Err(Why::Request(Refusal::Reserved));
     }
     match find_meant(alloc, volume, &meant, Versions::Every) {
         Ok(_) => return Err(Why::DirectoryThere),
-        Err(Why::Path(PathFault::Nothing)) => {}
-        Err(why) => return Err(why),
+        Err(PathFault::Nothing) => {}
+        Err(fault) => return Err(fault.into()),
     }
     if hides_entries(alloc, volume, dir.number)? {
         return Err(Why::Hidden);
     }
     Ok((dir, name))
+}
+
+/// Whether the name in this directory is that of the master directory in itself.
+fn is_master(dir: FileId, name: &[u8]) -> bool
+    ensures { IsTrue result ↔ ((dir.number ≡ 4) × (capitals name.now ≡ codes "000000")) }
+{
+    dir.number == MASTER && is_text(name, b"000000")
 }
 
 /// The entries that are meant, in these versions.
@@ -127,7 +161,13 @@ fn find_meant(
     volume: &Mounted,
     meant: &Meant<'_>,
     versions: Versions,
-) -> Result<Vec<Found>, Why> {
+) -> Result<Vec<Found>, PathFault>
+    ensures named { IfOk result (λ found. AreNamed volume.now.image volume.now.layout [] (said_folder meant.now.folder)
+        (directories_named (capitals meant.now.name.items) versions) None found.items) }
+    ensures some { IfOk result (λ found. found.items ≢ []) }
+    ensures err { IfErr result (AreNotNamed volume.now.image volume.now.layout (said_folder meant.now.folder)
+        (directories_named (capitals meant.now.name.items) versions) None) }
+{
     let files = Files {
         name: &meant.name,
         kind: b"DIR",
@@ -140,7 +180,11 @@ fn find_meant(
 /// Removes empty directories, one after another: a later one may have held an earlier one.
 pub fn remove_directories(alloc: Global, filing: &mut Filing, paths: &[&str]) -> Result<(), Failure>
     // Refused or not, it is what Remove and Delete leave.
-    ensures { IsLed (Removes false) filing.old filing.new }
+    ensures led { IsLed (Removes false) filing.old filing.new }
+    // Done, each directory that is meant was empty, and its entry has gone, and it with its last entry. Nothing else was done.
+    ensures done { OnOk result (AreEmptied paths.now filing.old filing.new) }
+    // Refused, it is so for a reason that holds, and of the path that the failure says. Those before it have gone.
+    ensures refused { IfErr result (AreNotEmptied paths.now filing.old filing.new) }
 {
     for path in paths {
         remove_path(alloc, filing, path)?;
@@ -150,7 +194,9 @@ pub fn remove_directories(alloc: Global, filing: &mut Filing, paths: &[&str]) ->
 
 /// Removes the directories of a path.
 fn remove_path(alloc: Global, filing: &mut Filing, path: &str) -> Result<(), Failure>
-    ensures { IsLed (Removes false) filing.old filing.new }
+    ensures led { IsLed (Removes false) filing.old filing.new }
+    ensures done { OnOk result (IsEmptied path.now filing.old filing.new) }
+    ensures refused { IfErr result (IsNotEmptied path.now filing.old filing.new) }
 {
     let all = match find_removed(alloc, filing.mounted(), path) {
         Ok(all) => all,
@@ -160,32 +206,40 @@ fn remove_path(alloc: Global, filing: &mut Filing, path: &str) -> Result<(), Fai
         Ok(names) => names,
         Err(error) => return Err(of_path(alloc, path, error.into())),
     };
-    for found in &all {
-        if let Err(why) = check_empty(alloc, filing.mounted(), found) {
-            return Err(of_path(alloc, &found.path, why));
-        }
-    }
+    check_all_empty(alloc, filing.mounted(), &all)?;
     let removal = Removal {
         entry_alone: false,
         newest: false,
     };
-    for found in &all {
-        if let Err(why) = remove_one(filing, found, &mut names, removal) {
+    remove_all(alloc, filing, &all, &mut names, removal)
+}
+
+/// The entries that a path of `rmdir` means.
+fn find_removed(alloc: Global, volume: &Mounted, path: &str) -> Result<Vec<Found>, Why>
+    ensures { MatchResult result (λ found. IsSought volume.now.image volume.now.layout path.now found.items) (IsNotSought volume.now.image volume.now.layout path.now) }
+{
+    let text = path_text(alloc, path)?;
+    let meant = read_meant(alloc, text.as_bytes())?;
+    let found = find_meant(alloc, volume, &meant, Versions::Highest)?;
+    Ok(found)
+}
+
+/// Checks that these are empty directories that may go.
+fn check_all_empty(alloc: Global, volume: &Mounted, all: &[Found]) -> Result<(), Failure>
+    ensures { MatchResult result (λ _. All (IsEmptyDirectory volume.now.image volume.now.layout) all.now) (IsOneNotEmpty volume.now.image volume.now.layout all.now) }
+{
+    for found in all {
+        if let Err(why) = check_empty(alloc, volume, found) {
             return Err(of_path(alloc, &found.path, why));
         }
     }
     Ok(())
 }
 
-/// The entries that a path of `rmdir` means.
-fn find_removed(alloc: Global, volume: &Mounted, path: &str) -> Result<Vec<Found>, Why> {
-    let text = path_text(alloc, path)?;
-    let meant = read_meant(alloc, text.as_bytes())?;
-    find_meant(alloc, volume, &meant, Versions::Highest)
-}
-
 /// Why this is no empty directory that may go.
-fn check_empty(alloc: Global, volume: &Mounted, found: &Found) -> Result<(), Why> {
+fn check_empty(alloc: Global, volume: &Mounted, found: &Found) -> Result<(), Why>
+    ensures { MatchResult result (λ _. IsEmptyDirectory volume.now.image volume.now.layout found.now) (IsNotEmpty volume.now.image volume.now.layout found.now) }
+{
     let Some(facts) = found.facts() else {
         return Err(Why::Path(PathFault::NoSuchFile));
     };
@@ -195,8 +249,7 @@ fn check_empty(alloc: Global, volume: &Mounted, found: &Found) -> Result<(), Why
     if facts.file.number <= LAST_OWN {
         return Err(Why::Request(Refusal::Reserved));
     }
-    let disk = volume.disk();
-    let lines = listing(alloc, &disk, facts.file.number)?;
+    let lines = lines_of(alloc, volume, facts.file.number)?;
     if !lines.is_empty() {
         return Err(Why::Request(Refusal::NotEmpty));
     }

@@ -1,5 +1,10 @@
 //! Why a command is refused, and for which path or file.
+ghost use Rattle.std.specs.Prelude.{◌≡◌};
+ghost use Rattle.ods_shell.specs.declared.path_fault.PathFault.TheVariants as path_faults;
+ghost use Rattle.ods_upkeep.specs.declared.failure.Why.TheVariants as whys;
 ghost use Rattle.ods_upkeep.specs.Pieces.{HasStatus};
+ghost use Rattle.ods_upkeep.specs.Refused.{HasPath, for_fault, no_memory, reason_text, refusal_name, remedy_text};
+ghost use Rattle.ods_shell.specs.Remedies.{row_of};
 
 use crate::put_fault::PutFault;
 use ods_base::{Coded, NameFault};
@@ -59,15 +64,31 @@ pub enum Why {
 
 impl Why {
     /// The name of the refusal of a request.
-    fn refusal(&self) -> &'static str {
+    fn refusal(&self) -> &'static str
+        ensures { result.now ≡ refusal_name self.now }
+    {
         match self {
             Why::Request(refusal) => refusal.name(),
-            _ => "",
+            Why::Path(_)
+            | Why::Text(_)
+            | Why::Put(_)
+            | Why::BadName
+            | Why::IsDirectory
+            | Why::DirectoryType
+            | Why::DirectoryThere
+            | Why::IntoItself
+            | Why::IsId
+            | Why::Several
+            | Why::IsNamed
+            | Why::PastEnd
+            | Why::Hidden => "",
         }
     }
 
     /// Why a request is refused so.
-    fn reason(&self) -> &'static str {
+    fn reason(&self) -> &'static str
+        ensures { result.now ≡ reason_text (row_of (refusal_name self.now)) }
+    {
         match remedy(self.refusal()) {
             Some(advice) => advice.why,
             None => "it is refused",
@@ -75,7 +96,9 @@ impl Why {
     }
 
     /// What one can do then.
-    fn remedy(&self) -> &'static str {
+    fn remedy(&self) -> &'static str
+        ensures { result.now ≡ remedy_text (row_of (refusal_name self.now)) }
+    {
         match remedy(self.refusal()) {
             Some(advice) => advice.what,
             None => "'check --all' says what is wrong with the volume",
@@ -84,24 +107,32 @@ impl Why {
 }
 
 impl From<AllocError> for Why {
+    ghost from_gives = { λ _ why. why ≡ no_memory };
+
     fn from(_error: AllocError) -> Why {
         Why::Request(Refusal::NoMemory)
     }
 }
 
 impl<T: Drop> From<AllocFailed<T>> for Why {
+    ghost from_gives = { λ _ why. why ≡ no_memory };
+
     fn from(_error: AllocFailed<T>) -> Why {
         Why::Request(Refusal::NoMemory)
     }
 }
 
 impl From<Refusal> for Why {
+    ghost from_gives = { λ refusal why. why ≡ whys.Request refusal };
+
     fn from(refusal: Refusal) -> Why {
         Why::Request(refusal)
     }
 }
 
 impl From<PathFault> for Why {
+    ghost from_gives = { λ fault why. why ≡ for_fault fault };
+
     fn from(fault: PathFault) -> Why {
         match fault {
             PathFault::NoMemory => Why::Request(Refusal::NoMemory),
@@ -111,18 +142,24 @@ impl From<PathFault> for Why {
 }
 
 impl From<BadPath> for Why {
+    ghost from_gives = { λ bad why. why ≡ whys.Path (path_faults.Bad bad) };
+
     fn from(bad: BadPath) -> Why {
         Why::Path(PathFault::Bad(bad))
     }
 }
 
 impl From<NameFault> for Why {
+    ghost from_gives = { λ _ why. why ≡ whys.BadName };
+
     fn from(_fault: NameFault) -> Why {
         Why::BadName
     }
 }
 
 impl From<TextFault> for Why {
+    ghost from_gives = { λ fault why. why ≡ whys.Text fault };
+
     fn from(fault: TextFault) -> Why {
         Why::Text(fault)
     }
@@ -168,7 +205,10 @@ impl Failure {
 }
 
 /// The failure of this path. Where there is no memory for it, it is not said.
-pub(crate) fn of_path(alloc: Global, path: &str, why: Why) -> Failure {
+pub(crate) fn of_path(alloc: Global, path: &str, why: Why) -> Failure
+    ensures path { HasPath result path.now }
+    ensures why { result.why ≡ why }
+{
     let path = match String::from_str(alloc, path) {
         Ok(path) => path,
         Err(_) => String::new(alloc),

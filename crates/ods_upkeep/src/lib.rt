@@ -1,6 +1,6 @@
 //! What the changing commands of `f11fs` do on a volume: which files their paths mean, and which requests they make.
-//! The clauses say which requests `rm`, `mv` and `truncate` make, and of the other commands which kinds of requests. When a command is refused
-//! has no clause: `tests/fs_changes` checks that on the built program.
+//! The clauses say exactly which requests each command makes, and that each refusal has a true reason. Of a refused `put` they do not say that:
+//! `tests/fs_changes` checks it on the built program.
 #![tactic(auto)]
 
 mod asked;
@@ -10,7 +10,9 @@ mod copying;
 mod directories;
 mod failure;
 mod hidden;
+mod host_names;
 mod laws;
+mod like_files;
 mod looking;
 mod meant;
 mod moving;
@@ -21,6 +23,7 @@ mod parts;
 mod put_fault;
 mod putting;
 mod removing;
+mod rooms;
 mod sources;
 mod target;
 mod targets;

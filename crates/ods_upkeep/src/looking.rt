@@ -1,6 +1,7 @@
 //! Names that a user looks up in a directory, and the version that comes next.
-ghost use Rattle.std.specs.Prelude.{◌≡◌, ℕ, Some};
+ghost use Rattle.std.specs.Prelude.{◌≡◌, ℕ, MatchOption, Some};
 ghost use Rattle.ods_filing.specs.Led.{IsAsked};
+ghost use Rattle.ods_upkeep.specs.Looked.{IsNextVersion, IsSeen, IsUnseen};
 
 use ods_base::{FileId, Name, Pick};
 use ods_filing::Filing;
@@ -13,15 +14,21 @@ pub(crate) fn look_up(
     name: Name,
     pick: Pick,
 ) -> Option<(FileId, u16)>
-    ensures { IsAsked filing.old (Request.LookUp dir name pick) filing.new }
+    ensures looked { IsAsked filing.old (Request.LookUp dir name pick) filing.new }
+    ensures seen { MatchOption result (IsUnseen filing.old dir name pick filing.new) (λ r. IsSeen filing.old dir name pick r.0 r.1 filing.new) }
 {
+    let _ = filing.disk();
     match filing.request(&Request::LookUp { dir, name, pick }) {
-        Ok(Answer::Found(file, version)) => Some((file, version)),
-        _ => None,
+        Ok(answer) => match answer {
+            Answer::Found(file, version) => Some((file, version)),
+            // A look-up is answered by what is found.
+            _ => unreachable!(),
+        },
+        Err(_) => None,
     }
 }
 
-/// The version under which a name is entered next, where the user may see the directory; else 1.
+/// The version under which a name is entered next: the one that is said, or the one behind the highest that the user may see; else 1.
 pub(crate) fn next_version(
     filing: &mut Filing,
     dir: FileId,
@@ -30,6 +37,7 @@ pub(crate) fn next_version(
 ) -> u16
     ensures looked { IsAsked filing.old (Request.LookUp dir name Pick.Highest) filing.new }
     ensures said { (said : ℕ) → version ≡ Some said → result ≡ said }
+    ensures next { IsNextVersion filing.old dir name version result filing.new }
 {
     if let Some(version) = version {
         return version;

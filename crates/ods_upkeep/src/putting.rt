@@ -1,26 +1,28 @@
 //! `put`: files of the host are put one by one.
-ghost use Rattle.std.specs.Prelude.{◌≡◌, ◌⊎◌, is_some, min, true, None, IfOk, OnOk};
+ghost use Rattle.std.specs.Prelude.{◌≡◌, ◌⊎◌, is_some, min, not, ◌&&◌, true, None, IfOk, OnOk};
 ghost use Rattle.ods_filing.specs.Filed.{HasGrown, lacking};
-ghost use Rattle.ods_filing.specs.Led.{IsAsked, IsLed};
-ghost use Rattle.ods_upkeep.specs.{Kinds.Puts, PutFor.IsPut};
+ghost use Rattle.ods_filing.specs.Led.{IsLed};
+ghost use Rattle.ods_upkeep.specs.{Begun.AreKept, Begun.AreNames, Begun.IsBegun, Begun.count_of, Begun.path_to};
+ghost use Rattle.ods_upkeep.specs.{HostPut.AreCountedOn, HostPut.AreNotedOn, HostPut.IsHostPut, HostPut.IsPutAs, HostPut.IsStill, HostPut.IsVersionFor};
+ghost use Rattle.ods_upkeep.specs.{Kinds.Puts, Left.replaces, PutFor.IsPut, Remarks.IsRemark, Remarks.IsRemarkOn, Written.bytes_of};
 
-use crate::asking::{delete, put_new, remove};
+use crate::asking::put_new;
 use crate::failure::{Failure, Why, of_path};
-use crate::looking::{look_up, next_version};
+use crate::host_names::name_for;
+use crate::like_files::like_attributes;
+use crate::looking::next_version;
 use crate::names::Names;
-use crate::put_fault::PutFault;
+use crate::rooms::make_room;
 use crate::target::Target;
-use crate::targets::{name_of, target_of};
+use crate::targets::target_of;
 use crate::versions::Highest;
 use crate::written::{Written, write_host};
 use crate::{HostFile, PutForm};
-use ods_base::{DIRECTORY_TYPE, FileId, Name, Pick, Uic};
+use ods_base::{DIRECTORY_TYPE, FileId, Name, Uic};
 use ods_filing::{Filing, NewFile};
 use ods_mount::Mounted;
-use ods_paths::Versions;
 use ods_records::NearText;
-use ods_request::{Answer, Kind as Shown, Refusal, Request, Stamp};
-use ods_shell::{Kind, PathFault, find_path};
+use ods_request::Stamp;
 use std::alloc::Global;
 use std::marker::Model;
 
@@ -40,12 +42,11 @@ pub struct Putting {
 }
 
 impl Model for Putting {
-    ghost use Rattle.std.specs.Prelude.{is_some};
     ghost use Rattle.ods_upkeep.specs.Left.{InPut};
 
     ghost Value = { InPut };
 
-    ghost view = { λ p. record { replaces = is_some p.names; owner = p.owner } };
+    ghost view = { λ p. record { target = p.target; stamp = p.stamp; form = p.form; like = p.like; owner = p.owner; names = p.names; highest = p.highest } };
 }
 
 impl Putting {
@@ -63,13 +64,13 @@ impl Putting {
         replace: bool,
         owner: Option<Uic>,
     ) -> Result<Putting, Failure>
-        ensures { IfOk result (λ begun. begun ≡ record { replaces = replace; owner = owner }) }
+        ensures { IfOk result (IsBegun volume.now.image volume.now.layout stamp to.entry several form like.entry replace owner) }
     {
-        let count = if several { 2 } else { 1 };
-        let target = target_of(alloc, volume, count, to.unwrap_or("[0,0]"))?;
+        let target = target_of(alloc, volume, count_of(several), path_to(to))?;
         let like = like_attributes(alloc, volume, like)?;
         let names = count_names(alloc, volume, replace)?;
-        let highest = highest_versions(alloc, volume, target.directory, several && !replace)?;
+        let keeps = keeps_versions(several, replace);
+        let highest = highest_versions(alloc, volume, target.directory, keeps)?;
         Ok(Putting {
             target,
             stamp,
@@ -85,7 +86,7 @@ impl Putting {
     /// changes nothing, and each file asks for its own. Where files are replaced it asks for none, since they leave theirs.
     pub fn make_ready(&self, filing: &mut Filing, files: usize)
         ensures grown { (filing.new ≡ filing.old) ⊎ HasGrown filing.old (lacking filing.old (min files 65535)) filing.new }
-        ensures replaces { self.now.replaces ≡ true → filing.new ≡ filing.old }
+        ensures replaces { replaces self.now ≡ true → filing.new ≡ filing.old }
     {
         if self.names.is_none() && files > 1 {
             let _ = filing.make_ready(files.min(65_535) as u32);
@@ -99,11 +100,14 @@ impl Putting {
         filing: &mut Filing,
         host: &HostFile<'_>,
     ) -> Result<Option<String>, Failure>
+        // It has the name, the attributes and the bytes that the host file gives, and what is known is what is there then.
+        ensures done { OnOk result (IsHostPut self.old host.now.name.now host.now.bytes.now filing.old self.new filing.new) }
         // Its owner makes the file, and the user enters it. Before that he makes room, where files are replaced.
-        ensures volume { OnOk result (IsPut (Puts self.old.replaces) self.old.owner filing.old filing.new) }
+        ensures volume { OnOk result (IsPut (Puts (replaces self.old)) self.old.owner filing.old filing.new) }
         // Where no owner is said, it is what LookUp, Create, Extend, Write, SetUser and Enter leave, and where files are replaced, Stat, Remove and Delete besides.
-        ensures own { self.old.owner ≡ None → OnOk result (IsLed (Puts self.old.replaces) filing.old filing.new) }
-        ensures same { self.new ≡ self.old }
+        ensures own { self.old.owner ≡ None → OnOk result (IsLed (Puts (replaces self.old)) filing.old filing.new) }
+        ensures still { IsStill self.old self.new }
+        ensures remark { IfOk result (IsRemark self.old.form self.old.like host.now.bytes.now) }
     {
         match self.put_one(alloc, filing, host) {
             Ok(remark) => Ok(remark),
@@ -118,14 +122,11 @@ impl Putting {
         filing: &mut Filing,
         host: &HostFile<'_>,
     ) -> Result<Option<String>, Why>
-        ensures volume { OnOk result (IsPut (Puts self.old.replaces) self.old.owner filing.old filing.new) }
-        ensures own { self.old.owner ≡ None → OnOk result (IsLed (Puts self.old.replaces) filing.old filing.new) }
-        ensures same { self.new ≡ self.old }
+        ensures done { OnOk result (IsHostPut self.old host.now.name.now host.now.bytes.now filing.old self.new filing.new) }
+        ensures still { IsStill self.old self.new }
+        ensures remark { IfOk result (IsRemark self.old.form self.old.like host.now.bytes.now) }
     {
-        let name = match self.target.name {
-            Some(name) => name,
-            None => host_name(alloc, host.name)?,
-        };
+        let name = name_for(alloc, self.target.name, host.name)?;
         if name.ext() == DIRECTORY_TYPE {
             return Err(Why::DirectoryType);
         }
@@ -142,16 +143,13 @@ impl Putting {
         name: Name,
         written: &Written<'_>,
     ) -> Result<(), Why>
-        ensures volume { OnOk result (IsPut (Puts self.old.replaces) self.old.owner filing.old filing.new) }
-        ensures own { self.old.owner ≡ None → OnOk result (IsLed (Puts self.old.replaces) filing.old filing.new) }
-        ensures same { self.new ≡ self.old }
+        ensures done { OnOk result (IsPutAs self.old name written.now.attributes (bytes_of written.now) filing.old self.new filing.new) }
+        ensures still { IsStill self.old self.new }
     {
         let dir = self.target.directory;
         let said = self.target.version;
-        let said = match make_room(filing, dir, name, said, &mut self.names)? {
-            Some(version) => Some(version),
-            None => said,
-        };
+        let free = make_room(filing, dir, name, said, &mut self.names)?;
+        let said = free.or(said);
         let version = version_of(filing, dir, name, said, &self.highest);
         let file = NewFile {
             name,
@@ -162,48 +160,38 @@ impl Putting {
         };
         let owner = self.owner.unwrap_or(filing.user());
         let id = put_new(filing, owner, dir, said, &file)?;
-        if let Some(names) = &mut self.names {
-            names.add(id);
-        }
-        if let Some(highest) = &mut self.highest {
-            highest.note(&name, version)?;
-        }
-        Ok(())
+        count_name(&mut self.names, id);
+        note_version(&mut self.highest, &name, version)
     }
 }
 
-/// The attributes of the file like which others are made.
-fn like_attributes(
-    alloc: Global,
-    volume: &Mounted,
-    like: Option<&str>,
-) -> Result<Option<[u8; 32]>, Failure> {
-    let Some(path) = like else {
-        return Ok(None);
-    };
-    match attributes_of(alloc, volume, path) {
-        Ok(attributes) => Ok(Some(attributes)),
-        Err(why) => Err(of_path(alloc, path, why)),
+/// The path of the target: the one that is said, or that of the master directory.
+fn path_to<'a>(to: Option<&'a str>) -> &'a str
+    ensures { result.now ≡ path_to to.entry }
+{
+    match to {
+        Some(path) => path,
+        None => "[0,0]",
     }
 }
 
-/// The attributes of the one file that a path names.
-fn attributes_of(alloc: Global, volume: &Mounted, path: &str) -> Result<[u8; 32], Why> {
-    let (found, _) = find_path(alloc, volume, path, Some(Versions::Highest), &[])?;
-    let [one] = found.as_slice() else {
-        return Err(Why::Several);
-    };
-    match one.facts {
-        Some(facts) if facts.kind == Kind::Directory => Err(Why::IsDirectory),
-        Some(facts) if facts.file.number <= 2 => Err(Why::Request(Refusal::Reserved)),
-        Some(facts) => Ok(facts.attributes),
-        None => Err(Why::Path(PathFault::NoSuchFile)),
-    }
+/// For how many files the target is looked up.
+fn count_of(several: bool) -> usize
+    ensures { result ≡ count_of several }
+{
+    if several { 2 } else { 1 }
+}
+
+/// Whether the highest versions are looked up at the beginning: several files are put, and none is replaced.
+fn keeps_versions(several: bool, replace: bool) -> bool
+    ensures { result ≡ (several && not replace) }
+{
+    several && !replace
 }
 
 /// How many entries name each file, where that is asked for.
 fn count_names(alloc: Global, volume: &Mounted, replace: bool) -> Result<Option<Names>, Failure>
-    ensures { IfOk result (λ names. is_some names ≡ replace) }
+    ensures { IfOk result (AreNames volume.now.image volume.now.layout replace) }
 {
     if !replace {
         return Ok(None);
@@ -220,7 +208,9 @@ fn highest_versions(
     volume: &Mounted,
     directory: FileId,
     is_wanted: bool,
-) -> Result<Option<Highest>, Failure> {
+) -> Result<Option<Highest>, Failure>
+    ensures { IfOk result (AreKept volume.now.image volume.now.layout is_wanted directory) }
+{
     if !is_wanted {
         return Ok(None);
     }
@@ -239,35 +229,41 @@ fn version_of(
     said: Option<u16>,
     highest: &Option<Highest>,
 ) -> u16
-    ensures looked { IsAsked filing.old (Request.LookUp dir name Pick.Highest) filing.new }
+    ensures { IsVersionFor highest.now filing.old dir name said result filing.new }
 {
-    if said.is_none() {
-        if let Some(highest) = highest {
-            return highest.next(&name);
-        }
+    match said {
+        Some(version) => version,
+        None => match highest {
+            Some(highest) => highest.next(&name),
+            None => next_version(filing, dir, name, None),
+        },
     }
-    next_version(filing, dir, name, said)
 }
 
-/// The name of a host file as a name of the volume. A character is refused that stands for one of the volume's that RSX cannot type.
-fn host_name(alloc: Global, name: &str) -> Result<Name, Why> {
-    let bytes = name.as_bytes();
-    if bytes.is_empty() || bytes.iter().any(|c| *c == b';') {
-        return Err(Why::BadName);
+/// One entry more names the file, where names are counted.
+fn count_name(names: &mut Option<Names>, file: FileId)
+    ensures counted { AreCountedOn names.old file names.new }
+    ensures replaces { is_some names.new ≡ is_some names.old }
+{
+    if let Some(names) = names {
+        names.add(file);
     }
-    for character in ['_', '%', '&'] {
-        if bytes.iter().any(|c| *c == character as u8) {
-            return Err(Why::Put(PutFault::Untyped(character)));
-        }
+}
+
+/// This version of the name is there too, where the highest versions are known.
+fn note_version(highest: &mut Option<Highest>, name: &Name, version: u16) -> Result<(), Why>
+    ensures { OnOk result (AreNotedOn highest.old name.now version highest.new) }
+{
+    if let Some(highest) = highest {
+        highest.note(name, version)?;
     }
-    match name.split_once('.') {
-        Some((title, kind)) => name_of(alloc, title.as_bytes(), kind.as_bytes()),
-        None => name_of(alloc, bytes, b""),
-    }
+    Ok(())
 }
 
 /// What is to be remarked of a file that was put.
-fn remark(alloc: Global, written: &Written<'_>) -> Result<Option<String>, Why> {
+fn remark(alloc: Global, written: &Written<'_>) -> Result<Option<String>, Why>
+    ensures { IfOk result (IsRemarkOn written.now.is_completed written.now.near) }
+{
     if written.is_completed {
         let text = String::from_str(alloc, "the last line has no LF, and became a record")?;
         return Ok(Some(text));
@@ -280,54 +276,4 @@ fn remark(alloc: Global, written: &Written<'_>) -> Result<Option<String>, Why> {
         text.push_str("; -t makes records")?;
     }
     Ok(Some(text))
-}
-
-/// Where files are replaced and one has the name: its entry goes, and the file where no other entry names it. Gives the version that is free then.
-fn make_room(
-    filing: &mut Filing,
-    dir: FileId,
-    name: Name,
-    version: Option<u16>,
-    names: &mut Option<Names>,
-) -> Result<Option<u16>, Why>
-    ensures volume { OnOk result (IsLed (Puts (is_some names.old)) filing.old filing.new) }
-    ensures replaces { is_some names.new ≡ is_some names.old }
-{
-    let Some(names) = names else {
-        return Ok(None);
-    };
-    let pick = match version {
-        Some(version) => Pick::Exact(version),
-        None => Pick::Highest,
-    };
-    let Some((file, version)) = look_up(filing, dir, name, pick) else {
-        return Ok(None);
-    };
-    let is_there = is_plain(filing, file)?;
-    remove(filing, dir, name, version)?;
-    if !is_there {
-        return Ok(Some(version));
-    }
-    names.take(file);
-    if names.count(file) > 0 {
-        return Ok(Some(version));
-    }
-    delete(filing, file)?;
-    Ok(Some(version))
-}
-
-/// Whether there is a file with this ID. A directory is not replaced, nor is a file of the system.
-fn is_plain(filing: &mut Filing, file: FileId) -> Result<bool, Why>
-    ensures { OnOk result (IsAsked filing.old (Request.Stat file) filing.new) }
-{
-    match filing.request(&Request::Stat { file }) {
-        Ok(Answer::Info(stat)) => match stat.kind {
-            Shown::Plain { .. } => Ok(true),
-            Shown::Directory { .. } => Err(Why::IsDirectory),
-            Shown::System => Err(Why::Request(Refusal::Reserved)),
-        },
-        Ok(_) => Ok(false),
-        Err(Refusal::NoSuchFile) => Ok(false),
-        Err(refusal) => Err(Why::Request(refusal)),
-    }
 }

@@ -1,10 +1,12 @@
 //! `rm` removes names, and deletes the files that have no name left.
-ghost use Rattle.std.specs.Prelude.{◌≡◌, slice_index, false, true, OnOk};
+ghost use Rattle.std.specs.Prelude.{◌≡◌, slice_index, false, true, IfErr, OnErr, OnOk};
 ghost use Rattle.ods_filing.specs.Led.{IsAsked, IsLed, IsObeyed};
 ghost use Rattle.ods_base.specs.declared.name.Pick.{Pick};
 ghost use Rattle.ods_request.specs.declared.requests.Request.{Request};
 ghost use Rattle.ods_upkeep.specs.Kinds.{Removes};
-ghost use Rattle.ods_upkeep.specs.Removed.{Does, IsRemoved, entry_gone, file_gone, names_left, one_gone};
+ghost use Rattle.ods_upkeep.specs.Refused.{AreNotKept, IsFirstKept, IsRefusedBy, StopsAt};
+ghost use Rattle.ods_upkeep.specs.Removed.{Does, IsNotRemoved, IsRemoved, MayNotGo, StopsGoing, entry_gone, file_gone, names_left, one_gone, removals};
+ghost use Rattle.ods_upkeep.specs.declared.failure.Why.{Why as Reason};
 
 use crate::Removal;
 use crate::asking::{delete, remove};
@@ -31,6 +33,8 @@ pub fn remove_files(
     ensures led { IsLed (Removes removal.entry_alone) filing.old filing.new }
     // Done, each entry that is named has gone, and each file that no entry names any more.
     ensures done { OnOk result (IsRemoved removal.entry_alone removal.newest paths.now filing.old filing.new) }
+    // Refused, it is so for a reason that holds, and of the path that the failure says.
+    ensures refused { IfErr result (IsNotRemoved removal.entry_alone removal.newest paths.now filing.old filing.new) }
 {
     let unsaid = if removal.newest {
         Some(Versions::Highest)
@@ -42,13 +46,37 @@ pub fn remove_files(
         Ok(names) => names,
         Err(error) => return Err(of_path(alloc, "", error.into())),
     };
-    for found in &all {
-        if let Err(why) = check(found, &names, removal) {
+    check_all(alloc, &all, &names, removal)?;
+    remove_all(alloc, filing, &all, &mut names, removal)
+}
+
+/// Why one of these is not removed, the first one, as far as it can be seen before.
+fn check_all(alloc: Global, all: &[Found], names: &Names, removal: Removal) -> Result<(), Failure>
+    ensures ok { OnOk result (AreNotKept (MayNotGo removal.entry_alone (slice_index names.now)) all.now) }
+    ensures err { IfErr result (IsFirstKept (MayNotGo removal.entry_alone (slice_index names.now)) all.now) }
+{
+    for found in all {
+        if let Err(why) = check(found, names, removal) {
             return Err(of_path(alloc, &found.path, why));
         }
     }
-    for found in &all {
-        if let Err(why) = remove_one(filing, found, &mut names, removal) {
+    Ok(())
+}
+
+/// Removes these, one after another.
+pub(crate) fn remove_all(
+    alloc: Global,
+    filing: &mut Filing,
+    all: &[Found],
+    names: &mut Names,
+    removal: Removal,
+) -> Result<(), Failure>
+    ensures led { IsLed (Removes removal.entry_alone) filing.old filing.new }
+    ensures done { OnOk result (Does filing.old (removals removal.entry_alone (slice_index names.old) all.now) filing.new) }
+    ensures refused { IfErr result (StopsGoing removal.entry_alone (slice_index names.old) all.now filing.old filing.new) }
+{
+    for found in all {
+        if let Err(why) = remove_one(filing, found, names, removal) {
             return Err(of_path(alloc, &found.path, why));
         }
     }
@@ -56,7 +84,10 @@ pub fn remove_files(
 }
 
 /// Why this is not removed, as far as it can be seen before.
-fn check(found: &Found, names: &Names, removal: Removal) -> Result<(), Why> {
+fn check(found: &Found, names: &Names, removal: Removal) -> Result<(), Why>
+    ensures ok { OnOk result ((why : Reason) → ¬ MayNotGo removal.entry_alone (slice_index names.now) found.now why) }
+    ensures err { IfErr result (MayNotGo removal.entry_alone (slice_index names.now) found.now) }
+{
     if stays(found) {
         return Err(Why::Request(Refusal::Reserved));
     }
@@ -87,6 +118,7 @@ pub(crate) fn remove_one(
 ) -> Result<(), Why>
     ensures led { IsLed (Removes removal.entry_alone) filing.old filing.new }
     ensures done { OnOk result (Does filing.old (one_gone removal.entry_alone (slice_index names.old) found.now.place found.now.facts) filing.new) }
+    ensures refused { IfErr result (StopsAt filing.old (one_gone removal.entry_alone (slice_index names.old) found.now.place found.now.facts) filing.new) }
     ensures names { OnOk result (slice_index names.new ≡ names_left (slice_index names.old) found.now.place found.now.facts) }
 {
     remove_place(filing, found.place())?;
@@ -112,6 +144,7 @@ fn take_name(names: &mut Names, found: &Found)
 fn delete_unnamed(filing: &mut Filing, names: &Names, facts: Option<Facts>) -> Result<(), Why>
     ensures led { IsLed (Removes false) filing.old filing.new }
     ensures done { OnOk result (Does filing.old (file_gone (slice_index names.now) facts) filing.new) }
+    ensures refused { IfErr result (StopsAt filing.old (file_gone (slice_index names.now) facts) filing.new) }
 {
     if let Some(facts) = facts {
         if names.count(facts.file) == 0 {
@@ -125,6 +158,7 @@ fn delete_unnamed(filing: &mut Filing, names: &Names, facts: Option<Facts>) -> R
 fn remove_place(filing: &mut Filing, place: Option<EntryPlace>) -> Result<(), Why>
     ensures led { IsLed (Removes true) filing.old filing.new }
     ensures done { OnOk result (Does filing.old (entry_gone place) filing.new) }
+    ensures refused { IfErr result (StopsAt filing.old (entry_gone place) filing.new) }
 {
     match place {
         Some(place) => remove_at(filing, &place),
@@ -136,6 +170,8 @@ fn remove_place(filing: &mut Filing, place: Option<EntryPlace>) -> Result<(), Wh
 pub(crate) fn remove_at(filing: &mut Filing, place: &EntryPlace) -> Result<(), Why>
     ensures done { OnOk result (IsObeyed filing.old (Request.Remove place.now.directory place.now.entry.name (Pick.Exact place.now.entry.version)) filing.new) }
     ensures asked { IsAsked filing.old (Request.Remove place.now.directory place.now.entry.name (Pick.Exact place.now.entry.version)) filing.new }
+    ensures refused { IfErr result (IsRefusedBy filing.old (Request.Remove place.now.directory place.now.entry.name (Pick.Exact place.now.entry.version))) }
+    ensures unchanged { OnErr result (filing.new ≡ filing.old) }
 {
     let entry = place.entry;
     remove(filing, place.directory, entry.name, entry.version)

@@ -1,6 +1,7 @@
 //! The files that the words of a command name, each name once, in the order in which they are changed.
-ghost use Rattle.std.specs.Prelude.{◌≡◌, ◌++◌, ◌∷◌, [], ◌⊎◌, List, reverse, IfOk, OnOk};
+ghost use Rattle.std.specs.Prelude.{◌≡◌, ◌++◌, ◌∷◌, [], ◌⊎◌, List, reverse, IfOk, MatchResult, OnOk};
 ghost use Rattle.ods_shell.specs.declared.found.Found.{Found as One};
+ghost use Rattle.ods_upkeep.specs.Refused.{AreNoSources, IsNoSource};
 ghost use Rattle.ods_upkeep.specs.Sources.{AreFirst, AreOfPath, AreSources, IsAgain};
 ghost use Rattle.ods_upkeep.specs.Once.{HasKeysOf, key_of};
 
@@ -18,7 +19,8 @@ pub(crate) fn sources(
     paths: &[&str],
     unsaid: Option<Versions>,
 ) -> Result<Vec<Found>, Failure>
-    ensures { IfOk result (λ found. AreSources volume.now.image volume.now.layout unsaid paths.now found.items) }
+    ensures { MatchResult result (λ found. AreSources volume.now.image volume.now.layout unsaid paths.now found.items)
+        (AreNoSources volume.now.image volume.now.layout unsaid paths.now) }
 {
     let mut all = Vec::new(alloc);
     for path in paths {
@@ -40,7 +42,8 @@ fn add_found(
     unsaid: Option<Versions>,
     all: &mut Vec<Found>,
 ) -> Result<(), Why>
-    ensures { OnOk result ((here : List One) × AreOfPath volume.now.image volume.now.layout unsaid path.now here × (all.new.items ≡ all.old.items ++ reverse here)) }
+    ensures { MatchResult result (λ _. (here : List One) × AreOfPath volume.now.image volume.now.layout unsaid path.now here × (all.new.items ≡ all.old.items ++ reverse here))
+        (IsNoSource volume.now.image volume.now.layout unsaid path.now) }
 {
     let (mut found, _) = find_path(alloc, volume, path, unsaid, &[])?;
     found.reverse();

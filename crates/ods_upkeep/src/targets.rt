@@ -1,6 +1,6 @@
 //! Which target a path says.
-ghost use Rattle.std.specs.Prelude.{◌≡◌, ◌⊎◌, ◌++◌, ◌∷◌, ◌↔◌, [], List, IfOk, IsTrue, MatchOption, OnOk};
-ghost use Rattle.ods_base.specs.Name.{Spells};
+ghost use Rattle.std.specs.Prelude.{◌≡◌, ◌⊎◌, ◌++◌, ◌∷◌, ◌↔◌, [], IfErr, IfOk, IsTrue, MatchOption, MatchResult};
+ghost use Rattle.ods_base.specs.Name.{RadName, Spells};
 ghost use Rattle.ods_base.specs.declared.file_id.FileId.{FileId as Id};
 ghost use Rattle.ods_paths.specs.Patterns.{capitals};
 ghost use Rattle.ods_paths.specs.{Paths.Said, Paths.Says, Paths.Within, Views.files as said_files, Views.said_files as said_some, Views.folder as said_folder, Views.said};
@@ -9,7 +9,9 @@ ghost use Rattle.ods_shell.specs.declared.folders.Directory.{Directory as Holder
 ghost use Rattle.ods_shell.specs.Facts.{AreFacts};
 ghost use Rattle.ods_shell.specs.Ways.{AreMeant};
 ghost use Rattle.ods_upkeep.specs.Hidden.{HidesEntries};
-ghost use Rattle.ods_upkeep.specs.Target.{AreExact, GivesName, IsAlone, IsDirectoryNamed, IsInto, IsTarget, IsTargetOf, IsTheDirectory, IsWhole, MayBeDirectory, SaysVersion};
+ghost use Rattle.ods_upkeep.specs.Refused.{HasPath, no_memory};
+ghost use Rattle.ods_upkeep.specs.declared.failure.Why.{Why as Reason};
+ghost use Rattle.ods_upkeep.specs.Target.{AreExact, AreNoTarget, GivesName, IsAlone, IsDirectoryNamed, IsIdOfNone, IsInto, IsNoDirectory, IsNoName, IsNoTarget, IsNoTargetOf, IsTarget, IsTargetOf, IsTheDirectory, IsWhole, MayBeDirectory, SaysNoTarget, SaysNoVersion, SaysVersion};
 
 use crate::failure::{Failure, Why, of_path};
 use crate::hidden::hides_entries;
@@ -28,7 +30,8 @@ pub(crate) fn target_of(
     count: usize,
     to: &str,
 ) -> Result<Target, Failure>
-    ensures { IfOk result (IsTarget volume.now.image volume.now.layout count to.now) }
+    ensures { MatchResult result (IsTarget volume.now.image volume.now.layout count to.now)
+        (λ failure. IsNoTarget volume.now.image volume.now.layout count to.now failure.why × HasPath failure to.now) }
 {
     match read_target(alloc, volume, to) {
         Ok(target) => {
@@ -44,8 +47,8 @@ pub(crate) fn target_of(
 /// The target that a path says: a directory that is there, or a name in one. A directory that hides entries is refused, since a name that is
 /// entered there could be one of them.
 fn read_target(alloc: Global, volume: &Mounted, to: &str) -> Result<Target, Why>
-    ensures { IfOk result (λ target. (says : Said) × Says to.now says × IsTargetOf volume.now.image volume.now.layout to.now says target
-        × ¬ HidesEntries volume.now.image volume.now.layout target.directory.number) }
+    ensures { MatchResult result (λ target. (says : Said) × Says to.now says × IsTargetOf volume.now.image volume.now.layout to.now says target
+        × ¬ HidesEntries volume.now.image volume.now.layout target.directory.number) (SaysNoTarget volume.now.image volume.now.layout to.now) }
 {
     let target = match parse_path(to.as_bytes()) {
         Ok(path) => target_said(alloc, volume, to.as_bytes(), &path)?,
@@ -59,7 +62,8 @@ fn read_target(alloc: Global, volume: &Mounted, to: &str) -> Result<Target, Why>
 
 /// The target of a path that says this.
 fn target_said(alloc: Global, volume: &Mounted, text: &[u8], path: &Path<'_>) -> Result<Target, Why>
-    ensures { IfOk result (IsTargetOf volume.now.image volume.now.layout text.now (said path.now)) }
+    ensures { MatchResult result (IsTargetOf volume.now.image volume.now.layout text.now (said path.now))
+        (IsNoTargetOf volume.now.image volume.now.layout text.now (said path.now)) }
 {
     match path {
         Path::File(file) => directory_with(volume, *file),
@@ -75,7 +79,8 @@ fn target_within(
     folder: &Folder<'_>,
     files: &Option<Files<'_>>,
 ) -> Result<Target, Why>
-    ensures { IfOk result (IsTargetOf volume.now.image volume.now.layout text.now (Within (said_folder folder.now) (said_some files.now))) }
+    ensures { MatchResult result (IsTargetOf volume.now.image volume.now.layout text.now (Within (said_folder folder.now) (said_some files.now)))
+        (IsNoTargetOf volume.now.image volume.now.layout text.now (Within (said_folder folder.now) (said_some files.now))) }
 {
     match files {
         None => Ok(whole(the_directory(alloc, volume, folder)?)),
@@ -85,8 +90,9 @@ fn target_within(
 
 /// The directory with this ID.
 fn directory_with(volume: &Mounted, file: FileId) -> Result<Target, Why>
-    ensures { IfOk result (λ target. IsWhole file target
-        × ((facts : Known) × AreFacts volume.now.image volume.now.layout file.number facts × (facts.file ≡ file) × (facts.kind ≡ Kind.Directory))) }
+    ensures { MatchResult result (λ target. IsWhole file target
+        × ((facts : Known) × AreFacts volume.now.image volume.now.layout file.number facts × (facts.file ≡ file) × (facts.kind ≡ Kind.Directory)))
+        (IsIdOfNone volume.now.image volume.now.layout file) }
 {
     match facts_by_id(volume, file) {
         Some(facts) if facts.kind == Kind::Directory => Ok(whole(file)),
@@ -111,7 +117,8 @@ pub(crate) fn the_directory(
     volume: &Mounted,
     folder: &Folder<'_>,
 ) -> Result<FileId, Why>
-    ensures { IfOk result (IsTheDirectory volume.now.image volume.now.layout (said_folder folder.now)) }
+    ensures { MatchResult result (IsTheDirectory volume.now.image volume.now.layout (said_folder folder.now))
+        (IsNoDirectory volume.now.image volume.now.layout (said_folder folder.now)) }
 {
     let finding = find_open(alloc, volume, folder, &None, Versions::Highest, &[])?;
     match finding.directories.as_slice() {
@@ -137,6 +144,7 @@ fn named_within(
         ((file : Id) × IsInto volume.now.image volume.now.layout text.now (said_folder folder.now) (said_files files.entry) file × IsWhole file target)
         ⊎ (((file : Id) → ¬ IsInto volume.now.image volume.now.layout text.now (said_folder folder.now) (said_files files.entry) file)
         × GivesName volume.now.image volume.now.layout (said_folder folder.now) (said_files files.entry) target)) }
+    ensures refused { IfErr result (AreNoTarget volume.now.image volume.now.layout text.now (said_folder folder.now) (said_files files.entry)) }
 {
     if has_wildcard(files.name) || has_wildcard(files.kind) {
         return Err(Why::Several);
@@ -156,7 +164,7 @@ fn named_within(
 
 /// The version that a name gets; `None` where it is the next one.
 fn version_said(versions: Option<Versions>) -> Result<Option<u16>, Why>
-    ensures { IfOk result (SaysVersion versions) }
+    ensures { MatchResult result (SaysVersion versions) (λ why. (why ≡ Reason.Several) × SaysNoVersion versions) }
 {
     match versions {
         None | Some(Versions::Highest) => Ok(None),
@@ -175,10 +183,11 @@ fn directory_into(
     version: Option<u16>,
 ) -> Result<Option<FileId>, Why>
     requires { SaysVersion files.versions version }
-    ensures { IfOk result (λ found. MatchOption found
+    ensures { MatchResult result (λ found. MatchOption found
         ((directory : Holder) → AreMeant volume.now.image volume.now.layout [] (said_folder folder.now) (directory ∷ [])
         → (file : Id) → ¬ IsInto volume.now.image volume.now.layout text.now (said_folder folder.now) (said_files files.entry) file)
-        (IsInto volume.now.image volume.now.layout text.now (said_folder folder.now) (said_files files.entry))) }
+        (IsInto volume.now.image volume.now.layout text.now (said_folder folder.now) (said_files files.entry)))
+        (λ why. why ≡ no_memory) }
 {
     if version.is_some() {
         return Ok(None);
@@ -206,10 +215,11 @@ fn directory_named(
     folder: &Folder<'_>,
     name: &[u8],
 ) -> Result<Option<FileId>, Why>
-    ensures { IfOk result (λ found. MatchOption found
+    ensures { MatchResult result (λ found. MatchOption found
         ((directory : Holder) → AreMeant volume.now.image volume.now.layout [] (said_folder folder.now) (directory ∷ [])
         → (file : Id) → ¬ IsDirectoryNamed volume.now.image volume.now.layout (said_folder folder.now) (capitals name.now) file)
-        (IsDirectoryNamed volume.now.image volume.now.layout (said_folder folder.now) (capitals name.now))) }
+        (IsDirectoryNamed volume.now.image volume.now.layout (said_folder folder.now) (capitals name.now)))
+        (λ why. why ≡ no_memory) }
 {
     let _ = volume.layout();
     let files = Files {
@@ -242,22 +252,30 @@ fn one_directory(found: &[Found]) -> Option<FileId>
 
 /// The name of these characters, in either case, and this type.
 pub(crate) fn name_of(alloc: Global, name: &[u8], kind: &[u8]) -> Result<Name, Why>
-    ensures { IfOk result (λ n. Spells (capitals name.now ++ 46 ∷ capitals kind.now) n Pick.Highest) }
+    ensures { MatchResult result (λ n. Spells (capitals name.now ++ 46 ∷ capitals kind.now) n Pick.Highest) (IsNoName (capitals name.now) (capitals kind.now)) }
 {
     let mut text = Vec::new(alloc);
     push_capitals(&mut text, name)?;
     text.push(b'.')?;
     push_capitals(&mut text, kind)?;
-    match parse_name(&text) {
+    spelled(&text)
+}
+
+/// The name that a text without a version spells.
+fn spelled(text: &[u8]) -> Result<Name, Why>
+    ensures { MatchResult result (λ n. Spells text.now n Pick.Highest) (λ why. (why ≡ Reason.BadName) × ((n : RadName) → ¬ Spells text.now n Pick.Highest)) }
+{
+    match parse_name(text) {
         Ok((name, Pick::Highest)) => Ok(name),
-        // The text has no version.
-        _ => Err(Why::BadName),
+        Ok((_, Pick::Lowest)) => Err(Why::BadName),
+        Ok((_, Pick::Exact(_))) => Err(Why::BadName),
+        Err(_) => Err(Why::BadName),
     }
 }
 
 /// Appends characters as capitals.
 fn push_capitals(text: &mut Vec<u8>, part: &[u8]) -> Result<(), Why>
-    ensures { OnOk result (text.new.items ≡ text.old.items ++ capitals part.now) }
+    ensures { MatchResult result (λ _. text.new.items ≡ text.old.items ++ capitals part.now) (λ why. why ≡ no_memory) }
 {
     for character in part {
         text.push(character.to_ascii_uppercase())?;

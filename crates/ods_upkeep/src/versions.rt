@@ -1,30 +1,40 @@
 //! The highest version of each name in the directory that many files are put into, so that it is not looked up anew for each.
-use crate::names::is_directory_file;
+ghost use Rattle.std.specs.Prelude.{◌≡◌, max, IfOk, OnOk};
+ghost use Rattle.ods_upkeep.specs.Versions.{AreHighest, IsNoted, behind, key_of, version_in};
+
 use ods_base::{FileId, Name};
 use ods_mount::Mounted;
-use ods_walk::listing;
+use ods_shell::lines_of;
 use std::alloc::{AllocError, Global};
+use std::collections::BTreeMap;
+use std::marker::Model;
 
-/// A name: its three words, and the word of its type.
+/// A name: the word of its type, and its three words.
 type Key = [u16; 4];
 
-/// The names of a directory in the order of their words, each with its highest version.
+/// The names of a directory, each with its highest version.
 #[derive(Drop)]
 pub(crate) struct Highest {
-    names: Vec<(Key, u16)>,
+    versions: BTreeMap<Key, u16>,
+}
+
+impl Model for Highest {
+    ghost use Rattle.ods_upkeep.specs.Versions.{Noted};
+
+    ghost Value = { Noted };
+
+    ghost view = { λ h. h.versions.entries };
 }
 
 impl Highest {
     /// Those of a directory; none where the file is no directory.
-    pub fn of(alloc: Global, volume: &Mounted, directory: FileId) -> Result<Highest, AllocError> {
+    pub fn of(alloc: Global, volume: &Mounted, directory: FileId) -> Result<Highest, AllocError>
+        ensures { IfOk result (AreHighest volume.now.image volume.now.layout directory.number) }
+    {
         let mut highest = Highest {
-            names: Vec::new(alloc),
+            versions: BTreeMap::new(alloc),
         };
-        if !is_directory_file(volume, directory.number) {
-            return Ok(highest);
-        }
-        let disk = volume.disk();
-        let entries = listing(alloc, &disk, directory.number)?;
+        let entries = lines_of(alloc, volume, directory.number)?;
         for entry in &entries {
             highest.note(&entry.name, entry.version)?;
         }
@@ -32,34 +42,43 @@ impl Highest {
     }
 
     /// The version behind the highest of this name; 1 where there is none.
-    pub fn next(&self, name: &Name) -> u16 {
-        let key = key(name);
-        let at = self.names.partition_point(|other| other.0 < key);
-        match self.names.get(at) {
-            Some(line) if line.0 == key => line.1.saturating_add(1),
-            _ => 1,
+    pub fn next(&self, name: &Name) -> u16
+        ensures { result ≡ behind (version_in self.now name.now) }
+    {
+        match self.known(name) {
+            Some(version) => version.saturating_add(1),
+            None => 1,
         }
+    }
+
+    /// The highest version of this name.
+    fn known(&self, name: &Name) -> Option<u16>
+        ensures { result ≡ version_in self.now name.now }
+    {
+        self.versions.get(&key(name)).copied()
     }
 
     /// This version of the name is there too.
-    pub fn note(&mut self, name: &Name, version: u16) -> Result<(), AllocError> {
-        let key = key(name);
-        let at = self.names.partition_point(|other| other.0 < key);
-        if let Some(line) = self.names.get_mut(at) {
-            if line.0 == key {
-                line.1 = line.1.max(version);
-                return Ok(());
-            }
-        }
-        match self.names.insert(at, (key, version)) {
-            Ok(()) => Ok(()),
-            Err(_) => Err(AllocError),
-        }
+    pub fn note(&mut self, name: &Name, version: u16) -> Result<(), AllocError>
+        ensures { OnOk result (IsNoted self.old name.now version self.new) }
+    {
+        let highest = greater(self.known(name).unwrap_or(0), version);
+        self.versions.insert(key(name), highest)?;
+        Ok(())
     }
 }
 
+/// The greater one of two versions.
+fn greater(one: u16, other: u16) -> u16
+    ensures { result ≡ max one other }
+{
+    if one < other { other } else { one }
+}
+
 /// The words of a name.
-fn key(name: &Name) -> Key {
+fn key(name: &Name) -> Key
+    ensures { result ≡ key_of name.now }
+{
     let words = name.words();
-    [words[0], words[1], words[2], name.ext()]
+    [name.ext(), words[0], words[1], words[2]]
 }

@@ -1,17 +1,17 @@
 //! The bytes of a host file as they are put.
-ghost use Rattle.std.specs.Prelude.{◌≡◌, ◌↔◌, ℕ, List, length, true, false, Some, None, IsTrue, OnOk, IfOk, IfErr, MatchOption};
-ghost use Rattle.ods_records.specs.{Attributes.kind_in, declared.kind.RecordKind.RecordKind};
-ghost use Rattle.ods_upkeep.specs.Pieces.{with_end};
+ghost use Rattle.std.specs.Prelude.{◌≡◌, ◌↔◌, false, length, None, IsTrue, OnOk, IfOk, IfErr};
 ghost use Rattle.ods_upkeep.specs.PutFor.{FitsForm, IsUnfit};
+ghost use Rattle.ods_upkeep.specs.Remarks.{AreSeen, AreSeenByContents, IsLack, IsNothingSeen, IsUnended};
+ghost use Rattle.ods_upkeep.specs.Written.{ArePutAsText, AreBytes, AreInForm, AreNoRecords, AreNotInForm, AreRecords, IsByContents, IsNotByContents, IsTooLong, IsUnwritten, IsWritten, bytes_like, bytes_of, records_like};
 
 use crate::PutForm;
-use crate::attributes::{attributes_of_form, ending_at, like as like_of, like_greater};
+use crate::attributes::{attributes_of_form, like as like_of, like_greater};
 use crate::failure::Why;
 use crate::put_fault::PutFault;
 use ods_base::MAX_BYTES;
 use ods_records::{
-    NearText, RecordKind, binary_attributes, is_plain_text, is_text, kind_of, record_size,
-    survey_records, text_attributes, text_to_records, why_no_text,
+    NearText, RecordKind, binary_attributes, ending_at, is_plain_text, is_text, kind_of,
+    record_size, survey_records, text_attributes, text_to_records, why_no_text,
 };
 use ods_request::Refusal;
 use std::alloc::Global;
@@ -32,7 +32,7 @@ pub(crate) struct Written<'a> {
 impl<'a> Written<'a> {
     /// The bytes.
     pub fn bytes(&self) -> &[u8]
-        ensures { MatchOption self.now.records (result.now ≡ self.now.host.now) (λ records. result.now ≡ records.items) }
+        ensures { result.now ≡ bytes_of self.now }
     {
         match &self.records {
             Some(records) => records.as_slice(),
@@ -47,7 +47,11 @@ pub(crate) fn write_host<'a>(
     form: PutForm,
     like: &Option<[u8; 32]>,
     bytes: &'a [u8],
-) -> Result<Written<'a>, Why> {
+) -> Result<Written<'a>, Why>
+    ensures ok { IfOk result (λ written. IsWritten form like.now bytes.now written.attributes (bytes_of written)) }
+    ensures err { IfErr result (IsUnwritten form like.now bytes.now) }
+    ensures seen { IfOk result (λ written. AreSeen form like.now bytes.now written.is_completed written.near) }
+{
     match (form, like) {
         (PutForm::Said(four), _) => in_form(&attributes_of_form(four), bytes),
         (PutForm::Binary, Some(like)) => in_form(like, bytes),
@@ -61,39 +65,35 @@ fn by_contents<'a>(
     form: PutForm,
     like: &Option<[u8; 32]>,
     bytes: &'a [u8],
-) -> Result<Written<'a>, Why> {
-    let mut written = if is_put_as_text(form, like, bytes) {
-        let mut records = as_records(alloc, bytes)?;
-        if let Some(like) = like {
-            records.attributes = like_greater(records.attributes, like);
-        }
-        records
-    } else {
-        let mut plain = as_bytes(bytes)?;
-        if let Some(like) = like {
-            plain.attributes = like_of(plain.attributes, like);
-        }
-        plain
-    };
-    if form == PutForm::ByContents && like.is_none() && written.records.is_none() {
-        written.near = why_no_text(bytes);
+) -> Result<Written<'a>, Why>
+    ensures ok { IfOk result (λ written. IsByContents form like.now bytes.now written.attributes (bytes_of written)) }
+    ensures err { IfErr result (IsNotByContents form like.now bytes.now) }
+    ensures seen { IfOk result (λ written. AreSeenByContents form like.now bytes.now written.is_completed written.near) }
+{
+    if is_put_as_text(form, like, bytes) {
+        return as_records(alloc, like, bytes);
     }
-    Ok(written)
+    as_bytes(like, bytes, lack_of(form, like, bytes))
 }
 
 /// Bytes as they are, with the attributes of others but for the end of file. Where these are of records with a length, the bytes are to be such,
 /// and none longer than their F.RSIZ where that is not 0.
 fn in_form<'a>(own: &[u8; 32], bytes: &'a [u8]) -> Result<Written<'a>, Why>
-    ensures { IfOk result (λ written. (written.attributes ≡ with_end own.now (length bytes.now)) × (written.records ≡ None) × (written.host.now ≡ bytes.now) × FitsForm own.now bytes.now) }
+    ensures ok { IfOk result (λ written. AreInForm own.now bytes.now written.attributes (bytes_of written)) }
+    ensures err { IfErr result (AreNotInForm own.now bytes.now) }
+    ensures seen { IfOk result (λ written. IsNothingSeen written.is_completed written.near) }
 {
     if let Err(fault) = fits(own, bytes) {
         return Err(Why::Put(fault));
     }
-    let attributes = ending_at(*own, bytes.len() as u64)?;
+    let length = bytes.len();
+    if length >= MAX_BYTES {
+        return Err(Why::Request(Refusal::VolumeFull));
+    }
     Ok(Written {
         host: bytes,
         records: None,
-        attributes,
+        attributes: ending_at(own, length as u64),
         is_completed: false,
         near: None,
     })
@@ -120,10 +120,7 @@ fn fits(own: &[u8; 32], bytes: &[u8]) -> Result<(), PutFault>
 
 /// Whether these bytes are put as records.
 fn is_put_as_text(form: PutForm, like: &Option<[u8; 32]>, bytes: &[u8]) -> bool
-    ensures like { (attributes : List ℕ) → like.now ≡ Some attributes → IsTrue result ↔ (kind_in attributes ≡ Some RecordKind.Variable) }
-    ensures text { like.now ≡ None → form ≡ PutForm.Text → result ≡ true }
-    ensures binary { like.now ≡ None → form ≡ PutForm.Binary → result ≡ false }
-    ensures said { like.now ≡ None → (four : List ℕ) → form ≡ PutForm.Said four → result ≡ false }
+    ensures { IsTrue result ↔ ArePutAsText form like.now bytes.now }
 {
     if let Some(attributes) = like {
         return kind_of(attributes) == Some(RecordKind::Variable);
@@ -135,8 +132,29 @@ fn is_put_as_text(form: PutForm, like: &Option<[u8; 32]>, bytes: &[u8]) -> bool
     }
 }
 
+/// What bytes that are put as they are lack to be put as records, where nothing is said.
+fn lack_of(form: PutForm, like: &Option<[u8; 32]>, bytes: &[u8]) -> Option<NearText>
+    ensures { IsLack form like.now bytes.now result }
+{
+    match form {
+        PutForm::ByContents => match like {
+            Some(_) => None,
+            None => why_no_text(bytes),
+        },
+        PutForm::Text | PutForm::Binary | PutForm::Said(_) => None,
+    }
+}
+
 /// A text as records.
-fn as_records<'a>(alloc: Global, bytes: &'a [u8]) -> Result<Written<'a>, Why> {
+fn as_records<'a>(
+    alloc: Global,
+    like: &Option<[u8; 32]>,
+    bytes: &'a [u8],
+) -> Result<Written<'a>, Why>
+    ensures ok { IfOk result (λ written. AreRecords like.now bytes.now written.attributes (bytes_of written)) }
+    ensures err { IfErr result (AreNoRecords bytes.now) }
+    ensures seen { IfOk result (λ written. (IsTrue written.is_completed ↔ IsUnended bytes.now) × (written.near ≡ None)) }
+{
     let records = match text_to_records(alloc, bytes) {
         Ok(records) => records,
         Err(fault) => return Err(Why::Text(fault)),
@@ -145,27 +163,63 @@ fn as_records<'a>(alloc: Global, bytes: &'a [u8]) -> Result<Written<'a>, Why> {
     if length >= MAX_BYTES {
         return Err(Why::Request(Refusal::VolumeFull));
     }
-    let attributes = text_attributes(records.longest, length as u64);
+    let own = text_attributes(records.longest, length as u64);
     Ok(Written {
         host: bytes,
         records: Some(records.bytes),
-        attributes,
-        is_completed: !bytes.is_empty() && !bytes.ends_with(b"\n"),
+        attributes: records_like(own, like),
+        is_completed: lacks_last_lf(bytes),
         near: None,
     })
 }
 
+/// The attributes of records, where a file is given that they are to be like.
+fn records_like(own: [u8; 32], like: &Option<[u8; 32]>) -> [u8; 32]
+    ensures { result ≡ records_like like.now own }
+{
+    match like {
+        Some(like) => like_greater(own, like),
+        None => own,
+    }
+}
+
+/// Whether the last line has no LF.
+fn lacks_last_lf(bytes: &[u8]) -> bool
+    ensures { IsTrue result ↔ IsUnended bytes.now }
+{
+    !bytes.is_empty() && bytes[bytes.len() - 1] != b'\n'
+}
+
 /// Bytes as they are.
-fn as_bytes<'a>(bytes: &'a [u8]) -> Result<Written<'a>, Why> {
+fn as_bytes<'a>(
+    like: &Option<[u8; 32]>,
+    bytes: &'a [u8],
+    near: Option<NearText>,
+) -> Result<Written<'a>, Why>
+    ensures ok { IfOk result (λ written. AreBytes like.now bytes.now written.attributes (bytes_of written)) }
+    ensures err { IfErr result (IsTooLong (length bytes.now)) }
+    ensures seen { IfOk result (λ written. (written.is_completed ≡ false) × (written.near ≡ near)) }
+{
     let length = bytes.len();
     if length >= MAX_BYTES {
         return Err(Why::Request(Refusal::VolumeFull));
     }
+    let own = binary_attributes(length as u64);
     Ok(Written {
         host: bytes,
         records: None,
-        attributes: binary_attributes(length as u64),
+        attributes: bytes_like(own, like),
         is_completed: false,
-        near: None,
+        near,
     })
+}
+
+/// The attributes of bytes, where a file is given that they are to be like.
+fn bytes_like(own: [u8; 32], like: &Option<[u8; 32]>) -> [u8; 32]
+    ensures { result ≡ bytes_like like.now own }
+{
+    match like {
+        Some(like) => like_of(own, like),
+        None => own,
+    }
 }

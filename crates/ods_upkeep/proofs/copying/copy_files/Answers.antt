@@ -1,8 +1,64 @@
-use Rattle.ods_filing.proofs.Led.{stays, then_led}
+use Rattle.std.proofs.Common.{refl, subst, Some, length, inl, inr, arith}
+use Rattle.std.proofs.lemmas.Result.{IfErr-weaker, err_from_is_err_and}
+use Rattle.ods_paths.specs.declared.versions.Versions.TheVariants.{Highest}
+use Rattle.ods_upkeep.specs.Copied.{AreCopied}
+use Rattle.ods_upkeep.specs.Refused.{HasPath}
+use Rattle.ods_upkeep.specs.Sources.{AreSources}
+use Rattle.ods_upkeep.specs.Target.{IsNoTarget, IsTarget}
+use Rattle.ods_upkeep.specs.Uncopied.{IsFirstUncopyable, IsNotCopiedTo, MayAllBeCopied, StopsCopying}
+use Rattle.ods_upkeep.proofs.Lists.{if_done}
+use Rattle.ods_upkeep.proofs.Naming.{same_disk}
 use Rattle.ods_upkeep.proofs.copying.copy_files.Goals as goal
 
-pub loop-found-2-init : goal.loop-found-2-init
-loop-found-2-init c = stays c.args.filing.now
+pub returns-clause-done : goal.returns-clause-done
+returns-clause-done c =
+    let I = c.args.filing.now.image in
+    let L = c.args.filing.now.layout in
+    let all = c.in_ok-all.all.items in
+    let to = c.in_ok-target.target in
+    let sources : AreSources I L (Some Highest) c.args.paths.now all = same_disk (λ J M. AreSources J M (Some Highest) c.args.paths.now all) c.mounted.ensures.0 c.mounted.ensures.1 c.in_ok-all.ensures in
+    let counted : IsTarget I L c.len.result c.args.to.now to = same_disk (λ J M. IsTarget J M c.len.result c.args.to.now to) c.mounted-2.ensures.0 c.mounted-2.ensures.1 c.in_ok-target.ensures in
+    let target : IsTarget I L (length all) c.args.to.now to = subst (λ n. IsTarget I L n c.args.to.now to) (omega (arith, c.len.ensures, c.in_ok-all.all.ok.0)) counted in
+    if_done c.copy_all.result (λ copied. (all, (to, sources, target, subst (λ l. AreCopied to c.args.stamp l c.args.filing.now c.copy_all.new.filing) c.deref-2.ensures.value copied))) c.copy_all.ensures.done
 
-pub loop-found-2-preserved : goal.loop-found-2-preserved
-loop-found-2-preserved c = then_led c.loop-found-2.invariant c.in_default-copy.ensures
+pub returns-clause-refused : goal.returns-clause-refused
+returns-clause-refused c =
+    let I = c.args.filing.now.image in
+    let L = c.args.filing.now.layout in
+    let all = c.in_ok-all.all.items in
+    let to = c.in_ok-target.target in
+    let new = c.copy_all.new.filing in
+    let sources : AreSources I L (Some Highest) c.args.paths.now all = same_disk (λ J M. AreSources J M (Some Highest) c.args.paths.now all) c.mounted.ensures.0 c.mounted.ensures.1 c.in_ok-all.ensures in
+    let counted : IsTarget I L c.len.result c.args.to.now to = same_disk (λ J M. IsTarget J M c.len.result c.args.to.now to) c.mounted-2.ensures.0 c.mounted-2.ensures.1 c.in_ok-target.ensures in
+    let target : IsTarget I L (length all) c.args.to.now to = subst (λ n. IsTarget I L n c.args.to.now to) (omega (arith, c.len.ensures, c.in_ok-all.all.ok.0)) counted in
+    let may : MayAllBeCopied c.args.filing.now.user to all = subst (λ u. MayAllBeCopied u to all) c.user.ensures (subst (MayAllBeCopied c.user.result to) c.deref.ensures.value c.in_ok-check_all.ensures.ok) in
+    IfErr-weaker c.copy_all.result (StopsCopying to c.args.stamp c.deref-2.result.now c.args.filing.now new) (IsNotCopiedTo c.args.stamp c.args.paths.now c.args.to.now c.args.filing.now new)
+    (λ failure stops. inr (all, sources, inr (to, target, inr (may, subst (λ l. StopsCopying to c.args.stamp l c.args.filing.now new failure) c.deref-2.ensures.value stops)))) c.copy_all.ensures.refused
+
+pub returns-in_err-target-clause-refused : goal.returns-in_err-target-clause-refused
+returns-in_err-target-clause-refused c =
+    let I = c.args.filing.now.image in
+    let L = c.args.filing.now.layout in
+    let all = c.in_ok-all.all.items in
+    let sources : AreSources I L (Some Highest) c.args.paths.now all = same_disk (λ J M. AreSources J M (Some Highest) c.args.paths.now all) c.mounted.ensures.0 c.mounted.ensures.1 c.in_ok-all.ensures in
+    let failure = c.in_err-target.field-0.0 in
+    let counted : IsNoTarget I L c.len.result c.args.to.now failure.why = same_disk (λ J M. IsNoTarget J M c.len.result c.args.to.now failure.why) c.mounted-2.ensures.0 c.mounted-2.ensures.1 c.in_err-target.ensures.0 in
+    let none : IsNoTarget I L (length all) c.args.to.now failure.why = subst (λ n. IsNoTarget I L n c.args.to.now failure.why) (omega (arith, c.len.ensures, c.in_ok-all.all.ok.0)) counted in
+    let said : HasPath failure c.args.to.now = c.in_err-target.ensures.1 in
+    let p = err_from_is_err_and c.from_residual-in_err-target.result c.from_residual-in_err-target.ensures.1 in
+    rw (p.1, p.2) (inr (all, sources, inl (refl, none, said)))
+
+pub returns-in_err-check_all-clause-refused : goal.returns-in_err-check_all-clause-refused
+returns-in_err-check_all-clause-refused c =
+    let I = c.args.filing.now.image in
+    let L = c.args.filing.now.layout in
+    let all = c.in_ok-all.all.items in
+    let to = c.in_ok-target.target in
+    let sources : AreSources I L (Some Highest) c.args.paths.now all = same_disk (λ J M. AreSources J M (Some Highest) c.args.paths.now all) c.mounted.ensures.0 c.mounted.ensures.1 c.in_ok-all.ensures in
+    let counted : IsTarget I L c.len.result c.args.to.now to = same_disk (λ J M. IsTarget J M c.len.result c.args.to.now to) c.mounted-2.ensures.0 c.mounted-2.ensures.1 c.in_ok-target.ensures in
+    let target : IsTarget I L (length all) c.args.to.now to = subst (λ n. IsTarget I L n c.args.to.now to) (omega (arith, c.len.ensures, c.in_ok-all.all.ok.0)) counted in
+    let failure = c.in_err-check_all.field-0.0 in
+    let first : IsFirstUncopyable c.args.filing.now.user to all failure =
+    subst (λ u. IsFirstUncopyable u to all failure) c.user.ensures (subst (λ l. IsFirstUncopyable c.user.result to l failure) c.deref.ensures.value c.in_err-check_all.ensures.err) in
+    let p = err_from_is_err_and c.from_residual-in_err-check_all.result c.from_residual-in_err-check_all.ensures.1 in
+    rw (p.1, p.2) (inr (all, sources, inr (to, target, inl (refl, first))))

@@ -1,9 +1,10 @@
-use Rattle.std.proofs.Common.{◌≡◌, ◌+◌, ℕ, List, [], ◌∷◌, ◌++◌, sym, subst, take, get_or, reverse}
+use Rattle.std.proofs.Common.{◌≡◌, ◌+◌, ℕ, List, [], ◌∷◌, ◌++◌, ◌∙◌, sym, subst, inl, inr, take, get_or, reverse}
 use Rattle.std.specs.Borrow.{Bor}
 use Rattle.std.proofs.lemmas.List.{take_more, take_all}
 use Rattle.ods_upkeep.specs.Sources.{AreOfPath, AreOfPaths}
 use Rattle.ods_shell.specs.declared.found.Found.{Found}
-use Rattle.ods_upkeep.proofs.Naming.{paths_more}
+use Rattle.ods_upkeep.proofs.Naming.{first_none, paths_more}
+use Rattle.ods_upkeep.proofs.Stopping.{no_path, other_default}
 use Rattle.ods_upkeep.proofs.sources.sources.Goals as goal
 
 pub loop-path-preserved : goal.loop-path-preserved
@@ -24,3 +25,14 @@ returns-in-Ok c = (
   subst (λ ps. AreOfPaths c.args.volume.now.image c.args.volume.now.layout c.args.unsaid ps c.loop-path.all.items) (take_all c.loop-path.path-index c.args.paths.now c.loop-path-test.false) c.loop-path.invariant,
   c.in-Ok.ensures,
 )
+
+pub returns-in-Err : goal.returns-in-Err
+returns-in-Err c =
+    let k = c.loop-path.path-index in
+    let paths = c.args.paths.now in
+    let path : Bor (List ℕ) = get_or paths k (record { ref_ptr = (0, 0); now = [] }) in
+    inl (first_none c.args.volume.now.image c.args.volume.now.layout c.args.unsaid paths k path c.loop-path.all.items c.in-Err.why c.of_path.result c.loop-path-test.true (other_default paths k _ path c.loop-path-test.true)
+    c.loop-path.invariant c.in-Err.ensures c.of_path.ensures.why c.of_path.ensures.path)
+
+pub returns-in-Err-each_once : goal.returns-in-Err-each_once
+returns-in-Err-each_once c = inr (no_path c.of_path-in-Err-each_once.result c.of_path-in-Err-each_once.ensures.path (c.of_path-in-Err-each_once.ensures.why ∙ c.into.ensures))

@@ -1,0 +1,112 @@
+-- Files that are copied, one after another.
+use Rattle.std.proofs.Common.{◌≡◌, ◌+◌, ◌<◌, ◌≤◌, ◌∙◌, refl, sym, subst, ℕ, List, [], ◌∷◌, ◌++◌, length, get_or, drop, Some, inl, inr, arith}
+use Rattle.std.specs.String.{string_bytes}
+use Rattle.std.proofs.lemmas.List.Elements.{All-contains}
+use Rattle.ods_base.specs.Name.{RadName}
+use Rattle.ods_base.specs.declared.file_id.FileId.{FileId}
+use Rattle.ods_base.specs.declared.file_id.Uic.{Uic}
+use Rattle.ods_space.specs.Chain.{index_for}
+use Rattle.ods_space.specs.Faults.{IsChainFault}
+use Rattle.ods_space.specs.Files.{AreInside}
+use Rattle.ods_space.specs.Layout.{VolumeLayout}
+use Rattle.ods_space.specs.declared.fault.ChainFault.TheVariants.{BadChain, OutsideVolume, NoMemory}
+use Rattle.ods_space.proofs.Chains.{same_chain}
+use Rattle.ods_files.specs.Body.{Body, HasBody, IsFileFault, bytes_in}
+use Rattle.ods_files.specs.declared.fault.FileFault.{FileFault}
+use Rattle.ods_files.specs.declared.fault.FileFault.TheVariants.{NoSuchFile, Chain}
+use Rattle.ods_files.specs.declared.form.Form.TheVariants.{Raw}
+use Rattle.ods_filing.specs.Filed.{Filed}
+use Rattle.ods_shell.specs.declared.facts.Facts.{Facts}
+use Rattle.ods_shell.specs.declared.found.Found.{Found}
+use Rattle.ods_upkeep.specs.Copied.{AreCopied, IsCopied, IsCopyable, IsUncopyable, IsUnread, true_for, why_unread}
+use Rattle.ods_upkeep.specs.Looked.{IsNextVersion}
+use Rattle.ods_upkeep.specs.PutFor.{IsMadeFor}
+use Rattle.ods_upkeep.specs.Refused.{HasPath}
+use Rattle.ods_upkeep.specs.Uncopied.{IsFirstUncopyable, IsNotCopied, MayAllBeCopied, MayBeCopied, StopsCopying, uncopyable, unmade}
+use Rattle.ods_upkeep.specs.Unfiled.{IsUnfiled}
+use Rattle.ods_upkeep.specs.declared.failure.Failure.{Failure}
+use Rattle.ods_upkeep.specs.declared.failure.Why.{Why}
+use Rattle.ods_upkeep.specs.declared.target.Target.{Target}
+use Rattle.ods_upkeep.proofs.Stopping.{left_from}
+
+-- a file with a body has no fault of its chain
+not_bad : (I : List (List ℕ)) (L : VolumeLayout) (n : ℕ) (body : Body) → IsChainFault I L n BadChain → HasBody I L n body → ⊥
+not_bad I L n body bad has = bad has.held.others has.lbns has.held.whole.chain
+
+not_past : (I : List (List ℕ)) (L : VolumeLayout) (n lbn : ℕ) (body : Body) → IsChainFault I L n (OutsideVolume lbn) → HasBody I L n body → ⊥
+not_past I L n lbn body out has =
+    let same : has.lbns ≡ out.1 = (same_chain I L.home (index_for L n) [] 0 n has.held.others has.lbns out.0 out.1 has.held.whole.chain out.2).1 in
+    let below : lbn < length I = All-contains (λ b. b < length I) out.1 lbn (subst (λ bs. AreInside I bs) same has.held.whole.inside) out.3 in
+    let above : length I ≤ lbn = out.4 in
+    absurd (omega arith)
+
+-- so the bytes are not read for this reason
+pub unread : (I : List (List ℕ)) (L : VolumeLayout) (n : ℕ) (fault : FileFault) → IsFileFault I L n fault → IsUnread I L n (why_unread fault)
+unread I L n NoSuchFile told = inr (refl, λ body has. told has.held.file)
+unread I L n (Chain BadChain) told = inr (refl, λ body has. not_bad I L n body told.1 has)
+unread I L n (Chain (OutsideVolume lbn)) told = inr (refl, λ body has. not_past I L n lbn body told.1 has)
+unread I L n (Chain NoMemory) told = inl refl
+
+-- a file is copied
+pub is_copied : (to : Target) (stamp : List ℕ) (found : Found) (old mid new : Filed) (user : Uic) (facts : Facts) (name : RadName) (attributes bytes lent : List ℕ) (version : ℕ) (file : FileId)
+    → user ≡ old.user → IsCopyable user to found facts name → ((body : Body) × HasBody old.image old.layout facts.file.number body × (bytes_in Raw body ≡ Some bytes))
+    → attributes ≡ true_for facts.attributes facts.blocks → IsNextVersion old to.directory name to.version version mid → lent ≡ bytes
+    → IsMadeFor user to.directory to.version (record { name = name; version = version; stamp = stamp }) attributes lent file mid new → IsCopied to stamp found old new
+is_copied to stamp found old mid new user facts name attributes bytes lent version file is copyable read are next same made = record {
+  facts = facts;
+  name = name;
+  copyable = subst (λ u. IsCopyable u to found facts name) is copyable;
+  body = read.0;
+  held = read.1;
+  bytes = bytes;
+  all = read.2;
+  version = version;
+  mid = mid;
+  next = next;
+  file = file;
+  made = subst (λ u. IsMadeFor u to.directory to.version (record { name = name; version = version; stamp = stamp }) (true_for facts.attributes facts.blocks) bytes file mid new) is
+      (subst (λ a. IsMadeFor user to.directory to.version (record { name = name; version = version; stamp = stamp }) a bytes file mid new) are
+      (subst (λ b. IsMadeFor user to.directory to.version (record { name = name; version = version; stamp = stamp }) attributes b file mid new) same made));
+}
+
+-- it may not be copied
+pub may_not : (why : Why) (to : Target) (stamp : List ℕ) (found : Found) (old : Filed) (user : Uic) → user ≡ old.user → IsUncopyable user to found why → IsNotCopied to stamp found old old why
+may_not why to stamp found old user is reason = uncopyable why (subst (λ u. IsUncopyable u to found why) is reason) refl
+
+-- its copy is not made
+pub not_copied : (why : Why) (to : Target) (stamp : List ℕ) (found : Found) (old mid new : Filed) (user : Uic) (facts : Facts) (name : RadName) (bytes lent : List ℕ) (version : ℕ)
+    → user ≡ old.user → IsCopyable user to found facts name → ((body : Body) × HasBody old.image old.layout facts.file.number body × (bytes_in Raw body ≡ Some bytes))
+    → IsNextVersion old to.directory name to.version version mid → lent ≡ bytes
+    → IsUnfiled to.directory to.version (record { name = name; version = version; stamp = stamp }) lent new why → IsNotCopied to stamp found old new why
+not_copied why to stamp found old mid new user facts name bytes lent version is copyable read next same refused =
+    unmade why facts name read.0 bytes version mid (subst (λ u. IsCopyable u to found facts name) is copyable) read.1 read.2 next
+    (subst (λ b. IsUnfiled to.directory to.version (record { name = name; version = version; stamp = stamp }) b new why) same refused)
+
+-- where the others are copied after one more, all that are left are
+pub copied_on : (to : Target) (stamp : List ℕ) (all : List Found) (i : ℕ) (x : Found) (mid next new : Filed) → i < length all → x ≡ get_or all i x → IsCopied to stamp x mid next → AreCopied to stamp (drop (i + 1) all) next new
+    → AreCopied to stamp (drop i all) mid new
+copied_on to stamp all i x mid next new within is one copied = subst (λ l. AreCopied to stamp l mid new) (sym (left_from all i x within is)) (next, one, copied)
+
+-- where they stop then, all that are left do
+pub stops_on : (to : Target) (stamp : List ℕ) (all : List Found) (i : ℕ) (x : Found) (mid next new : Filed) (failure : Failure) → i < length all → x ≡ get_or all i x → IsCopied to stamp x mid next
+    → StopsCopying to stamp (drop (i + 1) all) next new failure → StopsCopying to stamp (drop i all) mid new failure
+stops_on to stamp all i x mid next new failure within is one stop = subst (λ l. StopsCopying to stamp l mid new failure) (sym (left_from all i x within is)) (inr (next, one, stop))
+
+-- and where one is not copied
+pub stops_here : (to : Target) (stamp : List ℕ) (all : List Found) (i : ℕ) (x : Found) (mid new : Filed) (failure : Failure) → i < length all → x ≡ get_or all i x → HasPath failure (string_bytes x.path)
+    → IsNotCopied to stamp x mid new failure.why → StopsCopying to stamp (drop i all) mid new failure
+stops_here to stamp all i x mid new failure within is said stays = subst (λ l. StopsCopying to stamp l mid new failure) (sym (left_from all i x within is)) (inl (said, stays))
+
+-- one more may be copied
+pub may_on : (user : Uic) (to : Target) (all : List Found) (i : ℕ) (x : Found) → i < length all → x ≡ get_or all i x → MayBeCopied user to x → MayAllBeCopied user to (drop (i + 1) all) → MayAllBeCopied user to (drop i all)
+may_on user to all i x within is one rest = subst (MayAllBeCopied user to) (sym (left_from all i x within is)) (one, rest)
+
+pub first_on : (user : Uic) (to : Target) (all : List Found) (i : ℕ) (x : Found) (failure : Failure) → i < length all → x ≡ get_or all i x → MayBeCopied user to x → IsFirstUncopyable user to (drop (i + 1) all) failure
+    → IsFirstUncopyable user to (drop i all) failure
+first_on user to all i x failure within is one first = subst (λ l. IsFirstUncopyable user to l failure) (sym (left_from all i x within is)) (inr (one, first))
+
+-- one may not
+pub first_here : (user : Uic) (to : Target) (all : List Found) (i : ℕ) (x : Found) (text : List ℕ) (why : Why) (failure : Failure) → i < length all → x ≡ get_or all i x → IsUncopyable user to x why
+    → failure.why ≡ why → text ≡ string_bytes x.path → HasPath failure text → IsFirstUncopyable user to (drop i all) failure
+first_here user to all i x text why failure within is may_not reason path said =
+    subst (λ l. IsFirstUncopyable user to l failure) (sym (left_from all i x within is)) (inl (subst (IsUncopyable user to x) (sym reason) may_not, subst (HasPath failure) path said))

@@ -1,0 +1,106 @@
+-- What cp asks for: of each file that is found a new one is made, with the bytes of all its blocks and with its attributes.
+use Rattle.std.specs.Prelude.{◌≡◌, ◌≢◌, ◌⊎◌, ◌≤◌, ◌<◌, ◌*◌, ℕ, nat_lt, true, false, if◌then◌else◌, List, [], ◌∷◌, ◌++◌, length, take, drop, Option, Some, None}
+use Rattle.std.specs.Borrow.{Bor}
+use Rattle.ods_base.specs.Name.{RadName, Spells, directory_type}
+use Rattle.ods_base.specs.declared.file_id.FileId.{FileId}
+use Rattle.ods_base.specs.declared.file_id.Uic.{Uic}
+use Rattle.ods_base.specs.declared.name.Pick.TheVariants as pick
+use Rattle.ods_header.specs.Text.{ident_text}
+use Rattle.ods_files.specs.Body.{Body, HasBody, are_zeros, bytes_in}
+use Rattle.ods_files.specs.declared.fault.FileFault.{FileFault}
+use Rattle.ods_files.specs.declared.fault.FileFault.TheVariants.{NoSuchFile, Chain}
+use Rattle.ods_files.specs.declared.form.Form.TheVariants.{Raw}
+use Rattle.ods_paths.specs.declared.versions.Versions.TheVariants.{Highest}
+use Rattle.ods_space.specs.Layout.{VolumeLayout}
+use Rattle.ods_space.specs.declared.fault.ChainFault.TheVariants.{BadChain, OutsideVolume, NoMemory}
+use Rattle.ods_records.specs.Attributes.{block, end_of}
+use Rattle.ods_request.specs.Rights.{permits}
+use Rattle.ods_request.specs.declared.refusals.Refusal.TheVariants as refusal
+use Rattle.ods_request.specs.declared.rights.Right.TheVariants.{Read}
+use Rattle.ods_filing.specs.Filed.{Filed}
+use Rattle.ods_shell.specs.HostNames.{before_version}
+use Rattle.ods_shell.specs.declared.facts.Facts.{Facts}
+use Rattle.ods_shell.specs.declared.facts.Kind.TheVariants.{Directory}
+use Rattle.ods_shell.specs.declared.found.EntryPlace.{EntryPlace}
+use Rattle.ods_shell.specs.declared.found.Found.{Found}
+use Rattle.ods_shell.specs.declared.path_fault.PathFault.TheVariants as fault
+use Rattle.ods_upkeep.specs.Looked.{IsNextVersion}
+use Rattle.ods_upkeep.specs.Pieces.{with_end}
+use Rattle.ods_upkeep.specs.PutFor.{IsMadeFor}
+use Rattle.ods_upkeep.specs.Sources.{AreSources}
+use Rattle.ods_upkeep.specs.Target.{IsTarget}
+use Rattle.ods_upkeep.specs.declared.failure.Why.{Why}
+use Rattle.ods_upkeep.specs.declared.failure.Why.TheVariants.{Path, Request, BadName, IsDirectory, DirectoryType}
+use Rattle.ods_upkeep.specs.declared.target.Target.{Target}
+
+-- the name of a copy: the one that is said; else the entry's; else the one before the `;` of the name in the header
+abbrev pub IsNameOf : Option RadName → Option EntryPlace → Facts → RadName → Type 0
+IsNameOf (Some said) place facts name = name ≡ said
+IsNameOf None (Some p) facts name = name ≡ p.entry.name
+IsNameOf None None facts name = Spells (before_version (ident_text facts.ident)) name pick.Highest
+
+abbrev pub NamesCopy : Target → Found → Facts → RadName → Type 0
+NamesCopy to found facts name = IsNameOf to.name found.place facts name
+
+-- The file is there, no directory, and above 2; the user may read it; and its copy gets this name, which is of another type than DIR.
+pub record IsCopyable (user : Uic) (to : Target) (found : Found) (facts : Facts) (name : RadName) : Type 0 where
+  pub known : found.facts ≡ Some facts
+  pub above : 2 < facts.file.number
+  pub plain : facts.kind ≢ Directory
+  pub readable : permits user facts.owner facts.protection Read ≡ true
+  pub named : NamesCopy to found facts name
+  pub other : name.ext ≢ directory_type
+
+-- why a file is not copied, as far as it can be seen before
+pub data IsUncopyable (user : Uic) (to : Target) (found : Found) : Why → Type 0 where
+  not_there : found.facts ≡ None → IsUncopyable user to found (Path fault.NoSuchFile)
+  reserved : (facts : Facts) → found.facts ≡ Some facts → facts.file.number ≤ 2 → IsUncopyable user to found (Request refusal.Reserved)
+  directory : (facts : Facts) → found.facts ≡ Some facts → facts.kind ≡ Directory → IsUncopyable user to found IsDirectory
+  denied : (facts : Facts) → found.facts ≡ Some facts → permits user facts.owner facts.protection Read ≡ false → IsUncopyable user to found (Request refusal.Denied)
+  nameless : (facts : Facts) → found.facts ≡ Some facts → ((name : RadName) → ¬ NamesCopy to found facts name) → IsUncopyable user to found BadName
+  of_directory : (facts : Facts) (name : RadName) → found.facts ≡ Some facts → NamesCopy to found facts name → name.ext ≡ directory_type → IsUncopyable user to found DirectoryType
+
+-- why the bytes of file n are not read: memory is refused, or the blocks show no such file with a whole chain
+abbrev pub IsUnread : List (List ℕ) → VolumeLayout → ℕ → Why → Type 0
+IsUnread I L n why = (why ≡ Request refusal.NoMemory) ⊎ ((why ≡ Path fault.NoSuchFile) × ((body : Body) → ¬ HasBody I L n body))
+
+-- how that is said: of a file that is not there, or that has no whole chain, as of none
+abbrev pub why_unread : FileFault → Why
+why_unread NoSuchFile = Path fault.NoSuchFile
+why_unread (Chain BadChain) = Path fault.NoSuchFile
+why_unread (Chain (OutsideVolume lbn)) = Path fault.NoSuchFile
+why_unread (Chain NoMemory) = Request refusal.NoMemory
+
+-- The attributes of a copy of so many blocks: zeros, by which all blocks count, stay; an end of file behind the blocks is theirs; else only F.HIBK, bytes 4 to 7, is set to their count.
+abbrev pub true_for : List ℕ → ℕ → List ℕ
+true_for own blocks =
+    if are_zeros own then own
+    else if nat_lt (512 * blocks) (end_of own) then with_end own (512 * blocks)
+    else take 4 own ++ block blocks ++ drop 8 own
+
+-- A file is copied. What is known of it is as it was found at first; its bytes are those that all its blocks have when its turn comes. The user makes the copy and enters it, under the version that is said or the next one.
+pub record IsCopied (to : Target) (stamp : List ℕ) (found : Found) (old new : Filed) : Type 0 where
+  pub facts : Facts
+  pub name : RadName
+  pub copyable : IsCopyable old.user to found facts name
+  pub body : Body
+  pub held : HasBody old.image old.layout facts.file.number body
+  pub bytes : List ℕ
+  pub all : bytes_in Raw body ≡ Some bytes
+  -- the version that the header of the copy gets, and the volume when it is looked up
+  pub version : ℕ
+  pub mid : Filed
+  pub next : IsNextVersion old to.directory name to.version version mid
+  pub file : FileId
+  pub made : IsMadeFor old.user to.directory to.version (record { name = name; version = version; stamp = stamp }) (true_for facts.attributes facts.blocks) bytes file mid new
+
+-- these files are copied, one after another
+abbrev pub AreCopied : Target → List ℕ → List Found → Filed → Filed → Type 0
+AreCopied to stamp [] old new = new ≡ old
+AreCopied to stamp (f ∷ found) old new = (mid : Filed) × IsCopied to stamp f old mid × AreCopied to stamp found mid new
+
+-- Each file that these paths mean, the highest version where they say none, is copied to the target of the last path. Nothing else was done.
+abbrev pub IsCopiedTo : List ℕ → List (Bor (List ℕ)) → List ℕ → Filed → Filed → Type 0
+IsCopiedTo stamp paths to old new =
+    (found : List Found) × ((target : Target) × AreSources old.image old.layout (Some Highest) paths found × IsTarget old.image old.layout (length found) to target
+    × AreCopied target stamp found old new)

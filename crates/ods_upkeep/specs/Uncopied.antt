@@ -1,0 +1,68 @@
+-- When cp is refused: why, for which file, and what was copied before.
+use Rattle.std.specs.Prelude.{◌≡◌, ◌⊎◌, ◌≤◌, ◌*◌, ◌^◌, ℕ, List, [], ◌∷◌, length, Some}
+use Rattle.std.specs.Borrow.{Bor}
+use Rattle.std.specs.String.{string_bytes}
+use Rattle.ods_base.specs.Name.{RadName}
+use Rattle.ods_base.specs.declared.file_id.Uic.{Uic}
+use Rattle.ods_files.specs.Body.{Body, HasBody, bytes_in}
+use Rattle.ods_files.specs.declared.form.Form.TheVariants.{Raw}
+use Rattle.ods_paths.specs.declared.versions.Versions.TheVariants.{Highest}
+use Rattle.ods_request.specs.declared.refusals.Refusal.TheVariants as refusal
+use Rattle.ods_filing.specs.Filed.{Filed}
+use Rattle.ods_shell.specs.declared.facts.Facts.{Facts}
+use Rattle.ods_shell.specs.declared.found.Found.{Found}
+use Rattle.ods_upkeep.specs.Copied.{IsCopyable, IsCopied, IsUncopyable, IsUnread}
+use Rattle.ods_upkeep.specs.Looked.{IsNextVersion}
+use Rattle.ods_upkeep.specs.Refused.{AreNoSources, HasPath}
+use Rattle.ods_upkeep.specs.Sources.{AreSources}
+use Rattle.ods_upkeep.specs.Target.{IsNoTarget, IsTarget}
+use Rattle.ods_upkeep.specs.Unfiled.{IsUnfiled}
+use Rattle.ods_upkeep.specs.declared.failure.Failure.{Failure}
+use Rattle.ods_upkeep.specs.declared.failure.Why.{Why}
+use Rattle.ods_upkeep.specs.declared.failure.Why.TheVariants.{Request}
+use Rattle.ods_upkeep.specs.declared.target.Target.{Target}
+
+-- as far as it can be seen before, this file may be copied
+abbrev pub MayBeCopied : Uic → Target → Found → Type 0
+MayBeCopied user to f = (facts : Facts) × ((name : RadName) × IsCopyable user to f facts name)
+
+-- and so may all of these
+abbrev pub MayAllBeCopied : Uic → Target → List Found → Type 0
+MayAllBeCopied user to [] = Unit {0}
+MayAllBeCopied user to (f ∷ found) = MayBeCopied user to f × MayAllBeCopied user to found
+
+-- one of these may not, as the failure says; all before it may
+abbrev pub IsFirstUncopyable : Uic → Target → List Found → Failure → Type 0
+IsFirstUncopyable user to [] failure = ⊥
+IsFirstUncopyable user to (f ∷ found) failure =
+    (IsUncopyable user to f failure.why × HasPath failure (string_bytes f.path)) ⊎ (MayBeCopied user to f × IsFirstUncopyable user to found failure)
+
+-- Why a file is not copied when its turn comes: it may not be; its bytes are not read; no volume has as many as its blocks hold; or the copy is not made or entered. Nothing was done but for the last.
+pub data IsNotCopied (to : Target) (stamp : List ℕ) (found : Found) (old new : Filed) : Why → Type 0 where
+  uncopyable : (why : Why) → IsUncopyable old.user to found why → new ≡ old → IsNotCopied to stamp found old new why
+  unread : (why : Why) (facts : Facts) (name : RadName) → IsCopyable old.user to found facts name → IsUnread old.image old.layout facts.file.number why → new ≡ old → IsNotCopied to stamp found old new why
+  too_large : (facts : Facts) (name : RadName) → IsCopyable old.user to found facts name → 512 * 2 ^ 20 ≤ 512 * facts.blocks → new ≡ old → IsNotCopied to stamp found old new (Request refusal.VolumeFull)
+  unmade : (why : Why) (facts : Facts) (name : RadName) (body : Body) (bytes : List ℕ) (version : ℕ) (mid : Filed) → IsCopyable old.user to found facts name
+      → HasBody old.image old.layout facts.file.number body → bytes_in Raw body ≡ Some bytes → IsNextVersion old to.directory name to.version version mid
+      → IsUnfiled to.directory to.version (record { name = name; version = version; stamp = stamp }) bytes new why → IsNotCopied to stamp found old new why
+
+-- These are copied, one after another, up to one that is not.
+abbrev pub StopsCopying : Target → List ℕ → List Found → Filed → Filed → Failure → Type 0
+StopsCopying to stamp [] old new failure = ⊥
+StopsCopying to stamp (f ∷ found) old new failure =
+    (HasPath failure (string_bytes f.path) × IsNotCopied to stamp f old new failure.why)
+    ⊎ ((mid : Filed) × IsCopied to stamp f old mid × StopsCopying to stamp found mid new failure)
+
+-- why not all of these are copied: one may not be, and nothing was done; or one is not
+abbrev pub AreNotCopied : Target → List ℕ → List Found → Filed → Filed → Failure → Type 0
+AreNotCopied to stamp found old new failure =
+    ((new ≡ old) × IsFirstUncopyable old.user to found failure)
+    ⊎ (MayAllBeCopied old.user to found × StopsCopying to stamp found old new failure)
+
+-- Why not all that these paths name is copied, and what was done before: there are no sources, or no target, and nothing was done; or not all of the sources are copied.
+abbrev pub IsNotCopiedTo : List ℕ → List (Bor (List ℕ)) → List ℕ → Filed → Filed → Failure → Type 0
+IsNotCopiedTo stamp paths to old new failure =
+    ((new ≡ old) × AreNoSources old.image old.layout (Some Highest) paths failure)
+    ⊎ ((found : List Found) × AreSources old.image old.layout (Some Highest) paths found
+    × (((new ≡ old) × IsNoTarget old.image old.layout (length found) to failure.why × HasPath failure to)
+    ⊎ ((target : Target) × IsTarget old.image old.layout (length found) to target × AreNotCopied target stamp found old new failure)))

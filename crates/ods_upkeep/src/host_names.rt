@@ -1,0 +1,71 @@
+//! The names of host files, as names of the volume.
+ghost use Rattle.std.specs.Prelude.{◌≡◌, ◌↔◌, ℕ, Err, IfOk, IsTrue, MatchOption};
+ghost use Rattle.ods_upkeep.specs.HostNames.{IsHostName, IsNameFor, IsNoName, IsTyped, IsUntyped, title_of, type_of};
+
+use crate::failure::Why;
+use crate::put_fault::PutFault;
+use crate::targets::name_of;
+use ods_base::Name;
+use ods_text::{cut_at, has_byte};
+use std::alloc::Global;
+
+/// The name that is said, or that of the host file.
+pub(crate) fn name_for(alloc: Global, said: Option<Name>, host: &str) -> Result<Name, Why>
+    ensures { IfOk result (IsNameFor said host.now) }
+{
+    match said {
+        Some(name) => Ok(name),
+        None => host_name(alloc, host),
+    }
+}
+
+/// The name of a host file as a name of the volume. A character is refused that stands for one of the volume's that RSX cannot type.
+fn host_name(alloc: Global, name: &str) -> Result<Name, Why>
+    ensures ok { IfOk result (IsHostName name.now) }
+    ensures bad { IsNoName name.now → result ≡ Err Why.BadName }
+    ensures untyped { ¬ IsNoName name.now → (c : ℕ) → IsUntyped name.now c → result ≡ Err (Why.Put (PutFault.Untyped c)) }
+{
+    let bytes = name.as_bytes();
+    if is_no_name(bytes) {
+        return Err(Why::BadName);
+    }
+    if let Some(character) = untyped(bytes) {
+        return Err(Why::Put(PutFault::Untyped(character)));
+    }
+    let (title, kind) = parts(bytes);
+    let name = name_of(alloc, title, kind)?;
+    Ok(name)
+}
+
+/// What stands before the first dot, or all, and what stands behind it.
+fn parts(name: &[u8]) -> (&[u8], &[u8])
+    ensures { (result.0.now ≡ title_of name.now) × (result.1.now ≡ type_of name.now) }
+{
+    match cut_at(b'.', name) {
+        Some(parts) => parts,
+        None => (name, &name[name.len()..]),
+    }
+}
+
+/// Whether it is the name of no file: it is empty, or says a version.
+fn is_no_name(name: &[u8]) -> bool
+    ensures { IsTrue result ↔ IsNoName name.now }
+{
+    name.is_empty() || has_byte(b';', name)
+}
+
+/// The first one of three characters that the name has, each of which stands for one that RSX cannot type.
+fn untyped(name: &[u8]) -> Option<char>
+    ensures { MatchOption result (IsTyped name.now) (IsUntyped name.now) }
+{
+    if has_byte(b'_', name) {
+        return Some('_');
+    }
+    if has_byte(b'%', name) {
+        return Some('%');
+    }
+    if has_byte(b'&', name) {
+        return Some('&');
+    }
+    None
+}

@@ -1,0 +1,100 @@
+//! Room for files that replace others.
+ghost use Rattle.std.specs.Prelude.{◌≡◌, is_some, slice_index, IfErr, IfOk, OnOk};
+ghost use Rattle.ods_upkeep.specs.Rooms.{IsNotPlain, IsReplaced, IsRoomMade, IsThere, counts_left, file_left, pick_for};
+ghost use Rattle.ods_upkeep.specs.Removed.{Does};
+
+use crate::asking::{delete, remove};
+use crate::failure::Why;
+use crate::looking::look_up;
+use crate::names::Names;
+use ods_base::{FileId, Name, Pick};
+use ods_filing::Filing;
+use ods_request::{Answer, Kind, Refusal, Request};
+
+/// Where files are replaced and one has the name: its entry goes, and the file where no other entry names it. Gives the version that is free then.
+pub(crate) fn make_room(
+    filing: &mut Filing,
+    dir: FileId,
+    name: Name,
+    version: Option<u16>,
+    names: &mut Option<Names>,
+) -> Result<Option<u16>, Why>
+    ensures room { IfOk result (λ free. IsRoomMade dir name version free names.old names.new filing.old filing.new) }
+    ensures replaces { is_some names.new ≡ is_some names.old }
+{
+    let Some(names) = names else {
+        return Ok(None);
+    };
+    let Some((file, found)) = look_up(filing, dir, name, pick_for(version)) else {
+        return Ok(None);
+    };
+    replace(filing, dir, name, found, file, names)?;
+    Ok(Some(found))
+}
+
+/// The version that is looked up: the one that is said, or the highest.
+fn pick_for(version: Option<u16>) -> Pick
+    ensures { result ≡ pick_for version }
+{
+    match version {
+        Some(version) => Pick::Exact(version),
+        None => Pick::Highest,
+    }
+}
+
+/// This entry goes, and its file where no other entry names it.
+fn replace(
+    filing: &mut Filing,
+    dir: FileId,
+    name: Name,
+    version: u16,
+    file: FileId,
+    names: &mut Names,
+) -> Result<(), Why>
+    ensures { OnOk result (IsReplaced dir name version file names.old names.new filing.old filing.new) }
+{
+    let is_there = is_plain(filing, file)?;
+    remove(filing, dir, name, version)?;
+    take_name(filing, is_there, file, names)
+}
+
+/// One entry less names the file, where it is there. It is deleted where none names it then.
+fn take_name(
+    filing: &mut Filing,
+    is_there: bool,
+    file: FileId,
+    names: &mut Names,
+) -> Result<(), Why>
+    ensures counted { slice_index names.new ≡ counts_left is_there (slice_index names.old) file }
+    ensures gone { OnOk result (Does filing.old (file_left is_there (counts_left is_there (slice_index names.old) file) file) filing.new) }
+{
+    if !is_there {
+        return Ok(());
+    }
+    names.take(file);
+    if names.count(file) == 0 {
+        return delete(filing, file);
+    }
+    Ok(())
+}
+
+/// Whether there is a file with this ID. A directory is not replaced, nor is a file of the system.
+fn is_plain(filing: &mut Filing, file: FileId) -> Result<bool, Why>
+    ensures ok { IfOk result (λ there. IsThere filing.old file there filing.new) }
+    ensures err { IfErr result (IsNotPlain filing.old file filing.new) }
+{
+    let _ = filing.disk();
+    match filing.request(&Request::Stat { file }) {
+        Ok(answer) => match answer {
+            Answer::Info(stat) => match stat.kind {
+                Kind::Plain { .. } => Ok(true),
+                Kind::Directory { .. } => Err(Why::IsDirectory),
+                Kind::System => Err(Why::Request(Refusal::Reserved)),
+            },
+            // A Stat is answered by what the file is.
+            _ => unreachable!(),
+        },
+        Err(Refusal::NoSuchFile) => Ok(false),
+        Err(refusal) => Err(Why::Request(refusal)),
+    }
+}
