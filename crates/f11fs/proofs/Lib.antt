@@ -4,3 +4,4 @@ mod Notes
 mod Places
 mod PutAll
 mod Slashed
+mod Told

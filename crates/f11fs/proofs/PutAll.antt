@@ -1,24 +1,61 @@
 -- Files of the host that are put one after another.
-use Rattle.std.proofs.Common.{◌≡◌, ◌+◌, ◌⊎◌, ℕ, Bool, true, subst, min, Option}
-use Rattle.ods_base.specs.declared.file_id.Uic.{Uic}
+use Rattle.std.proofs.Common.{◌≡◌, ◌⊎◌, ◌∙◌, ◌+◌, ◌<◌, ℕ, suc, Bool, true, false, refl, sym, ap, subst, inl, inr, arith, min, nat_lt, is_some, List, [], ◌∷◌, ◌++◌, length, take, get_or, Option}
+use Rattle.std.proofs.Math.Seq.{take-length, take-suc}
+use Rattle.std.specs.Borrow.{Bor}
+use Rattle.fs_words.specs.declared.actions.PutWords.{PutWords}
 use Rattle.ods_filing.specs.Filed.{Filed, HasGrown, lacking}
-use Rattle.ods_upkeep.specs.Kinds.{Puts}
+use Rattle.ods_upkeep.specs.declared.asked.PutForm.{PutForm}
+use Rattle.ods_upkeep.specs.Begun.{AreNames, IsBegun}
+use Rattle.ods_upkeep.specs.HostPut.{IsHostPut}
 use Rattle.ods_upkeep.specs.Left.{InPut}
-use Rattle.ods_upkeep.specs.PutFor.{IsPut}
-use Rattle.f11fs.specs.Changed.{ArePut, ArePutNext}
-use Rattle.f11fs.proofs.Leading.{made_ready, one_put}
+use Rattle.f11fs.specs.Changed.{ArePut, ArePutNext, MayBeReady, hosts_among, path_among}
+use Rattle.f11fs.specs.Forms.{form_said}
+use Rattle.f11fs.specs.Readings.{IsLastPart}
 
 -- one file more
-pub put_more : (p q : InPut) (old mid new : Filed) (count : ℕ) → q ≡ p → ArePutNext p.replaces p.owner old count mid → IsPut (Puts q.replaces) q.owner mid new → ArePutNext p.replaces p.owner old (count + 1) new
-put_more p q old mid new count same before last = one_put p.replaces p.owner old mid new count before (subst (λ (r : InPut). IsPut (Puts r.replaces) r.owner mid new) same last)
+put_more : (p q r : InPut) (hosts : List (Bor (List ℕ))) (host : Bor (List ℕ)) (name bytes : List ℕ) (old mid new : Filed)
+    → ArePutNext p hosts old q mid → IsLastPart host.now name → IsHostPut q name bytes mid r new → ArePutNext p (hosts ++ host ∷ []) old r new
+put_more p q r [] host name bytes old mid new before last put =
+    (name, (bytes, (r, (new, last, subst (λ (k : InPut). IsHostPut k name bytes old r new) before.0 (subst (λ (f : Filed). IsHostPut q name bytes f r new) before.1 put), (refl, refl)))))
+put_more p q r (x ∷ hosts) host name bytes old mid new before last put =
+    let t = before.1.1 in
+    (before.0, (before.1.0, (t.0, (t.1.0, t.1.1, t.1.2, put_more t.0 q r hosts host name bytes t.1.0 mid new t.1.3 last put))))
 
-begun_by : (replace : Bool) (owner : Option Uic) (count : ℕ) (old ready new : Filed) → (ready ≡ old) ⊎ HasGrown old (lacking old (min count 65535)) ready → (replace ≡ true → ready ≡ old)
-    → ArePutNext replace owner ready count new → ArePut replace owner count old new
-begun_by replace owner count old ready new either same all = (ready, made_ready replace count old ready either same, all)
+-- the next of some files
+pub put_next : (p q r : InPut) (hosts : List (Bor (List ℕ))) (i : ℕ) (host : Bor (List ℕ)) (bytes : List ℕ) (old mid new : Filed)
+    → (name : List ℕ) × IsLastPart (get_or hosts i host).now name × IsHostPut q name bytes mid r new → i < length hosts → ArePutNext p (take i hosts) old q mid → ArePutNext p (take (i + 1) hosts) old r new
+put_next p q r hosts i host bytes old mid new one low before =
+    subst (λ (hs : List (Bor (List ℕ))). ArePutNext p hs old r new) (sym (ap (λ (n : ℕ). take n hosts) (next i) ∙ take-suc hosts i host low))
+    (put_more p q r (take i hosts) (get_or hosts i host) one.0 bytes old mid new before one.1 one.2)
+  where
+    next : (n : ℕ) → n + 1 ≡ suc n
+    next n = omega arith
+
+-- the headers for all may be asked for, where none is replaced
+made_ready : (I : _) (L : _) (replace : Bool) (names : Option (List ℕ)) (count : ℕ) (old new : Filed) → AreNames I L replace names
+    → (new ≡ old) ⊎ HasGrown old (lacking old (min count 65535)) new → (is_some names ≡ true → new ≡ old) → MayBeReady replace count old new
+made_ready I L true names count old new counted either same = inl (same (subst (λ (o : Option (List ℕ)). is_some o ≡ true) (sym counted.1) refl))
+made_ready I L false names count old new counted (inl is) same = inl is
+made_ready I L false names count old new counted (inr grown) same = inr (refl, grown)
 
 -- all files
-pub put_all : (p : InPut) (replace : Bool) (owner : Option Uic) (count n : ℕ) (old ready new : Filed) → p ≡ record { replaces = replace; owner = owner } → count ≡ n
-    → (ready ≡ old) ⊎ HasGrown old (lacking old (min count 65535)) ready → (p.replaces ≡ true → ready ≡ old) → ArePutNext p.replaces p.owner ready count new → ArePut replace owner n old new
-put_all p replace owner count n old ready new is size either same all =
-    subst (λ k. ArePut replace owner k old new) size
-    (subst (λ (q : InPut). ArePut q.replaces q.owner count old new) is (begun_by p.replaces p.owner count old ready new either same all))
+pub put_all : (how : PutWords) (words hosts : List (Bor (List ℕ))) (to : Option (Bor (List ℕ))) (form : PutForm) (stamp : List ℕ) (p q : InPut) (i : ℕ) (old ready new : Filed)
+    → IsBegun old.image old.layout stamp to (nat_lt 1 (length hosts)) form how.like how.replace how.owner p
+    → to ≡ path_among words → hosts ≡ hosts_among words → form ≡ form_said how
+    → (ready ≡ old) ⊎ HasGrown old (lacking old (min (length hosts) 65535)) ready → (is_some p.names ≡ true → ready ≡ old)
+    → i ≡ length hosts → ArePutNext p (take i hosts) ready q new → ArePut how words stamp old new
+put_all how words hosts to form stamp p q i old ready new begun goes are said either same end all = record {
+  begun = p;
+  begins =
+      subst (λ (o : Option (Bor (List ℕ))). IsBegun old.image old.layout stamp o (nat_lt 1 (length (hosts_among words))) (form_said how) how.like how.replace how.owner p) goes
+      (subst (λ (hs : List (Bor (List ℕ))). IsBegun old.image old.layout stamp to (nat_lt 1 (length hs)) (form_said how) how.like how.replace how.owner p) are
+      (subst (λ (f : PutForm). IsBegun old.image old.layout stamp to (nat_lt 1 (length hosts)) f how.like how.replace how.owner p) said begun));
+  ready = ready;
+  made_ready = subst (λ (hs : List (Bor (List ℕ))). MayBeReady how.replace (length hs) old ready) are
+      (made_ready old.image old.layout how.replace p.names (length hosts) old ready begun.named either same);
+  known = q;
+  put = subst (λ (hs : List (Bor (List ℕ))). ArePutNext p hs ready q new) (take_whole ∙ are) all;
+}
+  where
+    take_whole : take i hosts ≡ hosts
+    take_whole = ap (λ (n : ℕ). take n hosts) end ∙ take-length hosts

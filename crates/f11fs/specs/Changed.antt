@@ -1,5 +1,5 @@
 -- What commands that change a volume leave of it.
-use Rattle.std.specs.Prelude.{◌≡◌, ◌⊎◌, ℕ, zero, suc, min, List, [], ◌∷◌, ◌++◌, length, Bool, false, Option}
+use Rattle.std.specs.Prelude.{◌≡◌, ◌⊎◌, ◌-◌, ℕ, zero, suc, min, nat_lt, if◌then◌else◌, List, [], ◌∷◌, ◌++◌, length, take, slice_get, Bool, false, Option, Some, None, unwrap_or}
 use Rattle.std.specs.Borrow.{Bor}
 use Rattle.ods_base.specs.declared.file_id.Uic.{Uic}
 use Rattle.ods_shell.specs.declared.status.Status.{Status}
@@ -8,14 +8,24 @@ use Rattle.fs_words.specs.declared.actions.Action.{Action}
 use Rattle.fs_words.specs.declared.actions.Action.TheVariants as action
 use Rattle.fs_words.specs.declared.actions.Change.{Change}
 use Rattle.fs_words.specs.declared.actions.Change.TheVariants as change
+use Rattle.fs_words.specs.declared.actions.PutWords.{PutWords}
+use Rattle.fs_words.specs.declared.words.Words.{Words}
+use Rattle.fs_words.specs.Lines.{words_in}
+use Rattle.fs_words.specs.Parts.{IsLineOf}
 use Rattle.ods_filing.specs.Filed.{Filed, HasGrown, for_another, lacking}
 use Rattle.ods_filing.specs.Led.{IsLed}
-use Rattle.ods_upkeep.specs.Kinds.{Copies, Cuts, Puts, Removes, Renames}
+use Rattle.ods_upkeep.specs.Begun.{IsBegun}
+use Rattle.ods_upkeep.specs.Kinds.{Cuts, Removes, Renames}
+use Rattle.ods_upkeep.specs.Copied.{IsCopiedTo}
 use Rattle.ods_upkeep.specs.Cut.{IsTruncated}
+use Rattle.ods_upkeep.specs.Emptied.{AreEmptied}
 use Rattle.ods_upkeep.specs.Made.{AreMade}
 use Rattle.ods_upkeep.specs.Moved.{IsMoved}
 use Rattle.ods_upkeep.specs.Removed.{IsRemoved}
-use Rattle.ods_upkeep.specs.PutFor.{IsPut}
+use Rattle.ods_upkeep.specs.HostPut.{IsHostPut}
+use Rattle.ods_upkeep.specs.Left.{InPut}
+use Rattle.f11fs.specs.Forms.{form_said}
+use Rattle.f11fs.specs.Readings.{IsLastPart}
 
 -- of so many words of a put, how many name host files: all but the last, where there are several
 abbrev pub host_count : ℕ → ℕ
@@ -23,22 +33,41 @@ host_count zero = zero
 host_count (suc zero) = 1
 host_count (suc (suc n)) = suc n
 
--- so many files were put, one after another
-abbrev pub ArePutNext : Bool → Option Uic → Filed → ℕ → Filed → Type 0
-ArePutNext replaces said old zero new = new ≡ old
-ArePutNext replaces said old (suc count) new = (mid : Filed) × ArePutNext replaces said old count mid × IsPut (Puts replaces) said mid new
+-- the words that name host files
+abbrev pub hosts_among : List (Bor (List ℕ)) → List (Bor (List ℕ))
+hosts_among words = take (host_count (length words)) words
+
+-- where they go: with two words or more the last is the path on the volume
+abbrev pub path_among : List (Bor (List ℕ)) → Option (Bor (List ℕ))
+path_among words = if nat_lt 1 (length words) then slice_get words (length words - 1) else None
+
+-- Host files were put, one after another, by what was known before each; the host gave their bytes. A name is what stands behind the last slash of a path.
+abbrev pub ArePutNext : InPut → List (Bor (List ℕ)) → Filed → InPut → Filed → Type 0
+ArePutNext p [] old q new = (q ≡ p) × (new ≡ old)
+ArePutNext p (host ∷ hosts) old q new =
+    (name : List ℕ) × ((bytes : List ℕ) × ((r : InPut) × ((mid : Filed) × IsLastPart host.now name × IsHostPut p name bytes old r mid × ArePutNext r hosts mid q new)))
 
 -- before so many files are put INDEXF.SYS may get the headers that it lacks for all of them, where none is replaced
 abbrev pub MayBeReady : Bool → ℕ → Filed → Filed → Type 0
 MayBeReady replaces count old new = (new ≡ old) ⊎ ((replaces ≡ false) × HasGrown old (lacking old (min count 65535)) new)
 
--- so many files were put, and nothing else was done
-abbrev pub ArePut : Bool → Option Uic → ℕ → Filed → Filed → Type 0
-ArePut replaces said count old new = (ready : Filed) × MayBeReady replaces count old ready × ArePutNext replaces said ready count new
+-- Each host file that the words name was put where they say, in the form and for the owner that they say, and nothing else was done.
+pub record ArePut (how : PutWords) (words : List (Bor (List ℕ))) (stamp : List ℕ) (old new : Filed) : Type 0 where
+  -- what is looked up before the first
+  pub begun : InPut
+  pub begins : IsBegun old.image old.layout stamp (path_among words) (nat_lt 1 (length (hosts_among words))) (form_said how) how.like how.replace how.owner begun
+  pub ready : Filed
+  pub made_ready : MayBeReady how.replace (length (hosts_among words)) old ready
+  pub known : InPut
+  pub put : ArePutNext begun (hosts_among words) ready known new
 
 -- the names of these words have moved to the last one
 abbrev pub MovesToLast : List (Bor (List ℕ)) → Filed → Filed → Type 0
 MovesToLast words old new = (from : List (Bor (List ℕ))) × ((to : Bor (List ℕ)) × (words ≡ from ++ to ∷ []) × IsMoved from to.now old new)
+
+-- the files of these words are copied to the last one
+abbrev pub CopiesToLast : List (Bor (List ℕ)) → List ℕ → Filed → Filed → Type 0
+CopiesToLast words stamp old new = (from : List (Bor (List ℕ))) × ((to : Bor (List ℕ)) × (words ≡ from ++ to ∷ []) × IsCopiedTo stamp from to.now old new)
 
 -- the file of the first word has so many bytes
 abbrev pub CutsFirst : List (Bor (List ℕ)) → ℕ → Filed → Filed → Type 0
@@ -46,12 +75,12 @@ CutsFirst words bytes old new = (path : Bor (List ℕ)) × ((others : List (Bor 
 
 -- What a change leaves that is made whole, by the words behind its name, and by the time that new files get.
 abbrev pub IsChanged : Change → List (Bor (List ℕ)) → List ℕ → Filed → Filed → Type 0
-IsChanged (change.Put how) words stamp old new = ArePut how.replace how.owner (host_count (length words)) old new
-IsChanged change.Cp words stamp old new = IsLed Copies old new
+IsChanged (change.Put how) words stamp old new = ArePut how words stamp old new
+IsChanged change.Cp words stamp old new = CopiesToLast words stamp old new
 IsChanged change.Mv words stamp old new = MovesToLast words old new
 IsChanged (change.Rm entry_alone newest) words stamp old new = IsRemoved entry_alone newest words old new
-IsChanged (change.Mkdir names owner) words stamp old new = AreMade owner stamp old (length words) new
-IsChanged change.Rmdir words stamp old new = IsLed (Removes false) old new
+IsChanged (change.Mkdir names owner) words stamp old new = AreMade owner (unwrap_or names 0) stamp words old new
+IsChanged change.Rmdir words stamp old new = AreEmptied words old new
 IsChanged (change.Truncate bytes) words stamp old new = CutsFirst words bytes old new
 
 -- what some changes leave, refused or not: nothing but what requests of theirs leave
@@ -78,11 +107,17 @@ IsDoneBy asked words stamp user s old new =
     HasSameVolume old new
     ⊎ ((c : Change) × (asked ≡ action.Change c) × (s ≡ status.Done) × IsChanged c words stamp (for_another old user) new)
 
--- what some command leaves of a volume that stands
-abbrev pub IsLineDone : Status → Filed → Filed → Type 0
-IsLineDone s old new = (asked : Action) × (words : List (Bor (List ℕ))) × (stamp : List ℕ) × (user : Uic) × IsDoneBy asked words stamp user s old new
+-- the words of this line ask for a command on the volume of this image
+abbrev pub IsCommandOf : Bor (List ℕ) → List ℕ → Words → Type 0
+IsCommandOf image line own = (words : List (List ℕ)) × (words_in line ≡ Some words) × IsLineOf image words (Some own)
 
--- what so many commands leave, one after another
-abbrev pub AreLinesDone : ℕ → Filed → Filed → Type 0
-AreLinesDone zero old new = new ≡ old
-AreLinesDone (suc count) old new = (mid : Filed) × (s : Status) × AreLinesDone count old mid × IsLineDone s mid new
+-- What a line leaves of a volume that stands: the same volume; or what its command leaves, with the stamp and for the user that the line says, or else with these.
+abbrev pub IsLineDone : Bor (List ℕ) → List ℕ → Uic → List ℕ → Status → Filed → Filed → Type 0
+IsLineDone image stamp user line s old new =
+    HasSameVolume old new
+    ⊎ ((own : Words) × IsCommandOf image line own × IsDoneBy own.action own.paths.items (unwrap_or own.stamp stamp) (unwrap_or own.user user) s old new)
+
+-- what these lines leave, one after another
+abbrev pub AreLinesDone : Bor (List ℕ) → List ℕ → Uic → List (List ℕ) → Filed → Filed → Type 0
+AreLinesDone image stamp user [] old new = new ≡ old
+AreLinesDone image stamp user (line ∷ lines) old new = (mid : Filed) × (s : Status) × IsLineDone image stamp user line s old mid × AreLinesDone image stamp user lines mid new

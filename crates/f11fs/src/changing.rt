@@ -5,9 +5,10 @@ ghost use Rattle.ods_shell.specs.declared.status.Status.{Status as Code};
 ghost use Rattle.ods_upkeep.specs.Pieces.{HasStatus};
 ghost use Rattle.fs_reads.specs.Ends.{StopsWith};
 ghost use Rattle.fs_reads.specs.declared.stop.Stop.{Stop as End};
-ghost use Rattle.f11fs.specs.{Changed.IsChanged, Changed.KeepsTo, Saved.EndsSaved, Saved.IsNotLocked, Saved.IsNotSaved, Saved.IsWrittenTo};
+ghost use Rattle.f11fs.specs.{Changed.IsChanged, Changed.KeepsTo, Saved.EndsSaved, Saved.IsNotLocked, Saved.IsNotSaved, Saved.IsSavedStatus, Saved.IsWrittenTo};
 
 use crate::early::Early;
+use crate::host::Host;
 use crate::putting::put;
 use crate::telling::plan_text;
 use fs_host::{Locked, Shown, Unfinished, stamp_of_now, write_new};
@@ -24,24 +25,7 @@ use ods_upkeep::{
 };
 use std::alloc::{AllocError, Global};
 use std::fs::File;
-use std::io::Input;
-use std::rt::{Clock, Env, Files};
-
-/// What a run that changes an image is given by its host.
-pub trait Host: Clock
-    + Env
-    + Files<File = File>
-    + Input
-    + AllocGlobal
-    + Print
-    + Eprint
-    + Clone
-    + Drop {}
-
-impl<R> Host for R
-where
-    R: Clock + Env + Files<File = File> + Input + AllocGlobal + Print + Eprint + Clone + Drop,
-{}
+use std::rt::Files;
 
 /// The user of whom changes ask rights where none is said.
 const KEEPER: Uic = Uic {
@@ -54,17 +38,33 @@ pub fn change_image<'a, R: Host>(
     rt: &R,
     words: &Words<'a>,
     change: Change<'a>,
-) -> Result<Status, Stop<'a>> {
+) -> Result<Status, Stop<'a>>
+    ensures { IfOk result IsSavedStatus }
+{
     let mut early = Early::of(rt, words.image);
     early.read_words(rt, words)?;
     let (mut locked, volume) = lock_volume(rt, words, false)?;
     let asker = asker_of(rt, words)?;
     let before = kept_before(words, &volume)?;
+    let filing = changed(rt, volume, asker, words, change, &mut early)?;
+    let finished = finish(rt, words, &mut locked, &before, filing.mounted())?;
+    Ok(status_of(finished))
+}
+
+/// The volume with the change that the words ask for, made whole.
+fn changed<'a, R: Files<File = File> + AllocGlobal + Eprint>(
+    rt: &R,
+    volume: Mounted,
+    asker: Asker,
+    words: &Words<'a>,
+    change: Change<'a>,
+    early: &mut Early,
+) -> Result<Filing, Stop<'a>>
+    ensures { IfOk result (IsChanged change.entry words.now.paths.items asker.stamp (record { image = volume.image; layout = volume.layout; user = asker.user })) }
+{
     let mut filing = Filing::new(rt.alloc(), volume, asker.user)?;
-    change_volume(rt, &mut filing, asker.stamp, words, change, &mut early)?;
-    match finish(rt, words, &mut locked, &before, filing.mounted())? {
-        Finished::Told(status) | Finished::Saved(status) => Ok(status),
-    }
+    change_volume(rt, &mut filing, asker.stamp, words, change, early)?;
+    Ok(filing)
 }
 
 /// Locks the image, and gives its volume. Where it is to be copied, it shares its blocks with its copies.
@@ -125,6 +125,16 @@ pub enum Finished {
     Told(Status),
     /// The changed image is saved.
     Saved(Status),
+}
+
+/// The status of a run that ended so.
+fn status_of(finished: Finished) -> Status
+    ensures { EndsSaved finished → IsSavedStatus result }
+{
+    match finished {
+        Finished::Told(status) => status,
+        Finished::Saved(status) => status,
+    }
 }
 
 /// Who asks, and the time that new files get.

@@ -1,15 +1,14 @@
 //! Commands in a file of the host, one a line: obeyed one after another on the volume in memory; then the image is saved, once.
 ghost use Rattle.std.specs.Prelude.{◌≡◌, ◌≤◌, ◌⊎◌, ◌&&◌, ℕ, true, false, codes, IfErr, IfOk, IsTrue, length, unwrap_or, vec_len};
-ghost use Rattle.std.specs.{List.list_any, Str.bytes_eq};
+ghost use Rattle.std.specs.{List.list_any, Str.Lines.lines, Str.bytes_eq};
 ghost use Rattle.fs_host.specs.Faults.{is_reason};
 ghost use Rattle.fs_reads.specs.declared.stop.Stop.{Stop as End};
 ghost use Rattle.f11fs.specs.{Changed.AreLinesDone, Changed.IsChanged, Changed.IsDoneBy, Changed.IsDoneNow, Changed.IsLineDone, Readings.IsUnread, Readings.reads_commands};
 ghost use Rattle.ods_shell.specs.declared.status.Status.{Status as Code};
 
-use crate::changing::{
-    Asker, Finished, Host, asker_of, change_volume, finish, kept_before, lock_volume,
-};
+use crate::changing::{Asker, Finished, asker_of, change_volume, finish, kept_before, lock_volume};
 use crate::early::{Early, read_bytes};
+use crate::host::Host;
 use crate::lines::{say_no_memory, say_wrong};
 use fs_host::{Collecting, HostFault, Noting};
 use fs_reads::{Progress, Stop, WordFault, check_image, obey, say_end};
@@ -134,8 +133,8 @@ fn obey_lines<R: Host>(
     text: &str,
     early: &mut Early,
 ) -> (Status, bool)
-    // Where the run goes on, each line has left the volume as it was, or changed it whole.
-    ensures { result.1 ≡ true → (count : ℕ) × AreLinesDone count filing.old filing.new }
+    // Where the run goes on, each line has left the volume as it was, or has made the change whole that its words ask for.
+    ensures { result.1 ≡ true → AreLinesDone run.now.outer.now.image run.now.asker.stamp run.now.asker.user (lines text.now) filing.old filing.new }
 {
     let mut status = Status::Done;
     let mut number = 0usize;
@@ -177,7 +176,7 @@ fn obey_line<R: Files<File = File> + Clock + Input + AllocGlobal + Print + Eprin
     line: &str,
     early: &mut Early,
 ) -> (Status, bool)
-    ensures { result.1 ≡ true → IsLineDone result.0 filing.old filing.new }
+    ensures { result.1 ≡ true → IsLineDone run.now.outer.now.image run.now.asker.stamp run.now.asker.user line.now result.0 filing.old filing.new }
 {
     let words = match line_words(rt.alloc(), line) {
         Ok(words) => words,

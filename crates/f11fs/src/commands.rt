@@ -2,8 +2,9 @@
 ghost use Rattle.std.specs.Prelude.{◌≡◌, ◌&&◌, not};
 ghost use Rattle.f11fs.specs.Seen.{prints_names};
 
-use crate::changing::{Host, change_image};
+use crate::changing::change_image;
 use crate::command_files::obey_file;
+use crate::host::Host;
 use crate::making::init_image;
 use fs_reads::{Progress, Stop, check, obey, open_volume, rescue, say_end};
 use fs_words::{Action, Words};

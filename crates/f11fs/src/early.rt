@@ -1,9 +1,9 @@
 //! Host files that are no plain files, as pipes and standard input: a `put` reads them before the image is locked, so that nobody waits under the
 //! lock.
-ghost use Rattle.std.specs.Prelude.{◌≡◌, ◌<◌, ◌≤◌, ◌-◌, ◌∷◌, ◌++◌, ℕ, [], None, Some, IfErr, IfOk, IfSome, IsTrue, MatchResult, OnOk, length, slice_get, take, vec_len};
+ghost use Rattle.std.specs.Prelude.{◌≡◌, ◌<◌, ◌≤◌, ◌-◌, ◌∷◌, ◌++◌, ℕ, [], None, Some, IfErr, IfOk, IfSome, IsTrue, MatchResult, OnOk, length, slice_get, vec_len};
 ghost use Rattle.fs_host.specs.Faults.{is_reason};
 ghost use Rattle.std.specs.List.{remove};
-ghost use Rattle.f11fs.specs.{Changed.host_count, Readings.AddsReading, Readings.IsNoPut, Readings.first_at};
+ghost use Rattle.f11fs.specs.{Changed.host_count, Changed.hosts_among, Readings.AddsReading, Readings.IsNoPut, Readings.first_at};
 ghost use Rattle.f11fs.specs.declared.early.Taken.{Taken as Read};
 
 use fs_host::{HostFault, read_host, read_some};
@@ -140,7 +140,7 @@ fn room_behind(room: u64, bytes: &Result<Vec<u8>, HostFault>) -> u64
 
 /// The words of a `put` that name host files: all but the last, where there are several.
 pub fn hosts<'w, 'a>(words: &'w [&'a str]) -> &'w [&'a str]
-    ensures { result.now ≡ take (host_count (length words.now)) words.now }
+    ensures { result.now ≡ hosts_among words.now }
 {
     let count = count_hosts(words.len());
     &words[..count]

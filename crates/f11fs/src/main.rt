@@ -9,15 +9,16 @@ mod changing;
 mod command_files;
 mod commands;
 mod early;
+mod host;
 mod lines;
 mod making;
 mod putting;
 mod telling;
 
-use changing::Host;
 use commands::{Seen, run_command};
 use fs_host::hold_streams;
 use fs_words::{WordsFault, parse_words};
+use host::Host;
 use lines::{say_no_memory, say_wrong};
 use ods_shell::Status;
 use std::io::IsTerminal;

@@ -6,7 +6,8 @@ ghost use Rattle.fs_reads.specs.declared.stop.Stop.{Stop as End};
 ghost use Rattle.f11fs.specs.Saved.{IsSavedStatus};
 ghost use Rattle.ods_shell.specs.declared.status.Status.{Status as Code};
 
-use crate::changing::{Host, asker_of, say_unfinished};
+use crate::changing::{asker_of, say_unfinished};
+use crate::host::Host;
 use fs_host::{SaveFault, Shown, write_new};
 use fs_reads::{Stop, WordFault, send, stop_about};
 use fs_words::Words;

@@ -1,8 +1,8 @@
 //! `put`: files of the host, put into a volume.
-ghost use Rattle.std.specs.Prelude.{◌≡◌, ◌≤◌, ◌⊎◌, ℕ, Ok, Some, IfErr, IfOk, OnOk, length, slice_get, vec_len};
-ghost use Rattle.f11fs.specs.{Changed.ArePut, Changed.host_count, Forms.form_said, Readings.IsLastPart, Readings.IsTooLarge, Readings.IsUnread, Readings.first_at};
+ghost use Rattle.std.specs.Prelude.{◌≡◌, ◌≤◌, ◌⊎◌, ℕ, List, Ok, Some, IfErr, IfOk, OnOk, slice_get, vec_len};
+ghost use Rattle.f11fs.specs.{Changed.ArePut, Changed.path_among, Forms.form_said, Readings.IsLastPart, Readings.IsTooLarge, Readings.IsUnread, Readings.first_at};
 ghost use Rattle.f11fs.specs.declared.early.Taken.{Taken as Read};
-ghost use Rattle.ods_upkeep.specs.{Kinds.Puts, PutFor.IsPut};
+ghost use Rattle.ods_upkeep.specs.HostPut.{IsHostPut};
 
 use crate::changing::stop_failed;
 use crate::early::{Early, hosts};
@@ -25,13 +25,10 @@ pub fn put<'a, R: Files<File = File> + AllocGlobal + Eprint>(
     how: PutWords<'a>,
     early: &mut Early,
 ) -> Result<(), Stop<'a>>
-    ensures { OnOk result (ArePut how.entry.replace how.entry.owner (host_count (length words.now.paths.items)) filing.old filing.new) }
+    ensures { OnOk result (ArePut how.entry words.now.paths.items stamp filing.old filing.new) }
 {
     let hosts = hosts(words.paths.as_slice());
-    let to = match words.paths.last() {
-        Some(last) if hosts.len() < words.paths.len() => Some(*last),
-        _ => None,
-    };
+    let to = path_among(words.paths.as_slice());
     if to.is_none() && hosts.iter().any(|host| *host == "-") {
         return Err(Stop::Word("-", WordFault::NoPath));
     }
@@ -66,6 +63,17 @@ pub fn put<'a, R: Files<File = File> + AllocGlobal + Eprint>(
     Ok(())
 }
 
+/// The path on the volume: the last word, where there are two or more.
+fn path_among<'a>(words: &[&'a str]) -> Option<&'a str>
+    ensures { result ≡ path_among words.now }
+{
+    if 1 < words.len() {
+        words.get(words.len() - 1).copied()
+    } else {
+        None
+    }
+}
+
 /// The form that the words say.
 fn form_of(how: &PutWords<'_>) -> PutForm
     ensures { result ≡ form_said how.now }
@@ -90,8 +98,7 @@ fn put_one<'a, R: AllocGlobal + Eprint>(
     bytes: &[u8],
     quiet: bool,
 ) -> Result<(), Stop<'a>>
-    ensures volume { OnOk result (IsPut (Puts putting.old.replaces) putting.old.owner filing.old filing.new) }
-    ensures same { putting.new ≡ putting.old }
+    ensures { OnOk result ((name : List ℕ) × IsLastPart host.now name × IsHostPut putting.old name bytes.now filing.old putting.new filing.new) }
 {
     let file = HostFile {
         name: last_part(host),

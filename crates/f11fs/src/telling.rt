@@ -1,7 +1,9 @@
 //! What a change makes of a volume: a line for each path that comes, goes or changes, and for each file without a path.
-ghost use Rattle.std.specs.Prelude.{◌≡◌, ◌↔◌, ◌⊎◌, ◌<◌, ℕ, false, true, IsTrue, IfSome, OnOk, Some, length, set, slice_get, slice_index_or, string_bytes};
-ghost use Rattle.fs_reads.specs.{Alike.IsNamedBy, Alike.has_path, Shown.Extends};
-ghost use Rattle.f11fs.specs.Plans.{IsIdOf, IsNumberOf, Tells, id_text, plan_line};
+ghost use Rattle.std.specs.Prelude.{◌≡◌, ◌↔◌, ◌⊎◌, ◌<◌, ℕ, List, Option, false, true, IsTrue, IfOk, IfSome, OnOk, Some, length, set, slice_get, slice_index_or, string_bytes};
+ghost use Rattle.std.specs.Option.{option_copied};
+ghost use Rattle.ods_base.specs.declared.file_id.FileId.{FileId as Id};
+ghost use Rattle.fs_reads.specs.{Alike.AreCompared, Alike.IsNamedBy, Alike.has_path, Shown.Extends};
+ghost use Rattle.f11fs.specs.Plans.{IsIdOf, IsNumberOf, IsToldOfFile, IsToldOfNumber, IsToldOfPath, Tells, id_text, plan_line};
 ghost use Rattle.ods_shell.specs.Facts.{AreFacts};
 
 use fs_reads::{Known, Stop, all_known, difference_by_id, place_of};
@@ -38,10 +40,17 @@ impl Plan {
         ensures more { OnOk result (Extends (string_bytes self.old.text) (string_bytes self.new.text)) }
         ensures mode { self.new.json ≡ self.old.json }
     {
-        let FileId { number, sequence } = file;
-        let id = format!(in self.alloc; "#{number},{sequence}")?;
+        let id = text_of_id(self.alloc, file)?;
         self.add(done, id.as_str())
     }
+}
+
+/// The ID of a file without a path, as it is told.
+fn text_of_id(alloc: Global, file: FileId) -> Result<String, AllocError>
+    ensures { IfOk result (λ text. string_bytes text ≡ id_text file) }
+{
+    let FileId { number, sequence } = file;
+    format!(in alloc; "#{number},{sequence}")
 }
 
 /// The text of a plan: a line, or an object, for each path of the volumes that is in one alone, or whose file differs; and for each file
@@ -93,17 +102,38 @@ fn add_path<'a>(
     after: &Mounted,
     one: &Known,
     plan: &mut Plan,
-) -> Result<(), Stop<'a>> {
+) -> Result<(), Stop<'a>>
+    ensures told { OnOk result ((told : List ℕ) × IsToldOfPath (λ a b word. AreCompared before.now a after.now b word) (option_copied known.entry) one.now told × Tells plan.old told plan.new) }
+    ensures more { OnOk result (Extends (string_bytes plan.old.text) (string_bytes plan.new.text)) }
+    ensures mode { plan.new.json ≡ plan.old.json }
+{
     let path = one.path.as_str();
     match known {
         None => Ok(plan.add("make", path)?),
         // INDEXF.SYS and BITMAP.SYS change with any file.
         Some(known) if known.file.number <= 2 => Ok(()),
         Some(known) if known.file != one.file => Ok(plan.add("replace", path)?),
-        Some(known) => match difference_by_id(alloc, before, known.file, after, one.file)? {
-            Some(_) => Ok(plan.add("change", path)?),
-            None => Ok(()),
-        },
+        Some(known) => add_changed(alloc, before, known.file, after, one.file, path, plan),
+    }
+}
+
+/// Adds that the file with these IDs, before and afterwards, has changed, where it has.
+fn add_changed<'a>(
+    alloc: Global,
+    before: &Mounted,
+    old: FileId,
+    after: &Mounted,
+    new: FileId,
+    what: &str,
+    plan: &mut Plan,
+) -> Result<(), Stop<'a>>
+    ensures told { OnOk result ((told : List ℕ) × IsToldOfFile (λ a b word. AreCompared before.now a after.now b word) old new what.now told × Tells plan.old told plan.new) }
+    ensures more { OnOk result (Extends (string_bytes plan.old.text) (string_bytes plan.new.text)) }
+    ensures mode { plan.new.json ≡ plan.old.json }
+{
+    match difference_by_id(alloc, before, old, after, new)? {
+        Some(_) => Ok(plan.add("change", what)?),
+        None => Ok(()),
     }
 }
 
@@ -114,20 +144,56 @@ fn add_number<'a>(
     after: &Mounted,
     number: u16,
     plan: &mut Plan,
-) -> Result<(), Stop<'a>> {
-    match (id_of(before, number), id_of(after, number)) {
+) -> Result<(), Stop<'a>>
+    ensures told { OnOk result ((old : Option Id) × ((new : Option Id) × ((told : List ℕ) × IsIdOf (AreFacts before.now.image before.now.layout number) old × IsIdOf (AreFacts after.now.image after.now.layout number) new
+        × IsToldOfNumber (λ a b word. AreCompared before.now a after.now b word) old new told × Tells plan.old told plan.new))) }
+    ensures more { OnOk result (Extends (string_bytes plan.old.text) (string_bytes plan.new.text)) }
+    ensures mode { plan.new.json ≡ plan.old.json }
+{
+    let (old, new) = (id_of(before, number), id_of(after, number));
+    add_ids(alloc, before, old, after, new, plan)
+}
+
+/// Adds what is done to a file of these IDs, before and afterwards, which has no path.
+fn add_ids<'a>(
+    alloc: Global,
+    before: &Mounted,
+    old: Option<FileId>,
+    after: &Mounted,
+    new: Option<FileId>,
+    plan: &mut Plan,
+) -> Result<(), Stop<'a>>
+    ensures told { OnOk result ((told : List ℕ) × IsToldOfNumber (λ a b word. AreCompared before.now a after.now b word) old new told × Tells plan.old told plan.new) }
+    ensures more { OnOk result (Extends (string_bytes plan.old.text) (string_bytes plan.new.text)) }
+    ensures mode { plan.new.json ≡ plan.old.json }
+{
+    match (old, new) {
         (None, None) => Ok(()),
         (Some(old), None) => Ok(plan.add_file("remove", old)?),
         (None, Some(new)) => Ok(plan.add_file("make", new)?),
-        (Some(old), Some(new)) if old != new => {
-            plan.add_file("remove", old)?;
-            Ok(plan.add_file("make", new)?)
-        }
-        (Some(old), Some(new)) => match difference_by_id(alloc, before, old, after, new)? {
-            Some(_) => Ok(plan.add_file("change", new)?),
-            None => Ok(()),
-        },
+        (Some(old), Some(new)) => add_both(alloc, before, old, after, new, plan),
     }
+}
+
+/// Adds what is done to a file without a path, which has this ID before, and that one afterwards.
+fn add_both<'a>(
+    alloc: Global,
+    before: &Mounted,
+    old: FileId,
+    after: &Mounted,
+    new: FileId,
+    plan: &mut Plan,
+) -> Result<(), Stop<'a>>
+    ensures told { OnOk result ((told : List ℕ) × IsToldOfNumber (λ a b word. AreCompared before.now a after.now b word) (Some old) (Some new) told × Tells plan.old told plan.new) }
+    ensures more { OnOk result (Extends (string_bytes plan.old.text) (string_bytes plan.new.text)) }
+    ensures mode { plan.new.json ≡ plan.old.json }
+{
+    if old == new {
+        let id = text_of_id(alloc, new)?;
+        return add_changed(alloc, before, old, after, new, id.as_str(), plan);
+    }
+    plan.add_file("remove", old)?;
+    Ok(plan.add_file("make", new)?)
 }
 
 /// The ID of the file with this number.
