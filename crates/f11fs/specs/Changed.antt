@@ -51,7 +51,7 @@ ArePutNext p (host ∷ hosts) old q new =
 abbrev pub MayBeReady : Bool → ℕ → Filed → Filed → Type 0
 MayBeReady replaces count old new = (new ≡ old) ⊎ ((replaces ≡ false) × HasGrown old (lacking old (min count 65535)) new)
 
--- Each host file that the words name was put where they say, in the form and for the owner that they say, and nothing else was done.
+-- Each host file that the words name was put where they say, in the form and for the owner that they say. Nothing else was done.
 pub record ArePut (how : PutWords) (words : List (Bor (List ℕ))) (stamp : List ℕ) (old new : Filed) : Type 0 where
   -- what is looked up before the first
   pub begun : InPut

@@ -76,7 +76,7 @@ pub delete_stops : (old new : Filed) (names : ℕ → ℕ) (facts : Facts) (why 
 delete_stops old new names facts why none same refused =
     subst (λ b. StopsAt old (cond b (Delete facts.file ∷ []) []) new why) (sym (eq-eqb (names facts.file.number) 0 none)) (stops_one old new (Delete facts.file) same why refused)
 
--- what may go: it does not stay, where the entry alone is meant it has one, and else the file is no directory, and is not named by an ID while entries name it
+-- What may go does not stay. Where the entry alone is meant it has one. Else its file is no directory, and is not named by an ID while entries name it.
 pub may_go : (alone : Bool) (names : ℕ → ℕ) (f : Found) → ¬ Stays f.place f.facts → (alone ≡ true → f.place ≢ None) → (alone ≡ false → ¬ IsOfDirectory f.facts) → (alone ≡ false → f.place ≡ None → ¬ HasNames names f.facts)
     → (why : Why) → ¬ MayNotGo alone names f why
 may_go alone names f free has plain unnamed (Request reason) kept = free kept.1

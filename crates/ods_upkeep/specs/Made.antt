@@ -24,7 +24,7 @@ use Rattle.ods_upkeep.specs.Target.{IsTheDirectory}
 abbrev pub directories_named : List ℕ → Versions → Files
 directories_named name versions = record { name = name; kind = codes "DIR"; versions = Some versions }
 
--- The path means a new directory of this name in this one: no version of the name is there, no entry of the directory above is hidden, and the name is not that of the master directory in itself.
+-- The path means a new directory of this name in this one. No version of the name is there, and no entry of the directory above is hidden. The name is not that of the master directory in itself.
 pub record IsNewPlace (I : List (List ℕ)) (L : VolumeLayout) (path : List ℕ) (dir : FileId) (name : RadName) : Type 0 where
   pub up : Folder
   pub text : List ℕ
