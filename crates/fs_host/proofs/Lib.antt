@@ -5,3 +5,4 @@ mod Finding
 mod MayEnd
 mod HiddenNames
 mod HolderTexts
+mod Failed

@@ -7,9 +7,13 @@ use Rattle.std.specs.declared.io.ErrorKind.TheVariants.{NotFound, PermissionDeni
 use Rattle.std.specs.declared.io.ErrorKind.TheVariants.{Unsupported as KindUnsupported}
 use Rattle.std.proofs.Common.{refl, sym, ap, ◌∙◌, arith}
 use Rattle.fs_host.specs.declared.host_fault.HostFault.{HostFault}
-use Rattle.fs_host.specs.declared.host_fault.HostFault.TheVariants.{Device, Closed, TooManyOpen, Failed, IsThere, Denied, Unsupported, Held, Changed, Left, NoMemory}
+use Rattle.fs_host.specs.declared.host_fault.HostFault.TheVariants.{Device, Closed, TooManyOpen, Failed, IsThere, Denied, Unsupported, Held, Changed, NoMemory}
 use Rattle.fs_host.specs.Reasons.{reason_of, reason_of_kind, reason_of_number}
-use Rattle.fs_host.specs.Faults.{is_reason, is_reason_but_there, is_reason_but_denied, is_reason_but_unsupported, may_end_path, may_end_beginning, may_end_naming, may_end_finish, may_refuse_name, may_end_opening, may_end_asking, may_end_locking, may_end_keeping, may_end_filling, may_end_giving, may_end_preparing, may_end_saving, may_end_writing}
+use Rattle.fs_host.specs.Faults.{is_reason, is_reason_but_there, is_reason_but_denied, is_reason_but_unsupported, may_end_path, may_end_beginning, may_end_naming, may_end_finish, may_refuse_name, may_end_opening, may_end_asking, may_end_locking, may_end_keeping, may_end_filling, may_end_giving, may_end_leaving, may_end_saving, may_end_writing}
+use Rattle.fs_host.specs.Stopped.{fault_told}
+use Rattle.fs_saving.specs.Saving.{MayCome}
+use Rattle.fs_saving.specs.declared.unsaved.Unsaved.{Unsaved}
+use Rattle.fs_saving.specs.declared.unsaved.Unsaved.TheVariants as unsaved
 use Rattle.fs_host.specs.declared.faults.SaveFault.{SaveFault}
 use Rattle.fs_host.specs.declared.faults.SaveFault.TheVariants.{Changed as ImageChanged, NoMemory as ImageNoMemory}
 
@@ -148,8 +152,8 @@ reasons_end_naming (Err fault) h = reason_ends_naming fault h
 pub naming_ends_finish : (replaces : Bool) (fault : HostFault) → may_end_naming fault ≡ true → may_end_finish replaces fault ≡ true
 naming_ends_finish replaces fault h = grind arith
 
-pub name_refused : (fault : HostFault) → may_end_finish false fault ≡ true → fault ≢ Left → fault ≢ IsThere → may_refuse_name fault ≡ true
-name_refused fault h other there = grind arith
+pub naming_refused : (fault : HostFault) → may_end_naming fault ≡ true → fault ≢ IsThere → may_refuse_name fault ≡ true
+naming_refused fault h there = grind arith
 
 pub is_not : (b : Bool) → b ≡ false → not b ≡ true
 is_not b e = ap not e
@@ -167,26 +171,26 @@ opening_ends_locking writes force fault h = grind arith
 pub asking_ends_locking : (writes force : Bool) (fault : SaveFault) → may_end_asking (force || not writes) fault ≡ true → may_end_locking writes force fault ≡ true
 asking_ends_locking writes force fault h = grind arith
 
-pub giving_ends_preparing : (force backup : Bool) (fault : SaveFault) → may_end_giving fault ≡ true → may_end_preparing force backup fault ≡ true
-giving_ends_preparing force backup fault h = grind arith
+pub asking_ends_leaving : (force backup : Bool) (fault : SaveFault) → may_end_asking force fault ≡ true → may_end_leaving force backup fault ≡ true
+asking_ends_leaving force backup fault h = grind arith
 
-pub filling_ends_preparing : (force backup : Bool) (fault : SaveFault) → may_end_filling fault ≡ true → may_end_preparing force backup fault ≡ true
-filling_ends_preparing force backup fault h = grind arith
+pub keeping_ends_leaving : (force backup : Bool) (fault : SaveFault) → may_end_keeping fault ≡ true → backup ≡ true → may_end_leaving force backup fault ≡ true
+keeping_ends_leaving force backup fault h b = grind arith
 
-pub asking_ends_preparing : (force backup : Bool) (fault : SaveFault) → may_end_asking force fault ≡ true → may_end_preparing force backup fault ≡ true
-asking_ends_preparing force backup fault h = grind arith
+pub memory_ends_leaving : (force backup : Bool) (fault : SaveFault) → fault ≡ ImageNoMemory → backup ≡ true → may_end_leaving force backup fault ≡ true
+memory_ends_leaving force backup fault e b = ap (may_end_leaving force backup) e ∙ b
 
-pub keeping_ends_preparing : (force backup : Bool) (fault : SaveFault) → may_end_keeping fault ≡ true → backup ≡ true → may_end_preparing force backup fault ≡ true
-keeping_ends_preparing force backup fault h b = grind arith
+pub changed_ends_leaving : (force backup : Bool) (fault : SaveFault) → fault ≡ ImageChanged → may_end_leaving force backup fault ≡ true
+changed_ends_leaving force backup fault e = ap (may_end_leaving force backup) e
 
-pub memory_ends_preparing : (force backup : Bool) (fault : SaveFault) → fault ≡ ImageNoMemory → backup ≡ true → may_end_preparing force backup fault ≡ true
-memory_ends_preparing force backup fault e b = ap (may_end_preparing force backup) e ∙ b
+pub leaving_ends_saving : (force backup break_links : Bool) (fault : SaveFault) → may_end_leaving force backup fault ≡ true → may_end_saving force backup break_links fault ≡ true
+leaving_ends_saving force backup break_links fault h = grind arith
 
-pub changed_ends_preparing : (force backup : Bool) (fault : SaveFault) → fault ≡ ImageChanged → may_end_preparing force backup fault ≡ true
-changed_ends_preparing force backup fault e = ap (may_end_preparing force backup) e
+pub giving_ends_saving : (force backup break_links : Bool) (fault : SaveFault) → may_end_giving fault ≡ true → may_end_saving force backup break_links fault ≡ true
+giving_ends_saving force backup break_links fault h = grind arith
 
-pub preparing_ends_saving : (force backup break_links : Bool) (fault : SaveFault) → may_end_preparing force backup fault ≡ true → may_end_saving force backup break_links fault ≡ true
-preparing_ends_saving force backup break_links fault h = grind arith
+pub filling_ends_saving : (force backup break_links : Bool) (fault : SaveFault) → may_end_filling fault ≡ true → may_end_saving force backup break_links fault ≡ true
+filling_ends_saving force backup break_links fault h = grind arith
 
 pub changed_ends_saving : (force backup break_links : Bool) (fault : SaveFault) → fault ≡ ImageChanged → may_end_saving force backup break_links fault ≡ true
 changed_ends_saving force backup break_links fault e = ap (may_end_saving force backup break_links) e
@@ -196,3 +200,21 @@ memory_ends_saving force backup break_links fault e = ap (may_end_saving force b
 
 pub filling_ends_writing : (fault : SaveFault) → may_end_filling fault ≡ true → may_end_writing fault ≡ true
 filling_ends_writing fault h = grind arith
+
+-- what may end a saving without counting names may end one that counts them
+links_aside : (force backup break_links : Bool) (fault : SaveFault) → may_end_saving force backup true fault ≡ true → may_end_saving force backup break_links fault ≡ true
+links_aside force backup break_links fault h = grind arith
+
+-- what stops a saving ends it
+pub stopped_ends_saving : (force backup break_links : Bool) (end : Unsaved SaveFault) (fault : SaveFault) → MayCome (λ f. may_end_saving force backup true f ≡ true) end → fault ≡ fault_told end
+    → may_end_saving force backup break_links fault ≡ true
+stopped_ends_saving force backup break_links (unsaved.Make f) fault h e = ap (may_end_saving force backup break_links) e ∙ links_aside force backup break_links f h
+stopped_ends_saving force backup break_links (unsaved.Write f) fault h e = ap (may_end_saving force backup break_links) e ∙ links_aside force backup break_links f h
+stopped_ends_saving force backup break_links unsaved.Differs fault h e = ap (may_end_saving force backup break_links) e
+stopped_ends_saving force backup break_links (unsaved.Rename f) fault h e = ap (may_end_saving force backup break_links) e ∙ links_aside force backup break_links f h
+
+pub stopped_ends_writing : (end : Unsaved SaveFault) (fault : SaveFault) → MayCome (λ f. may_end_writing f ≡ true) end → fault ≡ fault_told end → may_end_writing fault ≡ true
+stopped_ends_writing (unsaved.Make f) fault h e = ap may_end_writing e ∙ h
+stopped_ends_writing (unsaved.Write f) fault h e = ap may_end_writing e ∙ h
+stopped_ends_writing unsaved.Differs fault h e = ap may_end_writing e
+stopped_ends_writing (unsaved.Rename f) fault h e = ap may_end_writing e ∙ h

@@ -97,24 +97,22 @@ abbrev pub may_end_giving : SaveFault → Bool
 may_end_giving (Mode fault) = is_reason fault
 may_end_giving _ = false
 
--- why a new file is not what an image is to be, where another process is looked for without `force`, and an old image is kept with `backup`
-abbrev pub may_end_preparing : Bool → Bool → SaveFault → Bool
-may_end_preparing force backup (Mode fault) = is_reason fault
-may_end_preparing force backup (Write fault) = is_reason fault
-may_end_preparing force backup Differs = true
-may_end_preparing force backup ImageChanged = true
-may_end_preparing force backup (InUse holder) = not force
-may_end_preparing force backup (Backup fault) = backup && is_reason fault
-may_end_preparing force backup NoMemory = backup
-may_end_preparing force backup _ = false
+-- why an old image may not go: another process is looked for without `force`, and it is kept with `backup`
+abbrev pub may_end_leaving : Bool → Bool → SaveFault → Bool
+may_end_leaving force backup (Backup fault) = backup && is_reason fault
+may_end_leaving force backup NoMemory = backup
+may_end_leaving force backup fault = may_end_asking force fault
 
 -- why an image is not saved: its names count without `break_links`
 abbrev pub may_end_saving : Bool → Bool → Bool → SaveFault → Bool
 may_end_saving force backup break_links NoMemory = true
 may_end_saving force backup break_links Links = not break_links
 may_end_saving force backup break_links (Make fault) = may_end_beginning fault
+may_end_saving force backup break_links (Mode fault) = is_reason fault
+may_end_saving force backup break_links (Write fault) = is_reason fault
+may_end_saving force backup break_links Differs = true
 may_end_saving force backup break_links (Rename fault) = may_end_finish true fault
-may_end_saving force backup break_links fault = may_end_preparing force backup fault
+may_end_saving force backup break_links fault = may_end_leaving force backup fault
 
 -- why an image is not written to a file that was not there
 abbrev pub may_end_writing : SaveFault → Bool

@@ -9,3 +9,4 @@ pub mod Times
 pub mod Kept
 pub mod Making
 pub mod Compared
+pub mod Stopped

@@ -1,11 +1,16 @@
--- A new file of the host that is being made.
-use Rattle.std.specs.Prelude.{◌≡◌, ℕ, List, Option, string_bytes}
+-- New files of the host that are being made.
+use Rattle.std.specs.Prelude.{ℕ, List, Option, string_bytes}
 use Rattle.std.specs.declared.fs.File.{File}
+use Rattle.fs_host.specs.declared.hidden_file.HiddenFile.{HiddenFile}
 use Rattle.fs_host.specs.declared.new_file.NewFile.{NewFile}
+
+-- the hidden path that a file was made under
+abbrev pub path_hidden : HiddenFile → List ℕ
+path_hidden hidden = string_bytes hidden.path
 
 -- the file, which has no name of its own yet
 abbrev pub file_made : NewFile → File
-file_made new = new.file
+file_made new = new.made.file
 
 -- the path that it takes
 abbrev pub path_made : NewFile → List ℕ
@@ -13,12 +18,8 @@ path_made new = string_bytes new.path
 
 -- the path that it has until then
 abbrev pub hidden_made : NewFile → List ℕ
-hidden_made new = string_bytes new.hidden
+hidden_made new = path_hidden new.made
 
 -- the mode that it gets with its name, where one is said
 abbrev pub mode_made : NewFile → Option ℕ
 mode_made new = new.mode
-
--- both paths and the mode stay
-abbrev pub KeepsNames : NewFile → NewFile → Type 0
-KeepsNames old new = (path_made new ≡ path_made old) × (hidden_made new ≡ hidden_made old) × (mode_made new ≡ mode_made old)

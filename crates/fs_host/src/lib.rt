@@ -7,6 +7,7 @@ mod collecting;
 mod comparing_bytes;
 mod containers;
 mod faults;
+mod hidden_file;
 mod holders;
 mod host_fault;
 mod in_use;

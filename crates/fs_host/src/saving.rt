@@ -1,11 +1,13 @@
 //! Images of the host that are changed: locked before they are read, and saved whole under their name or not at all.
 ghost use Rattle.std.specs.Prelude.{◌≡◌, ◌↔◌, ◌||◌, ◌<◌, ◌^◌, ℕ, List, [], Some, None, not, IfOk, IfErr, IfSome, OnErr, IsSomeAnd, IsTrue, length};
 ghost use Rattle.std.specs.Fs.{metadata_len};
-ghost use Rattle.fs_host.specs.Faults.{may_end_opening, may_end_asking, may_end_locking, may_end_keeping, may_end_giving, may_end_preparing, may_end_saving, is_unsynced};
+ghost use Rattle.fs_host.specs.Faults.{may_end_opening, may_end_asking, may_end_locking, may_end_keeping, may_end_giving, may_end_leaving, may_end_saving, is_unsynced};
 ghost use Rattle.ods_container.specs.Container.{IsContained};
 ghost use Rattle.fs_host.specs.Found.{IsRemark, SaysShort};
 ghost use Rattle.fs_host.specs.Kept.{bytes_kept, remark_kept, mode_kept, force_kept, path_kept, size_kept, KeepsAll};
 ghost use Rattle.fs_host.specs.Names.{IsReached};
+
+mod replacing;
 
 use crate::comparing_bytes::has_bytes;
 use crate::containers::{Extent, volume_in};
@@ -14,9 +16,11 @@ use crate::host_fault::HostFault;
 use crate::in_use::holder_of;
 use crate::marks::Mark;
 use crate::names::{follow_links, hidden_name};
-use crate::new_file::NewFile;
-use crate::writing::{fill, sync_folder};
+use crate::new_file::paths_of;
+use crate::writing::{fault_of, sync_folder};
+use fs_saving::save;
 use ods_base::{Image, ImageError};
+use replacing::Replacing;
 use std::alloc::Global;
 use std::fs;
 use std::fs::{File, Metadata, OpenOptions, TryLockError};
@@ -177,8 +181,9 @@ impl Locked {
     /// Saves the image under the name of the one that was locked: a new file beside it gets its owner and mode and the new bytes, is
     /// read back, and takes its name. After a failure that file is gone, and the old image is there. What it gives is to be said, and
     /// the image is saved.
-    /// No contract can say what a host file takes. `tests/fs_faults` checks that the image is whole or as it was.
-    #[tactic(auto, using(crate::proofs::MayEnd::changed_ends_saving, crate::proofs::MayEnd::memory_ends_saving, crate::proofs::MayEnd::preparing_ends_saving, crate::proofs::MayEnd::is_not))]
+    /// `fs_saving` keeps the order of these, over any host. No contract can say what a host file takes: `tests/fs_faults` checks that
+    /// the image is whole or as it was.
+    #[tactic(auto, using(crate::proofs::MayEnd::changed_ends_saving, crate::proofs::MayEnd::memory_ends_saving, crate::proofs::MayEnd::stopped_ends_saving, crate::proofs::MayEnd::is_not))]
     pub fn save<R: Files<File = File> + Clock + AllocGlobal + Clone + Drop>(
         &self,
         rt: &R,
@@ -203,19 +208,26 @@ impl Locked {
         if !break_links && old.nlink() > most {
             return Err(SaveFault::Links);
         }
-        let mut new = match NewFile::begin(rt, self.path.as_str(), Some(old.mode() & MODE_BITS)) {
-            Ok(new) => new,
+        let paths = match paths_of(rt, self.path.as_str()) {
+            Ok(paths) => paths,
             Err(fault) => return Err(SaveFault::Make(fault)),
         };
-        let done = self.prepare(rt, new.file(), &old, image, backup, kept.as_str());
-        if done.is_err() {
-            new.give_up(rt);
-            done?;
-            return Err(SaveFault::Changed);
-        }
-        match new.finish(rt, true) {
+        let mut folder = Replacing {
+            rt,
+            locked: self,
+            old: &old,
+            backup,
+            kept: kept.as_str(),
+        };
+        match save(
+            &mut folder,
+            paths.hidden.as_str(),
+            paths.taken.as_str(),
+            image,
+            self.behind.as_slice(),
+        ) {
             Ok(()) => Ok(sync_folder(rt, self.path.as_str())),
-            Err(fault) => Err(SaveFault::Rename(fault)),
+            Err(unsaved) => Err(fault_of(unsaved)),
         }
     }
 
@@ -240,28 +252,20 @@ impl Locked {
         }
     }
 
-    /// Makes the new file what the image is to be, and keeps the old one where that is asked for; then only the name is wanting.
-    #[tactic(auto, using(crate::proofs::MayEnd::giving_ends_preparing, crate::proofs::MayEnd::filling_ends_preparing, crate::proofs::MayEnd::asking_ends_preparing, crate::proofs::MayEnd::keeping_ends_preparing, crate::proofs::MayEnd::memory_ends_preparing, crate::proofs::MayEnd::changed_ends_preparing))]
-    fn prepare<R: Files<File = File> + Clock + AllocGlobal + Clone + Drop>(
+    /// That the old image may go: it is as it was, alone, and kept where that is asked for.
+    #[tactic(auto, using(crate::proofs::MayEnd::asking_ends_leaving, crate::proofs::MayEnd::keeping_ends_leaving, crate::proofs::MayEnd::memory_ends_leaving, crate::proofs::MayEnd::changed_ends_leaving))]
+    fn leave<R: Files<File = File> + Clock + AllocGlobal + Clone + Drop>(
         &self,
         rt: &R,
-        new: &mut File,
-        old: &Metadata,
-        image: &Image,
         backup: bool,
         kept: &str,
     ) -> Result<(), SaveFault>
-        ensures { IfErr result (λ fault. IsTrue (may_end_preparing (force_kept self.now) backup fault)) }
+        ensures { IfErr result (λ fault. IsTrue (may_end_leaving (force_kept self.now) backup fault)) }
     {
-        give_owner(new, old)?;
-        fill(new, image, self.behind.as_slice())?;
         self.ask_alone(rt)?;
         if backup {
-            self.keep(
-                rt,
-                hidden_name(rt.alloc(), self.path.as_str(), "old")?.as_str(),
-                kept,
-            )?;
+            let linked = hidden_name(rt.alloc(), self.path.as_str(), "old")?;
+            self.keep(rt, linked.as_str(), kept)?;
             self.look_again(rt)?;
         }
         Ok(())

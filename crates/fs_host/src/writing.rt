@@ -1,15 +1,17 @@
 //! Images written to files of the host that are not there before.
-ghost use Rattle.std.specs.Prelude.{IfOk, IfErr, IfSome, IsTrue};
-ghost use Rattle.fs_host.specs.Faults.{may_end_filling, may_end_writing, is_unsynced, may_be_wanting};
+ghost use Rattle.std.specs.Prelude.{◌≡◌, IfOk, IfErr, IfSome, IsTrue};
+ghost use Rattle.fs_host.specs.Faults.{may_end_writing, is_unsynced, may_be_wanting};
+ghost use Rattle.fs_host.specs.Stopped.{fault_told};
 
-use crate::comparing_bytes::has_bytes;
+mod creating;
+
 use crate::faults::{SaveFault, Unfinished};
 use crate::host_fault::HostFault;
 use crate::names::parts;
-use crate::new_file::NewFile;
-use crate::noting::Noting;
+use crate::new_file::paths_of;
+use creating::Creating;
+use fs_saving::{Unsaved, save};
 use ods_base::Image;
-use ods_container::write_contained;
 use std::fs;
 use std::fs::File;
 use std::io::ErrorKind;
@@ -17,8 +19,9 @@ use std::rt::Files;
 
 /// Writes an image, and what stands behind it, to a file that is not there before, with this mode where one is said, and reads it back.
 /// After a failure there is no such file.
-/// No contract can say what a host file takes; `tests/fs_faults` checks this on the built program.
-#[tactic(auto, using(crate::proofs::MayEnd::filling_ends_writing, crate::proofs::MayEnd::name_refused))]
+/// `fs_saving` keeps the order of these, over any host. No contract can say what a host file takes; `tests/fs_faults` checks this on
+/// the built program.
+#[tactic(auto, using(crate::proofs::MayEnd::stopped_ends_writing))]
 pub fn write_new<R: Files<File = File> + AllocGlobal>(
     rt: &R,
     path: &str,
@@ -33,38 +36,37 @@ pub fn write_new<R: Files<File = File> + AllocGlobal>(
     if fs::symlink_metadata(rt, path).is_ok() {
         return Err(SaveFault::IsThere);
     }
-    let mut new = match NewFile::begin(rt, path, mode) {
-        Ok(new) => new,
+    let paths = match paths_of(rt, path) {
+        Ok(paths) => paths,
         Err(fault) => return Err(SaveFault::Make(fault)),
     };
-    if let Err(fault) = fill(new.file(), image, behind) {
-        new.give_up(rt);
-        return Err(fault);
+    let mut folder = Creating {
+        rt,
+        mode,
+        is_left: false,
+    };
+    if let Err(unsaved) = save(
+        &mut folder,
+        paths.hidden.as_str(),
+        paths.taken.as_str(),
+        image,
+        behind,
+    ) {
+        return Err(fault_of(unsaved));
     }
-    match new.finish(rt, false) {
-        Ok(()) => Ok(sync_folder(rt, path)),
-        Err(HostFault::Left) => Ok(Some(Unfinished::Left)),
-        Err(HostFault::IsThere) => Err(SaveFault::IsThere),
-        Err(fault) => Err(SaveFault::Rename(fault)),
+    if folder.is_left {
+        return Ok(Some(Unfinished::Left));
     }
+    Ok(sync_folder(rt, path))
 }
 
-/// Gives a new file the bytes of an image with these behind them, which are read back.
-#[tactic(auto, using(crate::proofs::MayEnd::reason_given))]
-pub fn fill(file: &mut File, image: &Image, behind: &[u8]) -> Result<(), SaveFault>
-    ensures { IfErr result (λ fault. IsTrue (may_end_filling fault)) }
+/// The fault of a saving that is stopped.
+pub fn fault_of(unsaved: Unsaved<SaveFault>) -> SaveFault
+    ensures { result ≡ fault_told unsaved }
 {
-    let mut noting = Noting::new(file);
-    if write_contained(&mut noting, image, behind).is_err() {
-        return Err(SaveFault::Write(noting.why()));
-    }
-    if let Err(error) = file.sync_all() {
-        return Err(SaveFault::Write(HostFault::of(&error)));
-    }
-    if has_bytes(file, image, behind, false) {
-        Ok(())
-    } else {
-        Err(SaveFault::Differs)
+    match unsaved {
+        Unsaved::Make(fault) | Unsaved::Write(fault) | Unsaved::Rename(fault) => fault,
+        Unsaved::Differs => SaveFault::Differs,
     }
 }
 

@@ -19,4 +19,5 @@ mod mount_faults;
 mod mounts;
 mod poor_chains;
 mod samples;
+mod savings;
 mod walks;

@@ -14,7 +14,8 @@ use std::io::{Read, Seek, SeekFrom, Write};
 impl<'a, F> Noting<'a, F> {
     /// A file or a stream of which no call has failed yet.
     pub fn new(inner: &'a mut F) -> Noting<'a, F>
-        ensures { reason_noted result ≡ None }
+        ensures unfailed { reason_noted result ≡ None }
+        ensures holds { result.inner.now ≡ inner.old }
     {
         Noting { inner, why: None }
     }

@@ -1,0 +1,12 @@
+-- How a saving that is stopped is told.
+use Rattle.fs_saving.specs.declared.unsaved.Unsaved.{Unsaved}
+use Rattle.fs_saving.specs.declared.unsaved.Unsaved.TheVariants as unsaved
+use Rattle.fs_host.specs.declared.faults.SaveFault.{SaveFault}
+use Rattle.fs_host.specs.declared.faults.SaveFault.TheVariants.{Differs}
+
+-- the fault that is told: that of the host, or that the bytes which were read back are not those that were written
+abbrev pub fault_told : Unsaved SaveFault → SaveFault
+fault_told (unsaved.Make fault) = fault
+fault_told (unsaved.Write fault) = fault
+fault_told unsaved.Differs = Differs
+fault_told (unsaved.Rename fault) = fault
