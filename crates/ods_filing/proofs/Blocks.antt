@@ -7,7 +7,7 @@ use Rattle.std.proofs.lemmas.List.Folds.{concat-append}
 use Rattle.std.proofs.lemmas.List.FromFn.{map-range_with_len_more, length-map-range_with_len}
 use Rattle.std.proofs.Math.Seq.{take-append-add, take-append_seam, take-add, take-length, set-append_seam}
 use Rattle.ods_base.specs.Block.{zeros, with_bytes}
-use Rattle.ods_filing.specs.Put.{block_count, block_with, blocks_with}
+use Rattle.ods_filing.specs.Put.{block_count, block_with, blocks_with, so_far}
 
 -- no zeros are left where the bytes fill the block
 drop_zeros : (n : ℕ) → drop n zeros ≡ replicate (512 - n) 0
@@ -47,15 +47,13 @@ filled ys here is = by (cases)
         length_is : (xs : List ℕ) → 512 < length xs → length (take 512 xs) ≡ 512
         length_is xs many = length-take-le 512 xs (omega arith)
 
--- k blocks are written, and the others are zeros
-abbrev pub so_far : List ℕ → ℕ → ℕ → List (List ℕ)
-so_far bytes count k = map (block_with bytes) (range_with_len 0 k) ++ replicate (count - k) zeros
-
+-- all of them are written
 pub all_so_far : (bytes : List ℕ) → so_far bytes (block_count bytes) (block_count bytes) ≡ blocks_with bytes
 all_so_far bytes =
     let none : block_count bytes - block_count bytes ≡ 0 = omega arith in
     ap (λ n. blocks_with bytes ++ replicate n zeros) none ∙ append-nil (blocks_with bytes)
 
+-- one more is written
 pub one_more : (bytes : List ℕ) (count k : ℕ) → k < count → slice_set (so_far bytes count k) k (block_with bytes k) ≡ so_far bytes count (k + 1)
 one_more bytes count k under =
     let front = map (block_with bytes) (range_with_len 0 k) in

@@ -16,7 +16,7 @@ use Rattle.ods_volume.specs.Changing.{HasMoreHeaders, IsStep}
 use Rattle.ods_volume.proofs.OtherPast.{with_past, other_past}
 use Rattle.ods_volume.proofs.Stepped.{stepped}
 use Rattle.ods_mount.specs.Sound.{IsSoundBy}
-use Rattle.ods_filing.specs.Filed.{Filed, HasGrown, IsDone, IsRefusedFor, IsRefusedNow}
+use Rattle.ods_filing.specs.Filed.{Filed, HasGrown, IsDone}
 
 -- blocks that show a catalogue show each one with the same files and the same protection
 pub same_shown : (J : List (List ℕ)) (M : VolumeLayout) (C D : Catalogue) → ShowsBy J M D → C.files ≡ D.files → C.default ≡ D.default → ShowsBy J M C
@@ -57,10 +57,6 @@ are_done D E sound who r (Err f) made = tt
 pub stays_filed : {A : Type 0} (D E : Disk) (who : Uic) (result : Result A Refusal) → OnErr result (E ≡ D) → OnErr result (filed E who ≡ filed D who)
 stays_filed D E who (Ok a) same = tt
 stays_filed D E who (Err f) same = ap (λ d. filed d who) same
-
--- a request that is refused leaves the volume on which that is its refusal
-pub refused_now : (reason : Refusal) (old new : Filed) (r : Request) → new ≡ old → IsRefusedFor old r reason → IsRefusedNow new reason
-refused_now reason old new r same refused = (r, subst (λ f. IsRefusedFor f r reason) (sym same) refused)
 
 -- INDEXF.SYS of a user's volume has grown
 pub has_grown : {A : Type 0} (D E : Disk) (who : Uic) (count : ℕ) (result : Result A Refusal) → OnOk result (HasMoreHeaders D count E) → OnOk result (HasGrown (filed D who) count (filed E who))

@@ -3,3 +3,4 @@ pub mod Done
 pub mod Added
 pub mod ComeBack
 pub mod Led
+pub mod Parts

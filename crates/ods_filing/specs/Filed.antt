@@ -61,7 +61,3 @@ IsWhyNotGrown f count reason = IsWhyNoMore (disk_at f) count reason
 -- why a request is refused: its first fault, or what the volume lacks, or want of memory
 abbrev pub IsRefusedFor : Filed → Request → Refusal → Type 0
 IsRefusedFor f r reason = IsRefusalOf f.image f.layout f.user r reason
-
--- it is the refusal of a request on the volume as it is
-abbrev pub IsRefusedNow : Filed → Refusal → Type 0
-IsRefusedNow f reason = (r : Request) × IsRefusedFor f r reason

@@ -1,4 +1,5 @@
 pub mod Filed
 pub mod Led
 pub mod Put
+pub mod Unput
 pub mod Laws

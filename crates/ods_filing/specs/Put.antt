@@ -1,5 +1,5 @@
 -- A file that is put into a volume: its blocks, and what the volume shows then.
-use Rattle.std.specs.Prelude.{◌≡◌, ℕ, ◌+◌, ◌*◌, ◌/◌, List, ◌++◌, length, map, take, drop, None}
+use Rattle.std.specs.Prelude.{◌≡◌, ℕ, ◌+◌, ◌-◌, ◌*◌, ◌/◌, List, ◌++◌, length, map, take, drop, replicate, None}
 use Rattle.std.specs.List.{range_with_len}
 use Rattle.std.specs.FinMap as finmap
 use Rattle.ods_base.specs.declared.file_id.FileId.{FileId}
@@ -23,6 +23,10 @@ block_with bytes k = take 512 (drop (512 * k) bytes ++ zeros)
 -- their blocks
 abbrev pub blocks_with : List ℕ → List (List ℕ)
 blocks_with bytes = map (block_with bytes) (range_with_len 0 (block_count bytes))
+
+-- k of them are written, and the others up to so many are zeros
+abbrev pub so_far : List ℕ → ℕ → ℕ → List (List ℕ)
+so_far bytes count k = map (block_with bytes) (range_with_len 0 k) ++ replicate (count - k) zeros
 
 -- what the header of a new file says of it
 pub record Heading : Type 0 where

@@ -1,12 +1,13 @@
 //! Files put into a volume.
-ghost use Rattle.std.specs.Prelude.{◌≡◌, ◌≢◌, ◌^◌, ◌<◌, ◌≤◌, ◌⊎◌, replicate, IfOk, IfErr, OnOk};
+ghost use Rattle.std.specs.Prelude.{◌≡◌, ◌≢◌, ◌≤◌, replicate, IfOk, IfErr, OnErr, OnOk};
 ghost use Rattle.ods_base.specs.{declared.file_id.FileId.FileId, Name.directory_type, Name.RadName};
 ghost use Rattle.ods_request.specs.{declared.refusals.Refusal.Refusal, Catalogue.Plain, Steps.zero_blocks};
 ghost use Rattle.ods_request.specs.declared.answers.Answer.{Answer};
 ghost use Rattle.ods_state.specs.Outcome.{IsVersionNumber, CanBeAsked};
-ghost use Rattle.ods_filing.specs.Filed.{Filed, IsDone, IsRefusedNow};
+ghost use Rattle.ods_filing.specs.Filed.{Filed, IsDone, IsRefusedFor};
 ghost use Rattle.ods_filing.specs.Led.{Fills, IsLed};
 ghost use Rattle.ods_filing.specs.Put.{Heading, IsAdded, block_count, blocks_with, heading_of};
+ghost use Rattle.ods_filing.specs.Unput.{IsInPart, IsNotFilled, IsNotGrown, IsUnput};
 
 use crate::Filing;
 use crate::slices::{block_of, blocks_for};
@@ -34,7 +35,8 @@ fn make(filing: &mut Filing, file: &NewFile<'_>, blocks: usize) -> Result<FileId
     requires few { blocks ≤ MOST }
     ensures ok { IfOk result (λ id. IsAdded filing.old (heading_of file.now) id (Plain (replicate 32 0) (zero_blocks blocks)) filing.new) }
     ensures led { OnOk result (IsLed Fills filing.old filing.new) }
-    ensures err { IfErr result (IsRefusedNow filing.new) }
+    ensures err { IfErr result (IsRefusedFor filing.old (Request.Create file.now.name file.now.version blocks file.now.stamp)) }
+    ensures unchanged { OnErr result (filing.new ≡ filing.old) }
 {
     let _ = filing.disk();
     let made = filing.request(&Request::Create {
@@ -54,7 +56,8 @@ fn make(filing: &mut Filing, file: &NewFile<'_>, blocks: usize) -> Result<FileId
 fn obey(filing: &mut Filing, request: Request) -> Result<(), Refusal>
     requires { CanBeAsked request }
     ensures ok { OnOk result ((a : Answer) × IsDone filing.old request a filing.new) }
-    ensures err { IfErr result (IsRefusedNow filing.new) }
+    ensures err { IfErr result (IsRefusedFor filing.old request) }
+    ensures unchanged { OnErr result (filing.new ≡ filing.old) }
 {
     let _made = filing.request(&request)?;
     Ok(())
@@ -66,7 +69,8 @@ fn extend_to(filing: &mut Filing, id: FileId, first: usize, count: usize) -> Res
     ensures ok { OnOk result ((old : Filed) (heading : Heading) → IsAdded old heading id (Plain (replicate 32 0) (zero_blocks first)) filing.old
         → IsAdded old heading id (Plain (replicate 32 0) (zero_blocks count)) filing.new) }
     ensures led { OnOk result (IsLed Fills filing.old filing.new) }
-    ensures err { IfErr result (IsRefusedNow filing.new) }
+    // Refused, it has some of them, and the next ones are refused.
+    ensures err { IfErr result (λ f. (old : Filed) (heading : Heading) → IsInPart old heading id (zero_blocks first) filing.old → IsNotGrown old heading id first count filing.new f) }
 {
     let mut have = first;
     while have < count {
@@ -87,7 +91,9 @@ fn fill(filing: &mut Filing, id: FileId, bytes: &[u8]) -> Result<(), Refusal>
     ensures ok { OnOk result ((old : Filed) (heading : Heading) → IsAdded old heading id (Plain (replicate 32 0) (zero_blocks (block_count bytes.now))) filing.old
         → IsAdded old heading id (Plain (replicate 32 0) (blocks_with bytes.now)) filing.new) }
     ensures led { OnOk result (IsLed Fills filing.old filing.new) }
-    ensures err { IfErr result (IsRefusedNow filing.new) }
+    // Refused, it has the bytes of some blocks, and those of the next one are refused.
+    ensures err { IfErr result (λ f. (old : Filed) (heading : Heading) → IsInPart old heading id (zero_blocks (block_count bytes.now)) filing.old
+        → IsNotFilled old heading id bytes.now filing.new f) }
 {
     for k in 0..blocks_for(bytes) {
         let request = Request::Write {
@@ -109,8 +115,8 @@ pub fn put_file(filing: &mut Filing, file: &NewFile<'_>) -> Result<FileId, Refus
     ensures ok { IfOk result (λ id. IsAdded filing.old (heading_of file.now) id (Plain file.now.attributes (blocks_with file.now.bytes.now)) filing.new) }
     // The volume is what Create, Extend, Write and SetUser leave, and nothing else is asked for.
     ensures led { OnOk result (IsLed Fills filing.old filing.new) }
-    // It is the refusal of a request on the volume as it is then; or no volume has as many blocks as the bytes take.
-    ensures err { IfErr result (λ f. IsRefusedNow filing.new f ⊎ ((f ≡ Refusal.VolumeFull) × (2 ^ 20 < block_count file.now.bytes.now))) }
+    // Refused, the first of its requests that the volume refuses says why, and all before that are done. Or no volume has as many blocks as the bytes take.
+    ensures err { IfErr result (IsUnput (heading_of file.now) file.now.attributes file.now.bytes.now filing.old filing.new) }
 {
     let count = blocks_for(file.bytes);
     if count > MAX_BLOCKS as usize {

@@ -1,5 +1,5 @@
 -- Files that are copied, one after another.
-use Rattle.std.proofs.Common.{◌≡◌, ◌+◌, ◌<◌, ◌≤◌, ◌∙◌, refl, sym, subst, ℕ, List, [], ◌∷◌, ◌++◌, length, get_or, drop, Some, inl, inr, arith}
+use Rattle.std.proofs.Common.{◌≡◌, ◌+◌, ◌<◌, ◌≤◌, refl, sym, subst, ℕ, List, [], length, get_or, drop, Some, inl, inr, arith}
 use Rattle.std.specs.String.{string_bytes}
 use Rattle.std.proofs.lemmas.List.Elements.{All-contains}
 use Rattle.ods_base.specs.Name.{RadName}
@@ -74,13 +74,15 @@ pub may_not : (why : Why) (to : Target) (stamp : List ℕ) (found : Found) (old 
 may_not why to stamp found old user is reason = uncopyable why (subst (λ u. IsUncopyable u to found why) is reason) refl
 
 -- its copy is not made
-pub not_copied : (why : Why) (to : Target) (stamp : List ℕ) (found : Found) (old mid new : Filed) (user : Uic) (facts : Facts) (name : RadName) (bytes lent : List ℕ) (version : ℕ)
+pub not_copied : (why : Why) (to : Target) (stamp : List ℕ) (found : Found) (old mid new : Filed) (user : Uic) (facts : Facts) (name : RadName) (attributes bytes lent : List ℕ) (version : ℕ)
     → user ≡ old.user → IsCopyable user to found facts name → ((body : Body) × HasBody old.image old.layout facts.file.number body × (bytes_in Raw body ≡ Some bytes))
-    → IsNextVersion old to.directory name to.version version mid → lent ≡ bytes
-    → IsUnfiled to.directory to.version (record { name = name; version = version; stamp = stamp }) lent new why → IsNotCopied to stamp found old new why
-not_copied why to stamp found old mid new user facts name bytes lent version is copyable read next same refused =
+    → attributes ≡ true_for facts.attributes facts.blocks → IsNextVersion old to.directory name to.version version mid → lent ≡ bytes
+    → IsUnfiled user to.directory to.version (record { name = name; version = version; stamp = stamp }) attributes lent mid new why → IsNotCopied to stamp found old new why
+not_copied why to stamp found old mid new user facts name attributes bytes lent version is copyable read are next same refused =
     unmade why facts name read.0 bytes version mid (subst (λ u. IsCopyable u to found facts name) is copyable) read.1 read.2 next
-    (subst (λ b. IsUnfiled to.directory to.version (record { name = name; version = version; stamp = stamp }) b new why) same refused)
+    (subst (λ u. IsUnfiled u to.directory to.version (record { name = name; version = version; stamp = stamp }) (true_for facts.attributes facts.blocks) bytes mid new why) is
+    (subst (λ a. IsUnfiled user to.directory to.version (record { name = name; version = version; stamp = stamp }) a bytes mid new why) are
+    (subst (λ b. IsUnfiled user to.directory to.version (record { name = name; version = version; stamp = stamp }) attributes b mid new why) same refused)))
 
 -- where the others are copied after one more, all that are left are
 pub copied_on : (to : Target) (stamp : List ℕ) (all : List Found) (i : ℕ) (x : Found) (mid next new : Filed) → i < length all → x ≡ get_or all i x → IsCopied to stamp x mid next → AreCopied to stamp (drop (i + 1) all) next new

@@ -31,5 +31,8 @@ pub mod Copies
 pub mod Idents
 pub mod Looks
 pub mod Makings
+pub mod Hosts
+pub mod Beginning
+pub mod Storing
 pub mod Making
 pub mod Noting

@@ -23,8 +23,10 @@ pub mod Looked
 pub mod Unfiled
 pub mod Uncopied
 pub mod Begun
+pub mod Unbegun
 pub mod HostNames
 pub mod HostPut
+pub mod Unput
 pub mod Remarks
 pub mod Rooms
 pub mod Versions

@@ -11,7 +11,7 @@ use Rattle.ods_request.specs.declared.refusals.Refusal.TheVariants as refusal
 use Rattle.ods_filing.specs.Filed.{Filed}
 use Rattle.ods_shell.specs.declared.facts.Facts.{Facts}
 use Rattle.ods_shell.specs.declared.found.Found.{Found}
-use Rattle.ods_upkeep.specs.Copied.{IsCopyable, IsCopied, IsUncopyable, IsUnread}
+use Rattle.ods_upkeep.specs.Copied.{IsCopyable, IsCopied, IsUncopyable, IsUnread, true_for}
 use Rattle.ods_upkeep.specs.Looked.{IsNextVersion}
 use Rattle.ods_upkeep.specs.Refused.{AreNoSources, HasPath}
 use Rattle.ods_upkeep.specs.Sources.{AreSources}
@@ -44,7 +44,7 @@ pub data IsNotCopied (to : Target) (stamp : List ℕ) (found : Found) (old new :
   too_large : (facts : Facts) (name : RadName) → IsCopyable old.user to found facts name → 512 * 2 ^ 20 ≤ 512 * facts.blocks → new ≡ old → IsNotCopied to stamp found old new (Request refusal.VolumeFull)
   unmade : (why : Why) (facts : Facts) (name : RadName) (body : Body) (bytes : List ℕ) (version : ℕ) (mid : Filed) → IsCopyable old.user to found facts name
       → HasBody old.image old.layout facts.file.number body → bytes_in Raw body ≡ Some bytes → IsNextVersion old to.directory name to.version version mid
-      → IsUnfiled to.directory to.version (record { name = name; version = version; stamp = stamp }) bytes new why → IsNotCopied to stamp found old new why
+      → IsUnfiled old.user to.directory to.version (record { name = name; version = version; stamp = stamp }) (true_for facts.attributes facts.blocks) bytes mid new why → IsNotCopied to stamp found old new why
 
 -- These are copied, one after another, up to one that is not.
 abbrev pub StopsCopying : Target → List ℕ → List Found → Filed → Filed → Failure → Type 0

@@ -1,22 +1,33 @@
--- Why a new file is not made by its owner, or not entered by the user who asks.
-use Rattle.std.specs.Prelude.{◌≡◌, ℕ, ◌<◌, ◌^◌, List, Option}
+-- Why a new file is not made by its owner, or not entered by the user who asks, and what of it is there then.
+use Rattle.std.specs.Prelude.{◌≡◌, ℕ, List, Option}
 use Rattle.ods_base.specs.Name.{directory_type}
 use Rattle.ods_base.specs.declared.file_id.FileId.{FileId}
 use Rattle.ods_base.specs.declared.file_id.Uic.{Uic}
+use Rattle.ods_request.specs.Catalogue.{Plain}
 use Rattle.ods_request.specs.declared.refusals.Refusal.{Refusal}
 use Rattle.ods_request.specs.declared.refusals.Refusal.TheVariants as refusal
 use Rattle.ods_request.specs.declared.requests.Request.TheVariants.{Enter}
 use Rattle.ods_state.specs.Outcome.{IsVersionNumber}
-use Rattle.ods_filing.specs.Filed.{Filed, IsRefusedNow, for_another}
-use Rattle.ods_filing.specs.Put.{Heading, block_count}
+use Rattle.ods_filing.specs.Filed.{Filed, for_another}
+use Rattle.ods_filing.specs.Led.{Fills, IsLed}
+use Rattle.ods_filing.specs.Put.{Heading, IsAdded, blocks_with}
+use Rattle.ods_filing.specs.Unput.{IsUnput}
 use Rattle.ods_upkeep.specs.Refused.{IsNotDone}
 use Rattle.ods_upkeep.specs.declared.failure.Why.{Why}
 use Rattle.ods_upkeep.specs.declared.failure.Why.TheVariants.{Request, DirectoryType}
 
--- The type of the name is DIR; the version of the header is none; no volume has as many blocks as the bytes take; or the volume, as it is then, refuses a request of who makes the file, or that of the user to enter it.
-pub data IsUnfiled (dir : FileId) (version : Option ℕ) (heading : Heading) (bytes : List ℕ) (new : Filed) : Why → Type 0 where
-  named_as_directory : heading.name.ext ≡ directory_type → IsUnfiled dir version heading bytes new DirectoryType
-  no_version : ¬ IsVersionNumber heading.version → IsUnfiled dir version heading bytes new (Request refusal.VersionsFull)
-  too_long : 2 ^ 20 < block_count bytes → IsUnfiled dir version heading bytes new (Request refusal.VolumeFull)
-  not_made : (who : Uic) (reason : Refusal) → IsRefusedNow (for_another new who) reason → IsUnfiled dir version heading bytes new (Request reason)
-  not_entered : (file : FileId) (why : Why) → IsNotDone new (Enter dir heading.name version file) why → IsUnfiled dir version heading bytes new why
+-- The owner has made the file on the old volume, which is the user's again.
+pub record IsFilled (owner : Uic) (heading : Heading) (attributes bytes : List ℕ) (file : FileId) (old new : Filed) : Type 0 where
+  pub made : Filed
+  pub filled : IsLed Fills (for_another old owner) made
+  pub added : IsAdded (for_another old owner) heading file (Plain attributes (blocks_with bytes)) made
+  pub back : new ≡ for_another made old.user
+
+-- The type of the name is DIR, or the version of the header is none, and nothing was done. Or the owner's file is not put. Or it is, and the user's request to enter it is not done.
+pub data IsUnfiled (owner : Uic) (dir : FileId) (version : Option ℕ) (heading : Heading) (attributes bytes : List ℕ) (old new : Filed) : Why → Type 0 where
+  named_as_directory : heading.name.ext ≡ directory_type → new ≡ old → IsUnfiled owner dir version heading attributes bytes old new DirectoryType
+  no_version : ¬ IsVersionNumber heading.version → new ≡ old → IsUnfiled owner dir version heading attributes bytes old new (Request refusal.VersionsFull)
+  not_made : (reason : Refusal) (made : Filed) → IsUnput heading attributes bytes (for_another old owner) made reason → new ≡ for_another made old.user
+      → IsUnfiled owner dir version heading attributes bytes old new (Request reason)
+  not_entered : (file : FileId) (why : Why) → IsFilled owner heading attributes bytes file old new → IsNotDone new (Enter dir heading.name version file) why
+      → IsUnfiled owner dir version heading attributes bytes old new why

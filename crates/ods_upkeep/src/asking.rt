@@ -105,7 +105,7 @@ pub(crate) fn put_new(
 ) -> Result<FileId, Why>
     ensures made { IfOk result (λ id. IsMadeFor owner dir version (heading_of file.now) file.now.attributes file.now.bytes.now id filing.old filing.new) }
     // After a refusal the volume may have the file in part.
-    ensures refused { IfErr result (IsUnfiled dir version (heading_of file.now) file.now.bytes.now filing.new) }
+    ensures refused { IfErr result (IsUnfiled owner dir version (heading_of file.now) file.now.attributes file.now.bytes.now filing.old filing.new) }
 {
     if file.name.ext() == DIRECTORY_TYPE {
         return Err(Why::DirectoryType);

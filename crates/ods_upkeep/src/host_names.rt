@@ -1,6 +1,7 @@
 //! The names of host files, as names of the volume.
-ghost use Rattle.std.specs.Prelude.{◌≡◌, ◌↔◌, ℕ, Err, IfOk, IsTrue, MatchOption};
+ghost use Rattle.std.specs.Prelude.{◌≡◌, ◌↔◌, ℕ, Err, IfErr, IfOk, IsTrue, MatchOption, MatchResult};
 ghost use Rattle.ods_upkeep.specs.HostNames.{IsHostName, IsNameFor, IsNoName, IsTyped, IsUntyped, title_of, type_of};
+ghost use Rattle.ods_upkeep.specs.Unput.{IsNameless, IsNoHostName};
 
 use crate::failure::Why;
 use crate::put_fault::PutFault;
@@ -11,7 +12,7 @@ use std::alloc::Global;
 
 /// The name that is said, or that of the host file.
 pub(crate) fn name_for(alloc: Global, said: Option<Name>, host: &str) -> Result<Name, Why>
-    ensures { IfOk result (IsNameFor said host.now) }
+    ensures { MatchResult result (IsNameFor said host.now) (IsNameless said host.now) }
 {
     match said {
         Some(name) => Ok(name),
@@ -24,6 +25,7 @@ fn host_name(alloc: Global, name: &str) -> Result<Name, Why>
     ensures ok { IfOk result (IsHostName name.now) }
     ensures bad { IsNoName name.now → result ≡ Err Why.BadName }
     ensures untyped { ¬ IsNoName name.now → (c : ℕ) → IsUntyped name.now c → result ≡ Err (Why.Put (PutFault.Untyped c)) }
+    ensures err { IfErr result (IsNoHostName name.now) }
 {
     let bytes = name.as_bytes();
     if is_no_name(bytes) {

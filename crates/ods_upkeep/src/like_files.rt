@@ -1,6 +1,7 @@
 //! The file like which others are made.
-ghost use Rattle.std.specs.Prelude.{IfOk};
+ghost use Rattle.std.specs.Prelude.{MatchResult};
 ghost use Rattle.ods_upkeep.specs.Begun.{AreAttributesAt, AreLike};
+ghost use Rattle.ods_upkeep.specs.Unbegun.{IsNotLike, SaysNoAttributes};
 
 use crate::failure::{Failure, Why, of_path};
 use ods_mount::Mounted;
@@ -15,7 +16,7 @@ pub(crate) fn like_attributes(
     volume: &Mounted,
     like: Option<&str>,
 ) -> Result<Option<[u8; 32]>, Failure>
-    ensures { IfOk result (AreLike volume.now.image volume.now.layout like.entry) }
+    ensures { MatchResult result (AreLike volume.now.image volume.now.layout like.entry) (IsNotLike volume.now.image volume.now.layout like.entry) }
 {
     let Some(path) = like else {
         return Ok(None);
@@ -28,7 +29,7 @@ pub(crate) fn like_attributes(
 
 /// The attributes of the one file that a path names.
 fn attributes_of(alloc: Global, volume: &Mounted, path: &str) -> Result<[u8; 32], Why>
-    ensures { IfOk result (AreAttributesAt volume.now.image volume.now.layout path.now) }
+    ensures { MatchResult result (AreAttributesAt volume.now.image volume.now.layout path.now) (SaysNoAttributes volume.now.image volume.now.layout path.now) }
 {
     let (found, _) = find_path(alloc, volume, path, Some(Versions::Highest), &[])?;
     let [one] = found.as_slice() else {

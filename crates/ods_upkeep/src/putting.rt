@@ -1,10 +1,11 @@
 //! `put`: files of the host are put one by one.
-ghost use Rattle.std.specs.Prelude.{◌≡◌, ◌⊎◌, is_some, min, not, ◌&&◌, true, None, IfOk, OnOk};
+ghost use Rattle.std.specs.Prelude.{◌≡◌, ◌⊎◌, is_some, min, not, ◌&&◌, true, None, IfErr, IfOk, MatchResult, OnOk};
 ghost use Rattle.ods_filing.specs.Filed.{HasGrown, lacking};
 ghost use Rattle.ods_filing.specs.Led.{IsLed};
 ghost use Rattle.ods_upkeep.specs.{Begun.AreKept, Begun.AreNames, Begun.IsBegun, Begun.count_of, Begun.path_to};
 ghost use Rattle.ods_upkeep.specs.{HostPut.AreCountedOn, HostPut.AreNotedOn, HostPut.IsHostPut, HostPut.IsPutAs, HostPut.IsStill, HostPut.IsVersionFor};
-ghost use Rattle.ods_upkeep.specs.{Kinds.Puts, Left.replaces, PutFor.IsPut, Remarks.IsRemark, Remarks.IsRemarkOn, Written.bytes_of};
+ghost use Rattle.ods_upkeep.specs.{Kinds.Puts, Left.replaces, PutFor.IsPut, Refused.HasPath, Refused.IsOutOfMemory, Refused.no_memory, Remarks.IsRemark, Remarks.IsRemarkOn};
+ghost use Rattle.ods_upkeep.specs.{Unbegun.IsNotBegun, Unput.IsNotPut, Unput.IsNotStored, Written.bytes_of};
 
 use crate::asking::put_new;
 use crate::failure::{Failure, Why, of_path};
@@ -64,7 +65,8 @@ impl Putting {
         replace: bool,
         owner: Option<Uic>,
     ) -> Result<Putting, Failure>
-        ensures { IfOk result (IsBegun volume.now.image volume.now.layout stamp to.entry several form like.entry replace owner) }
+        ensures { MatchResult result (IsBegun volume.now.image volume.now.layout stamp to.entry several form like.entry replace owner)
+            (IsNotBegun volume.now.image volume.now.layout to.entry several like.entry replace) }
     {
         let target = target_of(alloc, volume, count_of(several), path_to(to))?;
         let like = like_attributes(alloc, volume, like)?;
@@ -108,6 +110,8 @@ impl Putting {
         ensures own { self.old.owner ≡ None → OnOk result (IsLed (Puts (replaces self.old)) filing.old filing.new) }
         ensures still { IsStill self.old self.new }
         ensures remark { IfOk result (IsRemark self.old.form self.old.like host.now.bytes.now) }
+        // Refused, it is so for a reason that holds, of the host file, and what was done for that is said.
+        ensures refused { IfErr result (λ failure. IsNotPut self.old host.now.name.now host.now.bytes.now filing.old filing.new failure.why × HasPath failure host.now.name.now) }
     {
         match self.put_one(alloc, filing, host) {
             Ok(remark) => Ok(remark),
@@ -125,6 +129,7 @@ impl Putting {
         ensures done { OnOk result (IsHostPut self.old host.now.name.now host.now.bytes.now filing.old self.new filing.new) }
         ensures still { IsStill self.old self.new }
         ensures remark { IfOk result (IsRemark self.old.form self.old.like host.now.bytes.now) }
+        ensures refused { IfErr result (IsNotPut self.old host.now.name.now host.now.bytes.now filing.old filing.new) }
     {
         let name = name_for(alloc, self.target.name, host.name)?;
         if name.ext() == DIRECTORY_TYPE {
@@ -145,6 +150,7 @@ impl Putting {
     ) -> Result<(), Why>
         ensures done { OnOk result (IsPutAs self.old name written.now.attributes (bytes_of written.now) filing.old self.new filing.new) }
         ensures still { IsStill self.old self.new }
+        ensures refused { IfErr result (IsNotStored self.old name written.now.attributes (bytes_of written.now) filing.old filing.new) }
     {
         let dir = self.target.directory;
         let said = self.target.version;
@@ -191,7 +197,7 @@ fn keeps_versions(several: bool, replace: bool) -> bool
 
 /// How many entries name each file, where that is asked for.
 fn count_names(alloc: Global, volume: &Mounted, replace: bool) -> Result<Option<Names>, Failure>
-    ensures { IfOk result (AreNames volume.now.image volume.now.layout replace) }
+    ensures { MatchResult result (AreNames volume.now.image volume.now.layout replace) (λ failure. (replace ≡ true) × IsOutOfMemory failure) }
 {
     if !replace {
         return Ok(None);
@@ -209,7 +215,7 @@ fn highest_versions(
     directory: FileId,
     is_wanted: bool,
 ) -> Result<Option<Highest>, Failure>
-    ensures { IfOk result (AreKept volume.now.image volume.now.layout is_wanted directory) }
+    ensures { MatchResult result (AreKept volume.now.image volume.now.layout is_wanted directory) (λ failure. (is_wanted ≡ true) × IsOutOfMemory failure) }
 {
     if !is_wanted {
         return Ok(None);
@@ -252,7 +258,8 @@ fn count_name(names: &mut Option<Names>, file: FileId)
 
 /// This version of the name is there too, where the highest versions are known.
 fn note_version(highest: &mut Option<Highest>, name: &Name, version: u16) -> Result<(), Why>
-    ensures { OnOk result (AreNotedOn highest.old name.now version highest.new) }
+    ensures ok { OnOk result (AreNotedOn highest.old name.now version highest.new) }
+    ensures err { IfErr result (λ why. (why ≡ no_memory) × (is_some highest.old ≡ true)) }
 {
     if let Some(highest) = highest {
         highest.note(name, version)?;
@@ -262,7 +269,7 @@ fn note_version(highest: &mut Option<Highest>, name: &Name, version: u16) -> Res
 
 /// What is to be remarked of a file that was put.
 fn remark(alloc: Global, written: &Written<'_>) -> Result<Option<String>, Why>
-    ensures { IfOk result (IsRemarkOn written.now.is_completed written.now.near) }
+    ensures { MatchResult result (IsRemarkOn written.now.is_completed written.now.near) (λ why. (why ≡ no_memory) × ¬ IsRemarkOn written.now.is_completed written.now.near None) }
 {
     if written.is_completed {
         let text = String::from_str(alloc, "the last line has no LF, and became a record")?;

@@ -1,7 +1,7 @@
 //! Room for files that replace others.
-ghost use Rattle.std.specs.Prelude.{◌≡◌, is_some, slice_index, IfErr, IfOk, OnOk};
+ghost use Rattle.std.specs.Prelude.{◌≡◌, is_some, slice_index, IfErr, IfOk, MatchResult, OnOk};
 ghost use Rattle.ods_upkeep.specs.Rooms.{IsNotPlain, IsReplaced, IsRoomMade, IsThere, counts_left, file_left, pick_for};
-ghost use Rattle.ods_upkeep.specs.Removed.{Does};
+ghost use Rattle.ods_upkeep.specs.{Refused.StopsAt, Removed.Does, Unput.IsNoRoom, Unput.IsNotReplaced};
 
 use crate::asking::{delete, remove};
 use crate::failure::Why;
@@ -21,6 +21,7 @@ pub(crate) fn make_room(
 ) -> Result<Option<u16>, Why>
     ensures room { IfOk result (λ free. IsRoomMade dir name version free names.old names.new filing.old filing.new) }
     ensures replaces { is_some names.new ≡ is_some names.old }
+    ensures err { IfErr result (IsNoRoom dir name version names.old filing.old filing.new) }
 {
     let Some(names) = names else {
         return Ok(None);
@@ -51,7 +52,7 @@ fn replace(
     file: FileId,
     names: &mut Names,
 ) -> Result<(), Why>
-    ensures { OnOk result (IsReplaced dir name version file names.old names.new filing.old filing.new) }
+    ensures { MatchResult result (λ _. IsReplaced dir name version file names.old names.new filing.old filing.new) (IsNotReplaced dir name version file names.old filing.old filing.new) }
 {
     let is_there = is_plain(filing, file)?;
     remove(filing, dir, name, version)?;
@@ -67,6 +68,7 @@ fn take_name(
 ) -> Result<(), Why>
     ensures counted { slice_index names.new ≡ counts_left is_there (slice_index names.old) file }
     ensures gone { OnOk result (Does filing.old (file_left is_there (counts_left is_there (slice_index names.old) file) file) filing.new) }
+    ensures err { IfErr result (StopsAt filing.old (file_left is_there (counts_left is_there (slice_index names.old) file) file) filing.new) }
 {
     if !is_there {
         return Ok(());

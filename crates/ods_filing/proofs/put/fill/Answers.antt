@@ -1,11 +1,13 @@
 use Rattle.std.proofs.Common.{◌≡◌, ◌+◌, ◌-◌, ◌<◌, ap, ◌∙◌, subst, arith, replicate}
+use Rattle.std.proofs.lemmas.Result.{err_from_is_err_and}
 use Rattle.std.specs.Prelude.{slice_set}
 use Rattle.ods_request.specs.declared.requests.Request.TheVariants.{Write}
 use Rattle.ods_request.specs.Catalogue.{Plain}
-use Rattle.ods_filing.specs.Put.{IsAdded, block_count}
+use Rattle.ods_filing.specs.Put.{IsAdded, block_count, so_far}
 use Rattle.ods_filing.proofs.Added.{wrote}
-use Rattle.ods_filing.proofs.Blocks.{so_far, one_more, all_so_far}
+use Rattle.ods_filing.proofs.Blocks.{one_more, all_so_far}
 use Rattle.ods_filing.proofs.Led.{then_obeyed}
+use Rattle.ods_filing.proofs.Parts.{filling_stops}
 use Rattle.ods_filing.proofs.put.fill.Goals as goal
 
 pub loop-k-preserved : goal.loop-k-preserved
@@ -35,3 +37,10 @@ returns-clause-ok c = λ old heading start.
 
 pub returns-clause-led : goal.returns-clause-led
 returns-clause-led c = c.loop-k.invariant.1
+
+pub returns-in_err-obey-clause-err : goal.returns-in_err-obey-clause-err
+returns-in_err-obey-clause-err c =
+    let p = err_from_is_err_and c.from_residual.result c.from_residual.ensures.1 in
+    let under : c.loop-k.k < block_count c.args.bytes.now = omega (arith, c.loop-k-test.true, c.blocks_for-k-end.ensures) in
+    rw (p.1, p.2) (filling_stops c.args.id c.args.bytes.now c.block_of.result c.loop-k.k c.args.filing.now c.loop-k.filing c.obey.new.filing under c.loop-k.invariant.0 c.loop-k.invariant.1 c.block_of.ensures
+    c.in_err-obey.ensures.unchanged _ c.in_err-obey.ensures.err)

@@ -3,8 +3,7 @@ use Rattle.ods_request.specs.Catalogue.{Plain}
 use Rattle.ods_request.specs.Steps.{zero_blocks}
 use Rattle.ods_filing.specs.Filed.{Filed}
 use Rattle.ods_filing.specs.Led.{Fills, IsLed}
-use Rattle.ods_filing.specs.Put.{Heading, IsAdded, block_count}
-use Rattle.ods_filing.proofs.Blocks.{so_far}
+use Rattle.ods_filing.specs.Put.{Heading, IsAdded, block_count, so_far}
 use Rattle.ods_filing.proofs.put.fill.Given as goal
 
 abbrev pub invariant-loop-k : goal.invariant-loop-k

@@ -6,16 +6,13 @@ use Rattle.ods_space.specs.Layout.{Disk}
 use Rattle.ods_filing.specs.Filed.{IsDone}
 use Rattle.ods_filing.specs.Put.{heading_of}
 use Rattle.ods_filing.proofs.Added.{is_created, first_added}
-use Rattle.ods_filing.proofs.Done.{refused_now}
 use Rattle.ods_filing.proofs.Led.{obeyed}
 use Rattle.ods_filing.proofs.put.make.Goals as goal
 
 pub returns-in_err-made-clause-err : goal.returns-in_err-made-clause-err
 returns-in_err-made-clause-err c =
-    let f = c.args.file.now in
-    let request = Create f.name f.version c.args.blocks f.stamp in
     let p = err_from_is_err_and c.from_residual.result c.from_residual.ensures.1 in
-    rw (p.1, p.2) (refused_now _ c.args.filing.now c.request.new.self request c.in_err-made.ensures.unchanged c.in_err-made.ensures.refused)
+    rw (p.1, p.2) c.in_err-made.ensures.refused
 
 pub unreachable-requires : goal.unreachable-requires
 unreachable-requires c =

@@ -48,5 +48,5 @@ pub returns-in_err-_copy-clause-refused : goal.returns-in_err-_copy-clause-refus
 returns-in_err-_copy-clause-refused c =
     let p = err_from_is_err_and c.from_residual-in_err-_copy.result c.from_residual-in_err-_copy.ensures.1 in
     rw (p.1, p.2) (not_copied _ c.args.target.now c.args.stamp c.args.found.now c.args.filing.now c.next_version-version.new.filing c.put_new.new.filing c.user-user.result c.in_ok-facts.facts c.in_ok-facts.name
-    c.in_ok-bytes.bytes.items c.deref.result.now c.next_version-version.result c.user-user.ensures c.in_ok-facts.ensures.ok c.in_ok-bytes.ensures.ok c.next_version-version.ensures.next c.deref.ensures.value
-    c.in_err-_copy.ensures.refused)
+    c.in_ok-attributes.attributes c.in_ok-bytes.bytes.items c.deref.result.now c.next_version-version.result c.user-user.ensures c.in_ok-facts.ensures.ok c.in_ok-bytes.ensures.ok c.in_ok-attributes.ensures.ok
+    c.next_version-version.ensures.next c.deref.ensures.value c.in_err-_copy.ensures.refused)

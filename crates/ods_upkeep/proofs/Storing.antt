@@ -1,0 +1,63 @@
+-- What is written of a host file, and is not put under a name.
+use Rattle.std.proofs.Common.{◌≡◌, ◌∙◌, ap, sym, subst, inl, ℕ, List, [], ◌∷◌, Bool, true, cond, Option, is_some, Result, Ok, Err, eq-eqb}
+use Rattle.std.specs.Prelude.{IfErr, MatchResult, OnOk, unwrap_or}
+use Rattle.std.specs.Option.{option_or}
+use Rattle.ods_base.specs.Name.{RadName}
+use Rattle.ods_base.specs.declared.file_id.FileId.{FileId}
+use Rattle.ods_base.specs.declared.file_id.Uic.{Uic}
+use Rattle.ods_request.specs.declared.requests.Request.TheVariants.{Delete}
+use Rattle.ods_filing.specs.Filed.{Filed}
+use Rattle.ods_filing.specs.Led.{IsLed}
+use Rattle.ods_filing.proofs.Led.{same_user, then_led}
+use Rattle.ods_upkeep.specs.Counted.{one_less}
+use Rattle.ods_upkeep.specs.HostPut.{IsVersionFor}
+use Rattle.ods_upkeep.specs.Kinds.{Puts}
+use Rattle.ods_upkeep.specs.Left.{InPut}
+use Rattle.ods_upkeep.specs.PutFor.{IsMadeFor}
+use Rattle.ods_upkeep.specs.Refused.{IsRefusedBy, StopsAt, no_memory}
+use Rattle.ods_upkeep.specs.Rooms.{IsRoomMade, counts_left, file_left}
+use Rattle.ods_upkeep.specs.Unfiled.{IsUnfiled}
+use Rattle.ods_upkeep.specs.Unput.{IsNotStored, IsReady, heading_in, unfiled, unnoted}
+use Rattle.ods_upkeep.specs.declared.failure.Why.{Why}
+use Rattle.ods_upkeep.proofs.PutLists.{room_led, version_led}
+
+-- what follows from the promises of a call, whether it is done or fails
+pub if_either : {A E P Q : Type 0} {F G : E → Type 0} (result : Result A E) → (P → Q) → ((why : E) → F why → G why) → OnOk result P → IfErr result F → MatchResult result (λ _. Q) G
+if_either (Ok a) so not done refused = so done
+if_either (Err e) so not done refused = not e refused
+
+-- no other entry names the file, and it does not go
+pub file_is_kept : (old new : Filed) (there : Bool) (counts left : ℕ → ℕ) (file : FileId) (count : ℕ) → there ≡ true → left ≡ one_less counts file.number → count ≡ left file.number → count ≡ 0
+    → new ≡ old → (why : Why) → IsRefusedBy old (Delete file) why → StopsAt old (file_left there (counts_left there counts file) file) new why
+file_is_kept old new there counts left file count is taken are none same why refused =
+    let gone : StopsAt old (file_left true left file) new why =
+    subst (λ b. StopsAt old (cond b (Delete file ∷ []) []) new why) (sym (eq-eqb (left file.number) 0 (sym are ∙ none))) (inl (same, inl refused)) in
+    subst (λ b. StopsAt old (file_left b (counts_left b counts file) file) new why) (sym is) (subst (λ n. StopsAt old (file_left true n file) new why) taken gone)
+
+-- what is so of the fields is so of the value
+pub not_stored_of : (why : Why) {p q : InPut} (name : RadName) (attributes bytes : List ℕ) (old new : Filed) → p ≡ q → IsNotStored p name attributes bytes old new why → IsNotStored q name attributes bytes old new why
+not_stored_of why name attributes bytes old new same none = subst (λ v. IsNotStored v name attributes bytes old new why) same none
+
+-- Room is made, and the version is known; who is asked for then is the owner that is said, or the user.
+module _ (p : InPut) (name : RadName) (attributes bytes all : List ℕ) (old mid seen new : Filed) (free said : Option ℕ) (left : Option (List ℕ)) (version : ℕ) (user owner : Uic) (room : IsRoomMade p.target.directory name p.target.version free p.names left old mid) (is : said ≡ option_or free p.target.version) (next : IsVersionFor p.highest mid p.target.directory name said version seen) (asks : user ≡ seen.user) (owns : owner ≡ unwrap_or p.owner user) (same : bytes ≡ all) where
+  ready : IsReady p name old said version seen
+  ready = record { free = free; left = left; mid = mid; room = room; entered = is; next = next }
+
+  whose : owner ≡ unwrap_or p.owner old.user
+  whose =
+      let led : IsLed (Puts (is_some p.names)) old seen =
+      then_led (room_led p.target.directory name p.target.version free p.names left old mid room) (version_led (is_some p.names) p.highest mid p.target.directory name said version seen next) in
+      owns ∙ ap (λ u. unwrap_or p.owner u) (asks ∙ same_user led)
+
+  -- the file is not made, or not entered
+  pub storing_stops : (why : Why) → IsUnfiled owner p.target.directory said (heading_in p name version) attributes bytes seen new why → IsNotStored p name attributes all old new why
+  storing_stops why refused = unfiled why said version seen ready
+      (subst (λ u. IsUnfiled u p.target.directory said (heading_in p name version) attributes all seen new why) whose
+      (subst (λ b. IsUnfiled owner p.target.directory said (heading_in p name version) attributes b seen new why) same refused))
+
+  -- it is, and its version is not noted
+  pub noting_stops : (file : FileId) → IsMadeFor owner p.target.directory said (heading_in p name version) attributes bytes file seen new → (why : Why) → (why ≡ no_memory) × (is_some p.highest ≡ true) → IsNotStored p name attributes all old new why
+  noting_stops file made why none = subst (IsNotStored p name attributes all old new) (sym none.0)
+      (unnoted said version seen file ready
+      (subst (λ u. IsMadeFor u p.target.directory said (heading_in p name version) attributes all file seen new) whose
+      (subst (λ b. IsMadeFor owner p.target.directory said (heading_in p name version) attributes b file seen new) same made)) none.1)
