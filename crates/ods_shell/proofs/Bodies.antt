@@ -1,9 +1,9 @@
 -- A file has one body, and records that are read have no fault.
-use Rattle.std.proofs.Common.{◌≡◌, ◌≢◌, ℕ, ◌<◌, ◌≤◌, refl, sym, ap, ◌∙◌, subst, List, [], length, Option, Some, None, Result, Ok, Err, arith}
+use Rattle.std.proofs.Common.{◌≡◌, ℕ, ◌<◌, ◌≤◌, refl, sym, ap, ◌∙◌, subst, List, [], length, Option, Some, None, Result, Ok, Err, arith}
 use Rattle.std.specs.Prelude.{IfOk, IfSome, IfNone}
 use Rattle.std.proofs.lemmas.List.Elements.{All-contains}
 use Rattle.ods_space.specs.Layout.{VolumeLayout}
-use Rattle.ods_space.specs.Files.{HasBlocks, AreInside}
+use Rattle.ods_space.specs.Files.{AreInside}
 use Rattle.ods_space.specs.Faults.{IsChainFault}
 use Rattle.ods_space.specs.declared.fault.ChainFault.TheVariants.{BadChain, OutsideVolume, NoMemory as NoRoom}
 use Rattle.ods_space.specs.declared.fault.ChainFault.{ChainFault}
@@ -16,11 +16,10 @@ use Rattle.ods_files.specs.declared.fault.FileFault.{FileFault}
 use Rattle.ods_files.specs.declared.fault.FileFault.TheVariants.{NoSuchFile, Chain}
 use Rattle.ods_files.specs.declared.form.Form.TheVariants.{Binary}
 use Rattle.ods_records.specs.Attributes.{kind_in}
-use Rattle.ods_records.specs.Faults.{IsFault, IsFirstFault}
+use Rattle.ods_records.specs.Faults.{IsFirstFault}
 use Rattle.ods_records.specs.Records.{Spells}
 use Rattle.ods_records.specs.declared.kind.RecordKind.{RecordKind}
 use Rattle.ods_records.specs.declared.faults.RecordFault.{RecordFault}
-use Rattle.ods_records.specs.declared.faults.RecordFault.TheVariants.{CutLength, PastEnd, TooLong, NoNumber, NoMemory}
 use Rattle.ods_records.proofs.Standing.{fault_spells}
 use Rattle.ods_shell.specs.Spoiled.{IsSpoiled, HasSpoiledRecords}
 

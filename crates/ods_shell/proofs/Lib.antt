@@ -1,7 +1,9 @@
 mod Bodies
 mod Digits
 mod Dots
+mod Flags
 mod FoundMore
+mod Headings
 mod GotContents
 mod Listed
 mod Named
@@ -12,6 +14,8 @@ mod Places
 mod Runs
 mod RunTexts
 mod RowsFound
+mod Unreached
+mod Uses
 mod WaysLists
 mod WaysShut
 mod BelowAdded

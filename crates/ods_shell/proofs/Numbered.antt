@@ -1,5 +1,5 @@
 -- The text of a directory in the master directory, by what its name is.
-use Rattle.std.proofs.Common.{◌≡◌, ◌∙◌, ℕ, ◌+◌, ◌*◌, ◌-◌, ◌≤◌, Bool, true, false, List, [], ◌∷◌, ap, refl, arith, take, drop, length, cond, zero, suc, ◌<◌, le-leb, leb-true, eqb-true, eq-eqb}
+use Rattle.std.proofs.Common.{◌≡◌, ◌∙◌, ℕ, ◌+◌, ◌*◌, ◌-◌, ◌≤◌, Bool, true, false, List, [], ◌∷◌, ap, refl, arith, take, drop, length, cond, zero, suc, le-leb, leb-true, eqb-true}
 use Rattle.std.specs.Prelude.{nat_le, ◌&&◌, ◌==◌}
 use Rattle.std.specs.List.{All}
 use Rattle.ods_paths.specs.Numbers.{IsNumberedName}

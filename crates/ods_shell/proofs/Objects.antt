@@ -1,7 +1,7 @@
 -- Members that have no float, and one more.
 use Rattle.std.proofs.Common.{◌≡◌, ◌∙◌, ℕ, Bool, true, false, List, ap, refl, rules, Ordering, Less, Equal, Greater, String, BTreeMap, Global, string_bytes, string_cmp}
 use Rattle.std.specs.BTreeMap.{insert_entry}
-use Rattle.std.specs.Prelude.{◌||◌}
+use Rattle.std.specs.Prelude.{◌||◌, codes}
 use Rattle.std.specs.Ordering.{match_ordering, nat_cmp}
 use Rattle.std.specs.Cmp.Lexicographic.{slice_cmp}
 use Rattle.serde_json.specs.Data.{Data, Members, no_members, member, number, object, put, string, unsigned}
@@ -9,7 +9,8 @@ use Rattle.serde_json.specs.View.{members_view, view}
 use Rattle.serde_json.specs.Written.{compact_text, has_float, members_have_float}
 use Rattle.serde_json.specs.declared.value.Value.{Value, Object, String as Text, the_lemmas}
 use Rattle.serde_json.proofs.Views.{Entry, members_view-insert_entry, view-Object}
-use Rattle.ods_shell.specs.Json.{with_number, with_text}
+use Rattle.ods_shell.specs.Json.{with_file_numbers, with_number, with_text}
+use Rattle.ods_shell.specs.declared.space.Space.{Space}
 
 neither : (a b : Bool) → a ≡ false → b ≡ false → (a || b) ≡ false
 neither false b first second = second
@@ -60,3 +61,10 @@ number_put_plain name n v old new is put_there plain = ap members_have_float put
 
 pub compact_is : (m : BTreeMap (String Global) Value) (text : List ℕ) → (has_float (view (Object m)) ≡ false → text ≡ compact_text (view (Object m))) → members_have_float (members_view m.entries) ≡ false → text ≡ compact_text (object (members_view m.entries))
 compact_is m text said plain = let is = view-Object m in said (ap has_float is ∙ plain) ∙ ap compact_text is
+
+pub file_numbers_put : (s : Space) (numbers ready most : ℕ) (a b c d : Members) → numbers ≡ s.numbers → ready ≡ s.ready → most ≡ s.most
+    → b ≡ with_number (codes "numbers_in_use") numbers a → c ≡ with_number (codes "numbers_ready") ready b → d ≡ with_number (codes "numbers") most c → d ≡ with_file_numbers s a
+unfolding with_file_numbers
+file_numbers_put s numbers ready most a b c d e f g first second third =
+    third ∙ (λ i. with_number (codes "numbers") (g i) (second i)) ∙ (λ i. with_number (codes "numbers") s.most (with_number (codes "numbers_ready") (f i) (first i)))
+    ∙ (λ i. with_number (codes "numbers") s.most (with_number (codes "numbers_ready") s.ready (with_number (codes "numbers_in_use") (e i) a)))

@@ -1,6 +1,6 @@
 -- In the order of a listing lines of one name follow one another, and their versions fall.
-use Rattle.std.proofs.Common.{◌≡◌, ◌⊎◌, inl, inr, ℕ, ◌+◌, ◌<◌, ◌≤◌, refl, sym, ap, ◌∙◌, subst, Bool, true, false, List, [], ◌∷◌, ◌++◌, length, get_or, take, append_assoc, Some, arith}
-use Rattle.std.specs.Prelude.{IsSortedByKey, slice_get, unwrap_or}
+use Rattle.std.proofs.Common.{◌≡◌, inl, inr, ℕ, ◌+◌, ◌<◌, ◌≤◌, refl, sym, ap, ◌∙◌, subst, false, List, [], ◌∷◌, ◌++◌, get_or, Some, arith}
+use Rattle.std.specs.Prelude.{IsSortedByKey, slice_get}
 use Rattle.std.specs.List.{Contains}
 use Rattle.std.specs.Ordering.{is_lt, nat_cmp, ordering_then, ordering_reverse}
 use Rattle.std.specs.Cmp.{IsTotalOrder}
@@ -126,18 +126,18 @@ module _ (lines : List Listed) (sorted : IsSortedByKey shown listing_cmp lines) 
 
 -- ---- the lines that are chosen
 
-pub those_none : (P : Listed → Type 0) → AreThose P [] []
+pub those_none : {X : Type 0} (P : X → Type 0) → AreThose P [] []
 those_none P = refl
 
 -- a line more that is chosen, or is not
-pub those_more : (P : Listed → Type 0) (xs found : List Listed) (x : Listed) → P x → AreThose P xs found → AreThose P (xs ++ x ∷ []) (found ++ x ∷ [])
+pub those_more : {X : Type 0} (P : X → Type 0) (xs found : List X) (x : X) → P x → AreThose P xs found → AreThose P (xs ++ x ∷ []) (found ++ x ∷ [])
 those_more P [] found x is are = inl (is, [], ap (λ l. l ++ x ∷ []) are, refl)
 those_more P (y ∷ xs) found x is are = elim are [
   | inl taken ↦ inl (taken.0, taken.1 ++ x ∷ [], ap (λ l. l ++ x ∷ []) taken.2, those_more P xs taken.1 x is taken.3)
   | inr left ↦ inr (left.0, those_more P xs found x is left.1)
 ]
 
-pub those_as_before : (P : Listed → Type 0) (xs found : List Listed) (x : Listed) → ¬ P x → AreThose P xs found → AreThose P (xs ++ x ∷ []) found
+pub those_as_before : {X : Type 0} (P : X → Type 0) (xs found : List X) (x : X) → ¬ P x → AreThose P xs found → AreThose P (xs ++ x ∷ []) found
 those_as_before P [] found x is_not are = inr (is_not, are)
 those_as_before P (y ∷ xs) found x is_not are = elim are [
   | inl taken ↦ inl (taken.0, taken.1, taken.2, those_as_before P xs taken.1 x is_not taken.3)

@@ -1,5 +1,5 @@
 -- The longest run of free blocks, by the runs that end before each LBN; and file numbers in use, counted one by one.
-use Rattle.std.proofs.Common.{◌≡◌, ◌⊎◌, inl, inr, ℕ, zero, suc, ◌+◌, ◌-◌, ◌<◌, ◌≤◌, refl, sym, ap, ◌∙◌, subst, Bool, true, false, cond, List, [], ◌∷◌, ◌++◌, length, length-append, arith}
+use Rattle.std.proofs.Common.{◌≡◌, ◌⊎◌, inl, inr, ℕ, zero, suc, ◌+◌, ◌-◌, ◌<◌, ◌≤◌, refl, ap, ◌∙◌, subst, Bool, true, false, cond, List, [], ◌∷◌, length, length-append, arith}
 use Rattle.std.specs.Prelude.{◌↔◌, ◌&&◌, nat_lt, max}
 use Rattle.std.specs.List.{filter, range_with_len}
 use Rattle.std.proofs.lemmas.Bool.{cases_eq, le-ltb}

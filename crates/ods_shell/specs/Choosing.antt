@@ -1,5 +1,5 @@
 -- Which lines of a directory a path chooses.
-use Rattle.std.specs.Prelude.{◌≡◌, ℕ, ◌≤◌, ◌⊎◌, List, [], ◌∷◌, unwrap_or}
+use Rattle.std.specs.Prelude.{◌≡◌, ◌≤◌, ◌⊎◌, List, [], ◌∷◌, unwrap_or}
 use Rattle.std.specs.List.{Contains}
 use Rattle.ods_base.specs.Name.{RadName, title, type_text}
 use Rattle.ods_base.specs.declared.listed.Listed.{Listed}
@@ -27,7 +27,7 @@ IsPicked Every lines e = Unit {0}
 abbrev pub IsChosen : Files → Versions → List Listed → Listed → Type 0
 IsChosen files unsaid lines e = IsMatched files e.name × IsPicked (unwrap_or files.versions unsaid) lines e
 
--- just those of these lines of which P holds, in their order
-abbrev pub AreThose : (Listed → Type 0) → List Listed → List Listed → Type 0
+-- just those of these of which P holds, in their order
+abbrev pub AreThose : {X : Type 0} → (X → Type 0) → List X → List X → Type 0
 AreThose P [] found = found ≡ []
-AreThose P (x ∷ xs) found = (P x × (rest : List Listed) × (found ≡ x ∷ rest) × AreThose P xs rest) ⊎ ((¬ P x) × AreThose P xs found)
+AreThose {X} P (x ∷ xs) found = (P x × (rest : List X) × (found ≡ x ∷ rest) × AreThose P xs rest) ⊎ ((¬ P x) × AreThose P xs found)

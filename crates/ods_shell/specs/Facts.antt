@@ -1,5 +1,5 @@
 -- What is known of a file, as its first header and its blocks say it.
-use Rattle.std.specs.Prelude.{◌≡◌, ℕ, ◌*◌, List, length, codes, slice_range, Bool, true, false, if◌then◌else◌, is_some}
+use Rattle.std.specs.Prelude.{◌≡◌, ℕ, ◌*◌, List, length, codes, slice_range, if◌then◌else◌, is_some}
 use Rattle.ods_base.specs.Block.{word}
 use Rattle.ods_header.specs.Header.{sequence_of, owner_of, protection_of, user_char_of, system_char_of, ident_of, attributes_of, is_directory_header}
 use Rattle.ods_space.specs.Layout.{VolumeLayout, header_at}

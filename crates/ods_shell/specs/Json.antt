@@ -1,5 +1,6 @@
 -- The objects that are printed as JSON. Their members stand in the order of their names.
-use Rattle.std.specs.Prelude.{ℕ, List, [], ◌∷◌, ◌++◌, codes}
+use Rattle.std.specs.Prelude.{ℕ, List, [], ◌∷◌, ◌++◌, codes, Option, Some, None}
+use Rattle.ods_base.specs.declared.file_id.FileId.{FileId}
 use Rattle.ods_header.specs.Text.{file_id_text, ident_text}
 use Rattle.serde_json.specs.Data.{Members, no_members, number, object, put, string, unsigned}
 use Rattle.serde_json.specs.Written.{compact_text}
@@ -36,3 +37,20 @@ stat_members path facts =
 -- the members, and how many blocks a volume has, how many are free, and the longest free run
 unfoldable pub with_block_counts : Space → Members → Members
 with_block_counts s ms = with_number (codes "largest_free_run") s.longest (with_number (codes "free") s.free (with_number (codes "blocks") s.blocks ms))
+
+-- the members, and how many file numbers are in use, ready, and there
+unfoldable pub with_file_numbers : Space → Members → Members
+with_file_numbers s ms = with_number (codes "numbers") s.most (with_number (codes "numbers_ready") s.ready (with_number (codes "numbers_in_use") s.numbers ms))
+
+-- how much of a volume is used
+abbrev pub space_members : Space → Members
+space_members s = with_file_numbers s (with_block_counts s no_members)
+
+-- the members, and what is known of a file, where it is known
+abbrev pub with_known : Option Facts → Members → Members
+with_known None ms = ms
+with_known (Some facts) ms = with_facts facts ms
+
+-- the path of an entry, the ID that it names, and what is known of that file
+abbrev pub entry_members : List ℕ → FileId → Option Facts → Members
+entry_members path file known = with_known known (with_text (codes "id") (file_id_text file) (with_text (codes "path") path no_members))

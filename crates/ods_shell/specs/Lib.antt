@@ -18,3 +18,4 @@ pub mod Remedies
 pub mod Texts
 pub mod There
 pub mod Ways
+pub mod Usage

@@ -1,6 +1,7 @@
 -- The lines of `ls`, `du`, `df` and `find`.
-use Rattle.std.specs.Prelude.{ℕ, ◌-◌, ◌^◌, ◌==◌, ◌||◌, Bool, false, if◌then◌else◌, List, [], ◌∷◌, ◌++◌, codes, length, replicate, Option, Some, None}
+use Rattle.std.specs.Prelude.{ℕ, ◌-◌, ◌^◌, ◌==◌, ◌||◌, Bool, false, if◌then◌else◌, List, [], ◌∷◌, ◌++◌, codes, length, replicate, slice_get, Option, Some, None}
 use Rattle.std.specs.Fmt.{decimal, padded_integral, format_spec}
+use Rattle.std.specs.List.{fold}
 use Rattle.ods_base.specs.Name.{name_version_text}
 use Rattle.ods_base.specs.declared.file_id.Uic.{Uic}
 use Rattle.ods_base.specs.declared.listed.Listed.{Listed}
@@ -61,6 +62,10 @@ entry_line entry facts columns =
 abbrev pub heading : Bool → Option Directory → List ℕ
 heading is_first None = []
 heading is_first (Some d) = (if is_first then [] else 10 ∷ []) ++ shown_directory d.names.items ++ 58 ∷ 10 ∷ []
+
+-- a text with the headings of the directories at these places behind it
+abbrev pub with_headings : List Directory → List ℕ → List ℕ → List ℕ
+with_headings directories text places = fold (λ before place. before ++ heading (length before == 0) (slice_get directories place)) text places
 
 -- how many blocks a volume has, and how many are used
 unfoldable pub used_part : ℕ → ℕ → List ℕ

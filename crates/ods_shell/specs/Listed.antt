@@ -1,11 +1,15 @@
--- The lines of `ls` without headings, and the last one.
-use Rattle.std.specs.Prelude.{◌≡◌, ℕ, ◌+◌, ◌-◌, ◌^◌, min, List, [], ◌∷◌, ◌++◌, codes, Option, Some, None}
+-- The lines of `ls`, without headings and with them, and the last one; and the objects of `ls` as JSON.
+use Rattle.std.specs.Prelude.{◌≡◌, ℕ, ◌+◌, ◌-◌, ◌^◌, min, nat_le, Bool, if◌then◌else◌, List, [], ◌∷◌, ◌++◌, codes, length, Option, Some, None}
+use Rattle.std.specs.List.{range_with_len}
 use Rattle.std.specs.Fmt.{decimal}
 use Rattle.ods_space.specs.Layout.{VolumeLayout}
 use Rattle.ods_walk.specs.declared.tables.Line.{Line}
-use Rattle.ods_shell.specs.Lines.{counted_word, entry_line}
+use Rattle.ods_shell.specs.Json.{entry_members, object_line}
+use Rattle.ods_shell.specs.Lines.{counted_word, entry_line, with_headings}
 use Rattle.ods_shell.specs.Named.{IsKnown}
+use Rattle.ods_shell.specs.There.{line_path}
 use Rattle.ods_shell.specs.declared.facts.Facts.{Facts}
+use Rattle.ods_shell.specs.declared.folders.Directory.{Directory}
 use Rattle.ods_shell.specs.declared.ls.Columns.{Columns}
 
 -- how many blocks a file has; none where it is not known
@@ -27,3 +31,33 @@ total_line files blocks =
 -- all lines
 abbrev pub IsListing : List (List ℕ) → VolumeLayout → Columns → List Line → ℕ → List ℕ → Type 0
 IsListing I L columns lines files text = (listed : List ℕ) × (blocks : ℕ) × AreListed I L columns lines listed blocks × (text ≡ listed ++ total_line files blocks)
+
+-- the directories from this place on, and before the other, where those without lines are shown
+abbrev pub places_from : Bool → ℕ → ℕ → List ℕ
+places_from empty from to = if empty then range_with_len from (to - from) else []
+
+-- the directories whose headings stand before a line of the one at this place, where those below the first have theirs
+abbrev pub places_before : Bool → ℕ → ℕ → List ℕ
+places_before empty headed place = if nat_le headed place then places_from empty headed place ++ place ∷ [] else []
+
+-- below which place they have theirs then, as far as is counted
+abbrev pub headed_by : ℕ → ℕ → ℕ
+headed_by headed place = if nat_le headed place then min (place + 1) (2 ^ 64 - 1) else headed
+
+-- Behind this text, where the directories below a place have their headings, these lines stand with theirs: so the text is then, below this place they have theirs, and so many blocks the files have.
+abbrev pub AreListedUnder : List (List ℕ) → VolumeLayout → Columns → List Directory → List ℕ → ℕ → List Line → List ℕ → ℕ → ℕ → Type 0
+AreListedUnder I L columns directories before headed [] text top blocks = (text ≡ before) × (top ≡ headed) × (blocks ≡ 0)
+AreListedUnder I L columns directories before headed (line ∷ lines) text top blocks = (known : Option Facts) × (more : ℕ) × IsKnown I L line.entry.file known
+    × AreListedUnder I L columns directories (with_headings directories before (places_before columns.empty headed line.directory) ++ entry_line line.entry known columns) (headed_by headed line.directory) lines text top more
+    × (blocks ≡ min (blocks_of known + more) (2 ^ 64 - 1))
+
+-- all lines with their headings
+abbrev pub IsListingUnder : List (List ℕ) → VolumeLayout → Columns → List Directory → List Line → ℕ → List ℕ → Type 0
+IsListingUnder I L columns directories lines files text = (listed : List ℕ) × (top : ℕ) × (blocks : ℕ) × AreListedUnder I L columns directories [] 0 lines listed top blocks
+    × (text ≡ with_headings directories listed (places_from columns.empty top (length directories)) ++ total_line files blocks)
+
+-- an object for each line that was found in these directories: its path, the ID that it names, and what is known of that file
+abbrev pub AreObjects : List (List ℕ) → VolumeLayout → List Directory → List Line → List ℕ → Type 0
+AreObjects I L directories [] text = text ≡ []
+AreObjects I L directories (line ∷ lines) text = (known : Option Facts) × (rest : List ℕ) × IsKnown I L line.entry.file known × AreObjects I L directories lines rest
+    × (text ≡ object_line (entry_members (line_path directories line) line.entry.file known) ++ rest)

@@ -1,11 +1,19 @@
 -- The lines of `find`: the files that paths name, and those that no path names.
-use Rattle.std.specs.Prelude.{◌≡◌, ℕ, List, [], ◌∷◌, ◌++◌, codes, slice_get, Option, Some, None}
+use Rattle.std.specs.Prelude.{◌≡◌, ◌≢◌, ◌<◌, ℕ, Bool, false, if◌then◌else◌, List, [], ◌∷◌, ◌++◌, codes, length, map, slice_get, slice_index_or, Option, Some, None, MatchBool}
+use Rattle.std.specs.List.{Contains, flat_map, range_with_len}
 use Rattle.ods_base.specs.declared.file_id.FileId.{FileId}
 use Rattle.ods_base.specs.declared.listed.Listed.{Listed}
 use Rattle.ods_header.specs.Header.{sequence_of}
-use Rattle.ods_space.specs.Layout.{VolumeLayout, header_at}
+use Rattle.ods_header.specs.Text.{file_id_text}
+use Rattle.ods_space.specs.Layout.{VolumeLayout, header_at, last_number}
 use Rattle.ods_space.specs.Files.{IsFile}
+use Rattle.ods_mount.specs.Faults.{IsDirectoryFile}
+use Rattle.ods_walk.specs.Complete.{HasEntry}
 use Rattle.ods_walk.specs.declared.tables.Line.{Line}
+use Rattle.serde_json.specs.Data.{no_members}
+use Rattle.ods_shell.specs.Choosing.{AreThose}
+use Rattle.ods_shell.specs.Json.{object_line, with_text}
+use Rattle.ods_shell.specs.Named.{id_of}
 use Rattle.ods_shell.specs.Texts.{shown_id, shown_path}
 use Rattle.ods_shell.specs.declared.folders.Directory.{Directory}
 
@@ -29,3 +37,42 @@ line_path directories line = path_in (slice_get directories line.directory) line
 -- the line of a path that was found: the ID, and the path
 abbrev pub found_line : List Directory → Line → List ℕ
 found_line directories line = shown_id line.entry.file ++ codes "  " ++ line_path directories line ++ 10 ∷ []
+
+-- the same, or an object with the ID
+abbrev pub unreached_text : Bool → FileId → List ℕ
+unreached_text json file = if json then object_line (with_text (codes "id") (file_id_text file) no_members) else unreached_line file
+
+-- the IDs that lines name
+abbrev pub ids_in : List Line → List FileId
+ids_in lines = map (λ line. line.entry.file) lines
+
+-- File n is there, and none of these IDs is its.
+abbrev pub IsNotAmong : List (List ℕ) → VolumeLayout → List FileId → ℕ → Type 0
+IsNotAmong I L ids n = IsFile I L n × ¬ Contains ids (id_of I L n)
+
+-- File n is there, and no entry of any directory names it.
+abbrev pub IsNamedByNone : List (List ℕ) → VolumeLayout → ℕ → Type 0
+IsNamedByNone I L n = IsFile I L n × ((d : ℕ) (e : Listed) → IsDirectoryFile I L d → HasEntry I L d e → e.file ≢ id_of I L n)
+
+-- File n is there, and is not flagged.
+abbrev pub IsUnnoted : List (List ℕ) → VolumeLayout → List Bool → ℕ → Type 0
+IsUnnoted I L flags n = IsFile I L n × (slice_index_or flags n false ≡ false)
+
+-- File n is there, and one of these IDs is its.
+abbrev pub IsAmong : List (List ℕ) → VolumeLayout → List FileId → ℕ → Type 0
+IsAmong I L ids n = IsFile I L n × Contains ids (id_of I L n)
+
+-- just these IDs are named by the entries of directory d; where d is none, there are none
+pub record AreNamedIds (I : List (List ℕ)) (L : VolumeLayout) (d : ℕ) (ids : List FileId) : Type 0 where
+  pub only : (id : FileId) → Contains ids id → IsDirectoryFile I L d × ((e : Listed) × HasEntry I L d e × (e.file ≡ id))
+  pub all : (e : Listed) → IsDirectoryFile I L d → HasEntry I L d e → Contains ids e.file
+
+-- of the numbers below 65,536 just those are flagged of which P holds
+pub record AreFlags (P : ℕ → Type 0) (flags : List Bool) : Type 0 where
+  pub size : length flags ≡ 65536
+  pub each : (n : ℕ) → n < 65536 → MatchBool (slice_index_or flags n false) (P n) (¬ P n)
+
+-- the text has a line, or an object, for just those files of which P holds, in the order of their numbers
+abbrev pub AreUnreached : List (List ℕ) → VolumeLayout → (ℕ → Type 0) → Bool → List ℕ → Type 0
+AreUnreached I L P json text =
+    (numbers : List ℕ) × AreThose P (range_with_len 1 (last_number L)) numbers × (text ≡ flat_map (λ n. unreached_text json (id_of I L n)) numbers)

@@ -1,12 +1,18 @@
 //! The lines of `find`: every file with its path, or `-` where no walk over the directories reaches it.
-ghost use Rattle.std.specs.Prelude.{◌≡◌, ◌↔◌, ◌++◌, IsTrue, IfOk, OnOk};
+ghost use Rattle.std.specs.Prelude.{◌≡◌, ◌↔◌, ◌⊎◌, ◌<◌, ◌++◌, List, map, false, true, IsTrue, IfOk, MatchOption, OnOk, slice_index_or, slice_set};
 ghost use Rattle.std.specs.List.{flat_map};
 ghost use Rattle.std.specs.String.{string_bytes};
+ghost use Rattle.ods_base.specs.declared.file_id.FileId.{FileId as OneId};
+ghost use Rattle.ods_base.specs.declared.listed.Listed.{Listed as Entry};
+ghost use Rattle.ods_mount.specs.Faults.{IsDirectoryFile};
+ghost use Rattle.ods_space.specs.Files.{IsFile};
+ghost use Rattle.ods_space.specs.Layout.{last_number as last_of};
+ghost use Rattle.ods_shell.specs.Named.{id_of};
 ghost use Rattle.ods_shell.specs.Texts.{shown_path};
-ghost use Rattle.ods_shell.specs.There.{IsThere, found_line, line_path, unreached_line};
+ghost use Rattle.ods_shell.specs.There.{AreFlags, AreNamedIds, AreUnreached, IsAmong, IsNamedByNone, IsNotAmong, IsThere, IsUnnoted, found_line, ids_in, line_path, unreached_line, unreached_text};
 
 use crate::finding::FoundLines;
-use crate::folders::{Directory, lines_of};
+use crate::folders::{Directory, is_directory_file, lines_of};
 use crate::json::text_object;
 use crate::texts::{push_id, push_path};
 use ods_base::{FileId, Listed};
@@ -64,34 +70,79 @@ pub fn unreached_lines(
     volume: &Mounted,
     found: &FoundLines,
     json: bool,
-) -> Result<String, AllocError> {
-    let mut is_named = vec![in alloc; false; 65_536]?;
+) -> Result<String, AllocError>
+    ensures { IfOk result (λ text. AreUnreached volume.now.image volume.now.layout
+        (IsNotAmong volume.now.image volume.now.layout (ids_in found.now.lines.items)) json (string_bytes text)) }
+{
+    let mut is_reached = vec![in alloc; false; 65_536]?;
     for line in &found.lines {
-        note(volume, &line.entry, &mut is_named);
+        note(volume, &line.entry, &mut is_reached);
     }
-    unnamed_lines(alloc, volume, &is_named, json)
+    unnamed_lines(alloc, volume, &is_reached, json)
 }
 
 /// A line for each file that no line of any directory names, whether a walk reaches that or not.
-pub fn lost_lines(alloc: Global, volume: &Mounted, json: bool) -> Result<String, AllocError> {
+pub fn lost_lines(alloc: Global, volume: &Mounted, json: bool) -> Result<String, AllocError>
+    ensures { IfOk result (λ text. AreUnreached volume.now.image volume.now.layout
+        (IsNamedByNone volume.now.image volume.now.layout) json (string_bytes text)) }
+{
     let mut is_named = vec![in alloc; false; 65_536]?;
-    for number in 1..=last_number(volume.layout()) {
-        for entry in &lines_of(alloc, volume, number)? {
-            note(volume, entry, &mut is_named);
-        }
+    for before in 0..last_number(volume.layout()) {
+        note_names(alloc, volume, before + 1, &mut is_named)?;
     }
     unnamed_lines(alloc, volume, &is_named, json)
 }
 
-/// Notes the number of the file that an entry names, where it names one.
-fn note(volume: &Mounted, entry: &Listed, is_named: &mut [bool])
-    ensures { ¬ IsThere volume.now.image volume.now.layout entry.now.file → is_named.new ≡ is_named.old }
+/// Notes the numbers of the files that the directory with this number names, where it is one.
+fn note_names(
+    alloc: Global,
+    volume: &Mounted,
+    number: u16,
+    is_named: &mut Vec<bool>,
+) -> Result<(), AllocError>
+    ensures { OnOk result ((ids : List OneId) → AreFlags (IsAmong volume.now.image volume.now.layout ids) is_named.old.items
+        → (more : List OneId) × (AreNamedIds volume.now.image volume.now.layout number more × AreFlags (IsAmong volume.now.image volume.now.layout (ids ++ more)) is_named.new.items)) }
 {
-    if !is_there(volume, entry.file) {
-        return;
+    if is_directory_file(volume, number) {
+        note_entries(alloc, volume, number, is_named)
+    } else {
+        Ok(())
     }
-    if let Some(named) = is_named.get_mut(entry.file.number as usize) {
-        *named = true;
+}
+
+/// Notes the numbers of the files that this directory names.
+fn note_entries(
+    alloc: Global,
+    volume: &Mounted,
+    number: u16,
+    is_named: &mut Vec<bool>,
+) -> Result<(), AllocError>
+    requires { IsDirectoryFile volume.now.image volume.now.layout number }
+    ensures { OnOk result ((ids : List OneId) → AreFlags (IsAmong volume.now.image volume.now.layout ids) is_named.old.items
+        → (more : List OneId) × (AreNamedIds volume.now.image volume.now.layout number more × AreFlags (IsAmong volume.now.image volume.now.layout (ids ++ more)) is_named.new.items)) }
+{
+    let entries = lines_of(alloc, volume, number)?;
+    note_all(volume, &entries, is_named);
+    Ok(())
+}
+
+/// Notes the numbers of the files that these entries name.
+fn note_all(volume: &Mounted, entries: &[Listed], is_named: &mut Vec<bool>)
+    ensures { (ids : List OneId) → AreFlags (IsAmong volume.now.image volume.now.layout ids) is_named.old.items
+        → AreFlags (IsAmong volume.now.image volume.now.layout (ids ++ map (λ (e : Entry). e.file) entries.now)) is_named.new.items }
+{
+    for entry in entries {
+        note(volume, entry, is_named);
+    }
+}
+
+/// Notes the number of the file that an entry names, where it names one.
+fn note(volume: &Mounted, entry: &Listed, is_named: &mut Vec<bool>)
+    ensures { (IsThere volume.now.image volume.now.layout entry.now.file × (is_named.new.items ≡ slice_set is_named.old.items entry.now.file.number true))
+        ⊎ ((¬ IsThere volume.now.image volume.now.layout entry.now.file) × (is_named.new.items ≡ is_named.old.items)) }
+{
+    if is_there(volume, entry.file) {
+        note_number(is_named, entry.file.number);
     }
 }
 
@@ -101,23 +152,76 @@ fn unnamed_lines(
     volume: &Mounted,
     is_named: &[bool],
     json: bool,
-) -> Result<String, AllocError> {
+) -> Result<String, AllocError>
+    ensures text { IfOk result (λ text. AreUnreached volume.now.image volume.now.layout
+        (IsUnnoted volume.now.image volume.now.layout is_named.now) json (string_bytes text)) }
+    ensures few { last_of volume.now.layout < 65536 }
+{
     let mut text = String::new(alloc);
-    for number in 1..=last_number(volume.layout()) {
-        if is_named.get(number as usize) == Some(&true) {
-            continue;
-        }
-        if let Some(header) = primary_header(&volume.disk(), number) {
-            let sequence = file_sequence(header);
-            if json {
-                let id = format!(in alloc; "{number},{sequence}")?;
-                text.push_str(text_object(alloc, "id", id.as_str())?.as_str())?;
-            } else {
-                push_unnamed(&mut text, FileId { number, sequence })?;
-            }
-        }
+    for before in 0..last_number(volume.layout()) {
+        push_if_unnoted(alloc, &mut text, volume, before + 1, is_named, json)?;
     }
     Ok(text)
+}
+
+/// The line of the file with this number, where there is one and it is not noted.
+fn push_if_unnoted(
+    alloc: Global,
+    text: &mut String,
+    volume: &Mounted,
+    number: u16,
+    is_named: &[bool],
+    json: bool,
+) -> Result<(), AllocError>
+    ensures { OnOk result ((IsUnnoted volume.now.image volume.now.layout is_named.now number
+        × (string_bytes text.new ≡ string_bytes text.old ++ unreached_text json (id_of volume.now.image volume.now.layout number)))
+        ⊎ ((¬ IsUnnoted volume.now.image volume.now.layout is_named.now number) × (string_bytes text.new ≡ string_bytes text.old))) }
+{
+    match unnoted(volume, number, is_named) {
+        Some(file) => push_unreached(alloc, text, file, json),
+        None => Ok(()),
+    }
+}
+
+/// The ID of the file with this number, where there is one and it is not noted.
+fn unnoted(volume: &Mounted, number: u16, is_named: &[bool]) -> Option<FileId>
+    ensures { MatchOption result (¬ IsUnnoted volume.now.image volume.now.layout is_named.now number)
+        (λ file. IsUnnoted volume.now.image volume.now.layout is_named.now number × (file ≡ id_of volume.now.image volume.now.layout number)) }
+{
+    if is_noted(is_named, number) {
+        return None;
+    }
+    id_of_file(volume, number)
+}
+
+/// Whether a number is noted.
+pub(crate) fn is_noted(flags: &[bool], number: u16) -> bool
+    ensures { result ≡ slice_index_or flags.now number false }
+{
+    flags.get(number as usize) == Some(&true)
+}
+
+/// Notes a number.
+pub(crate) fn note_number(flags: &mut Vec<bool>, number: u16)
+    ensures { flags.new.items ≡ slice_set flags.old.items number true }
+{
+    if let Some(flag) = flags.get_mut(number as usize) {
+        *flag = true;
+    }
+}
+
+/// The ID of the file with this number.
+fn id_of_file(volume: &Mounted, number: u16) -> Option<FileId>
+    ensures { MatchOption result (¬ IsFile volume.now.image volume.now.layout number)
+        (λ file. IsFile volume.now.image volume.now.layout number × (file ≡ id_of volume.now.image volume.now.layout number)) }
+{
+    match primary_header(&volume.disk(), number) {
+        Some(header) => Some(FileId {
+            number,
+            sequence: file_sequence(header),
+        }),
+        None => None,
+    }
 }
 
 /// Whether there is a file with this ID.
@@ -130,8 +234,32 @@ fn is_there(volume: &Mounted, file: FileId) -> bool
     }
 }
 
+/// A line or an object for a file that has no path.
+fn push_unreached(
+    alloc: Global,
+    text: &mut String,
+    file: FileId,
+    json: bool,
+) -> Result<(), AllocError>
+    ensures { OnOk result (string_bytes text.new ≡ string_bytes text.old ++ unreached_text json file) }
+{
+    if json {
+        push_unreached_object(alloc, text, file)
+    } else {
+        push_unreached_line(text, file)
+    }
+}
+
+/// An object for a file that has no path.
+fn push_unreached_object(alloc: Global, text: &mut String, file: FileId) -> Result<(), AllocError>
+    ensures { OnOk result (string_bytes text.new ≡ string_bytes text.old ++ unreached_text true file) }
+{
+    let id = format!(in alloc; "{},{}", file.number, file.sequence)?;
+    text.push_str(text_object(alloc, "id", id.as_str())?.as_str())
+}
+
 /// A line for a file that has no path.
-fn push_unnamed(text: &mut String, file: FileId) -> Result<(), AllocError>
+fn push_unreached_line(text: &mut String, file: FileId) -> Result<(), AllocError>
     ensures { OnOk result (string_bytes text.new ≡ string_bytes text.old ++ unreached_line file) }
 {
     push_id(text, file)?;

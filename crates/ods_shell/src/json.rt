@@ -1,18 +1,25 @@
 //! What commands print as JSON: an object a line.
-ghost use Rattle.std.specs.Prelude.{◌≡◌, ◌++◌, codes, false, IfOk, OnOk};
+ghost use Rattle.std.specs.Prelude.{◌≡◌, ◌++◌, codes, false, Option, IfOk, OnOk};
 ghost use Rattle.std.specs.String.{string_bytes};
 ghost use Rattle.serde_json.specs.Data.{no_members, object, put};
 ghost use Rattle.serde_json.specs.View.{members_view, view};
 ghost use Rattle.serde_json.specs.Written.{compact_text, members_have_float};
-ghost use Rattle.ods_shell.specs.Json.{object_line, stat_members, with_block_counts, with_facts, with_number, with_text};
+ghost use Rattle.ods_shell.specs.Json.{entry_members, object_line, space_members, stat_members, with_block_counts, with_facts, with_file_numbers, with_known, with_number, with_text};
+ghost use Rattle.ods_shell.specs.Listed.{AreObjects};
+ghost use Rattle.ods_shell.specs.Named.{IsKnown};
+ghost use Rattle.ods_shell.specs.There.{line_path};
+ghost use Rattle.ods_shell.specs.declared.facts.Facts.{Facts as KnownFacts};
 
 use crate::facts::{Facts, facts_by_id};
+use crate::find::push_path_of;
 use crate::finding::FoundLines;
+use crate::folders::Directory;
 use crate::space::Space;
-use crate::texts::{date_text, push_path, push_user, rights_text};
-use ods_base::Listed;
+use crate::texts::{date_text, push_user, rights_text};
+use ods_base::FileId;
 use ods_header::print_ident;
 use ods_mount::Mounted;
+use ods_walk::Line;
 use serde_json::{Map, Value};
 use std::alloc::{AllocError, Global};
 
@@ -152,37 +159,62 @@ pub fn pair_object(
 }
 
 /// An object for each line that was found: its path, the ID that it names, and what is known of the file.
-/// No clause covers the JSON; `tests/fs` checks it on the built program.
-pub fn ls_objects(
-    alloc: Global,
-    volume: &Mounted,
-    found: &FoundLines,
-) -> Result<String, AllocError> {
+pub fn ls_objects(alloc: Global, volume: &Mounted, found: &FoundLines) -> Result<String, AllocError>
+    ensures { IfOk result (λ text. AreObjects volume.now.image volume.now.layout found.now.directories.items found.now.lines.items (string_bytes text)) }
+{
     let mut text = String::new(alloc);
     for line in &found.lines {
-        let mut members = no_fields(alloc);
-        let mut path = String::new(alloc);
-        if let Some(directory) = found.directories.get(line.directory) {
-            push_path(&mut path, &directory.names, &line.entry)?;
-        }
-        add_text(alloc, &mut members, "path", path.as_str())?;
-        add_entry(alloc, volume, &line.entry, &mut members)?;
-        push_object(alloc, &mut text, members)?;
+        push_found_object(alloc, &mut text, volume, &found.directories, line)?;
     }
     Ok(text)
 }
 
-/// Adds the ID that an entry names, and what is known of the file.
-fn add_entry(
+/// Appends the object of a line that was found.
+fn push_found_object(
     alloc: Global,
+    text: &mut String,
     volume: &Mounted,
-    entry: &Listed,
+    directories: &[Directory],
+    line: &Line,
+) -> Result<(), AllocError>
+    ensures { OnOk result ((known : Option KnownFacts) × IsKnown volume.now.image volume.now.layout line.now.entry.file known
+        × (string_bytes text.new ≡ string_bytes text.old ++ object_line (entry_members (line_path directories.now line.now) line.now.entry.file known))) }
+{
+    let mut path = String::new(alloc);
+    push_path_of(&mut path, directories, line)?;
+    let known = facts_by_id(volume, line.entry.file);
+    push_entry(alloc, text, path.as_str(), line.entry.file, &known)
+}
+
+/// Appends an object of the path of an entry, the ID that it names, and what is known of the file.
+fn push_entry(
+    alloc: Global,
+    text: &mut String,
+    path: &str,
+    file: FileId,
+    known: &Option<Facts>,
+) -> Result<(), AllocError>
+    ensures { OnOk result (string_bytes text.new ≡ string_bytes text.old ++ object_line (entry_members path.now file known.now)) }
+{
+    let mut members = no_fields(alloc);
+    add_text(alloc, &mut members, "path", path)?;
+    let id = format!(in alloc; "{},{}", file.number, file.sequence)?;
+    add_text(alloc, &mut members, "id", id.as_str())?;
+    add_known(alloc, known, &mut members)?;
+    push_object(alloc, text, members)
+}
+
+/// Adds what is known of a file, where it is known.
+fn add_known(
+    alloc: Global,
+    known: &Option<Facts>,
     members: &mut Map<String, Value>,
-) -> Result<(), AllocError> {
-    let id = format!(in alloc; "{},{}", entry.file.number, entry.file.sequence)?;
-    add_text(alloc, members, "id", id.as_str())?;
-    match facts_by_id(volume, entry.file) {
-        Some(facts) => add_facts(alloc, &facts, members),
+) -> Result<(), AllocError>
+    ensures members { OnOk result (members_view members.new.entries ≡ with_known known.now (members_view members.old.entries)) }
+    ensures plain { members_have_float (members_view members.old.entries) ≡ false → OnOk result (members_have_float (members_view members.new.entries) ≡ false) }
+{
+    match known {
+        Some(facts) => add_facts(alloc, facts, members),
         None => Ok(()),
     }
 }
@@ -244,7 +276,9 @@ pub fn stat_object(alloc: Global, path: &str, facts: &Facts) -> Result<String, A
 }
 
 /// An object of how much of a volume is used.
-pub fn space_object(alloc: Global, space: &Space) -> Result<String, AllocError> {
+pub fn space_object(alloc: Global, space: &Space) -> Result<String, AllocError>
+    ensures { IfOk result (λ line. string_bytes line ≡ object_line (space_members space.now)) }
+{
     let mut members = no_fields(alloc);
     add_space(alloc, space, &mut members)?;
     let mut text = String::new(alloc);
@@ -257,7 +291,10 @@ fn add_space(
     alloc: Global,
     space: &Space,
     members: &mut Map<String, Value>,
-) -> Result<(), AllocError> {
+) -> Result<(), AllocError>
+    ensures members { OnOk result (members_view members.new.entries ≡ with_file_numbers space.now (with_block_counts space.now (members_view members.old.entries))) }
+    ensures plain { members_have_float (members_view members.old.entries) ≡ false → OnOk result (members_have_float (members_view members.new.entries) ≡ false) }
+{
     add_block_counts(alloc, space, members)?;
     add_file_numbers(alloc, space, members)
 }
@@ -278,11 +315,15 @@ fn add_block_counts(
 }
 
 /// Adds how many file numbers are in use, ready, and there.
+#[tactic(auto, unfolding(crate::specs::Json::with_file_numbers))]
 fn add_file_numbers(
     alloc: Global,
     space: &Space,
     members: &mut Map<String, Value>,
-) -> Result<(), AllocError> {
+) -> Result<(), AllocError>
+    ensures members { OnOk result (members_view members.new.entries ≡ with_file_numbers space.now (members_view members.old.entries)) }
+    ensures plain { members_have_float (members_view members.old.entries) ≡ false → OnOk result (members_have_float (members_view members.new.entries) ≡ false) }
+{
     add_number(alloc, members, "numbers_in_use", u64::from(space.numbers))?;
     add_number(alloc, members, "numbers_ready", u64::from(space.ready))?;
     add_number(alloc, members, "numbers", u64::from(space.most))

@@ -1,5 +1,4 @@
 //! The commands of `f11fs`: which files a path finds, what is known of each, and the text that a command prints.
-//! No clause covers the text of `du`, of `ls` with headings, nor the JSON of `ls` and `df`: `tests/fs` checks them on the built program.
 #![tactic(auto)]
 
 mod below;

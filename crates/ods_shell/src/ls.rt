@@ -1,11 +1,12 @@
 //! The lines of `ls`.
-ghost use Rattle.std.specs.Prelude.{◌≡◌, ◌≤◌, ◌+◌, ◌-◌, ◌∷◌, ◌^◌, min, false, Option, IfOk, ◌++◌, [], if◌then◌else◌, length, replicate, slice_get, Some, ◌==◌, OnOk};
+ghost use Rattle.std.specs.Prelude.{◌≡◌, ◌≤◌, ◌+◌, ◌-◌, ◌∷◌, ◌^◌, min, nat_le, false, true, Option, IfOk, ◌++◌, [], if◌then◌else◌, length, replicate, slice_get, Some, ◌==◌, OnOk};
 ghost use Rattle.std.specs.Fmt.{decimal};
+ghost use Rattle.std.specs.List.{range_with_len};
 ghost use Rattle.std.specs.String.{string_bytes, string_len};
 ghost use Rattle.ods_shell.specs.declared.facts.Facts.{Facts as KnownFacts};
-ghost use Rattle.ods_shell.specs.Listed.{IsListing, blocks_of, total_line};
+ghost use Rattle.ods_shell.specs.Listed.{IsListing, IsListingUnder, blocks_of, headed_by, places_before, places_from, total_line};
 ghost use Rattle.ods_shell.specs.Named.{IsKnown};
-ghost use Rattle.ods_shell.specs.Lines.{heading, column, columns_text, counted_word, entry_line, facts_columns, kind_columns, known_columns, rights_columns, size_columns};
+ghost use Rattle.ods_shell.specs.Lines.{heading, column, columns_text, counted_word, entry_line, facts_columns, kind_columns, known_columns, rights_columns, size_columns, with_headings};
 
 use crate::facts::{Facts, Kind, facts_by_id};
 use crate::finding::FoundLines;
@@ -29,14 +30,14 @@ pub struct Columns {
 }
 
 /// The lines of what was found, and a last one with how many files and blocks these are.
-/// No clause covers the text with headings; `tests/fs` checks it on the built program.
 pub fn ls_lines(
     alloc: Global,
     volume: &Mounted,
     found: &FoundLines,
     columns: Columns,
 ) -> Result<String, AllocError>
-    ensures { columns.headings ≡ false → IfOk result (λ text. IsListing volume.now.image volume.now.layout columns found.now.lines.items (length found.now.lines.items) (string_bytes text)) }
+    ensures plain { columns.headings ≡ false → IfOk result (λ text. IsListing volume.now.image volume.now.layout columns found.now.lines.items (length found.now.lines.items) (string_bytes text)) }
+    ensures under { columns.headings ≡ true → IfOk result (λ text. IsListingUnder volume.now.image volume.now.layout columns found.now.directories.items found.now.lines.items (length found.now.lines.items) (string_bytes text)) }
 {
     let mut text = String::new(alloc);
     let mut blocks: u64 = 0;
@@ -60,19 +61,39 @@ fn push_before(
     headed: usize,
     place: usize,
 ) -> Result<usize, AllocError>
-    ensures { columns.headings ≡ false → OnOk result (string_bytes text.new ≡ string_bytes text.old) }
+    ensures plain { columns.headings ≡ false → OnOk result (string_bytes text.new ≡ string_bytes text.old) }
+    ensures next { columns.headings ≡ true → IfOk result (λ next. next ≡ headed_by headed place) }
+    ensures text { columns.headings ≡ true → OnOk result (string_bytes text.new ≡ with_headings found.now.directories.items (string_bytes text.old) (places_before columns.empty headed place)) }
 {
     if !columns.headings {
         return Ok(headed);
     }
-    if place < headed {
+    if !is_due(headed, place) {
         return Ok(headed);
     }
-    if columns.empty {
-        push_headings(text, found, headed, place)?;
-    }
-    push_heading(text, &found.directories, place)?;
+    push_due(text, &found.directories, columns.empty, headed, place)?;
     Ok(place.saturating_add(1))
+}
+
+/// Whether the directory at this place has no heading yet, where those below the first place have theirs.
+fn is_due(headed: usize, place: usize) -> bool
+    ensures { result ≡ nat_le headed place }
+{
+    headed <= place
+}
+
+/// The heading of the directory at this place, behind those of the ones from the first place on where these are shown.
+fn push_due(
+    text: &mut String,
+    directories: &[Directory],
+    empty: bool,
+    headed: usize,
+    place: usize,
+) -> Result<(), AllocError>
+    ensures { OnOk result (string_bytes text.new ≡ with_headings directories.now (string_bytes text.old) (places_from empty headed place ++ place ∷ [])) }
+{
+    push_empty(text, directories, empty, headed, place)?;
+    push_heading(text, directories, place)
 }
 
 /// The headings that stand behind all lines.
@@ -82,15 +103,31 @@ fn push_after(
     columns: Columns,
     headed: usize,
 ) -> Result<(), AllocError>
-    ensures { columns.headings ≡ false → OnOk result (string_bytes text.new ≡ string_bytes text.old) }
+    ensures plain { columns.headings ≡ false → OnOk result (string_bytes text.new ≡ string_bytes text.old) }
+    ensures text { columns.headings ≡ true → OnOk result (string_bytes text.new ≡ with_headings found.now.directories.items (string_bytes text.old) (places_from columns.empty headed (length found.now.directories.items))) }
 {
     if !columns.headings {
         return Ok(());
     }
-    if columns.empty {
-        push_headings(text, found, headed, found.directories.len())?;
+    let count = found.directories.len();
+    push_empty(text, &found.directories, columns.empty, headed, count)
+}
+
+/// The headings of the directories from this place on, and before the other, where those without lines are shown.
+fn push_empty(
+    text: &mut String,
+    directories: &[Directory],
+    empty: bool,
+    from: usize,
+    to: usize,
+) -> Result<(), AllocError>
+    ensures { OnOk result (string_bytes text.new ≡ with_headings directories.now (string_bytes text.old) (places_from empty from to)) }
+{
+    if empty {
+        push_headings(text, directories, from, to)
+    } else {
+        Ok(())
     }
-    Ok(())
 }
 
 /// The line of an entry. The answer is the blocks with those of the file that it names.
@@ -139,12 +176,14 @@ fn count_of(facts: &Option<Facts>) -> u64
 /// A line with its name for each directory from this place on, and before the other.
 fn push_headings(
     text: &mut String,
-    found: &FoundLines,
+    directories: &[Directory],
     from: usize,
     to: usize,
-) -> Result<(), AllocError> {
+) -> Result<(), AllocError>
+    ensures { OnOk result (string_bytes text.new ≡ with_headings directories.now (string_bytes text.old) (range_with_len from (to - from))) }
+{
     for place in from..to {
-        push_heading(text, &found.directories, place)?;
+        push_heading(text, directories, place)?;
     }
     Ok(())
 }

@@ -1,8 +1,9 @@
 //! The names that files get on a host.
-ghost use Rattle.std.specs.Prelude.{◌≡◌, ◌∷◌, ◌++◌, [], if◌then◌else◌, false, MatchOption, IfOk, OnOk};
+ghost use Rattle.std.specs.Prelude.{◌≡◌, ◌∷◌, ◌++◌, [], if◌then◌else◌, false, map, MatchOption, IfOk, IsPermutation, OnOk};
 ghost use Rattle.std.specs.Fmt.{decimal};
 ghost use Rattle.std.specs.String.{string_bytes};
 ghost use Rattle.ods_shell.specs.HostNames.{IsHostName, IsWithoutDot, before_version as name_before, is_one_name, key_at, placed_name, small_text, small_type};
+ghost use Rattle.ods_shell.specs.declared.found.Found.{Found as OneFound};
 
 use crate::found::{EntryPlace, Found};
 use ods_base::{print_title, print_type};
@@ -124,7 +125,9 @@ pub struct Versioned {
 
 impl Versioned {
     /// Those of these files.
-    pub fn of(alloc: Global, files: &[Found]) -> Result<Versioned, AllocError> {
+    pub fn of(alloc: Global, files: &[Found]) -> Result<Versioned, AllocError>
+        ensures { IfOk result (λ versioned. IsPermutation (map (λ (f : OneFound). key_at f.place) files.now) versioned.keys.items) }
+    {
         let mut keys = Vec::new(alloc);
         for file in files {
             keys.push(file.key())?;

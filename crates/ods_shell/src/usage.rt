@@ -1,15 +1,26 @@
 //! The lines of `du`: how many blocks the files of each directory have, each file once, under the first path that names it.
-ghost use Rattle.std.specs.Prelude.{◌≡◌, ◌+◌, ◌-◌, ◌^◌, ◌++◌, false, min, OnOk};
+ghost use Rattle.std.specs.Prelude.{◌≡◌, ◌+◌, ◌-◌, ◌^◌, ◌<◌, ◌++◌, ◌∷◌, ℕ, List, Option, Some, [], false, true, length, min, slice_get, slice_index, slice_index_or, slice_set, take, IfOk, OnOk, IsPermutation};
+ghost use Rattle.std.specs.List.{flat_map, range_with_len};
+ghost use Rattle.std.specs.Ordering.{nat_cmp};
 ghost use Rattle.std.specs.String.{string_bytes};
+ghost use Rattle.ods_walk.specs.declared.tables.Line.{Line as OneLine};
 ghost use Rattle.ods_shell.specs.Lines.{usage_line};
+ghost use Rattle.ods_shell.specs.Named.{IsKnown};
+ghost use Rattle.ods_shell.specs.There.{AreFlags, ids_in};
+ghost use Rattle.ods_shell.specs.Usage.{AreFalling, AreLargest, AreUsage, AreUses, IsCounted, IsUse, blocks_at, directory_use, file_use, use_text};
+ghost use Rattle.ods_shell.specs.declared.facts.Facts.{Facts as KnownFacts};
+ghost use Rattle.ods_shell.specs.declared.usage.Use.{Use as OneUse};
 
 use crate::facts::facts_by_id;
+use crate::find::{is_noted, note_number, push_path_of};
 use crate::finding::FoundLines;
+use crate::folders::Directory;
 use crate::json::push_blocks;
-use crate::texts::{push_directory, push_path};
+use crate::texts::push_directory;
 use ods_mount::Mounted;
 use ods_walk::Line;
 use std::alloc::{AllocError, Global};
+use std::cmp::Ordering;
 
 /// A line that was found first of its file, and how many blocks the file has.
 #[derive(Clone, Copy)]
@@ -19,25 +30,50 @@ struct Use {
 }
 
 /// The lines that name a file first, with its blocks.
-fn uses(alloc: Global, volume: &Mounted, found: &FoundLines) -> Result<Vec<Use>, AllocError> {
+fn uses(alloc: Global, volume: &Mounted, found: &FoundLines) -> Result<Vec<Use>, AllocError>
+    ensures { IfOk result (λ uses. AreUses volume.now.image volume.now.layout [] found.now.lines.items uses.items) }
+{
     let mut is_seen = vec![in alloc; false; 65_536]?;
     let mut all = Vec::new(alloc);
     for line in &found.lines {
-        let Some(facts) = facts_by_id(volume, line.entry.file) else {
-            continue;
-        };
-        if let Some(seen) = is_seen.get_mut(facts.file.number as usize) {
-            if *seen {
-                continue;
-            }
-            *seen = true;
-        }
-        all.push(Use {
-            line: *line,
-            blocks: facts.blocks,
-        })?;
+        add_use(volume, line, &mut is_seen, &mut all)?;
     }
     Ok(all)
+}
+
+/// Adds the blocks of the file that a line names, unless a line before named it.
+fn add_use(
+    volume: &Mounted,
+    line: &Line,
+    is_seen: &mut Vec<bool>,
+    all: &mut Vec<Use>,
+) -> Result<(), AllocError>
+    ensures { OnOk result ((before : List OneLine) → AreFlags (IsCounted volume.now.image volume.now.layout (ids_in before)) is_seen.old.items
+        → (known : Option KnownFacts) × ((counted : List OneUse) × IsKnown volume.now.image volume.now.layout line.now.entry.file known × IsUse before line.now known counted
+        × (all.new.items ≡ all.old.items ++ counted) × AreFlags (IsCounted volume.now.image volume.now.layout (ids_in (before ++ line.now ∷ []))) is_seen.new.items)) }
+{
+    let Some(facts) = facts_by_id(volume, line.entry.file) else {
+        return Ok(());
+    };
+    if see(is_seen, line.entry.file.number) {
+        return Ok(());
+    }
+    all.push(Use {
+        line: *line,
+        blocks: facts.blocks,
+    })?;
+    Ok(())
+}
+
+/// Notes a number. The answer is whether it was noted before.
+fn see(is_seen: &mut Vec<bool>, number: u16) -> bool
+    ensures before { result ≡ slice_index_or is_seen.old.items number false }
+    ensures noted { is_seen.new.items ≡ slice_set is_seen.old.items number true }
+    ensures word { number < 65536 }
+{
+    let before = is_noted(is_seen, number);
+    note_number(is_seen, number);
+    before
 }
 
 /// A line for each directory: the blocks of its files, and its name.
@@ -46,25 +82,94 @@ pub fn usage_lines(
     volume: &Mounted,
     found: &FoundLines,
     json: bool,
-) -> Result<String, AllocError> {
-    let mut blocks = vec![in alloc; 0; found.directories.len()]?;
-    for used in &uses(alloc, volume, found)? {
-        if let Some(sum) = blocks.get_mut(used.line.directory) {
-            *sum = add(*sum, used.blocks);
-        }
-    }
+) -> Result<String, AllocError>
+    ensures { IfOk result (λ text. AreUsage volume.now.image volume.now.layout found.now.directories.items found.now.lines.items json (string_bytes text)) }
+{
+    let all = uses(alloc, volume, found)?;
+    directory_lines(alloc, &found.directories, &all, json)
+}
+
+/// A line for each of these directories.
+fn directory_lines(
+    alloc: Global,
+    directories: &[Directory],
+    uses: &[Use],
+    json: bool,
+) -> Result<String, AllocError>
+    ensures { IfOk result (λ text. string_bytes text ≡ flat_map (λ place. directory_use json (slice_get directories.now place) (blocks_at uses.now place)) (range_with_len 0 (length directories.now))) }
+{
+    let sums = sums_of(alloc, uses, directories.len())?;
     let mut text = String::new(alloc);
-    for (place, directory) in found.directories.iter().enumerate() {
-        let sum = blocks.get(place).copied().unwrap_or(0);
-        let mut name = String::new(alloc);
-        push_directory(&mut name, &directory.names)?;
-        push_use(alloc, &mut text, "directory", name.as_str(), sum, json)?;
+    for place in 0..directories.len() {
+        let blocks = sum_at(&sums, place);
+        push_directory_use(alloc, &mut text, directories, place, blocks, json)?;
     }
     Ok(text)
 }
 
+/// The blocks of each directory, of which there are so many.
+fn sums_of(alloc: Global, uses: &[Use], many: usize) -> Result<Vec<u64>, AllocError>
+    ensures { IfOk result (λ sums. (place : ℕ) → place < many → slice_index sums.items place ≡ blocks_at uses.now place) }
+{
+    let mut sums = vec![in alloc; 0; many]?;
+    for used in uses {
+        add_blocks(&mut sums, used);
+    }
+    Ok(sums)
+}
+
+/// Adds the blocks of a file to those of its directory.
+fn add_blocks(sums: &mut Vec<u64>, used: &Use)
+    ensures { sums.new.items ≡ slice_set sums.old.items used.now.line.directory (min (slice_index sums.old.items used.now.line.directory + used.now.blocks) (2 ^ 64 - 1)) }
+{
+    if let Some(sum) = sums.get_mut(used.line.directory) {
+        *sum = add(*sum, used.blocks);
+    }
+}
+
+/// The blocks of the directory at this place.
+fn sum_at(sums: &[u64], place: usize) -> u64
+    ensures { result ≡ slice_index sums.now place }
+{
+    match sums.get(place) {
+        Some(sum) => *sum,
+        None => 0,
+    }
+}
+
+/// Appends the blocks of a directory.
+fn push_directory_use(
+    alloc: Global,
+    text: &mut String,
+    directories: &[Directory],
+    place: usize,
+    blocks: u64,
+    json: bool,
+) -> Result<(), AllocError>
+    ensures { OnOk result (string_bytes text.new ≡ string_bytes text.old ++ directory_use json (slice_get directories.now place) blocks) }
+{
+    match directories.get(place) {
+        Some(directory) => push_one_directory(alloc, text, directory, blocks, json),
+        None => Ok(()),
+    }
+}
+
+/// Appends the blocks of this directory.
+fn push_one_directory(
+    alloc: Global,
+    text: &mut String,
+    directory: &Directory,
+    blocks: u64,
+    json: bool,
+) -> Result<(), AllocError>
+    ensures { OnOk result (string_bytes text.new ≡ string_bytes text.old ++ directory_use json (Some directory.now) blocks) }
+{
+    let mut name = String::new(alloc);
+    push_directory(&mut name, &directory.names)?;
+    push_use(alloc, text, "directory", name.as_str(), blocks, json)
+}
+
 /// Appends how many blocks something has: a line, or an object.
-#[tactic(auto, unfolding(crate::specs::Lines::number_column))]
 fn push_use(
     alloc: Global,
     text: &mut String,
@@ -73,13 +178,21 @@ fn push_use(
     blocks: u64,
     json: bool,
 ) -> Result<(), AllocError>
-    ensures { json ≡ false → OnOk result (string_bytes text.new ≡ string_bytes text.old ++ usage_line name.now blocks) }
+    ensures { OnOk result (string_bytes text.new ≡ string_bytes text.old ++ use_text json what.now name.now blocks) }
 {
     if json {
         push_blocks(alloc, text, what, name, blocks)
     } else {
-        writeln!(text, "{blocks:>8}  {name}")
+        push_usage_line(text, name, blocks)
     }
+}
+
+/// Appends the line of how many blocks something has.
+#[tactic(auto, unfolding(crate::specs::Lines::number_column))]
+fn push_usage_line(text: &mut String, name: &str, blocks: u64) -> Result<(), AllocError>
+    ensures { OnOk result (string_bytes text.new ≡ string_bytes text.old ++ usage_line name.now blocks) }
+{
+    writeln!(text, "{blocks:>8}  {name}")
 }
 
 /// A sum of blocks.
@@ -96,30 +209,68 @@ pub fn largest_lines(
     found: &FoundLines,
     most: usize,
     json: bool,
-) -> Result<String, AllocError> {
+) -> Result<String, AllocError>
+    ensures { IfOk result (λ text. AreLargest volume.now.image volume.now.layout found.now.directories.items found.now.lines.items most json (string_bytes text)) }
+{
     let mut all = uses(alloc, volume, found)?;
-    all.sort_by_key(falling)?;
+    sort_uses(&mut all)?;
+    file_lines(alloc, &found.directories, first_uses(&all, most), json)
+}
+
+/// Puts files with more blocks before those with fewer.
+fn sort_uses(uses: &mut Vec<Use>) -> Result<(), AllocError>
+    ensures permutation { IsPermutation uses.old.items uses.new.items }
+    ensures order { OnOk result (AreFalling uses.new.items) }
+{
+    uses.sort_by(compare_uses)
+}
+
+/// How two files stand where those with the most blocks come first.
+fn compare_uses(one: &Use, other: &Use) -> Ordering
+    ensures { result ≡ nat_cmp other.now.blocks one.now.blocks }
+{
+    other.blocks.cmp(&one.blocks)
+}
+
+/// The first of these, at most so many.
+fn first_uses(uses: &[Use], most: usize) -> &[Use]
+    ensures { result.now ≡ take most uses.now }
+{
+    if most < uses.len() {
+        &uses[..most]
+    } else {
+        uses
+    }
+}
+
+/// A line for each of these files.
+fn file_lines(
+    alloc: Global,
+    directories: &[Directory],
+    uses: &[Use],
+    json: bool,
+) -> Result<String, AllocError>
+    ensures { IfOk result (λ text. string_bytes text ≡ flat_map (file_use json directories.now) uses.now) }
+{
     let mut text = String::new(alloc);
-    for used in all.iter().take(most) {
-        let mut path = String::new(alloc);
-        if let Some(directory) = found.directories.get(used.line.directory) {
-            push_path(&mut path, &directory.names, &used.line.entry)?;
-        }
-        push_use(
-            alloc,
-            &mut text,
-            "path",
-            path.as_str(),
-            u64::from(used.blocks),
-            json,
-        )?;
+    for used in uses {
+        push_file_use(alloc, &mut text, directories, used, json)?;
     }
     Ok(text)
 }
 
-/// The key by which the largest stand first.
-fn falling(used: &Use) -> u32
-    ensures { result ≡ 2 ^ 32 - 1 - used.now.blocks }
+/// Appends the blocks of a file, and its path.
+fn push_file_use(
+    alloc: Global,
+    text: &mut String,
+    directories: &[Directory],
+    used: &Use,
+    json: bool,
+) -> Result<(), AllocError>
+    ensures { OnOk result (string_bytes text.new ≡ string_bytes text.old ++ file_use json directories.now used.now) }
 {
-    u32::MAX - used.blocks
+    let mut path = String::new(alloc);
+    push_path_of(&mut path, directories, &used.line)?;
+    let blocks = u64::from(used.blocks);
+    push_use(alloc, text, "path", path.as_str(), blocks, json)
 }

@@ -1,4 +1,4 @@
-use Rattle.std.proofs.Common.{rules, ◌≡◌, subst}
+use Rattle.std.proofs.Common.{rules, ◌≡◌}
 use Rattle.std.specs.Prelude.{◌↔◌, IsTrue}
 use Rattle.ods_shell.proofs.comparing.have_same_bytes.Goals as goal
 

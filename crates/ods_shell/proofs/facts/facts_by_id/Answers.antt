@@ -1,4 +1,4 @@
-use Rattle.std.proofs.Common.{◌≡◌, subst, MatchOption}
+use Rattle.std.proofs.Common.{subst, MatchOption}
 use Rattle.ods_shell.specs.Facts.{AreFacts}
 use Rattle.ods_shell.specs.declared.facts.Facts.{Facts}
 use Rattle.ods_shell.proofs.facts.facts_by_id.Goals as goal

@@ -1,4 +1,3 @@
-use Rattle.std.proofs.Common.{rules, ◌≡◌, List, ℕ}
 use Rattle.ods_shell.proofs.facts.facts_of.Goals as goal
 
 pub returns-in_default-block_count : goal.returns-in_default-block_count

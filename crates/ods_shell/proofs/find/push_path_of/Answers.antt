@@ -1,4 +1,4 @@
-use Rattle.std.proofs.Common.{◌≡◌, ◌∙◌, ◌++◌, ap, ltb-true, sym}
+use Rattle.std.proofs.Common.{◌∙◌, ◌++◌, ap, ltb-true, sym}
 use Rattle.std.specs.String.{string_bytes}
 use Rattle.ods_shell.specs.There.{path_in}
 use Rattle.ods_shell.proofs.Places.{on_ok, place_is}

@@ -1,4 +1,4 @@
-use Rattle.std.proofs.Common.{◌≡◌, subst}
+use Rattle.std.proofs.Common.{subst}
 use Rattle.ods_mount.specs.Sound.{IsSoundBy}
 use Rattle.ods_files.specs.Body.{IsFileFault}
 use Rattle.ods_files.specs.declared.fault.FileFault.TheVariants.{Chain}

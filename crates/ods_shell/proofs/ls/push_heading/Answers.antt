@@ -1,4 +1,4 @@
-use Rattle.std.proofs.Common.{◌≡◌, ◌∙◌, ◌++◌, ap, ltb-true, sym}
+use Rattle.std.proofs.Common.{◌∙◌, ◌++◌, ap, ltb-true, sym}
 use Rattle.std.specs.Prelude.{◌==◌}
 use Rattle.std.specs.String.{string_bytes, string_len}
 use Rattle.ods_shell.specs.Lines.{heading}

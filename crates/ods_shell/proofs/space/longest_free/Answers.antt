@@ -1,5 +1,4 @@
 use Rattle.std.proofs.Common.{rules, ◌≡◌, ◌≤◌, ◌+◌, subst, sym, length, arith}
-use Rattle.std.specs.Prelude.{max}
 use Rattle.ods_shell.proofs.Runs.{IsLongestTo, longest_more, longest_of_all}
 use Rattle.ods_shell.proofs.space.longest_free.Goals as goal
 

@@ -1,4 +1,3 @@
-use Rattle.std.proofs.Common.{◌≤◌}
 use Rattle.ods_shell.specs.Space.{EndsRun}
 use Rattle.ods_shell.proofs.Runs.{IsLongestTo}
 use Rattle.ods_shell.proofs.space.longest_free.Given as goal

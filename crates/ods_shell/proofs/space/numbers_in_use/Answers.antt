@@ -1,4 +1,4 @@
-use Rattle.std.proofs.Common.{rules, ◌≡◌, ◌≤◌, ◌+◌, ap, sym, ◌∙◌, cond, length, arith}
+use Rattle.std.proofs.Common.{◌≡◌, ◌≤◌, ◌+◌, ap, sym, ◌∙◌, cond, arith}
 use Rattle.ods_space.specs.Layout.{is_in_use}
 use Rattle.ods_shell.proofs.Runs.{counted_more}
 use Rattle.ods_shell.proofs.space.numbers_in_use.Goals as goal

@@ -1,5 +1,4 @@
-use Rattle.std.proofs.Common.{rules, ◌≡◌, true, false, subst}
-use Rattle.ods_space.specs.Free.{is_free_block}
+use Rattle.std.proofs.Common.{rules}
 use Rattle.ods_shell.proofs.Runs.{run_more, run_none}
 use Rattle.ods_shell.proofs.space.run_to.Goals as goal
 

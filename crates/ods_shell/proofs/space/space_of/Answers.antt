@@ -1,4 +1,4 @@
-use Rattle.std.proofs.Common.{◌≡◌, ap, subst}
+use Rattle.std.proofs.Common.{ap, subst}
 use Rattle.ods_shell.specs.declared.space.Space.{Space}
 use Rattle.ods_shell.specs.Space.{IsSpaceOf}
 use Rattle.ods_shell.proofs.space.space_of.Goals as goal

@@ -2,7 +2,6 @@ use Rattle.std.proofs.Common.{rules, ◌≡◌, ◌∙◌, ℕ, ◌++◌, OnOk, 
 use Rattle.std.specs.String.{string_bytes}
 use Rattle.ods_base.specs.Name.{title as title_of}
 use Rattle.ods_paths.specs.Numbers.{IsNumberedName}
-use Rattle.ods_shell.specs.Texts.{shown_one}
 use Rattle.ods_shell.proofs.Numbered.{shown_by_name}
 use Rattle.ods_shell.proofs.Places.{on_ok}
 use Rattle.ods_shell.proofs.texts.push_one.Goals as goal

@@ -1,0 +1,6 @@
+-- The files are flagged that the entries of the directories up to this number name.
+use Rattle.ods_shell.proofs.Unreached.{AreNoted}
+use Rattle.ods_shell.proofs.find.lost_lines.Given as goal
+
+abbrev pub invariant-loop-before : goal.invariant-loop-before
+invariant-loop-before l = AreNoted l.volume.image l.volume.layout l.before l.is_named.items
