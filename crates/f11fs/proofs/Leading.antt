@@ -1,7 +1,8 @@
 -- What changes leave, one after another.
-use Rattle.std.proofs.Common.{◌≡◌, ◌+◌, ◌⊎◌, ◌∙◌, ◌++◌, ◌∷◌, ℕ, suc, List, [], Bool, true, false, refl, sym, ap, subst, inl, inr, min, Option, Some, Result, Ok, Err, arith}
+use Rattle.std.proofs.Common.{◌≡◌, ◌+◌, ◌⊎◌, ◌∙◌, ◌++◌, ◌∷◌, ◌<◌, ◌&&◌, ◌||◌, not, ℕ, suc, List, [], length, take, drop, get_or, Bool, true, false, refl, sym, ap, subst, inl, inr, min, Option, Some, Result, Ok, Err, arith}
 use Rattle.std.specs.Prelude.{OnOk, IsOk, unwrap_or}
 use Rattle.std.specs.Borrow.{Bor}
+use Rattle.std.proofs.lemmas.List.{drop_more, take-append-drop}
 use Rattle.std.proofs.lemmas.Result.{on_ok_weaker}
 use Rattle.ods_base.specs.declared.file_id.Uic.{Uic}
 use Rattle.ods_shell.specs.declared.status.Status.{Status}
@@ -16,7 +17,7 @@ use Rattle.ods_filing.specs.Filed.{Filed, for_another}
 use Rattle.ods_filing.specs.Led.{IsLed}
 use Rattle.ods_filing.proofs.Led.{stays}
 use Rattle.ods_request.specs.declared.requests.Request.{Request}
-use Rattle.f11fs.specs.Changed.{AreLinesDone, HasSameVolume, IsChanged, IsDoneBy, IsDoneNow, IsLineDone}
+use Rattle.f11fs.specs.Changed.{AreLinesDone, AreLinesEnded, AsksChange, EndsRun, HasSameVolume, IsChanged, IsDoneBy, IsDoneNow, IsLineDone, is_refused}
 
 -- what holds where a change is made holds where the command ends well
 pub through : {A B E F : Type 0} (P : Type 0) (done : Result A E) (r : Result B F) → OnOk done P → OnOk r (IsOk done) → OnOk r P
@@ -51,3 +52,30 @@ pub one_line : (image : Bor (List ℕ)) (stamp : List ℕ) (user : Uic) (lines :
     → AreLinesDone image stamp user lines old mid → IsLineDone image stamp user line s mid new → AreLinesDone image stamp user (lines ++ line ∷ []) old new
 one_line image stamp user [] line s old mid new before last = (new, s, subst (λ (f : Filed). IsLineDone image stamp user line s f new) before last, refl)
 one_line image stamp user (x ∷ lines) line s old mid new before last = (before.0, before.1, before.2, one_line image stamp user lines line s before.0 mid new before.3 last)
+
+-- the line at which a run ends
+pub lines_ended : (image : Bor (List ℕ)) (stamp : List ℕ) (user : Uic) (goes_on : Bool) (lines front : List (List ℕ)) (line : List ℕ) (n : ℕ) (s : Status) (old mid : Filed)
+    → front ≡ take n lines → n < length lines → line ≡ get_or lines n line → AreLinesDone image stamp user front old mid → EndsRun image goes_on line s → AreLinesEnded image stamp user goes_on lines s old
+lines_ended image stamp user goes_on lines front line n s old mid before low at done ends =
+    let behind : drop n lines ≡ line ∷ drop (n + 1) lines = drop_more lines n line low ∙ ap (λ x. x ∷ drop (n + 1) lines) (sym at) in
+    let parts : lines ≡ front ++ line ∷ drop (n + 1) lines = sym (take-append-drop n lines) ∙ (ap (λ xs. take n lines ++ xs) behind ∙ ap (λ xs. xs ++ line ∷ drop (n + 1) lines) (sym before)) in
+    (front, line, drop (n + 1) lines, mid, parts, done, ends)
+
+-- why it ends the run
+pub why_ended : (image : Bor (List ℕ)) (goes_on stands ends : Bool) (line : List ℕ) (s : Status) → ends ≡ (not stands || (is_refused s && not goes_on)) → ends ≡ true → (stands ≡ false → AsksChange image line) → EndsRun image goes_on line s
+why_ended image goes_on false ends line s is falls change = inr (change refl)
+why_ended image false true ends line s is falls change = inl (refl, both (is_refused s) (sym is ∙ falls))
+  where
+    both : (b : Bool) → (b && true) ≡ true → b ≡ true
+    both true e = refl
+    both false e = absurd (cc)
+why_ended image true true ends line s is falls change = absurd (neither (is_refused s) (sym is ∙ falls))
+  where
+    neither : (b : Bool) → (b && false) ≡ true → ⊥
+    neither true e = absurd (cc)
+    neither false e = absurd (cc)
+
+-- where the run goes on, the volume stands
+pub stands_still : (goes_on stands ends : Bool) (s : Status) → ends ≡ (not stands || (is_refused s && not goes_on)) → ends ≡ false → stands ≡ true
+stands_still goes_on true ends s is falls = refl
+stands_still goes_on false ends s is falls = let wrong : false ≡ true = sym falls ∙ is in absurd (cc)

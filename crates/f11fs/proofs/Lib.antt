@@ -1,5 +1,7 @@
+mod AllTold
 mod Counts
 mod Leading
+mod Marked
 mod Notes
 mod Places
 mod PutAll

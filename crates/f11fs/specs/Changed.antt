@@ -1,5 +1,5 @@
 -- What commands that change a volume leave of it.
-use Rattle.std.specs.Prelude.{◌≡◌, ◌⊎◌, ◌-◌, ℕ, zero, suc, min, nat_lt, if◌then◌else◌, List, [], ◌∷◌, ◌++◌, length, take, slice_get, Bool, false, Option, Some, None, unwrap_or}
+use Rattle.std.specs.Prelude.{◌≡◌, ◌⊎◌, ◌-◌, ℕ, zero, suc, min, nat_lt, if◌then◌else◌, List, [], ◌∷◌, ◌++◌, length, take, slice_get, Bool, true, false, Option, Some, None, unwrap_or}
 use Rattle.std.specs.Borrow.{Bor}
 use Rattle.ods_base.specs.declared.file_id.Uic.{Uic}
 use Rattle.ods_shell.specs.declared.status.Status.{Status}
@@ -121,3 +121,30 @@ IsLineDone image stamp user line s old new =
 abbrev pub AreLinesDone : Bor (List ℕ) → List ℕ → Uic → List (List ℕ) → Filed → Filed → Type 0
 AreLinesDone image stamp user [] old new = new ≡ old
 AreLinesDone image stamp user (line ∷ lines) old new = (mid : Filed) × (s : Status) × IsLineDone image stamp user line s old mid × AreLinesDone image stamp user lines mid new
+
+-- whether a command is refused that ends with this status
+abbrev pub is_refused : Status → Bool
+is_refused status.Done = false
+is_refused status.Found = false
+is_refused status.Image = true
+is_refused status.Words = true
+is_refused status.Host = true
+is_refused status.Refused = true
+is_refused status.Nothing = true
+
+-- the command asks for a change
+abbrev pub IsChange : Action → Type 0
+IsChange asked = (c : Change) × (asked ≡ action.Change c)
+
+-- the words of this line ask for a change
+abbrev pub AsksChange : Bor (List ℕ) → List ℕ → Type 0
+AsksChange image line = (own : Words) × IsCommandOf image line own × IsChange own.action
+
+-- Why a line ends a run: it is refused, with this status, and the run is not to go on then; or it asks for a change, which may be made in part.
+abbrev pub EndsRun : Bor (List ℕ) → Bool → List ℕ → Status → Type 0
+EndsRun image goes_on line s = ((goes_on ≡ false) × (is_refused s ≡ true)) ⊎ AsksChange image line
+
+-- the lines before one are done, and that one ends the run
+abbrev pub AreLinesEnded : Bor (List ℕ) → List ℕ → Uic → Bool → List (List ℕ) → Status → Filed → Type 0
+AreLinesEnded image stamp user goes_on lines s old =
+    (front : List (List ℕ)) × (line : List ℕ) × (behind : List (List ℕ)) × (mid : Filed) × (lines ≡ front ++ line ∷ behind) × AreLinesDone image stamp user front old mid × EndsRun image goes_on line s

@@ -1,9 +1,13 @@
 -- What is told of a change that is not made: the lines of a plan.
-use Rattle.std.specs.Prelude.{◌≡◌, ◌≢◌, ◌⊎◌, ℕ, ◌<◌, ◌≤◌, List, ◌∷◌, ◌++◌, [], Bool, false, Option, Some, None, MatchOption, codes, string_bytes}
-use Rattle.std.specs.Borrow.{Bor}
+use Rattle.std.specs.Prelude.{◌≡◌, ◌≢◌, ◌⊎◌, ℕ, ◌<◌, ◌≤◌, List, ◌∷◌, ◌++◌, [], Bool, true, false, Option, Some, None, MatchBool, codes, string_bytes}
 use Rattle.std.specs.Fmt.{decimal}
+use Rattle.std.specs.List.{Contains, range_with_len}
 use Rattle.ods_base.specs.declared.file_id.FileId.{FileId}
+use Rattle.fs_reads.specs.Paths.{Disk}
+use Rattle.ods_shell.specs.Facts.{AreFacts}
 use Rattle.ods_shell.specs.declared.facts.Facts.{Facts}
+use Rattle.fs_reads.specs.Alike.{AreCompared, IsNamedBy, has_path}
+use Rattle.fs_reads.specs.Paths.{AreAllPaths, LacksPath}
 use Rattle.fs_reads.specs.declared.comparing.Known.{Known}
 use Rattle.f11fs.specs.declared.telling.Plan.{Plan}
 
@@ -53,3 +57,55 @@ IsToldOfNumber DifferIn None (Some new) told = told ≡ plan_line (codes "make")
 IsToldOfNumber DifferIn (Some old) (Some new) told =
     ((old ≢ new) × (told ≡ plan_line (codes "remove") (id_text old) ++ plan_line (codes "make") (id_text new)))
     ⊎ ((old ≡ new) × IsToldOfFile DifferIn old new (id_text new) told)
+
+-- what is told of each of these, one after another
+abbrev pub AreTold : {A : Type 0} → (A → List ℕ → Type 0) → List A → List ℕ → Type 0
+AreTold IsToldOf [] told = told ≡ []
+AreTold IsToldOf (x ∷ xs) told = (first : List ℕ) × (rest : List ℕ) × (told ≡ first ++ rest) × IsToldOf x first × AreTold IsToldOf xs rest
+
+-- a path that was there before goes where none of those afterwards is the same
+abbrev pub IsToldOfOld : List Known → Known → List ℕ → Type 0
+IsToldOfOld after one told =
+    (LacksPath (string_bytes one.path) after × (told ≡ plan_line (codes "remove") (string_bytes one.path)))
+    ⊎ ((¬ LacksPath (string_bytes one.path) after) × (told ≡ []))
+
+-- one of these that has the path, or none where none has it
+abbrev pub IsKnownAt : List Known → List ℕ → Option Known → Type 0
+IsKnownAt all path None = LacksPath path all
+IsKnownAt all path (Some known) = Contains all known × has_path path known
+
+-- what is told of a path that is there afterwards, by what was known of it before
+abbrev pub IsToldOfNew : (FileId → FileId → Option (List ℕ) → Type 0) → List Known → Known → List ℕ → Type 0
+IsToldOfNew DifferIn before one told = (known : Option Known) × IsKnownAt before (string_bytes one.path) known × IsToldOfPath DifferIn known one told
+
+-- one of these paths names a file that has the number
+abbrev pub IsNumbered : (FileId → Type 0) → List Known → ℕ → Type 0
+IsNumbered IsThere all number = (known : Known) × Contains all known × IsNumberOf IsThere number known
+
+-- what is told of the file with a number, where no path leads to it; nothing where one does
+abbrev pub IsToldWhere : Bool → Disk → Disk → ℕ → List ℕ → Type 0
+IsToldWhere true B A number told = told ≡ []
+IsToldWhere false B A number told = (old : Option FileId) × (new : Option FileId) × IsIdOf (AreFacts B.image B.layout number) old × IsIdOf (AreFacts A.image A.layout number) new
+    × IsToldOfNumber (λ a b word. AreCompared B a A b word) old new told
+
+-- a path names a file that has the number, before or afterwards
+abbrev pub IsReached : Disk → List Known → Disk → List Known → ℕ → Type 0
+IsReached B before A after number = IsNumbered (IsNamedBy B) before number ⊎ IsNumbered (IsNamedBy A) after number
+
+-- what is told of a number: nothing where a path leads to it before or afterwards
+abbrev pub IsToldOfLeft : Disk → List Known → Disk → List Known → ℕ → List ℕ → Type 0
+IsToldOfLeft B before A after number told = (reached : Bool) × MatchBool reached (IsReached B before A after number) (¬ IsReached B before A after number) × IsToldWhere reached B A number told
+
+-- The text of a plan, from one volume to another: what goes of the paths before, what is told of those afterwards, and of the numbers that no path leads to.
+pub record IsPlan (most : ℕ) (B A : Disk) (text : List ℕ) : Type 0 where
+  pub before : List Known
+  pub after : List Known
+  pub all_before : AreAllPaths B.image B.layout before
+  pub all_after : AreAllPaths A.image A.layout after
+  pub gone : List ℕ
+  pub come : List ℕ
+  pub left : List ℕ
+  pub told_gone : AreTold (IsToldOfOld after) before gone
+  pub told_come : AreTold (IsToldOfNew (λ a b word. AreCompared B a A b word) before) after come
+  pub told_left : AreTold (IsToldOfLeft B before A after) (range_with_len 1 most) left
+  pub whole : text ≡ gone ++ (come ++ left)

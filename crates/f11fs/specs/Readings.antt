@@ -1,6 +1,6 @@
 -- Host files: their names, and what is read of them.
-use Rattle.std.specs.Prelude.{◌≡◌, ◌≢◌, ◌⊎◌, ℕ, List, ◌∷◌, ◌++◌, [], Option, Some, MatchOption, Bool, true, false, IfOk, IfErr, ◌-◌, ◌≤◌, vec_len, codes, string_bytes}
-use Rattle.std.specs.List.{position}
+use Rattle.std.specs.Prelude.{◌≡◌, ◌≢◌, ◌⊎◌, ℕ, List, ◌∷◌, ◌++◌, [], Option, Some, MatchOption, Bool, true, false, IfOk, IfErr, ◌-◌, ◌≤◌, vec_len, codes, drop, if◌then◌else◌, nat_eq, string_bytes}
+use Rattle.std.specs.List.{position, starts_with}
 use Rattle.std.specs.Str.{bytes_eq}
 use Rattle.std.specs.Borrow.{Bor}
 use Rattle.fs_host.specs.Names.{LacksSlash}
@@ -57,3 +57,11 @@ reads_commands (action.Rescue text) = false
 reads_commands (action.Cmp all) = false
 reads_commands (action.Change change) = false
 reads_commands (action.Init blocks files label) = false
+
+-- the bytes of a byte order mark
+abbrev pub order_mark : List ℕ
+order_mark = 239 ∷ 187 ∷ 191 ∷ []
+
+-- a text without the byte order mark at its front
+abbrev pub behind_mark : List ℕ → List ℕ
+behind_mark text = if starts_with nat_eq text order_mark then drop 3 text else text

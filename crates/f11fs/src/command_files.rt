@@ -1,9 +1,9 @@
 //! Commands in a file of the host, one a line: obeyed one after another on the volume in memory; then the image is saved, once.
-ghost use Rattle.std.specs.Prelude.{◌≡◌, ◌≤◌, ◌⊎◌, ◌&&◌, ℕ, true, false, codes, IfErr, IfOk, IsTrue, length, unwrap_or, vec_len};
+ghost use Rattle.std.specs.Prelude.{◌≡◌, ◌≤◌, ◌⊎◌, ◌&&◌, ◌||◌, ℕ, true, false, codes, IfErr, IfOk, IsTrue, IsUtf8, MatchOption, length, not, unwrap_or, vec_len};
 ghost use Rattle.std.specs.{List.list_any, Str.Lines.lines, Str.bytes_eq};
 ghost use Rattle.fs_host.specs.Faults.{is_reason};
 ghost use Rattle.fs_reads.specs.declared.stop.Stop.{Stop as End};
-ghost use Rattle.f11fs.specs.{Changed.AreLinesDone, Changed.IsChanged, Changed.IsDoneBy, Changed.IsDoneNow, Changed.IsLineDone, Readings.IsUnread, Readings.reads_commands};
+ghost use Rattle.f11fs.specs.{Changed.AreLinesDone, Changed.AreLinesEnded, Changed.AsksChange, Changed.IsChange, Changed.IsChanged, Changed.IsDoneBy, Changed.IsDoneNow, Changed.IsLineDone, Changed.is_refused, Readings.IsUnread, Readings.behind_mark, Readings.reads_commands};
 ghost use Rattle.ods_shell.specs.declared.status.Status.{Status as Code};
 
 use crate::changing::{Asker, Finished, asker_of, change_volume, finish, kept_before, lock_volume};
@@ -15,6 +15,7 @@ use fs_reads::{Progress, Stop, WordFault, check_image, obey, say_end};
 use fs_words::{Action, Change, LineFault, Words, WordsFault, line_words, parse_line};
 use ods_base::write_bytes;
 use ods_filing::Filing;
+use ods_mount::Mounted;
 use ods_request::Stamp;
 use ods_shell::Status;
 use std::cell::RefCell;
@@ -34,16 +35,14 @@ pub fn obey_file<'a, R: Host>(
     keep_going: bool,
 ) -> Result<Status, Stop<'a>> {
     let bytes = commands_in(rt, file)?;
-    let Ok(text) = str::from_utf8(bytes.as_slice()) else {
+    let Some(text) = commands_text(bytes.as_slice()) else {
         return Err(Stop::Word(file, WordFault::NoText));
     };
-    let text = text.strip_prefix('\u{feff}').unwrap_or(text);
     let mut early = Early::of(rt, words.image);
     read_early(rt, words, text, &mut early)?;
     let (mut locked, volume) = lock_volume(rt, words, keep_going)?;
     let asker = asker_of(rt, words)?;
     let before = kept_before(words, &volume)?;
-    let mut filing = Filing::new(rt.alloc(), volume, asker.user)?;
     let printed = RefCell::new(Vec::new(rt.alloc()));
     let run = Run {
         asker,
@@ -51,11 +50,11 @@ pub fn obey_file<'a, R: Host>(
         file,
         keep_going,
     };
-    let (status, goes_on) = obey_lines(rt, &run, &printed, &mut filing, text, &mut early);
-    if !goes_on {
+    let (status, done) = obey_text(rt, &run, &printed, volume, text, &mut early)?;
+    let Some(filing) = done else {
         let _ = write_printed(rt, printed.into_inner().as_slice());
         return Ok(status);
-    }
+    };
     let finished = finish(rt, words, &mut locked, &before, filing.mounted());
     let written = write_printed(rt, printed.into_inner().as_slice());
     match (finished?, written) {
@@ -85,6 +84,26 @@ fn commands_in<'a, R: Host>(rt: &R, file: &'a str) -> Result<Vec<u8>, Stop<'a>>
         Ok(bytes) => Ok(bytes),
         Err(HostFault::TooLarge) => Err(Stop::Word(file, WordFault::ManyBytes(MOST))),
         Err(fault) => Err(Stop::Word(file, WordFault::Unread(fault))),
+    }
+}
+
+/// The text of a file of commands, without a byte order mark at its front; None where its bytes are no UTF-8 text.
+fn commands_text(bytes: &[u8]) -> Option<&str>
+    ensures { MatchOption result (¬ IsUtf8 bytes.now) (λ text. text.now ≡ behind_mark bytes.now) }
+{
+    match str::from_utf8(bytes) {
+        Ok(text) => Some(without_mark(text)),
+        Err(_) => None,
+    }
+}
+
+/// A text without the byte order mark at its front.
+fn without_mark(text: &str) -> &str
+    ensures { result.now ≡ behind_mark text.now }
+{
+    match text.strip_prefix("\u{feff}") {
+        Some(rest) => rest,
+        None => text,
     }
 }
 
@@ -123,6 +142,28 @@ fn read_line_early<'a, R: Host>(
     }
 }
 
+/// What the lines of a text make of a volume, which is to be saved, with the status of the run; no volume where a line ended the run.
+fn obey_text<'a, R: Host>(
+    rt: &R,
+    run: &Run<'_, '_>,
+    printed: &RefCell<Vec<u8>>,
+    volume: Mounted,
+    text: &str,
+    early: &mut Early,
+) -> Result<(Status, Option<Filing>), Stop<'a>>
+    ensures { IfOk result (λ done. MatchOption done.1
+        (AreLinesEnded run.now.outer.now.image run.now.asker.stamp run.now.asker.user run.now.keep_going (lines text.now) done.0 (record { image = volume.image; layout = volume.layout; user = run.now.asker.user }))
+        (AreLinesDone run.now.outer.now.image run.now.asker.stamp run.now.asker.user (lines text.now) (record { image = volume.image; layout = volume.layout; user = run.now.asker.user }))) }
+{
+    let mut filing = Filing::new(rt.alloc(), volume, run.asker.user)?;
+    let (status, goes_on) = obey_lines(rt, run, printed, &mut filing, text, early);
+    if goes_on {
+        Ok((status, Some(filing)))
+    } else {
+        Ok((status, None))
+    }
+}
+
 /// Obeys the lines, and gives how they ended, and whether the run goes on: it does not behind a refusal, unless the words say so and the refused
 /// line has done nothing.
 fn obey_lines<R: Host>(
@@ -134,7 +175,8 @@ fn obey_lines<R: Host>(
     early: &mut Early,
 ) -> (Status, bool)
     // Where the run goes on, each line has left the volume as it was, or has made the change whole that its words ask for.
-    ensures { result.1 ≡ true → AreLinesDone run.now.outer.now.image run.now.asker.stamp run.now.asker.user (lines text.now) filing.old filing.new }
+    ensures done { result.1 ≡ true → AreLinesDone run.now.outer.now.image run.now.asker.stamp run.now.asker.user (lines text.now) filing.old filing.new }
+    ensures ended { result.1 ≡ false → AreLinesEnded run.now.outer.now.image run.now.asker.stamp run.now.asker.user run.now.keep_going (lines text.now) result.0 filing.old }
 {
     let mut status = Status::Done;
     let mut number = 0usize;
@@ -148,12 +190,25 @@ fn obey_lines<R: Host>(
         };
         let (done, stands) = obey_line(&one, filing, run, line, early);
         status = status.or(done);
-        let is_refused = done != Status::Done && done != Status::Found;
-        if !stands || (is_refused && !run.keep_going) {
+        if ends_run(done, stands, run.keep_going) {
             return (done, false);
         }
     }
     (status, true)
+}
+
+/// Whether a line ends the run: its volume does not stand, or it is refused and the run is not to go on then.
+fn ends_run(done: Status, stands: bool, goes_on: bool) -> bool
+    ensures { result ≡ (not stands || (is_refused done && not goes_on)) }
+{
+    !stands || (is_refused(done) && !goes_on)
+}
+
+/// Whether a command is refused that ends with this status.
+fn is_refused(done: Status) -> bool
+    ensures { result ≡ is_refused done }
+{
+    !matches!(done, Status::Done | Status::Found)
 }
 
 /// Writes what the commands printed.
@@ -176,7 +231,8 @@ fn obey_line<R: Files<File = File> + Clock + Input + AllocGlobal + Print + Eprin
     line: &str,
     early: &mut Early,
 ) -> (Status, bool)
-    ensures { result.1 ≡ true → IsLineDone run.now.outer.now.image run.now.asker.stamp run.now.asker.user line.now result.0 filing.old filing.new }
+    ensures done { result.1 ≡ true → IsLineDone run.now.outer.now.image run.now.asker.stamp run.now.asker.user line.now result.0 filing.old filing.new }
+    ensures ended { result.1 ≡ false → AsksChange run.now.outer.now.image line.now }
 {
     let words = match line_words(rt.alloc(), line) {
         Ok(words) => words,
@@ -231,7 +287,8 @@ fn obey_words<R: Files<File = File> + Clock + Input + AllocGlobal + Print + Epri
     early: &mut Early,
 ) -> (Status, bool)
     // Where the volume stands it is as it was, or the change of the command is made whole.
-    ensures { result.1 ≡ true → IsDoneBy own.entry.action own.entry.paths.items (unwrap_or own.entry.stamp run.now.asker.stamp) (unwrap_or own.entry.user run.now.asker.user) result.0 filing.old filing.new }
+    ensures done { result.1 ≡ true → IsDoneBy own.entry.action own.entry.paths.items (unwrap_or own.entry.stamp run.now.asker.stamp) (unwrap_or own.entry.user run.now.asker.user) result.0 filing.old filing.new }
+    ensures ended { result.1 ≡ false → IsChange own.entry.action }
 {
     let mut own = own;
     if !own.saving.says_nothing() {
@@ -259,7 +316,8 @@ fn obey_action<R: Files<File = File> + Clock + Input + AllocGlobal + Print + Epr
     own: &Words<'_>,
     early: &mut Early,
 ) -> (Status, bool)
-    ensures { result.1 ≡ true → IsDoneNow own.now.action own.now.paths.items stamp result.0 filing.old filing.new }
+    ensures done { result.1 ≡ true → IsDoneNow own.now.action own.now.paths.items stamp result.0 filing.old filing.new }
+    ensures ended { result.1 ≡ false → IsChange own.now.action }
 {
     match own.action {
         Action::Change(Change::Put(_)) if reads_input(run.outer, own) => {

@@ -1,9 +1,10 @@
 //! What a change makes of a volume: a line for each path that comes, goes or changes, and for each file without a path.
-ghost use Rattle.std.specs.Prelude.{◌≡◌, ◌↔◌, ◌⊎◌, ◌<◌, ℕ, List, Option, false, true, IsTrue, IfOk, IfSome, OnOk, Some, length, set, slice_get, slice_index_or, string_bytes};
+ghost use Rattle.std.specs.Prelude.{◌≡◌, ◌↔◌, ◌⊎◌, ◌<◌, ℕ, List, Option, false, true, IsTrue, IfOk, IfSome, OnOk, Some, length, replicate, set, slice_get, slice_index_or, string_bytes};
+ghost use Rattle.std.specs.List.{range_with_len};
 ghost use Rattle.std.specs.Option.{option_copied};
 ghost use Rattle.ods_base.specs.declared.file_id.FileId.{FileId as Id};
-ghost use Rattle.fs_reads.specs.{Alike.AreCompared, Alike.IsNamedBy, Alike.has_path, Shown.Extends};
-ghost use Rattle.f11fs.specs.Plans.{IsIdOf, IsNumberOf, IsToldOfFile, IsToldOfNumber, IsToldOfPath, Tells, id_text, plan_line};
+ghost use Rattle.fs_reads.specs.{Alike.AreCompared, Alike.IsNamedBy, Alike.has_path, Paths.AreAllPaths, Paths.AreInOrder, Shown.Extends};
+ghost use Rattle.f11fs.specs.Plans.{AreTold, IsIdOf, IsKnownAt, IsNumberOf, IsNumbered, IsPlan, IsReached, IsToldOfFile, IsToldOfLeft, IsToldOfNew, IsToldOfNumber, IsToldOfOld, IsToldOfPath, IsToldWhere, Tells, id_text, plan_line};
 ghost use Rattle.ods_shell.specs.Facts.{AreFacts};
 
 use fs_reads::{Known, Stop, all_known, difference_by_id, place_of};
@@ -60,38 +61,146 @@ pub fn plan_text<'a>(
     before: &Mounted,
     after: &Mounted,
     json: bool,
-) -> Result<String, Stop<'a>> {
+) -> Result<String, Stop<'a>>
+    ensures { IfOk result (λ text. json ≡ false → IsPlan 65535 before.now after.now (string_bytes text)) }
+{
+    plan_up_to(alloc, before, after, json, u16::MAX)
+}
+
+/// The text of a plan that has the files up to this number.
+fn plan_up_to<'a>(
+    alloc: Global,
+    before: &Mounted,
+    after: &Mounted,
+    json: bool,
+    most: u16,
+) -> Result<String, Stop<'a>>
+    ensures { IfOk result (λ text. json ≡ false → IsPlan most before.now after.now (string_bytes text)) }
+{
     let old = all_known(alloc, before, None)?;
     let new = all_known(alloc, after, None)?;
+    plan_of(alloc, before, &old, after, &new, json, most)
+}
+
+/// The text of a plan by the paths of both volumes.
+fn plan_of<'a>(
+    alloc: Global,
+    before: &Mounted,
+    old: &[Known],
+    after: &Mounted,
+    new: &[Known],
+    json: bool,
+    most: u16,
+) -> Result<String, Stop<'a>>
+    ensures { AreAllPaths before.now.image before.now.layout old.now → AreAllPaths after.now.image after.now.layout new.now
+        → IfOk result (λ text. json ≡ false → IsPlan most before.now after.now (string_bytes text)) }
+{
     let mut plan = Plan {
         alloc,
         json,
         text: String::new(alloc),
     };
-    for one in &old {
-        if place_of(&new, one.path.as_str()).is_none() {
-            plan.add("remove", one.path.as_str())?;
-        }
-    }
-    for one in &new {
-        add_path(
-            alloc,
-            before,
-            known_at(&old, one.path.as_str()),
-            after,
-            one,
-            &mut plan,
-        )?;
-    }
-    let old = named_numbers(alloc, before, &old)?;
-    let new = named_numbers(alloc, after, &new)?;
-    for number in 1..=u16::MAX {
-        let is_named = is_noted(&old, number) || is_noted(&new, number);
-        if !is_named {
-            add_number(alloc, before, after, number, &mut plan)?;
-        }
-    }
+    add_gone(old, new, &mut plan)?;
+    add_come(alloc, before, old, after, new, &mut plan)?;
+    add_left(alloc, before, old, after, new, most, &mut plan)?;
     Ok(plan.text)
+}
+
+/// Adds the paths that are there before alone.
+fn add_gone(old: &[Known], new: &[Known], plan: &mut Plan) -> Result<(), AllocError>
+    ensures told { AreInOrder new.now → OnOk result ((told : List ℕ) × AreTold (IsToldOfOld new.now) old.now told × Tells plan.old told plan.new) }
+    ensures mode { plan.new.json ≡ plan.old.json }
+{
+    for one in old {
+        add_old(one, new, plan)?;
+    }
+    Ok(())
+}
+
+/// Adds that a path goes, where it is none of those afterwards.
+fn add_old(one: &Known, new: &[Known], plan: &mut Plan) -> Result<(), AllocError>
+    ensures told { AreInOrder new.now → OnOk result ((told : List ℕ) × IsToldOfOld new.now one.now told × Tells plan.old told plan.new) }
+    ensures mode { plan.new.json ≡ plan.old.json }
+{
+    let path = one.path.as_str();
+    match known_at(new, path) {
+        Some(_) => Ok(()),
+        None => plan.add("remove", path),
+    }
+}
+
+/// Adds what is done to each path that is there afterwards.
+fn add_come<'a>(
+    alloc: Global,
+    before: &Mounted,
+    old: &[Known],
+    after: &Mounted,
+    new: &[Known],
+    plan: &mut Plan,
+) -> Result<(), Stop<'a>>
+    ensures told { AreInOrder old.now → OnOk result ((told : List ℕ) × AreTold (IsToldOfNew (λ a b word. AreCompared before.now a after.now b word) old.now) new.now told × Tells plan.old told plan.new) }
+    ensures mode { plan.new.json ≡ plan.old.json }
+{
+    for one in new {
+        add_new(alloc, before, old, after, one, plan)?;
+    }
+    Ok(())
+}
+
+/// Adds what is done to a path that is there afterwards, by those before.
+fn add_new<'a>(
+    alloc: Global,
+    before: &Mounted,
+    old: &[Known],
+    after: &Mounted,
+    one: &Known,
+    plan: &mut Plan,
+) -> Result<(), Stop<'a>>
+    ensures told { AreInOrder old.now → OnOk result ((told : List ℕ) × IsToldOfNew (λ a b word. AreCompared before.now a after.now b word) old.now one.now told × Tells plan.old told plan.new) }
+    ensures mode { plan.new.json ≡ plan.old.json }
+{
+    let known = known_at(old, one.path.as_str());
+    add_path(alloc, before, known, after, one, plan)
+}
+
+/// Adds what is done to each file up to this number to which no path leads.
+fn add_left<'a>(
+    alloc: Global,
+    before: &Mounted,
+    old: &[Known],
+    after: &Mounted,
+    new: &[Known],
+    most: u16,
+    plan: &mut Plan,
+) -> Result<(), Stop<'a>>
+    ensures told { OnOk result ((told : List ℕ) × AreTold (IsToldOfLeft before.now old.now after.now new.now) (range_with_len 1 most) told × Tells plan.old told plan.new) }
+    ensures mode { plan.new.json ≡ plan.old.json }
+{
+    let named = named_numbers(alloc, before, old, after, new, most as usize + 1)?;
+    for past in 0..most {
+        let number = past + 1;
+        let is_named = is_noted(&named, number);
+        add_unnamed(alloc, before, after, is_named, number, plan)?;
+    }
+    Ok(())
+}
+
+/// Adds what is done to the file with this number, where no path leads to it.
+fn add_unnamed<'a>(
+    alloc: Global,
+    before: &Mounted,
+    after: &Mounted,
+    is_named: bool,
+    number: u16,
+    plan: &mut Plan,
+) -> Result<(), Stop<'a>>
+    ensures told { OnOk result ((told : List ℕ) × IsToldWhere is_named before.now after.now number told × Tells plan.old told plan.new) }
+    ensures mode { plan.new.json ≡ plan.old.json }
+{
+    if is_named {
+        return Ok(());
+    }
+    add_number(alloc, before, after, number, plan)
 }
 
 /// Adds what is done to a path that is there afterwards.
@@ -206,17 +315,39 @@ fn id_of(volume: &Mounted, number: u16) -> Option<FileId>
     }
 }
 
-/// Whether a path names the file with a number, for each number.
-fn named_numbers<'a>(
+/// Whether a path names the file with a number, before or afterwards, for each number below `count`.
+fn named_numbers(
     alloc: Global,
-    volume: &Mounted,
-    all: &[Known],
-) -> Result<Vec<bool>, Stop<'a>> {
-    let mut named = vec![in alloc; false; 65_536]?;
-    for one in all {
-        note_named(volume, one, &mut named);
-    }
+    before: &Mounted,
+    old: &[Known],
+    after: &Mounted,
+    new: &[Known],
+    count: usize,
+) -> Result<Vec<bool>, AllocError>
+    ensures { IfOk result (λ named. (number : ℕ) → number < count
+        → (slice_get named.items number ≡ Some true) ↔ IsReached before.now old.now after.now new.now number) }
+{
+    let mut named = no_numbers(alloc, count)?;
+    note_all(before, old, &mut named);
+    note_all(after, new, &mut named);
     Ok(named)
+}
+
+/// Flags of so many numbers, none of which is noted.
+fn no_numbers(alloc: Global, count: usize) -> Result<Vec<bool>, AllocError>
+    ensures { IfOk result (λ named. named.items ≡ replicate count false) }
+{
+    vec![in alloc; false; count]
+}
+
+/// Notes the number of each file that one of these paths names.
+fn note_all(volume: &Mounted, all: &[Known], named: &mut Vec<bool>)
+    ensures length { length named.new.items ≡ length named.old.items }
+    ensures noted { (number : ℕ) → number < length named.old.items → (slice_index_or named.new.items number false ≡ true) ↔ ((slice_index_or named.old.items number false ≡ true) ⊎ IsNumbered (IsNamedBy volume.now) all.now number) }
+{
+    for one in all {
+        note_named(volume, one, named);
+    }
 }
 
 /// Notes the number of the file that a path names.
@@ -247,9 +378,13 @@ fn is_noted(named: &[bool], number: u16) -> bool
     named.get(number as usize) == Some(&true)
 }
 
-/// The file of this path.
+/// One of these that has this path.
 fn known_at<'b>(all: &'b [Known], path: &str) -> Option<&'b Known>
-    ensures { IfSome result (λ known. has_path path.now known.now) }
+    ensures there { IfSome result (λ known. has_path path.now known.now) }
+    ensures known { AreInOrder all.now → IsKnownAt all.now path.now (option_copied result) }
 {
-    all.get(place_of(all, path)?)
+    match place_of(all, path) {
+        Some(place) => all.get(place),
+        None => None,
+    }
 }

@@ -1,9 +1,11 @@
 -- The numbers of which something holds, number by number.
-use Rattle.std.proofs.Common.{rules, ◌≡◌, ◌⊎◌, inl, inr, ℕ, ◌+◌, ◌≤◌, ◌<◌, refl, sym, subst, List, [], ◌∷◌, ◌++◌, length, Some, arith}
+use Rattle.std.proofs.Common.{rules, ◌≡◌, ◌⊎◌, inl, inr, ℕ, ◌+◌, ◌≤◌, ◌<◌, refl, sym, subst, List, [], ◌∷◌, ◌++◌, length, Option, None, Some, arith}
 use Rattle.std.specs.List.{All, Contains}
 use Rattle.std.proofs.lemmas.Bool.{cases_lt}
 use Rattle.ods_base.specs.declared.file_id.Uic.{Uic}
 use Rattle.ods_space.specs.Layout.{VolumeLayout, last_number}
+use Rattle.ods_shell.specs.declared.folders.Directory.{Directory as Met}
+use Rattle.ods_shell.specs.Ways.{CountAsClosed}
 use Rattle.fs_reads.specs.Denied.{AreClosedTo, IsClosedTo}
 use Rattle.std.proofs.lemmas.List.Elements.{All-append, All-cons, Contains-append_left, Contains-append_right}
 
@@ -42,3 +44,9 @@ closed_to_last I L who k is = is.1.file.last
 
 pub closed_all : (I : List (List ℕ)) (L : VolumeLayout) (who : Uic) (n : ℕ) (closed : List ℕ) → last_number L ≤ n → AreThoseUpTo (IsClosedTo I L who) n closed → AreClosedTo I L (Some who) closed
 closed_all I L who n closed all are = (are.0, λ k is. are.1 k (omega (arith, all, closed_to_last I L who k is)) is)
+
+-- a walk that had no closed directories, or met none, is one past no directory
+pub counts_none : (I : List (List ℕ)) (L : VolumeLayout) (user : Option Uic) (closed : List ℕ) (met : List Met) → AreClosedTo I L user closed → (user ≡ None) ⊎ (met ≡ []) → CountAsClosed closed met []
+counts_none I L None closed met are stops = inl (sym are)
+counts_none I L (Some who) closed met are (inl none) = absurd (cc)
+counts_none I L (Some who) closed met are (inr none) = inr (none, refl)

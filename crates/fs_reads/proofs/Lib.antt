@@ -4,5 +4,6 @@ mod Growing
 mod Likeness
 mod Lines
 mod Mounting
+mod PathsKnown
 mod Saying
 mod Statuses

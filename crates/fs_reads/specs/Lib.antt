@@ -7,6 +7,7 @@ pub mod Shown
 pub mod Volumes
 pub mod Written
 pub mod Named
+pub mod Paths
 pub mod Host
 pub mod Folders
 pub mod Gets

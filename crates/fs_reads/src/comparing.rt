@@ -1,10 +1,12 @@
 //! `cmp`: which files of two images differ.
-ghost use Rattle.std.specs.Prelude.{◌≡◌, ◌⊎◌, IfErr, IfOk, IfSome, OnOk, string_bytes};
+ghost use Rattle.std.specs.Prelude.{◌≡◌, ◌⊎◌, ◌<◌, ◌∷◌, ◌++◌, [], IfErr, IfOk, IfSome, IsPermutation, None, OnOk, length, map, slice_get, string_bytes};
 ghost use Rattle.std.specs.List.{HoldsAt};
 ghost use Rattle.std.specs.Ordering.{nat_cmp};
 ghost use Rattle.std.specs.Cmp.Lexicographic.{slice_cmp};
 ghost use Rattle.std.specs.Option.{option_copied};
 ghost use Rattle.fs_reads.specs.{Alike.AreCompared, Alike.IsTold, Alike.has_path, Ends.EndsCompare, Ends.StopsWith, Shown.Extends};
+ghost use Rattle.fs_reads.specs.Paths.{AreAllPaths, AreInOrder, LacksPath, path_and_file, paths_found};
+ghost use Rattle.ods_shell.specs.{Texts.shown_path, There.path_in};
 ghost use Rattle.fs_reads.specs.declared.stop.Stop.{Stop as End};
 ghost use Rattle.ods_shell.specs.declared.status.Status.{Status as Code};
 
@@ -15,10 +17,11 @@ use crate::reading::check_right;
 use crate::stop::{Stop, send, stop_about};
 use crate::volume::open_volume;
 use fs_words::Words;
-use ods_base::{FileId, Uic};
+use ods_base::{FileId, Listed, Uic};
 use ods_mount::Mounted;
 use ods_shell::{
-    Facts, FormFault, Kind, Status, facts_by_id, have_same_bytes, pair_object, push_path,
+    Directory, Facts, FormFault, FoundLines, Kind, Status, facts_by_id, have_same_bytes,
+    pair_object, push_path,
 };
 use std::alloc::{AllocError, Global};
 use std::cmp::Ordering;
@@ -96,24 +99,65 @@ pub fn all_known<'a>(
     volume: &Mounted,
     user: Option<Uic>,
 ) -> Result<Vec<Known>, Stop<'a>>
-    ensures { IfErr result (λ stop. StopsWith stop Code.Refused ⊎ (stop ≡ End.NoMemory)) }
+    ensures all { IfOk result (λ all. AreAllPaths volume.now.image volume.now.layout all.items) }
+    ensures err { IfErr result (λ stop. StopsWith stop Code.Refused ⊎ (stop ≡ End.NoMemory)) }
 {
     let closed = closed_to(alloc, volume, user)?;
     let found = find_all(alloc, volume, &closed)?;
     stop_at_closed(alloc, &found.closed, user)?;
+    match paths_of(alloc, &found) {
+        Ok(all) => Ok(all),
+        Err(_) => Err(Stop::NoMemory),
+    }
+}
+
+/// The paths of what was found, in the order of their bytes.
+fn paths_of(alloc: Global, found: &FoundLines) -> Result<Vec<Known>, AllocError>
+    ensures each { IfOk result (λ all. IsPermutation (paths_found found.now) (map path_and_file all.items)) }
+    ensures order { IfOk result (λ all. AreInOrder all.items) }
+{
     let mut all = Vec::new(alloc);
     for line in &found.lines {
-        let mut path = String::new(alloc);
-        if let Some(directory) = found.directories.get(line.directory) {
-            push_path(&mut path, &directory.names, &line.entry)?;
-        }
+        let path = path_at(alloc, &found.directories, line.directory, &line.entry)?;
         let file = line.entry.file;
-        if all.push(Known { path, file }).is_err() {
-            return Err(Stop::NoMemory);
-        }
+        push_known(&mut all, Known { path, file })?;
     }
     all.sort_unstable_by(compare_paths);
     Ok(all)
+}
+
+/// The path of an entry of the directory at this place; nothing where there is none.
+fn path_at(
+    alloc: Global,
+    directories: &[Directory],
+    place: usize,
+    entry: &Listed,
+) -> Result<String, AllocError>
+    ensures { IfOk result (λ path. string_bytes path ≡ path_in (slice_get directories.now place) entry.now) }
+{
+    match directories.get(place) {
+        Some(directory) => path_within(alloc, directory, entry),
+        None => Ok(String::new(alloc)),
+    }
+}
+
+/// The path of an entry of this directory.
+fn path_within(alloc: Global, directory: &Directory, entry: &Listed) -> Result<String, AllocError>
+    ensures { IfOk result (λ path. string_bytes path ≡ shown_path directory.now.names.items entry.now) }
+{
+    let mut path = String::new(alloc);
+    push_path(&mut path, &directory.names, entry)?;
+    Ok(path)
+}
+
+/// Adds a path.
+fn push_known(all: &mut Vec<Known>, known: Known) -> Result<(), AllocError>
+    ensures { OnOk result (map path_and_file all.new.items ≡ map path_and_file all.old.items ++ path_and_file known ∷ []) }
+{
+    match all.push(known) {
+        Ok(()) => Ok(()),
+        Err(_) => Err(AllocError),
+    }
 }
 
 /// How two paths stand to one another.
@@ -132,7 +176,9 @@ fn compare_path(known: &Known, path: &str) -> Ordering
 
 /// The place of a path.
 pub fn place_of(all: &[Known], path: &str) -> Option<usize>
-    ensures { IfSome result (HoldsAt (has_path path.now) all.now) }
+    ensures there { IfSome result (HoldsAt (has_path path.now) all.now) }
+    ensures within { IfSome result (λ place. place < length all.now) }
+    ensures none { AreInOrder all.now → result ≡ None → LacksPath path.now all.now }
 {
     match all.binary_search_by(|known| compare_path(known, path)) {
         Ok(place) => Some(place),
