@@ -11,5 +11,6 @@ mod images;
 mod kept;
 mod layouts;
 mod names;
+mod orders;
 mod requests;
 mod words;
