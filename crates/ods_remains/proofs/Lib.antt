@@ -1,0 +1,9 @@
+pub mod Keyed
+pub mod NearestKeys
+pub mod Going
+pub mod Following
+pub mod ListedKeys
+pub mod FormerFiles
+pub mod Sharing
+pub mod Repeats
+pub mod Wholeness

@@ -1,0 +1,6 @@
+pub mod Candidates
+pub mod Keys
+pub mod Chains
+pub mod Scanned
+pub mod Deleted
+pub mod Shared

@@ -1,0 +1,22 @@
+//! Headers that are still there on an image, whether an index file knows them or not, and the files that they tell of.
+#![tactic(auto)]
+
+mod candidates;
+mod deleted;
+mod deletions;
+mod former;
+mod keys;
+mod nearest;
+mod scan;
+mod scanned;
+mod shares;
+mod twice;
+
+pub use candidates::is_candidate;
+pub use deleted::deleted_header;
+pub use deletions::{deleted_file, deleted_files, used_again};
+pub use former::DeletedFile;
+pub use scan::Scan;
+pub use scanned::Scanned;
+pub use shares::Shares;
+pub use twice::names_twice;
