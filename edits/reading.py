@@ -64,7 +64,7 @@ def functions_of(folder, file):
     lines, found = (folder / file).read_text("utf-8").split("\n"), []
     for at, line in enumerate(lines):
         impl, said = IMPL.match(line), FUNCTION.match(line)
-        if impl:
+        if impl and not line.endswith("{}"):
             scope = scope_of(impl, folder, file)
         elif line == "}":
             scope = module

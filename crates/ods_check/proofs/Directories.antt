@@ -27,6 +27,7 @@ use Rattle.ods_check.specs.declared.finding.Finding.{Finding}
 use Rattle.ods_check.specs.declared.finding.Finding.TheVariants.{NamesNone}
 use Rattle.ods_check.specs.Sets.{IsSetOf}
 use Rattle.ods_directory.specs.Hidden.{HasHidden}
+use Rattle.ods_directory.proofs.Marks.{mark_inside}
 use Rattle.ods_check.specs.Findings.{IsWholeDirectory, IsRead, IsHiding, HasName, AreNames, IsIdOfFile, IsNumberOf, NamesAt, NamesFile, IsLostFile, id_at}
 use Rattle.ods_check.proofs.StillTold.{TellsLine}
 use Rattle.ods_check.proofs.Noting.{set_as}
@@ -60,14 +61,6 @@ whether_bad es false good = none_bad es good
 pub whether_alike : (es : List Entry) (b : Bool) → MatchBool b (HasTwins es) (AreDistinct es) → MatchBool b (HasTwins es) (¬ HasTwins es)
 whether_alike es true h = h
 whether_alike es false distinct = none_alike es distinct
-
--- the mark is cut to the blocks
-pub mark_inside : (attributes : List ℕ) (count : ℕ) → mark_in attributes count ≤ 512 * count
-mark_inside attributes count = by_end (end_block attributes == 0)
-  where
-    by_end : (z : Bool) → cond z 0 (min ((end_block attributes - 1) * 512 + end_byte attributes) (512 * count)) ≤ 512 * count
-    by_end true = omega arith
-    by_end false = omega arith
 
 -- what was found of the blocks and the mark at hand is so of those of the directory
 pub moved : (P : List (List ℕ) → ℕ → Type 0) (I J : List (List ℕ)) (L : VolumeLayout) (d : ℕ) (xs ys : List ℕ) (mark : ℕ) → IsWholeDirectory I L d xs mark → J ≡ I → ys ≡ xs → P (map (block_at J) ys) mark → P (contents_of I xs) (mark_at I L d xs)

@@ -34,7 +34,7 @@ good_of_test e h =
     words a b c d (suc (suc (suc zero))) below = ltb-true _ _ d
     words a b c d (suc (suc (suc (suc i)))) below = absurd (omega arith)
 
-test_of_good : (e : Entry) → IsGoodEntry e → is_good e ≡ true
+pub test_of_good : (e : Entry) → IsGoodEntry e → is_good e ≡ true
 test_of_good e h =
     and_from _ _ (and_from _ _ (and_from _ _ (and_from _ _ (and_from _ _ (and_from _ _ (lt-ltb _ _ (h.words 0 (omega arith))) (lt-ltb _ _ (h.words 1 (omega arith)))) (lt-ltb _ _ (h.words 2 (omega arith)))) (lt-ltb _ _ (h.words 3 (omega arith))))
     (le-leb _ _ h.some)) (le-leb _ _ h.most)) (eq-eqb _ _ h.volume)

@@ -4,6 +4,7 @@ pub mod Blockwise
 pub mod Firsts
 pub mod Searches
 pub mod Used
+pub mod Marks
 pub mod Keyed
 pub mod Lookups
 pub mod AnyNames
@@ -16,5 +17,7 @@ pub mod Rooms
 pub mod Entered
 pub mod InOrder
 pub mod LinesOf
+pub mod Ordered
+pub mod GoodLines
 pub mod KeysOf
 pub mod Checked

@@ -25,7 +25,7 @@ pub get_names : (blocks : List (List ℕ)) (mark : ℕ) (q : List ℕ) → names
 unfolding names_of
 get_names blocks mark q = get-from_entries nat_list_cmp_total (entry_pairs (used_entries blocks mark)) q
 
-find_absent : (es : List Entry) (q : List ℕ) → ((i : ℕ) (e : Entry) → slice_get es i ≡ Some e → e.key ≢ q) → find q (entry_pairs es) ≡ None
+pub find_absent : (es : List Entry) (q : List ℕ) → ((i : ℕ) (e : Entry) → slice_get es i ≡ Some e → e.key ≢ q) → find q (entry_pairs es) ≡ None
 find_absent es q absent = by (find q (entry_pairs es)) refl
   where
     by : (o : Option FileId) → find q (entry_pairs es) ≡ o → o ≡ None

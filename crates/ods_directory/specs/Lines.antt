@@ -1,12 +1,13 @@
 -- The lines of a directory, from its entries.
-use Rattle.std.specs.Prelude.{◌≡◌, ◌≢◌, ℕ, ◌+◌, ◌<◌, List, Some, slice_get}
+use Rattle.std.specs.Prelude.{◌≡◌, ◌≢◌, ℕ, ◌+◌, ◌<◌, List, Option, Some, None, slice_get, if◌then◌else◌}
+use Rattle.std.specs.List.{filter_map}
 use Rattle.std.specs.Cmp.Lexicographic.{slice_cmp}
 use Rattle.std.specs.List.Sorted.{IsSortedByKey}
 use Rattle.std.specs.Ordering.{nat_cmp}
 use Rattle.ods_base.specs.Name.{key_of}
 use Rattle.ods_base.specs.Names.{name_of, version_of}
 use Rattle.ods_base.specs.declared.listed.Listed.{Listed}
-use Rattle.ods_directory.specs.Entry.{Entry}
+use Rattle.ods_directory.specs.Entry.{Entry, is_good}
 
 -- the line of an entry
 abbrev pub line_of : Entry → Listed
@@ -32,3 +33,11 @@ pub record HasTwinNeighbours {X : Type 0} (key : X → List ℕ) (xs : List X) :
 -- no two neighbours among the first n have one key
 abbrev pub HasNoTwinNeighbours : {X : Type 0} → (X → List ℕ) → List X → ℕ → Type 0
 HasNoTwinNeighbours key xs n = (k : ℕ) → k + 1 < n → (one other : _) → slice_get xs k ≡ Some one → slice_get xs (k + 1) ≡ Some other → key one ≢ key other
+
+-- the line of a good entry
+abbrev pub good_line : Entry → Option Listed
+good_line e = if is_good e then Some (line_of e) else None
+
+-- the lines of the good ones among these entries, in their order
+abbrev pub good_lines : List Entry → List Listed
+good_lines es = filter_map good_line es

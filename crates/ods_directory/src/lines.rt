@@ -67,6 +67,24 @@ impl Row for Listed {
     }
 }
 
+/// The line of an entry, where it is good.
+impl Row for Option<Listed> {
+    ghost use Rattle.std.specs.Prelude.{⊤};
+    ghost use Rattle.ods_directory.specs.{Entry.Entry, Lines.good_line};
+
+    ghost fits = { λ (e : Entry). ⊤ };
+
+    ghost row_of = { good_line };
+
+    fn of(block: &Block, k: usize) -> Option<Listed> {
+        if entry::is_good(block, k) {
+            Some(Listed::of(block, k))
+        } else {
+            None
+        }
+    }
+}
+
 /// The rows of the used entries before the mark, in the order of the blocks.
 pub fn read_rows<B: DirBlocks, R: Row>(
     alloc: Global,

@@ -1,8 +1,8 @@
 //! The check of a directory, and all its names.
-ghost use Rattle.std.specs.Prelude.{◌≡◌, ◌*◌, ◌≤◌, length, IfOk, OnErr, MatchBool};
-ghost use Rattle.std.specs.List.{All};
+ghost use Rattle.std.specs.Prelude.{◌≡◌, ◌+◌, ◌*◌, ◌≤◌, length, IfOk, OnErr, MatchBool};
+ghost use Rattle.std.specs.List.{All, filter_map};
 ghost use Rattle.ods_base.specs.Names.{lines_of};
-ghost use Rattle.ods_directory.specs.{Entry.IsGoodEntry, Entry.used_entries, Names.IsDirectory, Names.HasBadEntry, Names.HasTwins, Names.names_of};
+ghost use Rattle.ods_directory.specs.{Entry.IsGoodEntry, Entry.used_entries, Lines.good_lines, Names.IsDirectory, Names.HasBadEntry, Names.HasTwins, Names.names_of};
 
 use crate::first::{Kind, first_entry};
 use crate::lines::{read_rows, sort};
@@ -36,6 +36,37 @@ pub fn has_bad_entry<B: DirBlocks>(blocks: &B, mark: u64) -> bool
     ensures { MatchBool result (HasBadEntry (used_entries (B.blocks blocks.now) mark)) (All IsGoodEntry (used_entries (B.blocks blocks.now) mark)) }
 {
     first_entry(blocks, mark, Kind::Bad).is_some()
+}
+
+/// The good ones among the used entries before the mark, in the order of the blocks, and how many are bad. It reads what a damaged directory still shows.
+pub fn good_entries<B: DirBlocks>(
+    alloc: Global,
+    blocks: &B,
+    mark: u64,
+) -> Result<(Vec<Listed>, usize), AllocError>
+    requires { mark ≤ 512 * length (B.blocks blocks.now) }
+    ensures good { IfOk result (λ r. r.0.items ≡ good_lines (used_entries (B.blocks blocks.now) mark)) }
+    ensures bad { IfOk result (λ r. length r.0.items + r.1 ≡ length (used_entries (B.blocks blocks.now) mark)) }
+{
+    let rows: Vec<Option<Listed>> = read_rows(alloc, blocks, mark)?;
+    let good = kept_lines(alloc, &rows)?;
+    let bad = rows.len() - good.len();
+    Ok((good, bad))
+}
+
+/// The lines among these rows, in their order.
+fn kept_lines(alloc: Global, rows: &[Option<Listed>]) -> Result<Vec<Listed>, AllocError>
+    ensures { IfOk result (λ lines. lines.items ≡ filter_map (λ row. row) rows.now) }
+{
+    let mut lines = Vec::new(alloc);
+    let mut left = rows;
+    while let Some((row, rest)) = left.split_first() {
+        if let Some(line) = row {
+            lines.push(*line)?;
+        }
+        left = rest;
+    }
+    Ok(lines)
 }
 
 /// All names, ascending by name, type and version.

@@ -1,13 +1,15 @@
 -- The bytes of a file: those of its blocks, one block after another, all of them or as many as its attributes say.
-use Rattle.std.specs.Prelude.{◌≡◌, ℕ, ◌+◌, ◌-◌, ◌*◌, ◌==◌, nat_le, Bool, List, [], length, take, Option, Some, None, if◌then◌else◌}
+use Rattle.std.specs.Prelude.{◌≡◌, ℕ, ◌+◌, ◌-◌, ◌*◌, ◌==◌, nat_le, nat_lt, Bool, List, [], length, map, take, Option, Some, None, if◌then◌else◌}
 use Rattle.std.specs.List.{list_all}
 use Rattle.std.specs.Option.{option_map}
 use Rattle.std.specs.Io.KnownBytes.{Appends}
-use Rattle.ods_base.specs.Image.{image_bytes, TookBytes}
+use Rattle.ods_base.specs.Block.{zeros}
+use Rattle.ods_base.specs.Image.{block_at, image_bytes, TookBytes}
 use Rattle.ods_header.specs.Header.{attributes_of}
 use Rattle.ods_space.specs.Layout.{VolumeLayout, header_at}
 use Rattle.ods_space.specs.Files.{IsFile, HasBlocks}
 use Rattle.ods_space.specs.Faults.{IsChainFault}
+use Rattle.ods_space.specs.Reach.{ReachesBy}
 use Rattle.ods_directory.specs.Mark.{end_block, end_byte}
 use Rattle.ods_mount.specs.Faults.{contents_of}
 use Rattle.ods_files.specs.declared.form.Form.{Form}
@@ -22,11 +24,26 @@ pub record Body : Type 0 where
   pub blocks : List (List ℕ)
   pub attributes : List ℕ
 
+-- the block at this LBN, or zeros where it lies past the image
+abbrev pub block_or_zeros : List (List ℕ) → ℕ → List ℕ
+block_or_zeros I lbn = if nat_lt lbn (length I) then block_at I lbn else zeros
+
+-- the blocks at these LBNs, and zeros for those past the image
+abbrev pub padded : List (List ℕ) → List ℕ → List (List ℕ)
+padded I lbns = map (block_or_zeros I) lbns
+
 -- file n has a whole chain with these blocks, and its first header has these attributes
 pub record HasBody (I : List (List ℕ)) (L : VolumeLayout) (n : ℕ) (body : Body) : Type 0 where
   pub lbns : List ℕ
   pub held : HasBlocks I L n lbns
   pub blocks : body.blocks ≡ contents_of I lbns
+  pub attributes : body.attributes ≡ attributes_of (header_at I L n)
+
+-- The blocks of file n whose headers are there, with zeros for those past the image: all where the chain is whole. Its first header has these attributes.
+pub record HasPart (I : List (List ℕ)) (L : VolumeLayout) (n : ℕ) (body : Body) (whole : Bool) : Type 0 where
+  pub lbns : List ℕ
+  pub reached : ReachesBy I L n lbns whole
+  pub blocks : body.blocks ≡ padded I lbns
   pub attributes : body.attributes ≡ attributes_of (header_at I L n)
 
 -- why there is no body: the number is no file, or its chain is not whole, or memory is wanted

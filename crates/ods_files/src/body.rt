@@ -1,20 +1,20 @@
 //! The body of a file: its blocks where they stand in the image, and how far its bytes go.
-ghost use Rattle.std.specs.Prelude.{◌≡◌, ◌*◌, length, ℕ, List, Some, None, IfSome, IfNone, IfOk, IfErr, OnOk};
+ghost use Rattle.std.specs.Prelude.{◌≡◌, ◌⊎◌, ◌*◌, length, ℕ, List, Some, None, IfSome, IfNone, IfOk, IfErr, OnOk};
 ghost use Rattle.std.specs.Io.KnownBytes.{Appends};
-ghost use Rattle.ods_space.specs.Files.{IsLayoutOf};
-ghost use Rattle.ods_files.specs.Body.{HasBody, IsFileFault, are_zeros, size_in, bytes_in, IsCopyFault};
+ghost use Rattle.ods_space.specs.Files.{IsFile, IsLayoutOf};
+ghost use Rattle.ods_files.specs.Body.{HasBody, HasPart, IsFileFault, are_zeros, size_in, bytes_in, IsCopyFault};
 
 use crate::sending::{push_first, send_first};
 use crate::{CopyFault, FileFault, Form};
 use ods_base::Image;
 use ods_directory::mark_of;
 use ods_header::attributes;
-use ods_space::{Disk, chain, primary_header};
+use ods_space::{Disk, chain, primary_header, reach_blocks};
 use std::alloc::{AllocError, Global};
 use std::io::Write;
 use std::marker::Model;
 
-/// The blocks of a file with a whole chain, by their LBNs, and the attributes of its first header. The image may be one that is refused.
+/// The blocks of a file, by their LBNs, and the attributes of its first header. The image may be one that is refused.
 #[derive(Drop)]
 pub struct FileBody<'a> {
     image: &'a Image,
@@ -24,15 +24,14 @@ pub struct FileBody<'a> {
 
 impl<'a> Model for FileBody<'a> {
     ghost use Rattle.std.specs.Prelude.{◌≤◌, length};
-    ghost use Rattle.ods_space.specs.{Files.AreInside, Chain.chain_blocks};
-    ghost use Rattle.ods_mount.specs.Faults.{contents_of};
-    ghost use Rattle.ods_files.specs.Body.{Body};
+    ghost use Rattle.ods_space.specs.Chain.{chain_blocks};
+    ghost use Rattle.ods_files.specs.Body.{Body, padded};
 
     ghost Value = { Body };
 
-    ghost view = { λ b. record { blocks = contents_of b.image.now b.lbns.items; attributes = b.attributes } };
+    ghost view = { λ b. record { blocks = padded b.image.now b.lbns.items; attributes = b.attributes } };
 
-    ghost invariant = { λ b. AreInside b.image.now b.lbns.items × (length b.lbns.items ≤ chain_blocks) };
+    ghost invariant = { λ b. length b.lbns.items ≤ chain_blocks };
 }
 
 impl<'a> FileBody<'a> {
@@ -59,6 +58,33 @@ impl<'a> FileBody<'a> {
             }),
             Err(fault) => Err(FileFault::Chain(fault)),
         }
+    }
+
+    /// What is there of a file, be its chain whole or not, and whether it is: the blocks whose headers are there, with zeros for those past the image.
+    /// There is nothing where the number is no file, or is that of INDEXF.SYS, by which headers are found.
+    pub fn open_part(
+        alloc: Global,
+        disk: &Disk<'a>,
+        number: u16,
+    ) -> Result<Option<(FileBody<'a>, bool)>, AllocError>
+        ensures some { IfOk result (λ found. IfSome found (λ part. on HasPart disk.now number part.0 part.1)) }
+        ensures none { IfOk result (λ found. IfNone found ((number ≡ 1) ⊎ ¬ on IsFile disk.now number)) }
+    {
+        if number == 1 {
+            return Ok(None);
+        }
+        let Some(first) = primary_header(disk, number) else {
+            return Ok(None);
+        };
+        let Some(reached) = reach_blocks(alloc, disk, number)? else {
+            return Ok(None);
+        };
+        let body = FileBody {
+            image: disk.image,
+            lbns: reached.blocks,
+            attributes: attributes(first),
+        };
+        Ok(Some((body, reached.is_whole)))
     }
 
     /// How many blocks there are.

@@ -1,10 +1,9 @@
-//! The first bytes of some blocks of an image, one block after another: to a writer, in pieces of 64 KiB, or behind others in memory.
+//! The first bytes of some blocks of an image, one block after another, with zeros for those past it: to a writer, in pieces of 64 KiB, or behind others in memory.
 ghost use Rattle.std.specs.Prelude.{◌≡◌, ◌+◌, ◌*◌, ◌^◌, ◌<◌, ◌≤◌, ◌++◌, ℕ, List, Option, length, take, OnOk, IfOk, IfErr};
 ghost use Rattle.std.specs.Io.KnownBytes.{Appends};
-ghost use Rattle.ods_base.specs.Image.{image_bytes, TookBytes};
-ghost use Rattle.ods_space.specs.{Files.AreInside, Chain.chain_blocks};
-ghost use Rattle.ods_mount.specs.Faults.{contents_of};
-ghost use Rattle.ods_files.specs.Sending.{IsSending};
+ghost use Rattle.ods_base.specs.{Block.zeros as zeros_are, Image.image_bytes, Image.TookBytes};
+ghost use Rattle.ods_space.specs.Chain.{chain_blocks};
+ghost use Rattle.ods_files.specs.{Body.block_or_zeros, Body.padded, Sending.IsSending};
 
 use arrayvec::ArrayVec;
 use ods_base::{Block, Image, PIECE, WriteFault, write_piece};
@@ -19,14 +18,14 @@ pub(crate) fn send_first<W: Write>(
     size: u64,
     writer: &mut W,
 ) -> Result<(), WriteFault>
-    requires inside { AreInside image.now lbns.now }
     requires few { length lbns.now ≤ chain_blocks }
     requires size { size ≤ 512 * length lbns.now }
-    ensures ok { OnOk result (Appends (W.contents writer.old) (W.contents writer.new) (take size (image_bytes (contents_of image.now lbns.now)))) }
-    ensures err { IfErr result (λ fault. TookBytes (W.contents writer.old) (W.contents writer.new) (take size (image_bytes (contents_of image.now lbns.now))) fault.written) }
+    ensures ok { OnOk result (Appends (W.contents writer.old) (W.contents writer.new) (take size (image_bytes (padded image.now lbns.now)))) }
+    ensures err { IfErr result (λ fault. TookBytes (W.contents writer.old) (W.contents writer.new) (take size (image_bytes (padded image.now lbns.now))) fault.written) }
 {
     // The blocks of an image are whole.
     let _ = image.len();
+    let zeros = Block::zeros();
     let mut piece: ArrayVec<u8, PIECE> = ArrayVec::new();
     let mut written: u64 = 0;
     for k in 0..size.div_ceil(512) {
@@ -35,7 +34,7 @@ pub(crate) fn send_first<W: Write>(
             writer,
             &mut piece,
             written,
-            image.block(lbns[k as usize]),
+            block_or_zeros(image, &zeros, lbns[k as usize]),
             count,
         ) {
             Ok(after) => after,
@@ -114,16 +113,29 @@ pub(crate) fn push_first(
     size: u64,
     bytes: &mut Vec<u8>,
 ) -> Result<(), AllocError>
-    requires inside { AreInside image.now lbns.now }
     requires few { length lbns.now ≤ chain_blocks }
     requires size { size ≤ 512 * length lbns.now }
-    ensures { OnOk result (bytes.new.items ≡ bytes.old.items ++ take size (image_bytes (contents_of image.now lbns.now))) }
+    ensures { OnOk result (bytes.new.items ≡ bytes.old.items ++ take size (image_bytes (padded image.now lbns.now))) }
 {
     // The blocks of an image are whole.
     let _ = image.len();
+    let zeros = Block::zeros();
     for k in 0..size.div_ceil(512) {
         let count = (size - 512 * k).min(512) as usize;
-        bytes.extend_from_slice(&image.block(lbns[k as usize]).bytes()[..count])?;
+        let block = block_or_zeros(image, &zeros, lbns[k as usize]);
+        bytes.extend_from_slice(&block.bytes()[..count])?;
     }
     Ok(())
+}
+
+/// The block at this LBN, or these zeros where it lies past the image.
+fn block_or_zeros<'a>(image: &'a Image, zeros: &'a Block, lbn: u32) -> &'a Block
+    requires { zeros.now ≡ zeros_are }
+    ensures { result.now ≡ block_or_zeros image.now lbn }
+{
+    if lbn < image.len() {
+        image.block(lbn)
+    } else {
+        zeros
+    }
 }

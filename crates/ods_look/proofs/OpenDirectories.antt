@@ -17,6 +17,7 @@ use Rattle.ods_directory.specs.declared.fault.DirFault.TheVariants.{NoSuchName, 
 use Rattle.ods_directory.specs.Faults.{IsLookUpFault}
 use Rattle.ods_directory.specs.Mark.{mark_in, end_block, end_byte}
 use Rattle.ods_directory.specs.Names.{names_of as names_in}
+use Rattle.ods_directory.proofs.Marks.{mark_inside as cut}
 use Rattle.ods_mount.specs.Faults.{contents_of}
 use Rattle.ods_request.specs.declared.refusals.Refusal.TheVariants as refusal
 use Rattle.ods_request.specs.declared.rights.Right.{Right}
@@ -33,11 +34,7 @@ use Rattle.ods_look.proofs.FileBodies.{directory_body}
 
 -- the mark is cut to the blocks
 pub mark_inside : (attributes : List ℕ) (count mark : ℕ) → mark ≡ mark_in attributes count → mark ≤ 512 * count
-mark_inside attributes count mark is = subst (λ m. m ≤ 512 * count) (sym is) (by_end (end_block attributes == 0))
-  where
-    by_end : (z : Bool) → cond z 0 (min ((end_block attributes - 1) * 512 + end_byte attributes) (512 * count)) ≤ 512 * count
-    by_end true = omega arith
-    by_end false = omega arith
+mark_inside attributes count mark is = subst (λ m. m ≤ 512 * count) (sym is) (cut attributes count)
 
 -- the body of a directory is its names
 pub open_body : {I : List (List ℕ)} {L : VolumeLayout} {n : ℕ} {opened : OpenDirectory} (is : IsDirectoryAt I L n opened)

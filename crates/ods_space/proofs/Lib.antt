@@ -4,6 +4,7 @@ pub mod Drafts
 pub mod DraftImages
 pub mod Surveys
 pub mod Walks
+pub mod AsFar
 pub mod Sizes
 pub mod Surveyed
 pub mod Layouts

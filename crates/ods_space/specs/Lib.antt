@@ -4,6 +4,7 @@ pub mod Chain
 pub mod Files
 pub mod Free
 pub mod Walk
+pub mod Reach
 pub mod Draft
 pub mod Faults
 pub mod Changes

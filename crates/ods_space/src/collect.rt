@@ -1,11 +1,11 @@
 //! The blocks of a chain, collected.
-ghost use Rattle.std.specs.Prelude.{◌≡◌, ◌++◌, IfOk, IfErr, OnOk};
+ghost use Rattle.std.specs.Prelude.{◌≡◌, ◌++◌, ◌≤◌, [], length, IfOk, IfErr, IfSome, IfNone, OnOk};
 ghost use Rattle.std.specs.Option.{option_map};
 ghost use Rattle.ods_header.specs.Header.{IsLaidOut, IsRun, run_blocks, blocks_of};
-ghost use Rattle.ods_space.specs.{Chain.known as known_of, Chain.most as most_of, Walk.Leads, Walk.IsDeadEnd};
+ghost use Rattle.ods_space.specs.{Chain.chain_blocks, Chain.known as known_of, Chain.most as most_of, Chain.IsSegment, Reach.Reaches, Walk.Leads, Walk.IsDeadEnd};
 
 use crate::ChainFault;
-use crate::walk::{Notes, walk};
+use crate::walk::{Notes, segment_block, walk};
 use ods_base::{Block, Image};
 use ods_header::{Home, Run, pointer_at, pointer_count};
 use std::alloc::{AllocError, Global};
@@ -105,4 +105,40 @@ pub(crate) fn collect(
         Ok(false) => Err(ChainFault::BadChain),
         Err(_) => Err(ChainFault::NoMemory),
     }
+}
+
+/// What the headers of a chain name, as far as it goes.
+#[derive(Drop)]
+pub struct Reached {
+    /// The LBNs, in order; some may lie past the image.
+    pub blocks: Vec<u32>,
+    /// Whether no header is missing.
+    pub is_whole: bool,
+}
+
+/// What the headers from `number` on name, up to the last that is there. There is nothing where the first is not.
+pub(crate) fn collect_reached(
+    alloc: Global,
+    image: &Image,
+    home: &Home,
+    index: Option<&[u32]>,
+    number: u16,
+) -> Result<Option<Reached>, AllocError>
+    ensures some { IfOk result (λ found. IfSome found (λ r. Reaches image.now home.now (option_map (λ x. x.now) index.entry) number r.blocks.items r.is_whole)) }
+    ensures few { IfOk result (λ found. IfSome found (λ r. length r.blocks.items ≤ chain_blocks)) }
+    ensures none { IfOk result (λ found. IfNone found (¬ IsSegment image.now home.now (known_of (option_map (λ x. x.now) index.entry) []) (most_of home.now (option_map (λ x. x.now) index.entry) []) number 0)) }
+{
+    let greatest = most(home, index, &[]);
+    if segment_block(image, home, known_index(index, &[]), greatest, number, 0).is_none() {
+        return Ok(None);
+    }
+    let mut named = Named {
+        index,
+        blocks: Vec::new(alloc),
+    };
+    let is_whole = walk(image, home, number, &mut named)?;
+    Ok(Some(Reached {
+        blocks: named.blocks,
+        is_whole,
+    }))
 }

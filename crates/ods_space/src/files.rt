@@ -71,7 +71,7 @@ pub fn chain(alloc: Global, disk: &Disk<'_>, number: u16) -> Result<Vec<u32>, Ch
 }
 
 /// INDEXF.SYS finds its own headers, any other file's are found by its blocks.
-fn index_for(layout: &Layout, number: u16) -> Option<&[u32]>
+pub(crate) fn index_for(layout: &Layout, number: u16) -> Option<&[u32]>
     ensures { option_map (λ x. x.now) result ≡ index_of layout.now number }
 {
     if number == 1 {

@@ -1,7 +1,7 @@
 //! One walk along a chain of which nothing is known: each header is checked before it is noted.
-ghost use Rattle.std.specs.Prelude.{◌≡◌, ◌+◌, ◌<◌, ◌≤◌, [], ℕ, List, IfSome, IfNone, IfOk, MatchBool};
+ghost use Rattle.std.specs.Prelude.{◌≡◌, ◌+◌, ◌<◌, ◌≤◌, [], ℕ, List, length, IfSome, IfNone, IfOk, MatchBool};
 ghost use Rattle.ods_header.specs.Header.{map_word, next_number_of};
-ghost use Rattle.ods_space.specs.{Layout.header_by, Chain.IsSegment, Chain.Follows, Walk.IsLink};
+ghost use Rattle.ods_space.specs.{Layout.header_by, Chain.IsSegment, Chain.Follows, Chain.chain_blocks, Chain.known, Chain.most as most_of, Reach.Reaches, Walk.IsLink};
 
 use crate::bits::is_used;
 use crate::headers::block_by;
@@ -46,9 +46,12 @@ pub(crate) fn walk<N: Notes>(
     notes: &mut N,
 ) -> Result<bool, N::Full>
     requires { N.has notes.old notes.old [] }
-    ensures { IfOk result (λ whole. MatchBool whole
+    ensures whole { IfOk result (λ whole. MatchBool whole
         ((others : List ℕ) × (blocks : List ℕ) × Follows image.now home.now (N.placed_by notes.old) [] 0 number others blocks × N.has notes.old notes.new blocks)
         ((others blocks : List ℕ) → ¬ Follows image.now home.now (N.placed_by notes.old) [] 0 number others blocks)) }
+    // Where the first header is there, the blocks are noted of each that is.
+    ensures reached { IfOk result (λ whole. IsSegment image.now home.now (known (N.placed_by notes.old) []) (most_of home.now (N.placed_by notes.old) []) number 0
+        → (blocks : List ℕ) × Reaches image.now home.now (N.placed_by notes.old) number blocks whole × N.has notes.old notes.new blocks × (length blocks ≤ chain_blocks)) }
 {
     // The blocks of an image have bytes, so a header names few blocks.
     let _ = image.len();

@@ -19,9 +19,11 @@ use Rattle.ods_directory.specs.Mark.{mark_in, end_block, end_byte}
 use Rattle.ods_directory.specs.Entry.{Entry, entry_at, is_used, used_entries}
 use Rattle.ods_directory.specs.Names.{names_of}
 use Rattle.ods_directory.proofs.Lookups.{len_names}
+use Rattle.ods_directory.proofs.Marks.{mark_inside}
 use Rattle.ods_mount.specs.Faults.{IsDirectoryFile, contents_of, mark_at}
 use Rattle.ods_mount.specs.Sound.{IsSoundBy}
 use Rattle.ods_walk.specs.Listing.{IsListing}
+use Rattle.ods_walk.proofs.Directories.{lists_the_names}
 use Rattle.ods_shell.specs.declared.facts.Facts.{Facts}
 use Rattle.ods_shell.specs.Choosing.{AreThose}
 use Rattle.ods_shell.specs.Facts.{AreFacts}
@@ -80,14 +82,6 @@ module _ (I : List (List ℕ)) (L : VolumeLayout) (entries : List Listed) (e : L
       let before = counts n small in
       (before.0, those_as_before (NamesFile I L n) entries before.0 e (λ is. none is.facts is.are is.same) before.1, before.2)
 
--- the mark is cut to the blocks
-mark_inside : (attributes : List ℕ) (count : ℕ) → mark_in attributes count ≤ 512 * count
-mark_inside attributes count = by_end (end_block attributes == 0)
-  where
-    by_end : (z : Bool) → cond z 0 (min ((end_block attributes - 1) * 512 + end_byte attributes) (512 * count)) ≤ 512 * count
-    by_end true = omega arith
-    by_end false = omega arith
-
 -- an entry takes 16 bytes before the mark
 used_few : (blocks : List (List ℕ)) (mark : ℕ) → length (used_entries blocks mark) ≤ mark / 16
 unfolding used_entries
@@ -102,15 +96,16 @@ lines_as_many m = length-map (names.entries m) (λ e. record { name = name_of e.
 -- a directory has fewer than 2 to the 32 entries
 pub listing_few : (I : List (List ℕ)) (L : VolumeLayout) → IsSoundBy I L → IsImage I → (n : ℕ) (lines : List Listed) → IsDirectoryFile I L n → IsListing I L n lines → length lines < 2 ^ 32
 listing_few I L sound image n lines is listing =
-    let lbns : List ℕ = listing.are.lbns in
+    let names = lists_the_names I L n lines sound is listing in
+    let lbns : List ℕ = names.0 in
     let mark : ℕ = mark_at I L n lbns in
-    let has = listing.are.held in
+    let has = names.1 in
     let used : List Entry = used_entries (contents_of I lbns) mark in
     let size : length lbns ≤ 6684672 = chain_size I L.home (index_for L n) n has.others lbns image has.whole.chain in
     let inside : mark ≤ 512 * length lbns = mark_inside (attributes_of (header_at I L n)) (length lbns) in
     let few : length used ≤ mark / 16 = used_few (contents_of I lbns) mark in
     let all : length lines ≡ length used =
-    length_permutation listing.entries lines listing.all ∙ ap length listing.are.all ∙ lines_as_many (names_of (contents_of I lbns) mark) ∙ len_names (contents_of I lbns) mark (sound.directories n lbns is has) in
+    length_permutation (lines_of (names_of (contents_of I lbns) mark)) lines names.2 ∙ lines_as_many (names_of (contents_of I lbns) mark) ∙ len_names (contents_of I lbns) mark (sound.directories n lbns is has) in
     omega (arith)
 
 -- nor has what is no directory

@@ -33,6 +33,7 @@ use Rattle.ods_mount.specs.Sound.{IsSoundBy}
 use Rattle.ods_paths.specs.Order.{Line, listing_cmp}
 use Rattle.ods_paths.proofs.ListingOrder.{listing_equal, listing_total}
 use Rattle.ods_walk.specs.Listing.{IsListing, shown}
+use Rattle.ods_walk.proofs.Directories.{lists_the_names}
 use Rattle.ods_upkeep.proofs.Again.{as_they_are, from_mapped}
 
 -- the first element
@@ -220,12 +221,14 @@ module _ (blocks : List (List ℕ)) (mark : ℕ) (directory : IsDirectory blocks
 -- a directory has one listing
 pub one_listing : (I : List (List ℕ)) (L : VolumeLayout) → IsSoundBy I L → (n : ℕ) (xs ys : List Listed) → IsDirectoryFile I L n → IsListing I L n xs → IsListing I L n ys → xs ≡ ys
 one_listing I L sound n xs ys is f g =
-    let lbns = f.are.lbns in
+    let first = lists_the_names I L n xs sound is f in
+    let second = lists_the_names I L n ys sound is g in
+    let lbns = first.0 in
     let lines : List Listed = lines_of (names_of (contents_of I lbns) (mark_at I L n lbns)) in
-    let same_lbns : g.are.lbns ≡ lbns = same_blocks I L n g.are.lbns lbns g.are.held f.are.held in
-    let mine : IsPermutation lines xs = subst (λ l. IsPermutation l xs) f.are.all f.all in
-    let others : IsPermutation lines ys = subst (λ l. IsPermutation l ys) (g.are.all ∙ ap (λ bs. lines_of (names_of (contents_of I bs) (mark_at I L n bs))) same_lbns) g.all in
-    one_order listing_total shown (Contains lines) (one_line (contents_of I lbns) (mark_at I L n lbns) (sound.directories n lbns is f.are.held)) xs ys
+    let same_lbns : second.0 ≡ lbns = same_blocks I L n second.0 lbns second.1 first.1 in
+    let mine : IsPermutation lines xs = first.2 in
+    let others : IsPermutation lines ys = subst (λ bs. IsPermutation (lines_of (names_of (contents_of I bs) (mark_at I L n bs))) ys) same_lbns second.2 in
+    one_order listing_total shown (Contains lines) (one_line (contents_of I lbns) (mark_at I L n lbns) (sound.directories n lbns is first.1)) xs ys
     (All-permutation (Contains lines) lines xs mine (All-contains_itself lines)) (All-permutation (Contains lines) lines ys others (All-contains_itself lines))
     (sorted_far (λ x y. is_lt (listing_cmp (shown x) (shown y))) (ranks_by listing_total shown) xs f.order) (sorted_far (λ x y. is_lt (listing_cmp (shown x) (shown y))) (ranks_by listing_total shown) ys g.order)
     (λ h. sum_by-IsPermutation h lines xs mine ∙ sym (sum_by-IsPermutation h lines ys others))

@@ -6,14 +6,14 @@ use Rattle.std.proofs.lemmas.List.{take_at, drop_at}
 use Rattle.std.proofs.lemmas.List.Elements.{All-nil, All-cons, All-head, All-tail, All-append, All-map, All-contains, All-contains_itself, All-weaker, All-take, All-drop, Contains-append_left, Contains-append_right, Contains-append_cases, Contains-push, Contains-push_cases}
 use Rattle.std.proofs.lemmas.List.Sorted.{Contains-permutation, IsPermutation-sym}
 use Rattle.ods_base.specs.Name.{RadName}
-use Rattle.ods_base.specs.Names.{lines_of}
 use Rattle.ods_base.specs.declared.listed.Listed.{Listed}
 use Rattle.ods_space.specs.Layout.{VolumeLayout}
-use Rattle.ods_space.proofs.Surveyed.{same_blocks}
-use Rattle.ods_directory.specs.Names.{names_of}
+use Rattle.ods_directory.specs.Entry.{used_entries}
+use Rattle.ods_directory.specs.Lines.{good_lines}
 use Rattle.ods_mount.specs.Faults.{contents_of, mark_at}
 use Rattle.ods_walk.specs.Complete.{HasEntry, LeadsTo, IsComplete, WalksAreComplete}
 use Rattle.ods_walk.specs.Listing.{IsListing}
+use Rattle.ods_walk.proofs.Directories.{same_there}
 use Rattle.ods_walk.specs.Walk.{Line, Walks, NamesDirectory, below, IsWalkBelow}
 
 -- ---- elements of lists
@@ -54,8 +54,8 @@ module _ (I : List (List ℕ)) (L : VolumeLayout) where
   -- the listings of a directory have the same entries
   pub same_entries : (n : ℕ) (xs ys : List Listed) (e : Listed) → IsListing I L n xs → IsListing I L n ys → Contains xs e → Contains ys e
   same_entries n xs ys e f g has =
-      let lbns = same_blocks I L n f.are.lbns g.are.lbns f.are.held g.are.held in
-      let same : f.entries ≡ g.entries = f.are.all ∙ ap (λ bs. lines_of (names_of (contents_of I bs) (mark_at I L n bs))) lbns ∙ sym g.are.all in
+      let lbns = same_there I L n f.are.lbns g.are.lbns f.are.there g.are.there in
+      let same : f.entries ≡ g.entries = f.are.all ∙ ap (λ bs. good_lines (used_entries (contents_of I bs) (mark_at I L n bs))) lbns ∙ sym g.are.all in
       Contains-permutation g.entries ys e g.all (subst (λ l. Contains l e) same (Contains-permutation xs f.entries e (IsPermutation-sym f.entries xs f.all) has))
 
   -- one more name leads on

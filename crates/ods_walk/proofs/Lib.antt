@@ -1,5 +1,5 @@
-pub mod Completeness
 pub mod Directories
+pub mod Completeness
 pub mod Going
 pub mod Reaching
 pub mod Ways

@@ -1,27 +1,48 @@
 -- The lines of a directory as people are shown them.
-use Rattle.std.specs.Prelude.{◌≡◌, ℕ, List, IsPermutation, IsSortedByKey}
+use Rattle.std.specs.Prelude.{◌≡◌, ℕ, Bool, List, length, nat_le, IsPermutation, IsSortedByKey}
+use Rattle.std.specs.List.{before_first}
 use Rattle.ods_base.specs.Name.{title, type_text}
 use Rattle.ods_base.specs.Names.{lines_of}
 use Rattle.ods_base.specs.declared.listed.Listed.{Listed}
 use Rattle.ods_space.specs.Layout.{VolumeLayout}
 use Rattle.ods_space.specs.Files.{HasBlocks}
+use Rattle.ods_space.specs.Reach.{ReachesBy}
+use Rattle.ods_directory.specs.Entry.{used_entries}
+use Rattle.ods_directory.specs.Lines.{good_lines}
 use Rattle.ods_directory.specs.Names.{names_of}
-use Rattle.ods_mount.specs.Faults.{contents_of, mark_at}
+use Rattle.ods_mount.specs.Faults.{IsDirectoryFile, contents_of, mark_at}
+use Rattle.ods_mount.specs.Sound.{IsSoundBy}
 use Rattle.ods_paths.specs.Order.{Line, listing_cmp}
 
 -- what is seen of an entry, by which a listing is in order: the text of its name, that of its type, and its version
 abbrev pub shown : Listed → Line
 shown entry = record { name = title entry.name; kind = type_text entry.name; version = entry.version }
 
--- these are the entries of directory n, in the order of their keys
+-- the first of these LBNs, up to one past an image of so many blocks
+abbrev pub up_to_end : ℕ → List ℕ → List ℕ
+up_to_end len lbns = before_first (λ lbn. nat_le len lbn) lbns
+
+-- The blocks of file n that are there: up to the first whose header is not there, or that lies past the image. Where the chain is whole they are all.
+pub record AreThere (I : List (List ℕ)) (L : VolumeLayout) (n : ℕ) (lbns : List ℕ) : Type 0 where
+  pub blocks : List ℕ
+  pub whole : Bool
+  pub reached : ReachesBy I L n blocks whole
+  pub front : lbns ≡ up_to_end (length I) blocks
+
+-- These entries directory n shows: in its blocks that are there, before its mark, the good ones.
 pub record AreEntries (I : List (List ℕ)) (L : VolumeLayout) (n : ℕ) (entries : List Listed) : Type 0 where
   pub lbns : List ℕ
-  pub held : HasBlocks I L n lbns
-  pub all : entries ≡ lines_of (names_of (contents_of I lbns) (mark_at I L n lbns))
+  pub there : AreThere I L n lbns
+  pub all : entries ≡ good_lines (used_entries (contents_of I lbns) (mark_at I L n lbns))
 
--- these are the entries of directory n, in the order of a listing
+-- these are the entries that directory n shows, in the order of a listing
 pub record IsListing (I : List (List ℕ)) (L : VolumeLayout) (n : ℕ) (lines : List Listed) : Type 0 where
   pub entries : List Listed
   pub are : AreEntries I L n entries
   pub all : IsPermutation entries lines
   pub order : IsSortedByKey shown listing_cmp lines
+
+-- On a sound image a listing has exactly the names of the directory.
+abbrev pub ListsTheNames : Type 0
+ListsTheNames = (I : List (List ℕ)) (L : VolumeLayout) (n : ℕ) (lines : List Listed) → IsSoundBy I L → IsDirectoryFile I L n → IsListing I L n lines
+    → (lbns : List ℕ) × HasBlocks I L n lbns × IsPermutation (lines_of (names_of (contents_of I lbns) (mark_at I L n lbns))) lines

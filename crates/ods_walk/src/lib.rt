@@ -1,4 +1,4 @@
-//! The directories of a sound volume as people are shown them: the lines of one in the order of a listing, and the walk over all below one.
+//! The directories of a volume, sound or refused, as people are shown them: the lines of one in the order of a listing, and the walk over all below one.
 #![tactic(auto)]
 
 mod laws;
@@ -6,7 +6,7 @@ mod ordering;
 mod tables;
 mod walking;
 
-pub use laws::walks_are_complete;
+pub use laws::{lists_the_names, walks_are_complete};
 pub use ordering::listing;
 pub use tables::{Entered, Line, Walk};
 pub use walking::{names_directory, walk_from, walk_past};

@@ -1,51 +1,67 @@
 //! The lines of a directory as people are shown them: by name, then by type, each as text, and of one name the highest version first.
-ghost use Rattle.std.specs.Prelude.{◌≡◌, IfOk, IsPermutation, IsSortedByKey};
-ghost use Rattle.ods_mount.specs.{Faults.IsDirectoryFile, Sound.IsSoundBy};
+ghost use Rattle.std.specs.Prelude.{◌≡◌, ◌<◌, ◌≤◌, length, nat_le, IfOk, IsPermutation, IsSortedByKey};
+ghost use Rattle.std.specs.List.{All};
+ghost use Rattle.ods_text.specs.Cuts.{IsFirst};
+ghost use Rattle.ods_mount.specs.Faults.{IsDirectoryFile};
 ghost use Rattle.ods_base.specs.Name.{title as title_of, type_text};
 ghost use Rattle.ods_paths.specs.{Order.listing_cmp, Lines.line};
-ghost use Rattle.ods_walk.specs.Listing.{IsListing, AreEntries, shown};
+ghost use Rattle.ods_walk.specs.Listing.{IsListing, AreEntries, shown, up_to_end};
 ghost use Rattle.ods_space.specs.Disks.{on};
 
 use arrayvec::ArrayString;
 use ods_base::{Listed, print_title, print_type};
-use ods_directory::{DirBlocks, entries, mark_of};
+use ods_directory::{DirBlocks, good_entries, mark_of};
 use ods_header::attributes;
 use ods_mount::FileBlocks;
 use ods_paths::{Shown, compare};
-use ods_space::{ChainFault, Disk, chain, primary_header};
+use ods_space::{Disk, primary_header, reach_blocks};
 use std::alloc::{AllocError, Global};
 use std::cmp::Ordering;
 
-/// The lines of a directory, in the order of a listing.
+/// The lines that a directory shows, in the order of a listing. The image may be one that is refused: then they are those of its good entries, in its
+/// blocks up to the first that is missing.
 pub fn listing(alloc: Global, disk: &Disk<'_>, number: u16) -> Result<Vec<Listed>, AllocError>
-    requires sound { on IsSoundBy disk.now }
-    requires directory { on IsDirectoryFile disk.now number }
+    requires { on IsDirectoryFile disk.now number }
     ensures { IfOk result (λ lines. on IsListing disk.now number lines.items) }
 {
     let entries = read_entries(alloc, disk, number)?;
     in_order(alloc, &entries)
 }
 
-/// The entries of a directory, in the order of their keys.
+/// The entries that a directory shows.
 fn read_entries(alloc: Global, disk: &Disk<'_>, number: u16) -> Result<Vec<Listed>, AllocError>
-    requires sound { on IsSoundBy disk.now }
-    requires directory { on IsDirectoryFile disk.now number }
+    requires { on IsDirectoryFile disk.now number }
     ensures { IfOk result (λ lines. on AreEntries disk.now number lines.items) }
 {
-    // An image has few blocks, and so has a chain.
-    let _ = disk.image.len();
     let Some(header) = primary_header(disk, number) else {
         unreachable!()
     };
-    let lbns = match chain(alloc, disk, number) {
-        Ok(lbns) => lbns,
-        Err(ChainFault::NoMemory) => return Err(AllocError),
-        Err(ChainFault::BadChain) => unreachable!(),
-        Err(ChainFault::OutsideVolume(_)) => unreachable!(),
+    let Some(reached) = reach_blocks(alloc, disk, number)? else {
+        unreachable!()
     };
-    let blocks = FileBlocks::new(disk.image, &lbns);
+    let there = up_to_end(disk.image.len(), &reached.blocks);
+    let blocks = FileBlocks::new(disk.image, there);
     let mark = mark_of(&attributes(header), blocks.count());
-    entries(alloc, &blocks, mark)
+    let (lines, _) = good_entries(alloc, &blocks, mark)?;
+    Ok(lines)
+}
+
+/// The first of these LBNs, up to one past an image of so many blocks.
+fn up_to_end(len: u32, lbns: &[u32]) -> &[u32]
+    ensures front { result.now ≡ up_to_end len lbns.now }
+    ensures inside { All (λ lbn. lbn < len) result.now }
+    ensures few { length result.now ≤ length lbns.now }
+{
+    &lbns[..place_past(len, lbns)]
+}
+
+/// The place of the first LBN past an image of so many blocks, or how many LBNs there are.
+fn place_past(len: u32, lbns: &[u32]) -> usize
+    ensures { IsFirst (λ lbn. nat_le len lbn) lbns.now result }
+{
+    lbns.iter()
+        .position(|lbn| len <= *lbn)
+        .unwrap_or(lbns.len())
 }
 
 /// These lines in the order of a listing.

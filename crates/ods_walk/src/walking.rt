@@ -1,7 +1,7 @@
 //! The walk over the directories below one: depth first, in the order of listing, each directory entered once.
 ghost use Rattle.std.specs.Prelude.{◌≡◌, ◌++◌, ◌∷◌, ℕ, List, [], length, map, IfOk, IfSome, IfNone, OnOk, MatchBool};
 ghost use Rattle.ods_base.specs.declared.listed.Listed.{Listed as Entry};
-ghost use Rattle.ods_mount.specs.{Faults.IsDirectoryFile, Sound.IsSoundBy};
+ghost use Rattle.ods_mount.specs.Faults.{IsDirectoryFile};
 ghost use Rattle.ods_walk.specs.{Complete.AreReached, Listing.IsListing, Paths.IsWalk, Paths.IsWalkButFor, Steps.AreEntered, Steps.IsPast, Steps.IsStop, Steps.from_top, Steps.placed, Walk.NamesDirectory, Walk.IsWalkedInto};
 ghost use Rattle.ods_space.specs.Disks.{on};
 
@@ -14,8 +14,7 @@ use std::alloc::{AllocError, Global};
 
 /// Goes through all lines below directory `start`. That one and the master directory count as entered.
 pub fn walk_from(alloc: Global, disk: &Disk<'_>, start: u16) -> Result<Walk, AllocError>
-    requires sound { on IsSoundBy disk.now }
-    requires directory { on IsDirectoryFile disk.now start }
+    requires { on IsDirectoryFile disk.now start }
     ensures walk { IfOk result (λ walk. on IsWalk disk.now start walk) }
     ensures reached { IfOk result (λ walk. on AreReached disk.now start (4 ∷ []) walk.directories) }
 {
@@ -30,8 +29,7 @@ pub fn walk_past(
     start: u16,
     closed: &[u16],
 ) -> Result<Walk, AllocError>
-    requires sound { on IsSoundBy disk.now }
-    requires directory { on IsDirectoryFile disk.now start }
+    requires { on IsDirectoryFile disk.now start }
     ensures walk { IfOk result (λ walk. on IsWalkButFor disk.now start closed.now walk) }
     ensures reached { IfOk result (λ walk. on AreReached disk.now start (4 ∷ closed.now) walk.directories) }
 {
@@ -121,8 +119,7 @@ fn put_lines(
     place: usize,
     pile: &mut Vec<Line>,
 ) -> Result<(), AllocError>
-    requires sound { on IsSoundBy disk.now }
-    requires directory { on IsDirectoryFile disk.now number }
+    requires { on IsDirectoryFile disk.now number }
     ensures { OnOk result ((entries : List Entry) × on IsListing disk.now number entries
         × (from_top pile.new.items ≡ map (placed place) entries ++ from_top pile.old.items)) }
 {

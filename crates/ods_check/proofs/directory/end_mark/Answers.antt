@@ -3,7 +3,7 @@ use Rattle.ods_directory.specs.Mark.{mark_in}
 use Rattle.ods_space.specs.Chain.{index_for}
 use Rattle.ods_space.proofs.Sizes.{chain_size}
 use Rattle.ods_mount.specs.Faults.{mark_at}
-use Rattle.ods_check.proofs.Directories.{mark_inside}
+use Rattle.ods_directory.proofs.Marks.{mark_inside}
 use Rattle.ods_check.proofs.directory.end_mark.Goals as goal
 
 pub overflow_cast-lbns : goal.overflow_cast-lbns

@@ -22,7 +22,7 @@ returns-then-whole-clause-some c =
     let I = c.args.disk.now.image.now in
     let L = c.args.disk.now.layout.now in
     let new = c.new-surveyor.ensures in
-    let got = rw c.if-whole.true at c.in-Ok.ensures in
+    let got = rw c.if-whole.true at c.in-Ok.ensures.whole in
     let noted = got.3 in
     let P : Home → Type 0 = λ h. Follows I h (Some c.new-surveyor.result.index.now) [] 0 c.args.number got.0 got.1 in
     let Q : List ℕ → Type 0 = λ index. Follows I L.home (Some index) [] 0 c.args.number got.0 got.1 in
@@ -34,7 +34,7 @@ pub returns-else-whole-clause-none : goal.returns-else-whole-clause-none
 returns-else-whole-clause-none c others blocks chain =
     let I = c.args.disk.now.image.now in
     let L = c.args.disk.now.layout.now in
-    let got = rw c.if-whole.false at c.in-Ok.ensures in
+    let got = rw c.if-whole.false at c.in-Ok.ensures.whole in
     let P : Home → Type 0 = λ h. Follows I h (Some c.new-surveyor.result.index.now) [] 0 c.args.number others blocks in
     let Q : List ℕ → Type 0 = λ index. Follows I L.home (Some index) [] 0 c.args.number others blocks in
     let R : Option (List ℕ) → Type 0 = λ o. Follows I L.home o [] 0 c.args.number others blocks in

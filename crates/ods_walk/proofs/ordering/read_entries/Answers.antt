@@ -1,46 +1,28 @@
-use Rattle.std.proofs.Common.{◌≡◌, ◌∙◌, ap, length, map, arith}
-use Rattle.std.proofs.lemmas.Result.{IfOk-weaker}
+use Rattle.std.proofs.Common.{◌≡◌, ◌∙◌, sym, ap, subst, length, map, arith}
+use Rattle.std.proofs.lemmas.List.{length-map}
 use Rattle.ods_base.specs.Image.{block_at}
-use Rattle.ods_base.specs.Names.{lines_of}
-use Rattle.ods_directory.specs.Names.{names_of}
-use Rattle.ods_space.specs.Chain.{index_for}
-use Rattle.ods_space.proofs.Sizes.{chain_size}
-use Rattle.ods_walk.proofs.Directories.{no_bad_chain, none_outside, read_as, IsReadAs}
+use Rattle.ods_header.specs.Header.{attributes_of}
+use Rattle.ods_directory.specs.Entry.{used_entries}
+use Rattle.ods_directory.specs.Lines.{good_lines}
+use Rattle.ods_directory.specs.Mark.{mark_in}
+use Rattle.ods_mount.specs.Faults.{contents_of, mark_at}
+use Rattle.ods_walk.specs.Listing.{AreThere, up_to_end}
 use Rattle.ods_walk.proofs.ordering.read_entries.Goals as goal
-use Rattle.ods_walk.proofs.ordering.read_entries.Goals.{After-mark_of-mark}
-
-pub unreachable-requires-in-Err-BadChain : goal.unreachable-requires-in-Err-BadChain
-unreachable-requires-in-Err-BadChain c = no_bad_chain c.requires.sound c.in-Err-BadChain.field-0 c.in-Err-BadChain.field-0-is c.requires.directory.0 c.in-Err-BadChain.ensures.err
-
-pub unreachable-requires-in-Err-OutsideVolume : goal.unreachable-requires-in-Err-OutsideVolume
-unreachable-requires-in-Err-OutsideVolume c = none_outside c.requires.sound c.in-Err-OutsideVolume.field-0 _ c.in-Err-OutsideVolume.field-0-is c.requires.directory.0 c.in-Err-OutsideVolume.ensures.err
-
-pub new-blocks-requires-clause-inside : goal.new-blocks-requires-clause-inside
-new-blocks-requires-clause-inside c = rw c.deref.ensures.value c.in-Ok.ensures.ok.whole.inside
-
-pub new-blocks-requires-clause-few : goal.new-blocks-requires-clause-few
-new-blocks-requires-clause-few c =
-    let has = c.in-Ok.ensures.ok in
-    let size : length c.deref.result.now ≡ length c.in-Ok.lbns.items = ap length c.deref.ensures.value in
-    let small = chain_size c.args.disk.now.image.now c.args.disk.now.layout.now.home (index_for c.args.disk.now.layout.now c.args.number) c.args.number has.others c.in-Ok.lbns.items c.len.ensures.image has.whole.chain in
-    omega arith
-
-here : (c : After-mark_of-mark) → IsReadAs c.args.disk.now.image.now c.args.disk.now.layout.now c.args.number c.in-Ok.lbns.items (map (block_at c.new-blocks.result.image.now) c.new-blocks.result.lbns.now) c.mark_of-mark.result
-here c =
-    read_as c.requires.sound c.new-blocks.result.image.now c.in-Ok.lbns.items c.new-blocks.result.lbns.now c.in-Some.header.now c.attributes.result c.count.result c.mark_of-mark.result c.requires.directory c.in-Ok.ensures.ok
-    c.new-blocks.ensures.0 (c.new-blocks.ensures.1 ∙ c.deref.ensures.value) c.in-Some.ensures.some.1 c.attributes.ensures c.count.ensures c.mark_of-mark.ensures
-
-pub entries-requires-clause-directory : goal.entries-requires-clause-directory
-entries-requires-clause-directory c = (here (goal.at.entries-requires-clause-directory c).After-mark_of-mark).directory
-
-pub entries-requires-clause-mark : goal.entries-requires-clause-mark
-entries-requires-clause-mark c = (here (goal.at.entries-requires-clause-mark c).After-mark_of-mark).inside
 
 pub returns : goal.returns
 returns c =
-    let is = here (goal.at.returns c).After-mark_of-mark in
-    IfOk-weaker c.entries.result _ _ (λ lines e. record {
-      lbns = c.in-Ok.lbns.items;
-      held = c.in-Ok.ensures.ok;
-      all = e ∙ (λ i. lines_of (names_of (is.blocks_are i) (is.mark_is i)));
-    }) c.entries.ensures
+    let I = c.args.disk.now.image.now in
+    let L = c.args.disk.now.layout.now in
+    let lbns = c.new-blocks.result.lbns.now in
+    let image : c.new-blocks.result.image.now ≡ I = c.new-blocks.ensures.0 in
+    let blocks : map (block_at c.new-blocks.result.image.now) lbns ≡ contents_of I lbns = ap (λ J. map (block_at J) lbns) image in
+    let size : c.count.result ≡ length lbns = c.count.ensures ∙ length-map lbns (block_at c.new-blocks.result.image.now) in
+    let mark : c.mark_of-mark.result ≡ mark_at I L c.args.number lbns =
+    c.mark_of-mark.ensures ∙ (λ i. mark_in ((c.attributes.ensures ∙ ap attributes_of c.in-Some.ensures.some.1) i) (size i)) in
+    let front : lbns ≡ up_to_end (length I) c.in-Some-2.reached.blocks.items =
+    c.new-blocks.ensures.1 ∙ c.up_to_end-there.ensures.front ∙ (λ i. up_to_end (c.len.ensures.value i) (c.deref.ensures.value i)) in
+    record {
+      lbns = lbns;
+      there = record { blocks = c.in-Some-2.reached.blocks.items; whole = c.in-Some-2.reached.is_whole; reached = rw c.in-Some-2.is at c.in_ok-reached.ensures.some; front = front };
+      all = c.in_ok-lines.ensures.good ∙ (λ i. good_lines (used_entries (blocks i) (mark i)));
+    }

@@ -28,10 +28,10 @@ stopped c =
     subst (λ f. IsStop c.args.disk.now.image.now c.args.disk.now.layout.now f c.directories.pile.items c.directories.lines.items c.next_directory.new.pile.items c.next_directory.new.lines.items c.in-Some.line) c.deref.ensures.value
     (subst (λ r. IfSome r (IsStop c.args.disk.now.image.now c.args.disk.now.layout.now c.deref.result.now c.directories.pile.items c.directories.lines.items c.next_directory.new.pile.items c.next_directory.new.lines.items)) c.in-Some.is c.in_ok-line.ensures.some)
 
-pub put_lines-requires-in-Some-clause-directory : goal.put_lines-requires-in-Some-clause-directory
-put_lines-requires-in-Some-clause-directory c =
+pub put_lines-requires-in-Some : goal.put_lines-requires-in-Some
+put_lines-requires-in-Some c =
     let u = c.directories.invariant in
-    ((stopped (goal.at.put_lines-requires-in-Some-clause-directory c).In-Some).into u.entered u.are).0.file
+    ((stopped (goal.at.put_lines-requires-in-Some c).In-Some).into u.entered u.are).0.file
 
 pub directories-smaller : goal.directories-smaller
 directories-smaller c =
