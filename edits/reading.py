@@ -79,16 +79,23 @@ def functions_of(folder, file):
     return found
 
 
+@functools.lru_cache(None)
+def contracts_of(top):
+    """Returns for each name of a function in the crates the heads of the functions of that name."""
+    found = collections.defaultdict(list)
+    for file in top.glob("crates/*/src/**/*.rt"):
+        lines, folder = file.read_text("utf-8").split("\n"), top.joinpath(*file.relative_to(top).parts[:2])
+        for it in functions_of(folder, str(file.relative_to(folder))):
+            found[it.name.rpartition("::")[2]].append("\n".join(lines[it.first - 1 : it.body]))
+    return found
+
+
 def clause_fault(clause, top):
     """Returns why the words behind `clause:` name no clause, if they do not."""
     name, _, word = clause.partition(" ")
-    for file in top.glob("crates/*/src/**/*.rt"):
-        text, folder = file.read_text("utf-8"), top.joinpath(*file.relative_to(top).parts[:2])
-        for it in functions_of(folder, str(file.relative_to(folder))) if f"fn {name}" in text else []:
-            contract = "\n".join(text.split("\n")[it.first - 1 : it.body])
-            is_there = word in ("ends", "safe", "trait", "loop", "invariant") or re.search(rf" ({word}|ensures {word}|requires {word}) {{", contract)
-            if is_there and name == it.name.rpartition("::")[2]:
-                return None
+    is_there = word in ("ends", "safe", "trait", "loop", "invariant")
+    if any(is_there or re.search(rf" ({word}|ensures {word}|requires {word}) {{", it) for it in contracts_of(top)[name]):
+        return None
     return f"no function {name} has a clause {word}" if clause else "it has no line 'clause:'"
 
 
