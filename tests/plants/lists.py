@@ -61,6 +61,11 @@ changed("edits/try", "an edit without a clause", rf"FAILED {EDIT}: BAD EDIT: it 
 changed("edits/try", "an edit of no change", rf"FAILED {EDIT}: BAD EDIT: it is not made of 'old:' lines", Change(EDIT, "^new: .*\n", ""),
         line=LIST)
 
+changed("tests/stands", "a sum that leaves out what a name leads to", "FAILED the contract of a function below leaves the sum",
+        Change("edits/stands.py", r" \+ item\[2\]", ""))
+changed("tests/stands", "a sum that takes comments too", "FAILED a comment changes the sum",
+        Change("edits/stands.py", r'if not it\.lstrip\(\)\.startswith\("//"\)\)', "if it)"))
+
 spoiled("dist/compare", "a byte of a program", DIST + SPOILED + SUMMED + "dist/compare", "dist: f11 is not the one that these sources make")
 spoiled("dist/compare", "a byte of a program, of which the sum says so", DIST + SUMMED + SPOILED + "dist/compare",
         "dist: f11 is not the one that these sources make")
