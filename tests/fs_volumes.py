@@ -126,7 +126,7 @@ def second_master_volume() -> Volume:
 def index_volume(places: Sequence[int], free: Sequence[int] = (), blocks: int = 80) -> Volume:
     """A volume with these blocks of INDEXF.SYS; `free` are those that are not its own any more."""
     volume = Volume(blocks)
-    volume.directory(4, "000000.DIR;1", *entries("000000.DIR;1 4,4 NOTES.TXT;1 9,1"))
+    volume.directory(4, "000000.DIR;1", *entries(f"000000.DIR;1 4,4 {RESERVED} NOTES.TXT;1 9,1"))
     volume.file(9, "NOTES.TXT;1", variable(b"first"), control=2, size=5)
     volume.file(1, "INDEXF.SYS;1", places=places, kind=1, data=None)
     for lbn in free:

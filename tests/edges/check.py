@@ -98,3 +98,66 @@ def a_mark_of_0_hides_entries(room: Room) -> None:
 def a_mark_behind_all_entries_hides_none(room: Room) -> None:
     _, output, _ = room.run("disk", "check", "--all")
     equal(b"behind its end" in output, False, "check --all")
+
+
+def told(room: Room, *lines: str) -> None:
+    """`check --all` prints these lines and no other, in this order, and `check` counts them."""
+    equal(room.run("disk", "check", "--all"), (7, "".join(f"{line}\n" for line in lines).encode(), b""), "check --all")
+    many = f"{len(lines)} findings" if len(lines) > 1 else "1 finding"
+    status, output, _ = room.run("disk", "check")
+    equal((status, output.startswith(f"{many} that a mount does not refuse".encode())), (7, True), "check")
+
+
+@row(image=lambda: plain_volume().bytes(used=[60, 65, 66, 68, 77, 78, 79]))
+def used_blocks_are_told_as_runs(room: Room) -> None:
+    told(
+        room,
+        "block 60 is marked as used and no file holds it",
+        "blocks 65 to 66 are marked as used and no file holds them",
+        "block 68 is marked as used and no file holds it",
+        "blocks 77 to 79 are marked as used and no file holds them",
+    )
+
+
+@row(image=lambda: plain_volume(blocks=300).bytes(used=range(250, 262)))
+def a_place_of_a_home_block_parts_a_run(room: Room) -> None:
+    told(
+        room,
+        "blocks 250 to 255 are marked as used and no file holds them",
+        "blocks 257 to 261 are marked as used and no file holds them",
+    )
+
+
+@row(image=lambda: plain_volume(flags=0o200 << 8).bytes())
+def a_file_marked_for_deletion_is_told(room: Room) -> None:
+    told(room, "file 9,1 is marked for deletion")
+
+
+@row(image=lambda: plain_volume(flags=0o100).bytes())
+def a_locked_file_is_told(room: Room) -> None:
+    told(room, "file 9,1 is locked")
+
+
+@row(image=lambda: plain_volume(flags=0x7FBF).bytes())
+def other_characteristics_are_no_finding(room: Room) -> None:
+    equal(room.run("disk", "check", "--all")[:2], (0, b"sound\n"), "check --all")
+
+
+def unnamed(entry: int, number: int = 0) -> bytes:
+    """The plain volume, of whose master directory this entry names another file, or none. The entry of file 4 is the first, of file 1 the third."""
+    return changed(plain_volume().bytes(), 45, 16 * entry, struct.pack("<HH", number, number), has_sum=False)
+
+
+@row(image=lambda: unnamed(2))
+def an_index_file_without_a_name_is_told(room: Room) -> None:
+    told(room, "the master directory does not name file 1 as INDEXF.SYS")
+
+
+@row(image=lambda: unnamed(3, 5))
+def another_file_with_the_name_of_the_bitmap_is_told(room: Room) -> None:
+    told(room, "the master directory does not name file 2 as BITMAP.SYS")
+
+
+@row(image=lambda: unnamed(0, 3))
+def a_master_directory_that_does_not_name_itself_is_told(room: Room) -> None:
+    told(room, "the master directory does not name file 4 as 000000.DIR")

@@ -17,3 +17,8 @@ pub mod HeldPlaces
 pub mod Walks
 pub mod Turning
 pub mod Stamping
+pub mod Running
+pub mod UnheldLines
+pub mod RisingRuns
+pub mod SameWords
+pub mod NamedLines

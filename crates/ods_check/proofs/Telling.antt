@@ -1,5 +1,5 @@
 -- When the faults of a volume as a whole are true, and are told.
-use Rattle.std.proofs.Common.{◌≡◌, ℕ, Bool, true, false, ◌<◌, ◌≤◌, List, [], length, inl, inr, refl, ap, arith}
+use Rattle.std.proofs.Common.{◌≡◌, ℕ, Bool, true, false, ◌<◌, ◌≤◌, List, [], length, inl, inr, refl, sym, subst, ap, arith}
 use Rattle.std.specs.Prelude.{IsTrue, MatchBool}
 use Rattle.ods_space.specs.Layout.{VolumeLayout}
 use Rattle.ods_space.specs.Chain.{index_for}
@@ -85,3 +85,8 @@ none_to_tell I L others faults s = record {
 pub match_as : (b : Bool) (P Q : Type 0) → (P → Q) → (Q → P) → MatchBool b P (¬ P) → MatchBool b Q (¬ Q)
 match_as true P Q to from h = to h
 match_as false P Q to from h = λ q. h (from q)
+
+-- a test of a file's header, which is that of the block at hand
+pub told_of_header : (b : Bool) (F : Type 0) (P : List ℕ → Type 0) (block header : List ℕ) → F → block ≡ header → MatchBool b (P block) (¬ P block) → MatchBool b (F × P header) (¬ (F × P header))
+told_of_header true F P block header file same h = (file, subst P same h)
+told_of_header false F P block header file same h = λ t. h (subst P (sym same) t.1)

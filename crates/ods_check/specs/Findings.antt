@@ -1,11 +1,11 @@
 -- What a mount does not refuse, of a volume that has a layout, sound or not: what each finding says, and that all of a kind are told.
-use Rattle.std.specs.Prelude.{◌≡◌, ◌≢◌, ℕ, ◌+◌, ◌-◌, ◌*◌, ◌^◌, ◌<◌, ◌≤◌, ◌==◌, IsTrue, Bool, true, false, List, [], length, slice_get, Some, if◌then◌else◌}
-use Rattle.std.specs.List.{All, Contains}
+use Rattle.std.specs.Prelude.{◌≡◌, ◌≢◌, ℕ, ◌+◌, ◌-◌, ◌*◌, ◌/◌, ◌%◌, ◌^◌, ◌<◌, ◌≤◌, ◌==◌, IsTrue, Bool, true, false, List, [], ◌∷◌, ◌++◌, ◌⊎◌, length, slice_get, Some, if◌then◌else◌}
+use Rattle.std.specs.List.{All, Contains, flat_map}
 use Rattle.ods_base.specs.declared.file_id.FileId.{FileId}
 use Rattle.ods_base.specs.declared.listed.Listed.{Listed}
 use Rattle.ods_base.specs.Names.{lines_of}
 use Rattle.ods_header.specs.declared.header.HeaderFault.TheVariants as fault
-use Rattle.ods_header.specs.Header.{IsValidHeader, IsFirstFault, segment_of, sequence_of, attributes_of}
+use Rattle.ods_header.specs.Header.{IsValidHeader, IsFirstFault, segment_of, sequence_of, user_char_of, system_char_of, attributes_of}
 use Rattle.ods_header.specs.Home.{IsHomePlace}
 use Rattle.ods_space.specs.Layout.{VolumeLayout, header_at, is_in_use}
 use Rattle.ods_space.specs.Files.{IsFile, HasBlocks, Holds}
@@ -18,8 +18,9 @@ use Rattle.ods_mount.specs.Checks.{HasHeader}
 use Rattle.ods_check.specs.declared.finding.NoHeader.{NoHeader}
 use Rattle.ods_check.specs.declared.finding.NoHeader.TheVariants.{NoBlock, Checksum, Number, Level, Areas, Format}
 use Rattle.ods_check.specs.declared.finding.Finding.{Finding}
-use Rattle.ods_check.specs.declared.finding.Finding.TheVariants.{BadHeader, LostHeader, HeldByNone, NamesNone, LostFile, EndPast, HiddenEntries}
+use Rattle.ods_check.specs.declared.finding.Finding.TheVariants.{BadHeader, LostHeader, HeldByNone, RunHeldByNone, NamesNone, LostFile, EndPast, HiddenEntries, MarkedDeleted, Locked, Unnamed}
 use Rattle.ods_directory.specs.Hidden.{HasHidden}
+use Rattle.ods_check.specs.Runs.{IsRun, AreRising}
 
 -- There is no valid header n: it has no block, or this is the first check of it that fails.
 abbrev pub IsWithout : List (List ℕ) → VolumeLayout → ℕ → NoHeader → Type 0
@@ -50,6 +51,14 @@ pub record IsHeldByNone (I : List (List ℕ)) (L : VolumeLayout) (b : ℕ) : Typ
   pub other : b ≢ 0
   pub place : ¬ IsHomePlace b
   pub none : (m v : ℕ) → ¬ Holds I L m v b
+
+-- LBNs first to last are held by none, and neither the LBN before them nor the one behind them
+abbrev pub IsUnheldRun : List (List ℕ) → VolumeLayout → ℕ → ℕ → Type 0
+IsUnheldRun I L first last = IsRun (IsHeldByNone I L) first last
+
+-- the finding of a run of blocks that none holds, or of one such block
+abbrev pub unheld_line : ℕ → ℕ → Finding
+unheld_line first last = if first == last then HeldByNone first else RunHeldByNone first last
 
 -- the ID of header n: its number, and the sequence number that it has
 abbrev pub id_at : List (List ℕ) → VolumeLayout → ℕ → FileId
@@ -142,26 +151,90 @@ pub record IsHiding (I : List (List ℕ)) (L : VolumeLayout) (n : ℕ) : Type 0 
   pub has : HasBlocks I L n blocks
   pub hidden : HasHidden (contents_of I blocks) (mark_at I L n blocks)
 
+-- 200 octal is set in H.SCHA of this header
+abbrev pub SaysDeleted : List ℕ → Type 0
+SaysDeleted header = system_char_of header / 128 % 2 ≡ 1
+
+-- 100 octal is set in H.UCHA of this header
+abbrev pub SaysLocked : List ℕ → Type 0
+SaysLocked header = user_char_of header / 64 % 2 ≡ 1
+
+-- file n is marked for deletion
+abbrev pub IsMarkedDeleted : List (List ℕ) → VolumeLayout → ℕ → Type 0
+IsMarkedDeleted I L n = IsFile I L n × SaysDeleted (header_at I L n)
+
+-- file n is locked
+abbrev pub IsLocked : List (List ℕ) → VolumeLayout → ℕ → Type 0
+IsLocked I L n = IsFile I L n × SaysLocked (header_at I L n)
+
+-- n is the number of INDEXF.SYS, BITMAP.SYS or 000000.DIR
+abbrev pub IsSystemFile : ℕ → Type 0
+IsSystemFile n = (n ≡ 1) ⊎ ((n ≡ 2) ⊎ (n ≡ 4))
+
+-- the Radix-50 words of their names, the type last: INDEXF.SYS is file 1, BITMAP.SYS is file 2, 000000.DIR is file 4
+abbrev pub system_words : ℕ → List ℕ
+system_words n =
+    if n == 1 then 14964 ∷ 8966 ∷ 0 ∷ 31419 ∷ []
+    else if n == 2 then 3580 ∷ 20856 ∷ 0 ∷ 31419 ∷ []
+    else 49230 ∷ 49230 ∷ 0 ∷ 6778 ∷ []
+
+-- the line has a name of these words, in whatever version, and names the file of this number and sequence number
+abbrev pub IsLineOf : List ℕ → ℕ → ℕ → Listed → Type 0
+IsLineOf words number sequence line = (line.name.words ++ line.name.ext ∷ [] ≡ words) × (line.file.number ≡ number) × (line.file.sequence ≡ sequence)
+
+-- File n is INDEXF.SYS, BITMAP.SYS or 000000.DIR. The names of the master directory are read, and none of its lines has that name and names the file.
+pub record IsUnnamed (I : List (List ℕ)) (L : VolumeLayout) (n : ℕ) : Type 0 where
+  pub system : IsSystemFile n
+  pub file : IsFile I L n
+  pub read : IsRead I L 4
+  pub none : (line : Listed) → HasName I L 4 line → ¬ IsLineOf (system_words n) n (sequence_of (header_at I L n)) line
+
 -- what is found is so
 abbrev pub IsFound : List (List ℕ) → VolumeLayout → Finding → Type 0
 IsFound I L (BadHeader n why) = IsBadHeader I L n why
-IsFound I L (HeldByNone b) = IsHeldByNone I L b
+IsFound I L (HeldByNone b) = IsUnheldRun I L b b
+IsFound I L (RunHeldByNone first last) = (first < last) × IsUnheldRun I L first last
 IsFound I L (NamesNone d line) = IsNamingNone I L d line
 IsFound I L (LostFile id) = IsLostFile I L id.number × (id ≡ id_at I L id.number)
 IsFound I L (LostHeader id) = IsLostHeader I L id.number × (id ≡ id_at I L id.number)
 IsFound I L (EndPast id) = IsEndPast I L id.number × (id ≡ id_at I L id.number)
 IsFound I L (HiddenEntries n) = IsHiding I L n
+IsFound I L (MarkedDeleted id) = IsMarkedDeleted I L id.number × (id ≡ id_at I L id.number)
+IsFound I L (Locked id) = IsLocked I L id.number × (id ≡ id_at I L id.number)
+IsFound I L (Unnamed n) = IsUnnamed I L n
+
+-- the first and the last block of the run that a finding tells of
+abbrev pub run_of : Finding → List (ℕ × ℕ)
+run_of (HeldByNone b) = (b, b) ∷ []
+run_of (RunHeldByNone first last) = (first, last) ∷ []
+run_of _ = []
+
+-- the runs that findings tell of, in their order
+abbrev pub runs_of : List Finding → List (ℕ × ℕ)
+runs_of findings = flat_map run_of findings
+
+-- what is found is so, and is no run of blocks
+abbrev pub IsOtherFound : List (List ℕ) → VolumeLayout → Finding → Type 0
+IsOtherFound I L finding = IsFound I L finding × (run_of finding ≡ [])
 
 -- where number n is in use and has no valid header, that is among the findings
 abbrev pub TellsHeader : List (List ℕ) → VolumeLayout → ℕ → List Finding → Type 0
 TellsHeader I L n findings = IsTrue (is_in_use I L.home n) → ¬ IsValidHeader (header_at I L n) n → (why : NoHeader) × Contains findings (BadHeader n why)
 
--- Whatever there is to find is among the findings; lost files where they are wanted.
+-- among the findings is a run that LBN b is in
+abbrev pub TellsUnheld : List Finding → ℕ → Type 0
+TellsUnheld findings b = (first last : ℕ) × (first ≤ b) × (b ≤ last) × Contains findings (unheld_line first last)
+
+-- Whatever there is to find is among the findings, each run of blocks once and in order; lost files where they are wanted.
 pub record FindsAll (I : List (List ℕ)) (L : VolumeLayout) (with_lost : Bool) (findings : List Finding) : Type 0 where
   pub headers : (n : ℕ) → n < 65536 → TellsHeader I L n findings
   pub lost_headers : (n : ℕ) → IsLostHeader I L n → Contains findings (LostHeader (id_at I L n))
-  pub unheld : (b : ℕ) → IsHeldByNone I L b → Contains findings (HeldByNone b)
+  pub unheld : (b : ℕ) → IsHeldByNone I L b → TellsUnheld findings b
+  pub rising : AreRising (runs_of findings)
   pub names : (d : ℕ) (line : Listed) → IsNamingNone I L d line → Contains findings (NamesNone d line)
   pub lost : with_lost ≡ true → (n : ℕ) → IsLostFile I L n → Contains findings (LostFile (id_at I L n))
   pub ends : (n : ℕ) → IsEndPast I L n → Contains findings (EndPast (id_at I L n))
   pub hidden : (n : ℕ) → IsHiding I L n → Contains findings (HiddenEntries n)
+  pub marked : (n : ℕ) → IsMarkedDeleted I L n → Contains findings (MarkedDeleted (id_at I L n))
+  pub locked : (n : ℕ) → IsLocked I L n → Contains findings (Locked (id_at I L n))
+  pub unnamed : (n : ℕ) → IsUnnamed I L n → Contains findings (Unnamed n)

@@ -6,3 +6,4 @@ pub mod Marks
 pub mod Findings
 pub mod Holders
 pub mod Turns
+pub mod Runs

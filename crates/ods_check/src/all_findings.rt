@@ -6,13 +6,16 @@ ghost use Rattle.ods_check.specs.declared.finding.Finding.{Finding as Line};
 ghost use Rattle.ods_check.specs.Findings.{IsFound, FindsAll, TellsHeader};
 ghost use Rattle.ods_space.specs.Disks.{on};
 
+use crate::characteristics::{Locked, MarkedDeleted};
 use crate::ends::PastEnds;
 use crate::headers::push_bad_headers;
 use crate::hidden::Hiding;
 use crate::lost_headers::{LostHeaders, reached_headers};
 use crate::naming::push_naming;
 use crate::sweep::push_each;
-use crate::unheld::{Unheld, held_blocks};
+use crate::unheld::held_blocks;
+use crate::unheld_runs::push_unheld;
+use crate::unnamed::master_names;
 use crate::{Finding, Told};
 use ods_space::Disk;
 use std::alloc::{AllocError, Global};
@@ -20,12 +23,15 @@ use std::alloc::{AllocError, Global};
 /// What a mount does not refuse, of a volume with this layout, sound or not:
 ///
 /// - each number in use that has no valid header, and each valid extension header that no file has;
-/// - each block that is marked used and that no file holds;
+/// - each run of blocks that are marked used and that no file holds;
 /// - each name that names no file, and, where these are wanted, each file above 5 that no name names;
-/// - each file that ends past its blocks, and each directory with used entries behind its end.
+/// - each file that ends past its blocks, and each directory with used entries behind its end;
+/// - each file that is marked for deletion, and each that is locked;
+/// - INDEXF.SYS, BITMAP.SYS and 000000.DIR, where the master directory does not name them.
 ///
-/// Each finding is so, and each thing of these kinds is found; the first ones, at most `most`, are kept. Of a file whose chain is
-/// not whole no blocks are known, and of a directory whose entries are not good and distinct no names.
+/// Each finding is so, and each thing of these kinds is found; each run of blocks once, and in order. The first ones, at most `most`,
+/// are kept. Of a file whose chain is not whole no blocks are known, and of a directory whose entries are not good and distinct no
+/// names.
 pub fn findings(
     alloc: Global,
     disk: &Disk<'_>,
@@ -42,10 +48,14 @@ pub fn findings(
     let reached = reached_headers(alloc, disk)?;
     push_each(alloc, disk, &LostHeaders { reached }, &mut found)?;
     let held = held_blocks(alloc, disk)?;
-    push_each(alloc, disk, &Unheld { held }, &mut found)?;
+    push_unheld(disk, &held, &mut found)?;
     push_naming(alloc, disk, with_lost, &mut found)?;
     push_each(alloc, disk, &PastEnds, &mut found)?;
     push_each(alloc, disk, &Hiding, &mut found)?;
+    push_each(alloc, disk, &MarkedDeleted, &mut found)?;
+    push_each(alloc, disk, &Locked, &mut found)?;
+    let master = master_names(alloc, disk)?;
+    push_each(alloc, disk, &master, &mut found)?;
     Ok(found)
 }
 

@@ -31,9 +31,12 @@ pub enum Finding {
     /// The index bit of this number says that it is in use, and its header is not valid.
     #[error("file number {0} is marked as used and has no header: {1}")]
     BadHeader(u16, NoHeader),
-    /// The storage bit of this block says that it is used, and no file holds it.
+    /// The storage bit of this block says that it is used, and no file holds it. It is alone: of the blocks beside it this is not so.
     #[error("block {0} is marked as used and no file holds it")]
     HeldByNone(u32),
+    /// So it is with each block from the first to the last of these, and not with the blocks beside them.
+    #[error("blocks {0} to {1} are marked as used and no file holds them")]
+    RunHeldByNone(u32, u32),
     /// A name in this directory names no file.
     #[error("directory {0} has {name}, which names {number},{sequence}, and that is no file", name = print_name(&.1.name, .1.version), number = .1.file.number, sequence = .1.file.sequence)]
     NamesNone(u16, Listed),
@@ -49,4 +52,22 @@ pub enum Finding {
     /// Behind the end of this directory stand used entries.
     #[error("directory {0} has used entries behind its end")]
     HiddenEntries(u16),
+    /// H.SCHA of this file has 200 octal.
+    #[error("file {number},{sequence} is marked for deletion", number = .0.number, sequence = .0.sequence)]
+    MarkedDeleted(FileId),
+    /// H.UCHA of this file has 100 octal.
+    #[error("file {number},{sequence} is locked", number = .0.number, sequence = .0.sequence)]
+    Locked(FileId),
+    /// The master directory has no line that has the name of this file, INDEXF.SYS, BITMAP.SYS or 000000.DIR, and names it.
+    #[error("the master directory does not name file {0} as {name}", name = system_name(*.0))]
+    Unnamed(u16),
+}
+
+/// The name of a file of the system in the master directory.
+fn system_name(number: u16) -> &'static str {
+    match number {
+        1 => "INDEXF.SYS",
+        2 => "BITMAP.SYS",
+        _ => "000000.DIR",
+    }
 }

@@ -2,7 +2,7 @@
 ghost use Rattle.std.specs.Prelude.{◌≡◌, ◌<◌, ℕ, IsTrue, IfSome, IfNone, OnOk};
 ghost use Rattle.ods_header.specs.Header.{IsValidHeader};
 ghost use Rattle.ods_space.specs.Layout.{is_in_use};
-ghost use Rattle.ods_check.specs.{Lists.Adds, Findings.IsWithout, Findings.IsFound, Findings.TellsHeader};
+ghost use Rattle.ods_check.specs.{Lists.Adds, Findings.IsWithout, Findings.IsOtherFound, Findings.TellsHeader};
 ghost use Rattle.ods_space.specs.Disks.{header_on, on};
 
 use crate::numbers::header_end;
@@ -16,7 +16,7 @@ pub(crate) fn push_bad_headers(
     disk: &Disk<'_>,
     findings: &mut Told<Finding>,
 ) -> Result<(), AllocError>
-    ensures adds { OnOk result (Adds (on IsFound disk.now) findings.old findings.new) }
+    ensures adds { OnOk result (Adds (on IsOtherFound disk.now) findings.old findings.new) }
     ensures all { OnOk result ((n : ℕ) → n < 65536 → on TellsHeader disk.now n findings.new.0) }
 {
     for number in 0..header_end(disk) {
@@ -31,7 +31,7 @@ fn push_bad_header(
     number: u16,
     findings: &mut Told<Finding>,
 ) -> Result<(), AllocError>
-    ensures adds { OnOk result (Adds (on IsFound disk.now) findings.old findings.new) }
+    ensures adds { OnOk result (Adds (on IsOtherFound disk.now) findings.old findings.new) }
     ensures told { OnOk result (on TellsHeader disk.now number findings.new.0) }
 {
     if !in_use(disk, number) {

@@ -5,6 +5,7 @@ mod add;
 mod all_findings;
 mod before;
 mod chains;
+mod characteristics;
 mod counting;
 mod directory;
 mod ends;
@@ -29,6 +30,8 @@ mod sweep;
 mod system;
 mod told;
 mod unheld;
+mod unheld_runs;
+mod unnamed;
 mod whole;
 mod whole_chain;
 

@@ -4,7 +4,7 @@ ghost use Rattle.std.specs.List.{All, Contains};
 ghost use Rattle.ods_base.specs.declared.listed.Listed.{Listed as Line};
 ghost use Rattle.ods_space.specs.Files.{IsLayoutOf};
 ghost use Rattle.ods_mount.specs.Tables.{has};
-ghost use Rattle.ods_check.specs.{Lists.Adds, Sets.IsSetOf, Findings.IsFound, Findings.HasName, Findings.NamesFile, Findings.NamesAt, Findings.IsNumberOf, Findings.IsIdOfFile, Findings.IsNamingNone, Findings.IsLostFile, Findings.id_at};
+ghost use Rattle.ods_check.specs.{Lists.Adds, Sets.IsSetOf, Findings.IsOtherFound, Findings.HasName, Findings.NamesFile, Findings.NamesAt, Findings.IsNumberOf, Findings.IsIdOfFile, Findings.IsNamingNone, Findings.IsLostFile, Findings.id_at};
 ghost use Rattle.ods_space.specs.Disks.{on, seen};
 
 use crate::ids::id_of;
@@ -25,7 +25,7 @@ pub(crate) fn push_naming(
     findings: &mut Told<Finding>,
 ) -> Result<(), AllocError>
     requires { on IsLayoutOf disk.now }
-    ensures adds { OnOk result (Adds (on IsFound disk.now) findings.old findings.new) }
+    ensures adds { OnOk result (Adds (on IsOtherFound disk.now) findings.old findings.new) }
     ensures names { OnOk result ((d : ℕ) (line : Line) → on IsNamingNone disk.now d line → Contains findings.new.0 (Finding.NamesNone d line)) }
     ensures lost { OnOk result (with_lost ≡ true → (n : ℕ) → on IsLostFile disk.now n → Contains findings.new.0 (Finding.LostFile (seen id_at disk.now n))) }
 {
@@ -100,7 +100,7 @@ fn push_names(
 ) -> Result<(), AllocError>
     requires layout { on IsLayoutOf disk.now }
     requires room { 65536 ≤ 64 * length named.old }
-    ensures adds { OnOk result (Adds (on IsFound disk.now) findings.old findings.new) }
+    ensures adds { OnOk result (Adds (on IsOtherFound disk.now) findings.old findings.new) }
     ensures names { OnOk result ((line : Line) → on IsNamingNone disk.now directory line → Contains findings.new.0 (Finding.NamesNone directory line)) }
     ensures named { OnOk result (IsSetOf (λ n. (has named.old n ≡ true) ⊎ on NamesFile disk.now directory n) named.new) }
     ensures room { length named.new ≡ length named.old }
@@ -120,7 +120,7 @@ fn push_lines(
 ) -> Result<(), AllocError>
     requires lines { All (on HasName disk.now directory) lines.now }
     requires room { 65536 ≤ 64 * length named.old }
-    ensures adds { OnOk result (Adds (on IsFound disk.now) findings.old findings.new) }
+    ensures adds { OnOk result (Adds (on IsOtherFound disk.now) findings.old findings.new) }
     ensures names { OnOk result ((i : ℕ) (line : Line) → slice_get lines.now i ≡ Some line
         → ¬ on IsIdOfFile disk.now line.file
         → Contains findings.new.0 (Finding.NamesNone directory line)) }
@@ -143,7 +143,7 @@ fn push_line(
 ) -> Result<(), AllocError>
     requires line { on HasName disk.now directory line.now }
     requires room { 65536 ≤ 64 * length named.old }
-    ensures adds { OnOk result (Adds (on IsFound disk.now) findings.old findings.new) }
+    ensures adds { OnOk result (Adds (on IsOtherFound disk.now) findings.old findings.new) }
     ensures told { OnOk result (¬ on IsIdOfFile disk.now line.now.file → Contains findings.new.0 (Finding.NamesNone directory line.now)) }
     ensures named { OnOk result (IsSetOf (λ n. (has named.old n ≡ true) ⊎ on IsNumberOf disk.now line.now n) named.new) }
     ensures room { length named.new ≡ length named.old }

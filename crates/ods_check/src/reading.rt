@@ -26,7 +26,7 @@ pub fn are_all_read(alloc: Global, disk: &Disk<'_>) -> Result<bool, AllocError>
 }
 
 /// Whether this is no directory, or one with a whole chain and with neither a bad entry nor two of one name.
-fn is_read(alloc: Global, disk: &Disk<'_>, number: u16) -> Result<bool, AllocError>
+pub(crate) fn is_read(alloc: Global, disk: &Disk<'_>, number: u16) -> Result<bool, AllocError>
     requires { on IsLayoutOf disk.now }
     ensures { IfOk result (λ read. MatchBool read (on IsRead disk.now number) (¬ on IsRead disk.now number)) }
 {

@@ -6,51 +6,14 @@ ghost use Rattle.ods_mount.specs.Tables.{has};
 ghost use Rattle.ods_check.specs.{Sets.IsSetOf, Findings.HasBlock, Findings.IsHeldByNone, Findings.IsMarkedUsed};
 ghost use Rattle.ods_space.specs.Disks.{on};
 
-use crate::Finding;
 use crate::numbers::file_end;
-use crate::sweep::Sought;
 use crate::whole_chain::whole_chain;
 use ods_mount::{NumberSet, is_home_place};
 use ods_space::{Disk, is_free};
 use std::alloc::{AllocError, Global};
 
-/// Blocks that are marked used, that no file holds, and that are no places of a home block.
-#[derive(Drop)]
-pub(crate) struct Unheld {
-    /// The blocks that files with whole chains hold.
-    pub held: NumberSet,
-}
-
-impl Sought for Unheld {
-    ghost use Rattle.std.specs.Prelude.{ℕ};
-    ghost use Rattle.ods_check.specs.{Sets.IsSetOf, Findings.HasBlock, Findings.IsHeldByNone};
-    ghost use Rattle.ods_check.specs.declared.finding.Finding.{Finding};
-
-    type Line = Finding;
-
-    ghost most = { 4294967296 };
-
-    ghost fits = { λ s I L. IsSetOf (λ b. (m : ℕ) × HasBlock I L m b) s.held };
-
-    ghost is = { λ _. IsHeldByNone };
-
-    ghost line_of = { λ _ _. Finding.HeldByNone };
-
-    fn end(&self, disk: &Disk<'_>) -> u32 {
-        disk.image.len()
-    }
-
-    fn holds(&self, _alloc: Global, disk: &Disk<'_>, number: u32) -> Result<bool, AllocError> {
-        Ok(is_unheld(disk, &self.held, number))
-    }
-
-    fn line(&self, _disk: &Disk<'_>, number: u32) -> Finding {
-        Finding::HeldByNone(number)
-    }
-}
-
 /// Whether the block is marked used, no file holds it, and it is no place of a home block. `held` has what files hold.
-fn is_unheld(disk: &Disk<'_>, held: &NumberSet, lbn: u32) -> bool
+pub(crate) fn is_unheld(disk: &Disk<'_>, held: &NumberSet, lbn: u32) -> bool
     requires { IsSetOf (λ b. (m : ℕ) × on HasBlock disk.now m b) held.now }
     ensures { MatchBool result (on IsHeldByNone disk.now lbn) (¬ on IsHeldByNone disk.now lbn) }
 {

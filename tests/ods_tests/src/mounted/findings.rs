@@ -52,6 +52,7 @@ fn samples_have_none(rt: HostRuntime) -> Result<(), Fail> {
 fn each_kind_is_found(rt: HostRuntime) -> Result<(), Fail> {
     let file = FileHeader {
         attributes: directory_attributes(1, 3, 0),
+        user_char: 0o100,
         ..added(6, a_txt())
     };
     let volume = Variant {
@@ -60,7 +61,7 @@ fn each_kind_is_found(rt: HostRuntime) -> Result<(), Fail> {
             (10, added(8, a_txt()).second().mapping(&[])),
         ],
         index_bits: &[(9, true), (10, true)],
-        storage_bits: &[(30, false)],
+        storage_bits: &[(30, false), (32, false), (33, false)],
         // A word of header 10, and the sequence number in the first entry of the master directory.
         bytes: &[(12, 0, 1), (21, 2, 9)],
         ..sample_of(40)
@@ -70,9 +71,12 @@ fn each_kind_is_found(rt: HostRuntime) -> Result<(), Fail> {
         "file number 10 is marked as used and has no header: checksum",
         "header 8,1 is an extension header that no file reaches",
         "block 30 is marked as used and no file holds it",
+        "blocks 32 to 33 are marked as used and no file holds them",
         "directory 4 has INDEXF.SYS;1, which names 1,9, and that is no file",
         "file 6,1 is named by no directory",
         "file 6,1 ends past its blocks",
+        "file 6,1 is locked",
+        "the master directory does not name file 1 as INDEXF.SYS",
     ];
     finds(&rt, rt.alloc(), &volume, &wanted)
 }

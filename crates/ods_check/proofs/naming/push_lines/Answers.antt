@@ -1,6 +1,6 @@
 use Rattle.std.proofs.Common.{◌≡◌, Some, slice_get, sym, ap, ◌∙◌, arith}
 use Rattle.std.proofs.lemmas.Option.{slice_get_within, slice_get-get_or}
-use Rattle.ods_check.specs.Findings.{IsFound, NamesAt}
+use Rattle.ods_check.specs.Findings.{IsOtherFound, NamesAt}
 use Rattle.ods_check.proofs.Noting.{grown_more, grown_all}
 use Rattle.ods_check.proofs.Sweeping.{sweeps_more}
 use Rattle.ods_check.proofs.StillTold.{TellsLine, told_line_still}
@@ -20,7 +20,7 @@ loop-i-preserved c =
     let at : slice_get lines i ≡ Some x = slice_get-get_or lines i x c.loop-i-test.true ∙ ap Some (sym c.index-lines-i.is) in
     let told = c.in_ok-push_line.ensures in
     record {
-      told = sweeps_more (IsFound I L) (TellsLine I L d lines) c.args.findings.now mid new i (λ k. told_line_still I L mid new told.adds d lines k) c.loop-i.invariant.told told.adds (line_told I L lines i x at d new.0 told.told);
+      told = sweeps_more (IsOtherFound I L) (TellsLine I L d lines) c.args.findings.now mid new i (λ k. told_line_still I L mid new told.adds d lines k) c.loop-i.invariant.told told.adds (line_told I L lines i x at d new.0 told.told);
       named = grown_more (NamesAt I L lines) c.args.named.now i c.loop-i.named c.push_line.new.named c.loop-i.invariant.named (line_named I L lines i x at c.loop-i.named c.push_line.new.named told.named);
       room = told.room ∙ c.loop-i.invariant.room;
     }

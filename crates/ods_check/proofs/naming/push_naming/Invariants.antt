@@ -1,5 +1,5 @@
 use Rattle.std.proofs.Common.{◌*◌, ◌≤◌, length}
-use Rattle.ods_check.specs.Findings.{IsFound, NamesFile}
+use Rattle.ods_check.specs.Findings.{IsOtherFound, NamesFile}
 use Rattle.ods_check.proofs.Noting.{IsOfFiles}
 use Rattle.ods_check.proofs.Sweeping.{Sweeps}
 use Rattle.ods_check.proofs.StillTold.{TellsNames}
@@ -7,7 +7,7 @@ use Rattle.ods_check.proofs.naming.push_naming.Given as goal
 
 abbrev pub invariant-loop-number : goal.invariant-loop-number
 invariant-loop-number l = record {
-  told : Sweeps (IsFound l.fn.disk.image.now l.fn.disk.layout.now) (TellsNames l.fn.disk.image.now l.fn.disk.layout.now) l.initial.findings l.findings l.number;
+  told : Sweeps (IsOtherFound l.fn.disk.image.now l.fn.disk.layout.now) (TellsNames l.fn.disk.image.now l.fn.disk.layout.now) l.initial.findings l.findings l.number;
   files : IsOfFiles (NamesFile l.fn.disk.image.now l.fn.disk.layout.now) l.number l.named;
   room : 65536 ≤ 64 * length l.named;
 }
