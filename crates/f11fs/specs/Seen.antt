@@ -5,7 +5,7 @@ use Rattle.fs_words.specs.declared.actions.Action.TheVariants as action
 
 -- the names that the command prints are its progress
 abbrev pub prints_names : Action → Bool
-prints_names (action.Rescue text) = true
+prints_names (action.Rescue text scan partial) = true
 prints_names (action.Ls long ids below) = false
 prints_names (action.Find lost) = false
 prints_names action.Stat = false

@@ -25,7 +25,11 @@ pub fn run_command<R: Host>(rt: &R, words: &Words<'_>, seen: Seen) -> Status {
     let mut progress = Progress::begin(rt, shows_progress(words, seen));
     let done = match words.action {
         Action::Check { all } => check(rt, words.image, words.blocks, all, words.json),
-        Action::Rescue { text } => rescue(rt, words, text, &mut progress),
+        Action::Rescue {
+            text,
+            scan,
+            partial,
+        } => rescue(rt, words, text, scan, partial, &mut progress),
         Action::Change(change) => change_image(rt, words, change),
         Action::Init {
             blocks,

@@ -11,3 +11,4 @@ pub mod Paths
 pub mod Host
 pub mod Folders
 pub mod Gets
+pub mod Scans

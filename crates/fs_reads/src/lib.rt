@@ -20,6 +20,7 @@ mod reading;
 mod rescue_folder;
 mod rescue_image;
 mod rescuing;
+mod scanning;
 mod showing;
 mod stop;
 mod volume;

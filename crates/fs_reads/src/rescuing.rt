@@ -9,12 +9,15 @@ use crate::host_files::{Written, write_host};
 use crate::progress::Progress;
 use crate::rescue_folder::take_folder;
 use crate::rescue_image::read_whole_blocks;
+use crate::scanning::rescue_scanned;
 use crate::stop::{Stop, send, stop_about, stop_at_own_output};
 use fs_host::{HostFault, SaveFault, Shown};
 use fs_words::Words;
 use ods_base::FileId;
 use ods_check::{Finding, bad_headers, check_first};
-use ods_shell::{Contents, Rescued, Status, open_rescued, pair_object, text_object};
+use ods_shell::{
+    Contents, Rescued, Status, open_rescued, open_rescued_part, pair_object, text_object,
+};
 use ods_space::{Disk, last_number};
 use std::alloc::Global;
 use std::collections::BTreeSet;
@@ -27,21 +30,25 @@ const FIRST: u16 = 6;
 
 /// How files are copied.
 #[derive(Clone, Copy)]
-struct How<'a> {
+pub(crate) struct How<'a> {
     /// The folder of the host that they are written to.
-    folder: &'a str,
+    pub folder: &'a str,
     /// Whether records become lines where they are whole.
-    text: bool,
+    pub text: bool,
+    /// Whether of a file that lacks headers or blocks what is there is copied.
+    pub partial: bool,
     /// Whether nothing is written, and it is told what would be.
-    only_tells: bool,
-    json: bool,
+    pub only_tells: bool,
+    pub json: bool,
 }
 
-/// `rescue` into the folder of the first word.
+/// `rescue` into the folder of the first word. With `scan`, and where no layout leads to the headers, the files are those that a scan finds.
 pub fn rescue<'a, R: Files<File = File> + Clock + AllocGlobal + Print + Eprint>(
     rt: &R,
     words: &Words<'a>,
     text: bool,
+    scan: bool,
+    partial: bool,
     progress: &mut Progress,
 ) -> Result<Status, Stop<'a>> {
     let path = words.image;
@@ -51,6 +58,7 @@ pub fn rescue<'a, R: Files<File = File> + Clock + AllocGlobal + Print + Eprint>(
     let how = How {
         folder: *folder,
         text,
+        partial,
         only_tells: words.saving.only_tells,
         json: words.json,
     };
@@ -66,15 +74,17 @@ pub fn rescue<'a, R: Files<File = File> + Clock + AllocGlobal + Print + Eprint>(
         let fault = format!(in rt.alloc(); "{fault}")?;
         say_fault(rt, path, fault.as_str(), how.json)?;
     }
-    let Some(layout) = &first.layout else {
-        return Ok(Status::Found);
-    };
-    take_folder(rt, how.folder, how.only_tells)?;
-    let disk = Disk {
-        image: &image,
-        layout,
-    };
-    Ok(status.or(rescue_all(rt, &disk, how, progress)?))
+    if !scan {
+        if let Some(layout) = &first.layout {
+            take_folder(rt, how.folder, how.only_tells)?;
+            let disk = Disk {
+                image: &image,
+                layout,
+            };
+            return Ok(status.or(rescue_all(rt, &disk, how, progress)?));
+        }
+    }
+    Ok(status.or(rescue_scanned(rt, path, &image, how, progress)?))
 }
 
 /// Copies each file, and says of which numbers there is no header.
@@ -129,7 +139,7 @@ fn say_rest<'a, R: AllocGlobal + Print>(
 }
 
 /// A line of the fault that a mount answers.
-fn say_fault<'a, R: AllocGlobal + Print>(
+pub(crate) fn say_fault<'a, R: AllocGlobal + Print>(
     rt: &R,
     path: &str,
     fault: &str,
@@ -147,7 +157,7 @@ fn say_fault<'a, R: AllocGlobal + Print>(
 }
 
 /// A line, or an object, for what is left.
-fn say_left<'a, R: AllocGlobal + Print>(
+pub(crate) fn say_left<'a, R: AllocGlobal + Print>(
     rt: &R,
     what: &str,
     why: &str,
@@ -161,6 +171,23 @@ fn say_left<'a, R: AllocGlobal + Print>(
         return send(rt, object.as_str());
     }
     send(rt, line)
+}
+
+/// A line, or an object, for a file of which something is missing, and which is copied all the same.
+pub(crate) fn say_part<'a, R: AllocGlobal + Print>(
+    rt: &R,
+    what: &str,
+    why: &str,
+    json: bool,
+) -> Result<Status, Stop<'a>>
+    ensures { IfOk result (λ s. s ≡ Code.Done) }
+{
+    let line = if json {
+        pair_object(rt.alloc(), "in_part", what, "why", why)?
+    } else {
+        format!(in rt.alloc(); "in part: {what}: {why}\n")?
+    };
+    send(rt, line.as_str())
 }
 
 /// Copies the file with this number, where its own chain is whole.
@@ -179,6 +206,18 @@ fn rescue_file<'a, R: Files<File = File> + AllocGlobal + Print + Eprint>(
         Rescued::Broken(file, fault) => {
             let what = format!(in rt.alloc(); "file {},{}", file.number, file.sequence)?;
             let why = format!(in rt.alloc(); "{fault}")?;
+            if how.partial {
+                return keep_part(
+                    rt,
+                    disk,
+                    number,
+                    how,
+                    file,
+                    what.as_str(),
+                    why.as_str(),
+                    taken,
+                );
+            }
             let line = format!(in rt.alloc(); "left: {}: {fault}\n", what.as_str())?;
             say_left(rt, what.as_str(), why.as_str(), line.as_str(), how.json)?;
             Ok(Status::Found)
@@ -187,8 +226,29 @@ fn rescue_file<'a, R: Files<File = File> + AllocGlobal + Print + Eprint>(
     }
 }
 
+/// Copies what is there of a file whose chain is not whole.
+fn keep_part<'a, R: Files<File = File> + AllocGlobal + Print + Eprint>(
+    rt: &R,
+    disk: &Disk<'_>,
+    number: u16,
+    how: How<'_>,
+    file: FileId,
+    what: &str,
+    why: &str,
+    taken: &mut BTreeSet<String>,
+) -> Result<Status, Stop<'a>>
+    ensures { IfOk result (λ s. s ≡ Code.Found) }
+{
+    let Some(part) = open_rescued_part(rt.alloc(), disk, number, how.text)? else {
+        return Ok(Status::Found);
+    };
+    say_part(rt, what, why, how.json)?;
+    keep(rt, how, file, part.name, &part.contents, taken)?;
+    Ok(Status::Found)
+}
+
 /// Writes what is got out of a file into a new file of the folder, under its name, or with its ID behind that where the name is taken.
-fn keep<'a, R: Files<File = File> + AllocGlobal + Print + Eprint>(
+pub(crate) fn keep<'a, R: Files<File = File> + AllocGlobal + Print + Eprint>(
     rt: &R,
     how: How<'_>,
     file: FileId,

@@ -32,6 +32,10 @@ block_or_zeros I lbn = if nat_lt lbn (length I) then block_at I lbn else zeros
 abbrev pub padded : List (List ℕ) → List ℕ → List (List ℕ)
 padded I lbns = map (block_or_zeros I) lbns
 
+-- the body of the blocks at these LBNs, with these attributes
+abbrev pub body_at : List (List ℕ) → List ℕ → List ℕ → Body
+body_at I lbns attributes = record { blocks = padded I lbns; attributes = attributes }
+
 -- file n has a whole chain with these blocks, and its first header has these attributes
 pub record HasBody (I : List (List ℕ)) (L : VolumeLayout) (n : ℕ) (body : Body) : Type 0 where
   pub lbns : List ℕ

@@ -1,8 +1,9 @@
 //! The body of a file: its blocks where they stand in the image, and how far its bytes go.
-ghost use Rattle.std.specs.Prelude.{◌≡◌, ◌⊎◌, ◌*◌, length, ℕ, List, Some, None, IfSome, IfNone, IfOk, IfErr, OnOk};
+ghost use Rattle.std.specs.Prelude.{◌≡◌, ◌⊎◌, ◌*◌, ◌≤◌, length, ℕ, List, Some, None, IfSome, IfNone, IfOk, IfErr, OnOk};
 ghost use Rattle.std.specs.Io.KnownBytes.{Appends};
 ghost use Rattle.ods_space.specs.Files.{IsFile, IsLayoutOf};
-ghost use Rattle.ods_files.specs.Body.{HasBody, HasPart, IsFileFault, are_zeros, size_in, bytes_in, IsCopyFault};
+ghost use Rattle.ods_space.specs.Chain.{chain_blocks};
+ghost use Rattle.ods_files.specs.Body.{HasBody, HasPart, IsFileFault, are_zeros, body_at, size_in, bytes_in, IsCopyFault};
 
 use crate::sending::{push_first, send_first};
 use crate::{CopyFault, FileFault, Form};
@@ -85,6 +86,18 @@ impl<'a> FileBody<'a> {
             attributes: attributes(first),
         };
         Ok(Some((body, reached.is_whole)))
+    }
+
+    /// The body of the blocks at these LBNs, in this order, with these attributes. Zeros stand for a block past the image.
+    pub fn of_blocks(image: &'a Image, lbns: Vec<u32>, attributes: [u8; 32]) -> FileBody<'a>
+        requires { length lbns.items ≤ chain_blocks }
+        ensures { result ≡ body_at image.now lbns.items attributes }
+    {
+        FileBody {
+            image,
+            lbns,
+            attributes,
+        }
     }
 
     /// How many blocks there are.

@@ -4,8 +4,10 @@
 mod body;
 mod fault;
 mod form;
+mod inside;
 mod sending;
 
 pub use body::FileBody;
 pub use fault::{CopyFault, FileFault};
 pub use form::Form;
+pub use inside::outside;

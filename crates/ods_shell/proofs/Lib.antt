@@ -1,4 +1,5 @@
 mod Bodies
+mod Bounds
 mod Digits
 mod Dots
 mod Flags

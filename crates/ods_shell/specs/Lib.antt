@@ -9,6 +9,7 @@ pub mod Lines
 pub mod Listed
 pub mod Named
 pub mod Rescued
+pub mod Scanned
 pub mod Shown
 pub mod Space
 pub mod Spoiled

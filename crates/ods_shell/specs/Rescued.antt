@@ -6,7 +6,7 @@ use Rattle.ods_space.specs.Layout.{VolumeLayout, header_at}
 use Rattle.ods_space.specs.Files.{IsFile}
 use Rattle.ods_space.specs.Faults.{IsChainFault}
 use Rattle.ods_space.specs.declared.fault.ChainFault.TheVariants as chain
-use Rattle.ods_files.specs.Body.{Body as Held, HasBody, bytes_in, size_in}
+use Rattle.ods_files.specs.Body.{Body as Held, HasBody, HasPart, bytes_in, size_in}
 use Rattle.ods_files.specs.declared.form.Form.TheVariants.{Binary, Raw}
 use Rattle.ods_records.specs.Attributes.{text_form_in}
 use Rattle.ods_records.specs.declared.kind.TextForm.TheVariants as text
@@ -16,6 +16,7 @@ use Rattle.ods_shell.specs.declared.form.Contents.TheVariants.{Lines, Body}
 use Rattle.ods_shell.specs.Named.{id_of}
 use Rattle.ods_shell.specs.declared.rescued.Rescued.{Rescued}
 use Rattle.ods_shell.specs.declared.rescued.Rescued.TheVariants as rescued
+use Rattle.ods_shell.specs.declared.rescued.RescuedPart.{RescuedPart}
 use Rattle.ods_shell.specs.declared.form.FormFault.{FormFault}
 use Rattle.ods_shell.specs.declared.form.FormFault.TheVariants.{NoMemory}
 
@@ -44,3 +45,12 @@ IsRescued I L n wanted rescued.Nothing = ¬ IsPlain I L n
 IsRescued I L n wanted (rescued.Broken file fault) = IsPlain I L n × (file ≡ id_of I L n) × IsChainFault I L n fault × (fault ≢ chain.NoMemory)
 IsRescued I L n wanted (rescued.Whole file name kept) =
     IsPlain I L n × (file ≡ id_of I L n) × (string_bytes name ≡ ident_text (ident_of (header_at I L n))) × (body : Held) × HasBody I L n body × IsKept wanted body kept
+
+-- What is got of the part of file n that is there: the name in its header, and what is kept of the blocks whose headers are there.
+pub record IsRescuedPart (I : List (List ℕ)) (L : VolumeLayout) (n : ℕ) (wanted : Bool) (part : RescuedPart) : Type 0 where
+  pub file : IsFile I L n
+  pub name : string_bytes part.name ≡ ident_text (ident_of (header_at I L n))
+  pub body : Held
+  pub whole : Bool
+  pub there : HasPart I L n body whole
+  pub kept : IsKept wanted body part.contents

@@ -138,7 +138,11 @@ pub(crate) fn body_of<'a>(
 }
 
 /// What is got out of a file with this body in the form that is asked for.
-fn contents_of<'a>(alloc: Global, body: FileBody<'a>, wanted: Wanted) -> Result<Got<'a>, FormFault>
+pub(crate) fn contents_of<'a>(
+    alloc: Global,
+    body: FileBody<'a>,
+    wanted: Wanted,
+) -> Result<Got<'a>, FormFault>
     ensures ok { IfOk result (λ got. (bytes : List ℕ) × ContentsAre got.contents bytes × IsGotBy wanted body.entry bytes got.remark) }
     ensures err { IfErr result (IsNotGotBy wanted body.entry) }
 {

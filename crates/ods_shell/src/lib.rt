@@ -2,6 +2,7 @@
 #![tactic(auto)]
 
 mod below;
+mod by_blocks;
 mod choosing;
 mod comparing;
 mod facts;
@@ -16,6 +17,7 @@ mod naming;
 mod path_fault;
 mod remedies;
 mod rescued;
+mod scanned;
 mod space;
 mod spoiled;
 mod stat;
@@ -24,6 +26,7 @@ mod texts;
 mod usage;
 mod ways;
 
+pub use by_blocks::contents_of_blocks;
 pub use comparing::have_same_bytes;
 pub use facts::{Facts, Kind, facts_by_id, facts_of};
 pub use find::{find_lines, lost_lines, unreached_lines};
@@ -37,7 +40,8 @@ pub use naming::Versioned;
 pub use ods_records::Wanted;
 pub use path_fault::PathFault;
 pub use remedies::{Advice, remedy};
-pub use rescued::{Rescued, open_rescued};
+pub use rescued::{Rescued, RescuedPart, open_rescued, open_rescued_part};
+pub use scanned::{HeaderName, Refound, has_its_number_beside, name_at, open_scanned};
 pub use space::{Space, space_lines, space_of};
 pub use spoiled::spoiled_records;
 pub use stat::stat_lines;

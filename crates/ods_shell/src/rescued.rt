@@ -1,8 +1,8 @@
 //! What is got out of an image that may be refused: each file whose own chain is whole.
-ghost use Rattle.std.specs.Prelude.{IfOk, IfSome, IfNone};
-ghost use Rattle.ods_space.specs.Files.{IsLayoutOf};
+ghost use Rattle.std.specs.Prelude.{◌≡◌, ◌⊎◌, IfOk, IfSome, IfNone};
+ghost use Rattle.ods_space.specs.Files.{IsFile, IsLayoutOf};
 ghost use Rattle.ods_space.specs.Disks.{on};
-ghost use Rattle.ods_shell.specs.Rescued.{HasText, IsKept, IsRescued, LacksText};
+ghost use Rattle.ods_shell.specs.Rescued.{HasText, IsKept, IsRescued, IsRescuedPart, LacksText};
 
 use crate::form::{Contents, FormFault, text_in};
 use ods_base::FileId;
@@ -54,8 +54,37 @@ pub fn open_rescued<'a>(
     }
 }
 
+/// The name in the header of a file, and what is kept of the blocks that are there.
+#[derive(Drop)]
+pub struct RescuedPart<'a> {
+    pub name: String,
+    pub contents: Contents<'a>,
+}
+
+/// What is there of the file with this number, be its chain whole or not: the blocks whose headers are there, with zeros for those past the
+/// image.
+pub fn open_rescued_part<'a>(
+    alloc: Global,
+    disk: &Disk<'a>,
+    number: u16,
+    text: bool,
+) -> Result<Option<RescuedPart<'a>>, AllocError>
+    ensures some { IfOk result (λ found. IfSome found (on IsRescuedPart disk.now number text)) }
+    ensures none { IfOk result (λ found. IfNone found ((number ≡ 1) ⊎ ¬ on IsFile disk.now number)) }
+{
+    let Some(header) = primary_header(disk, number) else {
+        return Ok(None);
+    };
+    let name = String::from_str(alloc, print_ident(&ident(header)).as_str())?;
+    let Some((body, _is_whole)) = FileBody::open_part(alloc, disk, number)? else {
+        return Ok(None);
+    };
+    let contents = rescued_contents(alloc, body, text)?;
+    Ok(Some(RescuedPart { name, contents }))
+}
+
 /// What is kept of a file with this body.
-fn rescued_contents<'a>(
+pub(crate) fn rescued_contents<'a>(
     alloc: Global,
     body: FileBody<'a>,
     text: bool,

@@ -1,0 +1,27 @@
+//! What is got out of blocks that a header names, where no index file has to know that header.
+ghost use Rattle.std.specs.Prelude.{◌≤◌, ℕ, List, length, IfOk, IfErr};
+ghost use Rattle.ods_space.specs.Chain.{chain_blocks};
+ghost use Rattle.ods_files.specs.Body.{body_at};
+ghost use Rattle.ods_shell.specs.{Contents.IsGotBy, Contents.IsNotGotBy, Shown.ContentsAre};
+
+use crate::form::{FormFault, Got, contents_of};
+use ods_base::Image;
+use ods_files::FileBody;
+use ods_records::Wanted;
+use std::alloc::Global;
+
+/// What is got of a file with these attributes and the blocks at these LBNs, in the form that is asked for. Zeros stand for a block past
+/// the image.
+pub fn contents_of_blocks<'a>(
+    alloc: Global,
+    image: &'a Image,
+    lbns: Vec<u32>,
+    attributes: [u8; 32],
+    wanted: Wanted,
+) -> Result<Got<'a>, FormFault>
+    requires { length lbns.items ≤ chain_blocks }
+    ensures ok { IfOk result (λ got. (bytes : List ℕ) × ContentsAre got.contents bytes × IsGotBy wanted (body_at image.now lbns.items attributes) bytes got.remark) }
+    ensures err { IfErr result (IsNotGotBy wanted (body_at image.now lbns.items attributes)) }
+{
+    contents_of(alloc, FileBody::of_blocks(image, lbns, attributes), wanted)
+}
