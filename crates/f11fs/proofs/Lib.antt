@@ -5,5 +5,6 @@ mod Marked
 mod Notes
 mod Places
 mod PutAll
+mod Refusals
 mod Slashed
 mod Told

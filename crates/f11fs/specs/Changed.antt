@@ -12,6 +12,8 @@ use Rattle.fs_words.specs.declared.actions.PutWords.{PutWords}
 use Rattle.fs_words.specs.declared.words.Words.{Words}
 use Rattle.fs_words.specs.Lines.{words_in}
 use Rattle.fs_words.specs.Parts.{IsLineOf}
+use Rattle.fs_reads.specs.declared.stop.Stop.{Stop}
+use Rattle.fs_reads.specs.declared.stop.Stop.TheVariants as stop
 use Rattle.ods_filing.specs.Filed.{Filed, HasGrown, for_another, lacking}
 use Rattle.ods_filing.specs.Led.{IsLed}
 use Rattle.ods_upkeep.specs.Begun.{IsBegun}
@@ -117,11 +119,6 @@ IsLineDone image stamp user line s old new =
     HasSameVolume old new
     ⊎ ((own : Words) × IsCommandOf image line own × IsDoneBy own.action own.paths.items (unwrap_or own.stamp stamp) (unwrap_or own.user user) s old new)
 
--- what these lines leave, one after another
-abbrev pub AreLinesDone : Bor (List ℕ) → List ℕ → Uic → List (List ℕ) → Filed → Filed → Type 0
-AreLinesDone image stamp user [] old new = new ≡ old
-AreLinesDone image stamp user (line ∷ lines) old new = (mid : Filed) × (s : Status) × IsLineDone image stamp user line s old mid × AreLinesDone image stamp user lines mid new
-
 -- whether a command is refused that ends with this status
 abbrev pub is_refused : Status → Bool
 is_refused status.Done = false
@@ -132,6 +129,31 @@ is_refused status.Host = true
 is_refused status.Refused = true
 is_refused status.Nothing = true
 
+-- the lines that a command ends with have the status of a refusal
+abbrev pub IsRefusal : Stop → Type 0
+IsRefusal (stop.Lines lines s) = is_refused s ≡ true
+IsRefusal other = Unit {0}
+
+-- the status of the first of these that is not done
+abbrev pub first_fault : List Status → Status
+first_fault [] = status.Done
+first_fault (status.Done ∷ rest) = first_fault rest
+first_fault (s ∷ rest) = s
+
+-- a run goes on behind a line that ends with this status: it is not refused, or the run is to go on then
+abbrev pub GoesOn : Bool → Status → Type 0
+GoesOn goes_on s = (goes_on ≡ true) ⊎ (is_refused s ≡ false)
+
+-- What these lines leave, one after another, and how each ends. The run goes on behind each.
+abbrev pub AreLinesDone : Bor (List ℕ) → List ℕ → Uic → Bool → List (List ℕ) → List Status → Filed → Filed → Type 0
+AreLinesDone image stamp user goes_on [] statuses old new = (statuses ≡ []) × (new ≡ old)
+AreLinesDone image stamp user goes_on (line ∷ lines) statuses old new = (s : Status) × (later : List Status) × (mid : Filed) × (statuses ≡ s ∷ later) × GoesOn goes_on s
+    × IsLineDone image stamp user line s old mid × AreLinesDone image stamp user goes_on lines later mid new
+
+-- these lines are done, and the run has the status of the first that is not done
+abbrev pub AreAllDone : Bor (List ℕ) → List ℕ → Uic → Bool → List (List ℕ) → Status → Filed → Filed → Type 0
+AreAllDone image stamp user goes_on lines s old new = (statuses : List Status) × AreLinesDone image stamp user goes_on lines statuses old new × (s ≡ first_fault statuses)
+
 -- the command asks for a change
 abbrev pub IsChange : Action → Type 0
 IsChange asked = (c : Change) × (asked ≡ action.Change c)
@@ -140,11 +162,12 @@ IsChange asked = (c : Change) × (asked ≡ action.Change c)
 abbrev pub AsksChange : Bor (List ℕ) → List ℕ → Type 0
 AsksChange image line = (own : Words) × IsCommandOf image line own × IsChange own.action
 
--- Why a line ends a run: it is refused, with this status, and the run is not to go on then; or it asks for a change, which may be made in part.
+-- Why a line ends a run: it is refused, with this status. The run is not to go on then, or the line asks for a change, which may be made in part.
 abbrev pub EndsRun : Bor (List ℕ) → Bool → List ℕ → Status → Type 0
-EndsRun image goes_on line s = ((goes_on ≡ false) × (is_refused s ≡ true)) ⊎ AsksChange image line
+EndsRun image goes_on line s = (is_refused s ≡ true) × ((goes_on ≡ false) ⊎ AsksChange image line)
 
--- the lines before one are done, and that one ends the run
+-- The lines before one are done, and that one ends the run, which has its status.
 abbrev pub AreLinesEnded : Bor (List ℕ) → List ℕ → Uic → Bool → List (List ℕ) → Status → Filed → Type 0
 AreLinesEnded image stamp user goes_on lines s old =
-    (front : List (List ℕ)) × (line : List ℕ) × (behind : List (List ℕ)) × (mid : Filed) × (lines ≡ front ++ line ∷ behind) × AreLinesDone image stamp user front old mid × EndsRun image goes_on line s
+    (front : List (List ℕ)) × (line : List ℕ) × (behind : List (List ℕ)) × (statuses : List Status) × (mid : Filed) × (lines ≡ front ++ line ∷ behind)
+    × AreLinesDone image stamp user goes_on front statuses old mid × EndsRun image goes_on line s

@@ -5,7 +5,7 @@ ghost use Rattle.ods_shell.specs.declared.status.Status.{Status as Code};
 ghost use Rattle.ods_upkeep.specs.Pieces.{HasStatus};
 ghost use Rattle.fs_reads.specs.Ends.{StopsWith};
 ghost use Rattle.fs_reads.specs.declared.stop.Stop.{Stop as End};
-ghost use Rattle.f11fs.specs.{Changed.IsChanged, Changed.KeepsTo, Saved.EndsSaved, Saved.IsNotLocked, Saved.IsNotSaved, Saved.IsSavedStatus, Saved.IsWrittenTo};
+ghost use Rattle.f11fs.specs.{Changed.IsChanged, Changed.IsRefusal, Changed.KeepsTo, Saved.EndsSaved, Saved.IsNotLocked, Saved.IsNotSaved, Saved.IsSavedStatus, Saved.IsWrittenTo};
 
 use crate::early::Early;
 use crate::host::Host;
@@ -229,6 +229,7 @@ pub fn change_volume<'a, R: Files<File = File> + AllocGlobal + Eprint>(
     early: &mut Early,
 ) -> Result<(), Stop<'a>>
     ensures done { OnOk result (IsChanged change.entry words.now.paths.items stamp filing.old filing.new) }
+    ensures refused { IfErr result IsRefusal }
     ensures kept { KeepsTo change.entry filing.old filing.new }
 {
     let alloc = rt.alloc();
@@ -272,7 +273,8 @@ pub fn change_volume<'a, R: Files<File = File> + AllocGlobal + Eprint>(
 
 /// The end of a command whose change is made, or is refused.
 fn end_change<'a>(alloc: Global, done: Result<(), Failure>) -> Result<(), Stop<'a>>
-    ensures { OnOk result (IsOk done) }
+    ensures done { OnOk result (IsOk done) }
+    ensures refused { IfErr result IsRefusal }
 {
     match done {
         Ok(()) => Ok(()),
@@ -296,8 +298,10 @@ fn say_nested<R: AllocGlobal + Eprint>(rt: &R, words: &Words<'_>) {
 }
 
 /// The end of a command whose change is refused.
+#[tactic(auto, using(crate::proofs::Refusals::is_refusal))]
 pub fn stop_failed<'a>(alloc: Global, failure: &Failure) -> Stop<'a>
-    ensures { (s : Code) × (HasStatus failure.now.why s × (StopsWith result s ⊎ (result ≡ End.NoMemory))) }
+    ensures refused { IsRefusal result }
+    ensures status { (s : Code) × (HasStatus failure.now.why s × (StopsWith result s ⊎ (result ≡ End.NoMemory))) }
 {
     stop_about(alloc, failure.path.as_str(), failure.why, failure.status())
 }

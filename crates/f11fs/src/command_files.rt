@@ -3,7 +3,7 @@ ghost use Rattle.std.specs.Prelude.{◌≡◌, ◌≤◌, ◌⊎◌, ◌&&◌, �
 ghost use Rattle.std.specs.{List.list_any, Str.Lines.lines, Str.bytes_eq};
 ghost use Rattle.fs_host.specs.Faults.{is_reason};
 ghost use Rattle.fs_reads.specs.declared.stop.Stop.{Stop as End};
-ghost use Rattle.f11fs.specs.{Changed.AreLinesDone, Changed.AreLinesEnded, Changed.AsksChange, Changed.IsChange, Changed.IsChanged, Changed.IsDoneBy, Changed.IsDoneNow, Changed.IsLineDone, Changed.is_refused, Readings.IsUnread, Readings.behind_mark, Readings.reads_commands};
+ghost use Rattle.f11fs.specs.{Changed.AreAllDone, Changed.AreLinesEnded, Changed.AsksChange, Changed.IsChange, Changed.IsChanged, Changed.IsDoneBy, Changed.IsDoneNow, Changed.IsLineDone, Changed.is_refused, Readings.IsUnread, Readings.behind_mark, Readings.reads_commands};
 ghost use Rattle.ods_shell.specs.declared.status.Status.{Status as Code};
 
 use crate::changing::{Asker, Finished, asker_of, change_volume, finish, kept_before, lock_volume};
@@ -153,7 +153,7 @@ fn obey_text<'a, R: Host>(
 ) -> Result<(Status, Option<Filing>), Stop<'a>>
     ensures { IfOk result (λ done. MatchOption done.1
         (AreLinesEnded run.now.outer.now.image run.now.asker.stamp run.now.asker.user run.now.keep_going (lines text.now) done.0 (record { image = volume.image; layout = volume.layout; user = run.now.asker.user }))
-        (AreLinesDone run.now.outer.now.image run.now.asker.stamp run.now.asker.user (lines text.now) (record { image = volume.image; layout = volume.layout; user = run.now.asker.user }))) }
+        (AreAllDone run.now.outer.now.image run.now.asker.stamp run.now.asker.user run.now.keep_going (lines text.now) done.0 (record { image = volume.image; layout = volume.layout; user = run.now.asker.user }))) }
 {
     let mut filing = Filing::new(rt.alloc(), volume, run.asker.user)?;
     let (status, goes_on) = obey_lines(rt, run, printed, &mut filing, text, early);
@@ -174,8 +174,10 @@ fn obey_lines<R: Host>(
     text: &str,
     early: &mut Early,
 ) -> (Status, bool)
-    // Where the run goes on, each line has left the volume as it was, or has made the change whole that its words ask for.
-    ensures done { result.1 ≡ true → AreLinesDone run.now.outer.now.image run.now.asker.stamp run.now.asker.user (lines text.now) filing.old filing.new }
+    // Where the run goes on, each line has left the volume as it was, or has made the change whole that its words ask for. The status is that of the
+    // first line that is not done.
+    ensures done { result.1 ≡ true → AreAllDone run.now.outer.now.image run.now.asker.stamp run.now.asker.user run.now.keep_going (lines text.now) result.0 filing.old filing.new }
+    // Where it does not, the status is that of the line that ended it.
     ensures ended { result.1 ≡ false → AreLinesEnded run.now.outer.now.image run.now.asker.stamp run.now.asker.user run.now.keep_going (lines text.now) result.0 filing.old }
 {
     let mut status = Status::Done;
@@ -233,6 +235,7 @@ fn obey_line<R: Files<File = File> + Clock + Input + AllocGlobal + Print + Eprin
 ) -> (Status, bool)
     ensures done { result.1 ≡ true → IsLineDone run.now.outer.now.image run.now.asker.stamp run.now.asker.user line.now result.0 filing.old filing.new }
     ensures ended { result.1 ≡ false → AsksChange run.now.outer.now.image line.now }
+    ensures refused { result.1 ≡ false → is_refused result.0 ≡ true }
 {
     let words = match line_words(rt.alloc(), line) {
         Ok(words) => words,
@@ -289,6 +292,7 @@ fn obey_words<R: Files<File = File> + Clock + Input + AllocGlobal + Print + Epri
     // Where the volume stands it is as it was, or the change of the command is made whole.
     ensures done { result.1 ≡ true → IsDoneBy own.entry.action own.entry.paths.items (unwrap_or own.entry.stamp run.now.asker.stamp) (unwrap_or own.entry.user run.now.asker.user) result.0 filing.old filing.new }
     ensures ended { result.1 ≡ false → IsChange own.entry.action }
+    ensures refused { result.1 ≡ false → is_refused result.0 ≡ true }
 {
     let mut own = own;
     if !own.saving.says_nothing() {
@@ -307,7 +311,7 @@ fn obey_words<R: Files<File = File> + Clock + Input + AllocGlobal + Print + Epri
 }
 
 /// Obeys a command for the user of the filing, with this stamp for new files.
-#[tactic(auto, using(crate::proofs::Leading::changed_now, crate::proofs::Leading::kept_now))]
+#[tactic(auto, using(crate::proofs::Leading::changed_now, crate::proofs::Leading::kept_now, crate::proofs::Refusals::refused_status))]
 fn obey_action<R: Files<File = File> + Clock + Input + AllocGlobal + Print + Eprint>(
     rt: &R,
     filing: &mut Filing,
@@ -318,6 +322,7 @@ fn obey_action<R: Files<File = File> + Clock + Input + AllocGlobal + Print + Epr
 ) -> (Status, bool)
     ensures done { result.1 ≡ true → IsDoneNow own.now.action own.now.paths.items stamp result.0 filing.old filing.new }
     ensures ended { result.1 ≡ false → IsChange own.now.action }
+    ensures refused { result.1 ≡ false → is_refused result.0 ≡ true }
 {
     match own.action {
         Action::Change(Change::Put(_)) if reads_input(run.outer, own) => {
@@ -351,6 +356,7 @@ fn obey_action<R: Files<File = File> + Clock + Input + AllocGlobal + Print + Epr
 }
 
 /// Makes a change; refused, it has done nothing. The copy of the volume that is kept for that shares its blocks.
+#[tactic(auto, using(crate::proofs::Refusals::refused_status))]
 fn change_or_keep<'a, R: Files<File = File> + AllocGlobal + Eprint>(
     rt: &R,
     filing: &mut Filing,
@@ -359,8 +365,9 @@ fn change_or_keep<'a, R: Files<File = File> + AllocGlobal + Eprint>(
     change: Change<'a>,
     early: &mut Early,
 ) -> (Status, bool)
-    // Where the volume stands, the change is made, or nothing is.
-    ensures { result.1 ≡ true → ((result.0 ≡ Code.Done) × IsChanged change.entry words.now.paths.items stamp filing.old filing.new) ⊎ (filing.new ≡ filing.old) }
+    // Where the volume stands, the change is made, or it is refused and nothing is.
+    ensures done { result.1 ≡ true → ((result.0 ≡ Code.Done) × IsChanged change.entry words.now.paths.items stamp filing.old filing.new) ⊎ ((is_refused result.0 ≡ true) × (filing.new ≡ filing.old)) }
+    ensures refused { result.1 ≡ false → is_refused result.0 ≡ true }
 {
     let Ok(kept) = filing.mounted().copy() else {
         return (say_no_memory(rt), true);

@@ -1,6 +1,6 @@
 //! `put`: files of the host, put into a volume.
 ghost use Rattle.std.specs.Prelude.{◌≡◌, ◌≤◌, ◌⊎◌, ℕ, List, Ok, Some, IfErr, IfOk, OnOk, slice_get, vec_len};
-ghost use Rattle.f11fs.specs.{Changed.ArePut, Changed.path_among, Forms.form_said, Readings.IsLastPart, Readings.IsTooLarge, Readings.IsUnread, Readings.first_at};
+ghost use Rattle.f11fs.specs.{Changed.ArePut, Changed.IsRefusal, Changed.path_among, Forms.form_said, Readings.IsLastPart, Readings.IsTooLarge, Readings.IsUnread, Readings.first_at};
 ghost use Rattle.f11fs.specs.declared.early.Taken.{Taken as Read};
 ghost use Rattle.ods_upkeep.specs.HostPut.{IsHostPut};
 
@@ -17,6 +17,7 @@ use std::fs::File;
 use std::rt::Files;
 
 /// `put`: with two words or more the last is the path on the volume.
+#[tactic(auto, using(crate::proofs::Refusals::unread_refusal))]
 pub fn put<'a, R: Files<File = File> + AllocGlobal + Eprint>(
     rt: &R,
     filing: &mut Filing,
@@ -25,7 +26,8 @@ pub fn put<'a, R: Files<File = File> + AllocGlobal + Eprint>(
     how: PutWords<'a>,
     early: &mut Early,
 ) -> Result<(), Stop<'a>>
-    ensures { OnOk result (ArePut how.entry words.now.paths.items stamp filing.old filing.new) }
+    ensures done { OnOk result (ArePut how.entry words.now.paths.items stamp filing.old filing.new) }
+    ensures refused { IfErr result IsRefusal }
 {
     let hosts = hosts(words.paths.as_slice());
     let to = path_among(words.paths.as_slice());
@@ -98,7 +100,8 @@ fn put_one<'a, R: AllocGlobal + Eprint>(
     bytes: &[u8],
     quiet: bool,
 ) -> Result<(), Stop<'a>>
-    ensures { OnOk result ((name : List ℕ) × IsLastPart host.now name × IsHostPut putting.old name bytes.now filing.old putting.new filing.new) }
+    ensures done { OnOk result ((name : List ℕ) × IsLastPart host.now name × IsHostPut putting.old name bytes.now filing.old putting.new filing.new) }
+    ensures refused { IfErr result IsRefusal }
 {
     let file = HostFile {
         name: last_part(host),

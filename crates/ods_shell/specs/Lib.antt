@@ -4,6 +4,7 @@ pub mod Contents
 pub mod Facts
 pub mod Found
 pub mod HostNames
+pub mod Info
 pub mod Json
 pub mod Lines
 pub mod Listed

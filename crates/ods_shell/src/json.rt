@@ -24,7 +24,7 @@ use serde_json::{Map, Value};
 use std::alloc::{AllocError, Global};
 
 /// No members.
-fn no_fields(alloc: Global) -> Map<String, Value>
+pub(crate) fn no_fields(alloc: Global) -> Map<String, Value>
     ensures members { members_view result.entries ≡ no_members }
     ensures plain { members_have_float (members_view result.entries) ≡ false }
 {
@@ -49,7 +49,7 @@ fn add(
 
 /// Adds a text.
 #[tactic(auto, using(crate::proofs::Objects::text_put_plain))]
-fn add_text(
+pub(crate) fn add_text(
     alloc: Global,
     members: &mut Map<String, Value>,
     name: &str,
@@ -68,7 +68,7 @@ fn add_text(
 
 /// Adds a number.
 #[tactic(auto, using(crate::proofs::Objects::number_put_plain))]
-fn add_number(
+pub(crate) fn add_number(
     alloc: Global,
     members: &mut Map<String, Value>,
     name: &str,
@@ -91,7 +91,7 @@ fn object_text(alloc: Global, members: Map<String, Value>) -> Result<String, All
 
 /// Appends an object, and a line feed.
 #[tactic(auto, unfolding(crate::specs::Json::object_line))]
-fn push_object(
+pub(crate) fn push_object(
     alloc: Global,
     text: &mut String,
     members: Map<String, Value>,

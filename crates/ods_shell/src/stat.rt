@@ -82,7 +82,7 @@ fn push_size(text: &mut String, facts: &Facts) -> Result<(), AllocError>
 
 /// The line of how many blocks the file has.
 #[tactic(auto, unfolding(crate::specs::Stat::blocks_line))]
-fn push_blocks(text: &mut String, blocks: u32) -> Result<(), AllocError>
+pub(crate) fn push_blocks(text: &mut String, blocks: u32) -> Result<(), AllocError>
     ensures { OnOk result (string_bytes text.new ≡ string_bytes text.old ++ blocks_line blocks) }
 {
     writeln!(text, "Blocks: {blocks}")
@@ -98,7 +98,7 @@ fn push_bytes(text: &mut String, bytes: u64) -> Result<(), AllocError>
 
 /// The line of whose the file is.
 #[tactic(auto, unfolding(crate::specs::Stat::owner_line))]
-fn push_owner(text: &mut String, owner: Uic) -> Result<(), AllocError>
+pub(crate) fn push_owner(text: &mut String, owner: Uic) -> Result<(), AllocError>
     ensures { OnOk result (string_bytes text.new ≡ string_bytes text.old ++ owner_line owner) }
 {
     text.push_str("Owner: ")?;
@@ -288,7 +288,7 @@ fn are_low(user: u8, system: u8) -> bool
 }
 
 /// The blocks as runs, a line each: which blocks of the file, and where they stand in the image.
-fn push_runs(text: &mut String, lbns: &[u32]) -> Result<(), AllocError>
+pub(crate) fn push_runs(text: &mut String, lbns: &[u32]) -> Result<(), AllocError>
     ensures { OnOk result (string_bytes text.new ≡ string_bytes text.old ++ runs_text lbns.now) }
 {
     let mut from = 0;

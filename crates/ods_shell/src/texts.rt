@@ -168,7 +168,7 @@ fn is_blank(date: &[u8; 13]) -> bool
 }
 
 /// Appends bytes, and what stands behind them.
-fn push_some(text: &mut ArrayString<18>, bytes: &[u8], behind: &str)
+pub(crate) fn push_some(text: &mut ArrayString<18>, bytes: &[u8], behind: &str)
     requires { array_string_len text.old + length bytes.now + length behind.now ≤ 18 }
     ensures bytes { text.new.bytes ≡ text.old.bytes ++ map shown_byte bytes.now ++ behind.now }
     ensures len { array_string_len text.new ≡ array_string_len text.old + length bytes.now + length behind.now }

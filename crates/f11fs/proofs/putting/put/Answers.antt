@@ -11,11 +11,11 @@ pub loop-host-preserved : goal.loop-host-preserved
 loop-host-preserved g c = (
   omega (arith, c.loop-host-test.true),
   put_next c.in-Ok.putting c.loop-host.putting c.put_one.new.putting c.hosts-hosts.result.now c.loop-host.host-index _ _ c.make_ready.new.filing c.loop-host.filing c.put_one.new.filing
-      c.in_ok-put_one.ensures c.loop-host-test.true c.loop-host.invariant.1,
+      c.in_ok-put_one.ensures.done c.loop-host-test.true c.loop-host.invariant.1,
 )
 
-pub returns : goal.returns
-returns g c =
+pub returns-clause-done : goal.returns-clause-done
+returns-clause-done g c =
     let end : c.loop-host.host-index ≡ length c.hosts-hosts.result.now = omega (arith, c.loop-host.invariant.0, c.loop-host-test.false) in
     put_all c.args.how c.args.words.now.paths.items c.hosts-hosts.result.now c.path_among-to.result c.form_of.result c.args.stamp c.in-Ok.putting c.loop-host.putting c.loop-host.host-index
     c.args.filing.now c.make_ready.new.filing c.loop-host.filing

@@ -1,0 +1,143 @@
+-- What `info` shows of a volume: the fields of its home block, and where its structures lie.
+use Rattle.std.specs.Prelude.{◌≡◌, ◌+◌, ◌-◌, ◌==◌, ◌||◌, ℕ, Bool, List, [], ◌∷◌, ◌++◌, codes, length, map, take, slice_range}
+use Rattle.std.specs.List.{suffix_len}
+use Rattle.std.specs.Fmt.{decimal}
+use Rattle.ods_base.specs.Block.{byte, word}
+use Rattle.ods_base.specs.Image.{block_at}
+use Rattle.ods_base.specs.declared.file_id.Uic.{Uic}
+use Rattle.ods_header.specs.Home.{IsHomeAt}
+use Rattle.ods_header.specs.Text.{octal}
+use Rattle.ods_space.specs.Free.{free_numbers}
+use Rattle.ods_space.specs.Layout.{VolumeLayout}
+use Rattle.serde_json.specs.Data.{Members, no_members}
+use Rattle.ods_shell.specs.Json.{with_number, with_text}
+use Rattle.ods_shell.specs.Stat.{blocks_line, owner_line, runs_text}
+use Rattle.ods_shell.specs.Texts.{shown_byte, shown_date, shown_rights, shown_user}
+use Rattle.ods_shell.specs.declared.info.Info.{Info}
+
+-- H.VNAM, the label of the volume
+abbrev pub label_in : List ℕ → List ℕ
+label_in home = slice_range home 14 26
+
+-- H.VOWN, the owner of the volume: the member in byte 30, the group behind it
+abbrev pub owner_in : List ℕ → Uic
+owner_in home = record { group = byte home 31; member = byte home 30 }
+
+-- H.VDAT, when the volume was made, without its last byte
+abbrev pub made_in : List ℕ → List ℕ
+made_in home = slice_range home 60 73
+
+-- what is known of a volume whose home block stands at this LBN; word 6 of that block is H.VLEV
+abbrev pub info_at : List (List ℕ) → VolumeLayout → ℕ → Info
+info_at I L lbn = record {
+  home = lbn;
+  label = label_in (block_at I lbn);
+  owner = owner_in (block_at I lbn);
+  level = word (block_at I lbn) 6;
+  protection = L.home.protection;
+  made = made_in (block_at I lbn);
+  blocks = length I;
+  most = L.home.max_files;
+  ready = length (free_numbers I L);
+  bitmap = L.home.index_bitmap_lbn;
+  bitmap_blocks = L.home.index_bitmap_size;
+  index_blocks = length L.index;
+}
+
+-- this is known of a volume: its home block stands there
+abbrev pub IsInfoOf : List (List ℕ) → VolumeLayout → Info → Type 0
+IsInfoOf I L info = (lbn : ℕ) × IsHomeAt I lbn × (info ≡ info_at I L lbn)
+
+-- a zero byte or a space, as stand behind a label
+abbrev pub is_filling : ℕ → Bool
+is_filling b = (b == 0) || (b == 32)
+
+-- a label without what stands behind it
+abbrev pub shown_label : List ℕ → List ℕ
+shown_label label = map shown_byte (take (length label - suffix_len is_filling label) label)
+
+-- the line of the label
+unfoldable pub label_line : List ℕ → List ℕ
+label_line label = codes "Label: " ++ shown_label label ++ 10 ∷ []
+
+-- the line of the structure level, in octal
+unfoldable pub level_line : ℕ → List ℕ
+level_line level = codes "Structure level: " ++ octal level ++ 10 ∷ []
+
+-- what stands before the protection of new files
+unfoldable pub default_label : List ℕ
+default_label = codes "Default protection: "
+
+-- the line of the protection of new files
+unfoldable pub default_line : ℕ → List ℕ
+default_line protection = default_label ++ shown_rights protection ++ 10 ∷ []
+
+-- the line of when the volume was made
+unfoldable pub made_line : List ℕ → List ℕ
+made_line made = codes "Made: " ++ shown_date made ++ 10 ∷ []
+
+-- the line of the greatest file number, and of how many headers are ready
+unfoldable pub most_line : ℕ → ℕ → List ℕ
+most_line most ready = codes "Greatest file number: " ++ (decimal most ++ (codes ", " ++ (decimal ready ++ (codes " headers ready" ++ 10 ∷ []))))
+
+-- the line of where the home block stands
+unfoldable pub home_line : ℕ → List ℕ
+home_line lbn = codes "Home block: LBN " ++ decimal lbn ++ 10 ∷ []
+
+-- the line of where the index bitmap lies: its first and its last block
+unfoldable pub bitmap_line : ℕ → ℕ → List ℕ
+bitmap_line first last = codes "Index bitmap: LBN " ++ (decimal first ++ (codes " to " ++ (decimal last ++ 10 ∷ [])))
+
+-- the line of how many blocks INDEXF.SYS has, and where its header stands
+unfoldable pub index_line : ℕ → ℕ → List ℕ
+index_line blocks header = codes "INDEXF.SYS: " ++ (decimal blocks ++ (codes " blocks, header at LBN " ++ (decimal header ++ 10 ∷ [])))
+
+-- the line of how many bytes of the image stand behind the volume
+unfoldable pub behind_line : ℕ → List ℕ
+behind_line behind = codes "Bytes behind the volume: " ++ decimal behind ++ 10 ∷ []
+
+-- the line of what a mount answers
+unfoldable pub answer_line : List ℕ → List ℕ
+answer_line answer = codes "Mount: " ++ answer ++ 10 ∷ []
+
+-- what the home block says of the volume
+abbrev pub said_text : Info → List ℕ
+said_text i = label_line i.label ++ owner_line i.owner ++ level_line i.level ++ default_line i.protection ++ made_line i.made
+
+-- how large the volume is, and where its structures lie; the header of INDEXF.SYS stands behind the index bitmap
+abbrev pub places_text : Info → List ℕ → List ℕ
+places_text i index =
+    blocks_line i.blocks ++ most_line i.most i.ready ++ home_line i.home ++ bitmap_line i.bitmap (i.bitmap + i.bitmap_blocks - 1)
+    ++ index_line i.index_blocks (i.bitmap + i.bitmap_blocks) ++ runs_text index
+
+-- all lines: the fields, the runs of INDEXF.SYS, the bytes behind the volume, and what a mount answers
+abbrev pub info_text : Info → List ℕ → ℕ → List ℕ → List ℕ
+info_text i index behind answer = said_text i ++ places_text i index ++ behind_line behind ++ answer_line answer
+
+-- the members, and what the home block says of the volume
+unfoldable pub with_said : Info → Members → Members
+with_said i ms =
+    with_text (codes "made") (shown_date i.made) (with_text (codes "protection") (shown_rights i.protection) (with_text (codes "level") (octal i.level)
+    (with_text (codes "owner") (shown_user i.owner) (with_text (codes "label") (shown_label i.label) ms))))
+
+-- the members, and how large the volume is
+unfoldable pub with_limits : ℕ → ℕ → ℕ → Members → Members
+with_limits blocks most ready ms = with_number (codes "numbers_ready") ready (with_number (codes "numbers") most (with_number (codes "blocks") blocks ms))
+
+-- the members, and where the index bitmap lies
+unfoldable pub with_bitmap : ℕ → ℕ → Members → Members
+with_bitmap bitmap blocks ms = with_number (codes "index_bitmap_blocks") blocks (with_number (codes "index_bitmap") bitmap ms)
+
+-- the members, where the header of INDEXF.SYS stands, and how many blocks that file has
+unfoldable pub with_index : ℕ → ℕ → Members → Members
+with_index header blocks ms = with_number (codes "index_blocks") blocks (with_number (codes "index_header") header ms)
+
+-- the members, the bytes behind the volume, and what a mount answers
+unfoldable pub with_answer : ℕ → List ℕ → Members → Members
+with_answer behind answer ms = with_text (codes "answer") answer (with_number (codes "bytes_behind") behind ms)
+
+-- all of this in one object
+abbrev pub info_members : Info → ℕ → List ℕ → Members
+info_members i behind answer =
+    with_answer behind answer (with_index (i.bitmap + i.bitmap_blocks) i.index_blocks (with_bitmap i.bitmap i.bitmap_blocks (with_number (codes "home_block") i.home
+    (with_limits i.blocks i.most i.ready (with_said i no_members)))))
