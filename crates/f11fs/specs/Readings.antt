@@ -46,10 +46,10 @@ IsUnread path s = (fault : HostFault) × (s ≡ stop.Word path (word.Unread faul
 abbrev pub reads_commands : Action → Bool
 reads_commands (action.Commands file keep_going) = bytes_eq file.now (codes "-")
 reads_commands (action.Ls long ids below) = false
-reads_commands (action.Find lost) = false
+reads_commands (action.Find lost deleted long) = false
 reads_commands action.Stat = false
 reads_commands (action.Cat wanted) = false
-reads_commands (action.Get wanted target) = false
+reads_commands (action.Get wanted target deleted partial) = false
 reads_commands action.Df = false
 reads_commands (action.Du top) = false
 reads_commands (action.Check all) = false

@@ -7,10 +7,10 @@ use Rattle.fs_words.specs.declared.actions.Action.TheVariants as action
 abbrev pub prints_names : Action → Bool
 prints_names (action.Rescue text scan partial) = true
 prints_names (action.Ls long ids below) = false
-prints_names (action.Find lost) = false
+prints_names (action.Find lost deleted long) = false
 prints_names action.Stat = false
 prints_names (action.Cat wanted) = false
-prints_names (action.Get wanted target) = false
+prints_names (action.Get wanted target deleted partial) = false
 prints_names action.Df = false
 prints_names (action.Du top) = false
 prints_names (action.Check all) = false

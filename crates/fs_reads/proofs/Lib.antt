@@ -1,4 +1,5 @@
 mod Closing
+mod DeletedShown
 mod FilesGot
 mod Growing
 mod Likeness

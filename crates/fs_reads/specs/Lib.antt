@@ -1,5 +1,6 @@
 pub mod Advised
 pub mod Alike
+pub mod Deleted
 pub mod Denied
 pub mod Ends
 pub mod Looks

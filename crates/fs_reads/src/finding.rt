@@ -122,7 +122,7 @@ fn to_search<'a>(path: &str, folder: Folder<'a>) -> Folder<'a>
 }
 
 /// Whether a path has no part that names a directory.
-fn names_no_directory(path: &str) -> bool
+pub(crate) fn names_no_directory(path: &str) -> bool
     ensures { result ≡ names_no_directory path.now }
 {
     let bytes = path.as_bytes();

@@ -6,6 +6,7 @@
 mod checking;
 mod closed;
 mod comparing;
+mod deleted;
 mod finding;
 mod getting;
 mod host_files;

@@ -3,6 +3,7 @@ ghost use Rattle.std.specs.Prelude.{string_bytes};
 ghost use Rattle.fs_reads.specs.Shown.{Extends};
 
 use crate::comparing::compare_all;
+use crate::deleted::push_deleted;
 use crate::finding::{push_paths, push_usage};
 use crate::getting::get;
 use crate::listing::push_listings;
@@ -29,7 +30,7 @@ pub fn obey<'a, R: Files<File = File> + Clock + AllocGlobal + Print + Eprint>(
     stop_at_own_output(rt, words.image)?;
     match words.action {
         Action::Cat(wanted) => cat(rt, volume, words, wanted),
-        Action::Get { wanted, target } => get(rt, volume, words, target, wanted, progress),
+        Action::Get { wanted, target, .. } => get(rt, volume, words, target, wanted, progress),
         Action::Cmp { all } => compare_all(rt, volume, words, all, progress),
         _ => {
             let mut text = String::new(rt.alloc());
@@ -61,7 +62,16 @@ fn push_shown<'a>(
             };
             push_listings(alloc, volume, words, columns, below, text)
         }
-        Action::Find { lost } => push_paths(alloc, volume, words, lost, text),
+        Action::Find {
+            lost: _,
+            deleted: true,
+            long,
+        } => push_deleted(alloc, volume, words, long, text),
+        Action::Find {
+            lost,
+            deleted: false,
+            long: _,
+        } => push_paths(alloc, volume, words, lost, text),
         Action::Stat => push_stats(alloc, volume, words, text),
         Action::Df => Ok(push_space(alloc, volume, words.json, text)?),
         Action::Du { top } => Ok(push_usage(alloc, volume, top, words.json, text)?),

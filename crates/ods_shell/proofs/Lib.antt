@@ -15,6 +15,7 @@ mod Places
 mod Runs
 mod RunTexts
 mod RowsFound
+mod SoughtFiles
 mod Unreached
 mod Uses
 mod WaysLists

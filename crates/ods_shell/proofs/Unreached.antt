@@ -29,7 +29,7 @@ AreTexts P line k text = (numbers : List ℕ) × AreThose P (range_with_len 1 k)
 pub texts_none : (P : ℕ → Type 0) (line : ℕ → List ℕ) → AreTexts P line 0 []
 texts_none P line = ([], refl, refl)
 
-range_next : (k : ℕ) → range_with_len 1 (k + 1) ≡ range_with_len 1 k ++ (k + 1) ∷ []
+pub range_next : (k : ℕ) → range_with_len 1 (k + 1) ≡ range_with_len 1 k ++ (k + 1) ∷ []
 range_next k = let e : 1 + k ≡ k + 1 = omega arith in range-append 1 k 1 ∙ ap (λ n. range_with_len 1 k ++ n ∷ []) e
 
 pub texts_next : (P : ℕ → Type 0) (line : ℕ → List ℕ) (k : ℕ) (old new : List ℕ) → (P (k + 1) × (new ≡ old ++ line (k + 1))) ⊎ ((¬ P (k + 1)) × (new ≡ old))

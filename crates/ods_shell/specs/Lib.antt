@@ -1,6 +1,8 @@
 pub mod Choosing
 pub mod Compared
 pub mod Contents
+pub mod Deleted
+pub mod Deletions
 pub mod Facts
 pub mod Found
 pub mod HostNames

@@ -62,7 +62,7 @@ fn is_chosen(
 }
 
 /// Whether the patterns match the name.
-fn is_matched(name: &Name, files: &Files<'_>) -> bool
+pub(crate) fn is_matched(name: &Name, files: &Files<'_>) -> bool
     ensures { MatchBool result (IsMatched (said files.now) name.now) (¬ IsMatched (said files.now) name.now) }
 {
     matches(files.name, print_title(name).as_bytes())

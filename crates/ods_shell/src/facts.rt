@@ -125,7 +125,7 @@ fn kind_by(number: u16, header: &Block) -> Kind
 }
 
 /// How many bytes a file has.
-fn size(attributes: &[u8; 32], blocks: u32) -> u64
+pub(crate) fn size(attributes: &[u8; 32], blocks: u32) -> u64
     ensures { result ≡ bytes_by attributes.now blocks }
 {
     if are_zeros(attributes) {

@@ -5,6 +5,8 @@ mod below;
 mod by_blocks;
 mod choosing;
 mod comparing;
+mod deleted;
+mod deletions;
 mod facts;
 mod find;
 mod finding;
@@ -31,6 +33,8 @@ mod ways;
 
 pub use by_blocks::contents_of_blocks;
 pub use comparing::have_same_bytes;
+pub use deleted::{Deletion, known_deletion, known_deletions};
+pub use deletions::{deletion_lines, deletion_objects};
 pub use facts::{Facts, Kind, facts_by_id, facts_of};
 pub use find::{find_lines, lost_lines, unreached_lines};
 pub use finding::{FoundLines, find_open};

@@ -268,7 +268,7 @@ fn push_known(text: &mut String, facts: &Option<Facts>) -> Result<(), AllocError
 }
 
 /// Appends a text, and spaces up to this width.
-fn push_column(text: &mut String, part: &str, width: usize) -> Result<(), AllocError>
+pub(crate) fn push_column(text: &mut String, part: &str, width: usize) -> Result<(), AllocError>
     ensures { OnOk result (string_bytes text.new ≡ string_bytes text.old ++ column width part.now) }
 {
     text.push_str(part)?;
@@ -339,7 +339,7 @@ fn push_rights_and_date(text: &mut String, facts: &Facts) -> Result<(), AllocErr
 
 /// How many blocks and bytes a file has, in columns.
 #[tactic(auto, unfolding(crate::specs::Lines::size_columns, crate::specs::Lines::number_column))]
-fn push_sizes(text: &mut String, blocks: u32, bytes: u64) -> Result<(), AllocError>
+pub(crate) fn push_sizes(text: &mut String, blocks: u32, bytes: u64) -> Result<(), AllocError>
     ensures { OnOk result (string_bytes text.new ≡ string_bytes text.old ++ size_columns blocks bytes) }
 {
     write!(text, "  {blocks:>7}  {bytes:>10}  ")

@@ -1,0 +1,267 @@
+//! What is known of deleted files whose headers are still there, found by the name in their ident.
+ghost use Rattle.std.specs.Prelude.{◌≡◌, ◌≤◌, ◌⊎◌, ◌++◌, ◌∷◌, [], IfOk, OnOk, MatchBool, MatchOption};
+ghost use Rattle.ods_header.specs.Header.{IsLaidOut};
+ghost use Rattle.ods_base.specs.Block.{word as word_in};
+ghost use Rattle.ods_base.specs.Name.{IsName};
+ghost use Rattle.ods_paths.specs.Views.{files as said, said_files};
+ghost use Rattle.ods_remains.specs.Deleted.{IsDeleted, IsDeletedFile, IsFormerFile, used_again as used_again_of};
+ghost use Rattle.ods_space.specs.Disks.{on, seen};
+ghost use Rattle.ods_shell.specs.Choosing.{IsMatched};
+ghost use Rattle.ods_shell.specs.Deleted.{AreDeletions, HasVersion, IsDeletion, IsSought, IsSoughtFile, SharesWith, counted as counted_of, deleted_id as id_of_deleted, deletion_by, missing_header as missing_in, name_in as name_of};
+ghost use Rattle.ods_shell.specs.declared.deleted.Deletion.{Deletion as Known};
+
+use crate::choosing::is_matched;
+use crate::facts::size;
+use ods_base::{Block, FileId, Name};
+use ods_header::{attributes, file_sequence, ident};
+use ods_paths::{Files, Versions};
+use ods_remains::{DeletedFile, Shares, deleted_file, deleted_header, names_twice, used_again};
+use ods_space::{Disk, last_number};
+use std::alloc::{AllocError, Global};
+
+/// What is known of a deleted file.
+#[derive(Clone, Copy, Debug)]
+pub struct Deletion {
+    pub file: FileId,
+    /// The ident area of its first header: name, revision and dates.
+    pub ident: [u8; 46],
+    /// How many blocks its headers name.
+    pub blocks: u32,
+    /// The bytes up to the end of file; those of all blocks where the attributes are zeros.
+    pub bytes: u64,
+    /// How many of its blocks are used again.
+    pub used: u32,
+    /// The first of its headers that is missing, where the first of all is 1.
+    pub missing: Option<u64>,
+    /// A deleted file that shares blocks with it: itself, where it names a block twice and no other file names one.
+    pub sharer: Option<FileId>,
+    /// Whether no header is missing, and each block is free and named by this file alone and once.
+    pub whole: bool,
+}
+
+/// What is known of each deleted file that is looked for: of all, where no files are said. It goes twice along the chain of each.
+pub fn known_deletions(
+    alloc: Global,
+    disk: &Disk<'_>,
+    files: &Option<Files<'_>>,
+) -> Result<Vec<Deletion>, AllocError>
+    ensures { IfOk result (λ all. on AreDeletions disk.now (said_files files.now) all.items) }
+{
+    let shares = Shares::of(alloc, disk)?;
+    let mut all = Vec::new(alloc);
+    for before in 0..last_number(disk.layout) {
+        add_sought(alloc, disk, &shares, before + 1, files, &mut all)?;
+    }
+    Ok(all)
+}
+
+/// Adds what is known of this number, where it is a deleted file that is looked for.
+fn add_sought(
+    alloc: Global,
+    disk: &Disk<'_>,
+    shares: &Shares<'_>,
+    number: u16,
+    files: &Option<Files<'_>>,
+    all: &mut Vec<Deletion>,
+) -> Result<(), AllocError>
+    requires image { shares.now.image ≡ disk.now.image.now }
+    requires layout { shares.now.layout ≡ disk.now.layout.now }
+    ensures { OnOk result ((on IsSoughtFile disk.now (said_files files.now) number × ((one : Known) × on IsDeletion disk.now number one × (all.new.items ≡ all.old.items ++ one ∷ [])))
+        ⊎ ((¬ on IsSoughtFile disk.now (said_files files.now) number) × (all.new.items ≡ all.old.items))) }
+{
+    let Some(one) = known_deletion(alloc, disk, shares, number)? else {
+        return Ok(());
+    };
+    if is_sought(&one.ident, files) {
+        all.push(one)?;
+    }
+    Ok(())
+}
+
+/// What is known of the deleted file with this number, where there is one.
+pub fn known_deletion(
+    alloc: Global,
+    disk: &Disk<'_>,
+    shares: &Shares<'_>,
+    number: u16,
+) -> Result<Option<Deletion>, AllocError>
+    requires image { shares.now.image ≡ disk.now.image.now }
+    requires layout { shares.now.layout ≡ disk.now.layout.now }
+    ensures { IfOk result (λ one. MatchOption one (¬ on IsDeletedFile disk.now number) (on IsDeletion disk.now number)) }
+{
+    match deleted_file(alloc, disk, number)? {
+        Some(file) => Ok(Some(known(alloc, disk, shares, number, &file)?)),
+        None => Ok(None),
+    }
+}
+
+/// What is known of the deleted file with this number.
+fn known(
+    alloc: Global,
+    disk: &Disk<'_>,
+    shares: &Shares<'_>,
+    number: u16,
+    file: &DeletedFile,
+) -> Result<Deletion, AllocError>
+    requires image { shares.now.image ≡ disk.now.image.now }
+    requires layout { shares.now.layout ≡ disk.now.layout.now }
+    requires file { on IsFormerFile disk.now number file.now }
+    ensures { IfOk result (on IsDeletion disk.now number) }
+{
+    let Some(header) = deleted_header(disk, number) else {
+        unreachable!()
+    };
+    let whole = shares.is_whole(alloc, number, file)?;
+    let sharer = sharer_of(alloc, disk, shares, number, file)?;
+    let used = used_of(disk, file);
+    Ok(told(number, &header, file, used, sharer, whole))
+}
+
+/// What is known of a deleted file: what its first header says, and what was found out of its blocks.
+fn told(
+    number: u16,
+    header: &Block,
+    file: &DeletedFile,
+    used: u32,
+    sharer: Option<FileId>,
+    whole: bool,
+) -> Deletion
+    requires { IsLaidOut header.now }
+    ensures { result ≡ deletion_by number header.now file.now used sharer whole }
+{
+    let blocks = counted(file.blocks.len());
+    Deletion {
+        file: FileId {
+            number,
+            sequence: file_sequence(header),
+        },
+        ident: ident(header),
+        blocks,
+        bytes: size(&attributes(header), blocks),
+        used,
+        missing: missing_header(file),
+        sharer,
+        whole,
+    }
+}
+
+/// How many blocks of a deleted file are used again.
+fn used_of(disk: &Disk<'_>, file: &DeletedFile) -> u32
+    ensures { result ≡ counted_of (seen used_again_of disk.now file.now.blocks.items) }
+{
+    counted(used_again(disk, &file.blocks))
+}
+
+/// A number, as far as 32 bits count.
+fn counted(number: usize) -> u32
+    ensures { result ≡ counted_of number }
+{
+    if number < 4_294_967_295 {
+        number as u32
+    } else {
+        u32::MAX
+    }
+}
+
+/// The first header that this deleted file lacks, where it lacks one.
+fn missing_header(file: &DeletedFile) -> Option<u64>
+    ensures { result ≡ missing_in file.now }
+{
+    if file.is_cut {
+        Some(file.headers.len() as u64 + 1)
+    } else {
+        None
+    }
+}
+
+/// A deleted file that shares blocks with this one.
+fn sharer_of(
+    alloc: Global,
+    disk: &Disk<'_>,
+    shares: &Shares<'_>,
+    number: u16,
+    file: &DeletedFile,
+) -> Result<Option<FileId>, AllocError>
+    requires image { shares.now.image ≡ disk.now.image.now }
+    requires layout { shares.now.layout ≡ disk.now.layout.now }
+    requires deleted { on IsDeleted disk.now number }
+    ensures { IfOk result (on SharesWith disk.now number file.now.blocks.items) }
+{
+    if let Some(other) = shares.sharer(number, &file.blocks) {
+        let id = deleted_id(disk, other);
+        return Ok(Some(id));
+    }
+    let twice = names_twice(alloc, &file.blocks)?;
+    if twice {
+        let own = deleted_id(disk, number);
+        return Ok(Some(own));
+    }
+    Ok(None)
+}
+
+/// The ID of the deleted header with this number.
+fn deleted_id(disk: &Disk<'_>, number: u16) -> FileId
+    requires { on IsDeleted disk.now number }
+    ensures { result ≡ seen id_of_deleted disk.now number }
+{
+    let Some(header) = deleted_header(disk, number) else {
+        unreachable!()
+    };
+    FileId {
+        number,
+        sequence: file_sequence(&header),
+    }
+}
+
+/// Whether a deleted file with this ident is looked for.
+fn is_sought(ident: &[u8; 46], files: &Option<Files<'_>>) -> bool
+    ensures { MatchBool result (IsSought (said_files files.now) ident.now) (¬ IsSought (said_files files.now) ident.now) }
+{
+    match files {
+        Some(files) => is_named_so(ident, files),
+        None => true,
+    }
+}
+
+/// Whether the patterns match the name in this ident, and its version is looked for.
+fn is_named_so(ident: &[u8; 46], files: &Files<'_>) -> bool
+    ensures { MatchBool result
+        (IsName (name_of ident.now) × IsMatched (said files.now) (name_of ident.now) × HasVersion files.now.versions (word_in ident.now 4))
+        (¬ (IsName (name_of ident.now) × IsMatched (said files.now) (name_of ident.now) × HasVersion files.now.versions (word_in ident.now 4))) }
+{
+    match name_in(ident) {
+        Some(name) => is_matched(&name, files) && has_version(word(ident, 4), files.versions),
+        None => false,
+    }
+}
+
+/// The name in an ident area, where its words spell one.
+fn name_in(ident: &[u8; 46]) -> Option<Name>
+    ensures { MatchOption result (¬ IsName (name_of ident.now)) (λ name. IsName (name_of ident.now) × (name ≡ name_of ident.now)) }
+{
+    let words = [word(ident, 0), word(ident, 1), word(ident, 2)];
+    let ext = word(ident, 3);
+    if words[0] < 64_000 && words[1] < 64_000 && words[2] < 64_000 && ext < 64_000 {
+        Some(Name::new(words, ext))
+    } else {
+        None
+    }
+}
+
+/// A word of an ident area.
+fn word(ident: &[u8; 46], place: usize) -> u16
+    requires { place ≤ 22 }
+    ensures { result ≡ word_in ident.now place }
+{
+    u16::from_le_bytes([ident[2 * place], ident[2 * place + 1]])
+}
+
+/// Whether a version is looked for.
+fn has_version(version: u16, versions: Option<Versions>) -> bool
+    ensures { MatchBool result (HasVersion versions version) (¬ HasVersion versions version) }
+{
+    match versions {
+        Some(Versions::Exact(said)) => version == said,
+        _ => true,
+    }
+}
