@@ -89,6 +89,23 @@ def blocks_of_the_volume(room: Room) -> None:
         refused(room, re.compile(rb"error: [^\n]*--blocks[^\n]*\n|error: [^\n]*-1[^\n]*\n"), "--blocks", number, "disk", "ls")
 
 
+@row
+def orders_that_are_none(room: Room) -> None:
+    for order in ("rx03", "RX01", "rx01 ", ""):
+        line = f"error: '{order}' is no order: say plain, rx01, rx02 or rx50\n"
+        refused(room, line, "--order", order, "disk", "ls")
+        refused(room, line, "disk", "ls", "--order", order)
+        refused(room, line, "new", "init", "40", "--order", order)
+
+
+@row
+def words_for_deleted_files(room: Room) -> None:
+    refused(room, "error: -l does nothing for find without --deleted\n", "disk", "find", "-l")
+    refused(room, "error: -l does nothing for find without --deleted\n", "disk", "find", "--lost", "-l")
+    for words in (("--lost", "--deleted"), ("--deleted", "--lost"), ("--lost", "A")):
+        refused(room, re.compile(rb"error: the argument [^\n]* cannot be used with [^\n]*\n"), "disk", "find", *words)
+
+
 @row(image=no_image)
 def volumes_by_device(room: Room) -> None:
     for device, blocks in (("RX01", 494), ("RX02", 988), ("RX50", 800), ("RK05", 4800), ("rl01", 10240), ("Rl02", 20480), ("RK06", 27126)):
@@ -141,6 +158,7 @@ IDLE = {
     "cat": "-o --backup --break-links -n --force --stamp --keep-going --json",
     "get": "--backup --break-links --stamp --keep-going",
     "df": "-o --backup --break-links -n --force --stamp --keep-going -u",
+    "info": "-o --backup --break-links -n --force --stamp --keep-going -u",
     "du": "-o --backup --break-links -n --force --stamp --keep-going -u",
     "check": "-o --backup --break-links -n --force --stamp --keep-going -u",
     "rescue": "-o --backup --break-links --force --stamp --keep-going -u",
@@ -154,8 +172,8 @@ IDLE = {
     "truncate": "--keep-going --stamp",
 }
 VALUES = {"-o": ["x.out"], "--stamp": [STAMP], "-u": ["1,2"]}
-WORDS = {"ls": [], "find": [], "df": [], "du": [], "check": [], "cp": ["A", "B"], "mv": ["A", "B"], "truncate": ["A", "0"]}
-ALL = "-o --backup --break-links -n --force --stamp --json -u -q --keep-going --blocks".split()
+WORDS = {"ls": [], "find": [], "df": [], "info": [], "du": [], "check": [], "cp": ["A", "B"], "mv": ["A", "B"], "truncate": ["A", "0"]}
+ALL = "-o --backup --break-links -n --force --stamp --json -u -q --keep-going --blocks --order".split()
 
 
 @row

@@ -25,6 +25,7 @@ whole_simple verb.Stat = refl
 whole_simple verb.Cat = refl
 whole_simple verb.Get = refl
 whole_simple verb.Df = refl
+whole_simple verb.Info = refl
 whole_simple verb.Du = refl
 whole_simple verb.Check = refl
 whole_simple verb.Rescue = refl

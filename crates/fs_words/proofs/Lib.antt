@@ -4,3 +4,4 @@ pub mod Listed
 pub mod AllSimple
 pub mod LeftWords
 pub mod Unknown
+pub mod Refusing

@@ -32,8 +32,10 @@ text_of m option = first_value (found_of m) option
 abbrev pub IsLs : ArgMatches → Action → Type 0
 IsLs m a = (long ids below : Bool) × IsSet m (codes "-l") long × IsSet m (codes "-i") ids × IsSet m (codes "-R") below × (a ≡ action.Ls long ids below)
 
+-- -l does nothing alone
 abbrev pub IsFind : ArgMatches → Action → Type 0
-IsFind m a = (lost : Bool) × IsSet m (codes "--lost") lost × (a ≡ action.Find lost)
+IsFind m a = (lost deleted long : Bool) × IsSet m (codes "--lost") lost × IsSet m (codes "--deleted") deleted × IsSet m (codes "-l") long
+    × (long ≡ true → deleted ≡ true) × (a ≡ action.Find lost deleted long)
 
 -- the form that is wanted: the first of the three options that is set
 abbrev pub IsWanted : ArgMatches → Wanted → Type 0
@@ -46,7 +48,7 @@ abbrev pub IsCat : ArgMatches → Action → Type 0
 IsCat m a = (wanted : Wanted) × IsWanted m wanted × (a ≡ action.Cat wanted)
 
 abbrev pub IsGet : ArgMatches → Option (Bor (List ℕ)) → Action → Type 0
-IsGet m out a = (wanted : Wanted) × IsWanted m wanted × (a ≡ action.Get wanted out)
+IsGet m out a = (wanted : Wanted) × (deleted partial : Bool) × IsWanted m wanted × IsSet m (codes "--deleted") deleted × IsSet m (codes "--partial") partial × (a ≡ action.Get wanted out deleted partial)
 
 abbrev pub IsDu : ArgMatches → Action → Type 0
 IsDu m a = (top : Option ℕ) × IsValue IsNumber (text_of m (codes "--top")) top × (a ≡ action.Du top)
@@ -55,7 +57,7 @@ abbrev pub IsCheck : ArgMatches → Action → Type 0
 IsCheck m a = (all : Bool) × IsSet m (codes "--all") all × (a ≡ action.Check all)
 
 abbrev pub IsRescue : ArgMatches → Action → Type 0
-IsRescue m a = (text : Bool) × IsSet m (codes "--text") text × (a ≡ action.Rescue text)
+IsRescue m a = (text scan partial : Bool) × IsSet m (codes "--text") text × IsSet m (codes "--scan") scan × IsSet m (codes "--partial") partial × (a ≡ action.Rescue text scan partial)
 
 abbrev pub IsCmp : ArgMatches → Action → Type 0
 IsCmp m a = (all : Bool) × IsSet m (codes "--all") all × (a ≡ action.Cmp all)
@@ -96,6 +98,7 @@ Asks verb.Stat m out a = a ≡ action.Stat
 Asks verb.Cat m out a = IsCat m a
 Asks verb.Get m out a = IsGet m out a
 Asks verb.Df m out a = a ≡ action.Df
+Asks verb.Info m out a = a ≡ action.Info
 Asks verb.Du m out a = IsDu m a
 Asks verb.Check m out a = IsCheck m a
 Asks verb.Rescue m out a = IsRescue m a

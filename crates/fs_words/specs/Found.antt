@@ -14,6 +14,7 @@ use Rattle.fs_words.specs.declared.words.Saving.{Saving}
 use Rattle.fs_words.specs.declared.words.Words.{Words}
 use Rattle.fs_words.specs.Asked.{Asks}
 use Rattle.fs_words.specs.Days.{is_true_stamp}
+use Rattle.fs_words.specs.Layerings.{IsLayering}
 use Rattle.fs_words.specs.Options.{has_value, option_serves, option_text, prints_plans}
 use Rattle.fs_words.specs.Parses.{IsParseOf}
 use Rattle.fs_words.specs.Rules.{whole_app}
@@ -58,6 +59,7 @@ pub record IsFound (path : Bor (List ℕ)) (s : Said) (v : Verb) (a : Action) (w
   pub stamp : IsValue IsStamp (text_said s (codes "--stamp")) w.stamp
   pub saving : IsSaving s v w.saving
   pub blocks : IsValue IsNumber (text_said s (codes "--blocks")) w.blocks
+  pub order : IsValue IsLayering (text_said s (codes "--order")) w.order
 
 -- the words of a command: what it asks for by those behind its name, and what stands beside that
 abbrev pub AreOfCommand : Bor (List ℕ) → Verb → List (List ℕ) → Option (Bor ArgMatches) → Words → Type 0

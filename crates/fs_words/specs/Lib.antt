@@ -4,6 +4,7 @@ pub mod Days
 pub mod Users
 pub mod Values
 pub mod Names
+pub mod Layerings
 pub mod Saying
 pub mod Devices
 pub mod Found
@@ -13,3 +14,4 @@ pub mod Kinds
 pub mod Hints
 pub mod Parses
 pub mod Parts
+pub mod Refused

@@ -49,6 +49,7 @@ prints_lines v = true
 -- what asks rights, or makes something for a user
 abbrev pub asks_rights : Verb → Bool
 asks_rights verb.Df = false
+asks_rights verb.Info = false
 asks_rights verb.Du = false
 asks_rights verb.Check = false
 asks_rights verb.Rescue = false
@@ -76,6 +77,7 @@ option_serves option.User v = asks_rights v
 option_serves option.Quiet v = reads_volume v
 option_serves option.KeepGoing v = is_file_of_commands v
 option_serves option.Blocks v = reads_volume v
+option_serves option.Order v = true
 
 -- how an option is written
 abbrev pub option_text : Choice → List ℕ
@@ -90,6 +92,7 @@ option_text option.User = codes "-u"
 option_text option.Quiet = codes "-q"
 option_text option.KeepGoing = codes "--keep-going"
 option_text option.Blocks = codes "--blocks"
+option_text option.Order = codes "--order"
 
 -- an option that has a value
 abbrev pub has_value : Choice → Bool
@@ -97,6 +100,7 @@ has_value option.Out = true
 has_value option.Stamp = true
 has_value option.User = true
 has_value option.Blocks = true
+has_value option.Order = true
 has_value c = false
 
 -- what prints JSON only beside -n
@@ -108,4 +112,4 @@ prints_plans v = verb_changes v
 -- all options, in the order of the help
 abbrev pub options : List Choice
 options = option.Out ∷ option.Backup ∷ option.BreakLinks ∷ option.OnlyTells ∷ option.Force ∷ option.Json ∷ option.Stamp ∷ option.User ∷ option.Quiet
-    ∷ option.KeepGoing ∷ option.Blocks ∷ []
+    ∷ option.KeepGoing ∷ option.Blocks ∷ option.Order ∷ []

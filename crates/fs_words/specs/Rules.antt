@@ -120,14 +120,15 @@ forms = apart (flag (codes "-t")) ∷ apart (flag (codes "-b")) ∷ flag (codes 
 -- the arguments of each command that are its own
 unfoldable pub own_rules : Verb → List Rule
 own_rules verb.Ls = flag (codes "-l") ∷ flag (codes "-R") ∷ flag (codes "-i") ∷ paths ∷ []
-own_rules verb.Find = flag (codes "--lost") ∷ apart paths ∷ []
+own_rules verb.Find = apart (flag (codes "--lost")) ∷ flag (codes "--deleted") ∷ flag (codes "-l") ∷ apart paths ∷ []
 own_rules verb.Stat = needed 0 ∷ []
 own_rules verb.Cat = forms ++ needed 0 ∷ []
-own_rules verb.Get = forms ++ needed 0 ∷ []
+own_rules verb.Get = forms ++ flag (codes "--deleted") ∷ flag (codes "--partial") ∷ needed 0 ∷ []
 own_rules verb.Df = []
+own_rules verb.Info = []
 own_rules verb.Du = number (codes "--top") ∷ []
 own_rules verb.Check = flag (codes "--all") ∷ []
-own_rules verb.Rescue = word (codes "path") ∷ flag (codes "--text") ∷ []
+own_rules verb.Rescue = word (codes "path") ∷ flag (codes "--text") ∷ flag (codes "--scan") ∷ flag (codes "--partial") ∷ []
 own_rules verb.Cmp = word (codes "path") ∷ flag (codes "--all") ∷ []
 own_rules verb.Cp = needed 2 ∷ []
 own_rules verb.Mv = needed 2 ∷ []

@@ -11,21 +11,29 @@ pub enum Action<'a> {
         ids: bool,
         below: bool,
     },
-    /// Finds files; only those that no directory names where `lost`.
+    /// Finds files; only those that no directory names where `lost`. Where `deleted`, those that are deleted and whose headers are still there, with
+    /// columns for what is left of each where `long`.
     Find {
         lost: bool,
+        deleted: bool,
+        long: bool,
     },
     /// Shows what is known of files.
     Stat,
     /// Writes files to standard output.
     Cat(Wanted),
-    /// Writes files to the host: to this target, or where there is none into the working folder or to the last word.
+    /// Writes files to the host: to this target, or where there is none into the working folder or to the last word. Deleted files where `deleted`;
+    /// what is there of a file that is not whole where `partial`.
     Get {
         wanted: Wanted,
         target: Option<&'a str>,
+        deleted: bool,
+        partial: bool,
     },
     /// Shows how much of the volume is used.
     Df,
+    /// Shows the label, owner, size and layout of the volume.
+    Info,
     /// How many blocks directories have, or the largest files where a number is said.
     Du {
         top: Option<u32>,
@@ -34,9 +42,12 @@ pub enum Action<'a> {
     Check {
         all: bool,
     },
-    /// Copies files out of an image that may be refused; records as lines where `text`.
+    /// Copies files out of an image that may be refused; records as lines where `text`. By the headers that a scan of all blocks finds where `scan`;
+    /// what is there of a file that is not whole too where `partial`.
     Rescue {
         text: bool,
+        scan: bool,
+        partial: bool,
     },
     /// What differs between two images, IDs, dates, owners and protection too where `all`.
     Cmp {

@@ -1,7 +1,7 @@
 //! The commands: each has a file with its row, and with what its words ask for.
-ghost use Rattle.std.specs.Prelude.{◌≡◌, IfOk};
+ghost use Rattle.std.specs.Prelude.{◌≡◌, IfErr, IfOk};
 ghost use Rattle.clap.specs.Simple.{app_of};
-ghost use Rattle.fs_words.specs.{Asked.Asks, Rules.command_app, Rules.own_rules, Rules.rules_in};
+ghost use Rattle.fs_words.specs.{Asked.Asks, Refused.HasReason, Refused.IsUnasked, Rules.command_app, Rules.own_rules, Rules.rules_in};
 
 mod cat;
 mod check;
@@ -11,6 +11,7 @@ mod df;
 mod du;
 mod find;
 mod get;
+mod info;
 mod init;
 mod ls;
 mod mkdir;
@@ -43,6 +44,7 @@ pub(crate) fn command_of<'a>(alloc: Global, verb: Verb) -> Result<Command<'a>, A
         Verb::Cat => row_command(alloc, verb, &cat::ROW),
         Verb::Get => row_command(alloc, verb, &get::ROW),
         Verb::Df => row_command(alloc, verb, &df::ROW),
+        Verb::Info => row_command(alloc, verb, &info::ROW),
         Verb::Du => row_command(alloc, verb, &du::ROW),
         Verb::Check => row_command(alloc, verb, &check::ROW),
         Verb::Rescue => row_command(alloc, verb, &rescue::ROW),
@@ -75,15 +77,17 @@ pub(crate) fn action_of<'a>(
     own: &ArgMatches<'a>,
     out: Option<&'a str>,
 ) -> Result<Action<'a>, WordsFault>
-    ensures { IfOk result (Asks verb own.now out.entry) }
+    ensures asked { IfOk result (Asks verb own.now out.entry) }
+    ensures refused { IfErr result (HasReason (IsUnasked verb own.now)) }
 {
     match verb {
         Verb::Ls => Ok(ls::action(own)),
-        Verb::Find => Ok(find::action(own)),
+        Verb::Find => find::action(alloc, own),
         Verb::Stat => Ok(Action::Stat),
         Verb::Cat => Ok(Action::Cat(wanted_form(own))),
         Verb::Get => Ok(get::action(own, out)),
         Verb::Df => Ok(Action::Df),
+        Verb::Info => Ok(Action::Info),
         Verb::Du => du::action(alloc, own),
         Verb::Check => Ok(check::action(own)),
         Verb::Rescue => Ok(rescue::action(own)),

@@ -1,4 +1,4 @@
-//! The options of `cat` and `get` for the form in which files come.
+//! The options of `cat`, `get` and `rescue` for the form in which files come, and how much of them.
 ghost use Rattle.fs_words.specs.Asked.{IsWanted};
 
 use crate::arguments::Argument;
@@ -19,6 +19,12 @@ pub(crate) const BINARY: Argument<'static> = Argument::Flag(
 
 /// `--raw`.
 pub(crate) const RAW: Argument<'static> = Argument::Flag("--raw", "Write the bytes of all blocks");
+
+/// `--partial`.
+pub(crate) const PARTIAL: Argument<'static> = Argument::Flag(
+    "--partial",
+    "Copy damaged files too: the blocks up to the first that is missing, with zeros for those outside the volume",
+);
 
 /// One form is asked for at most.
 pub(crate) const FORMS_APART: [(&str, &str); 3] = [("-t", "-b"), ("-t", "--raw"), ("-b", "--raw")];

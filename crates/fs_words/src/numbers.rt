@@ -1,8 +1,8 @@
 //! The numbers that words say, in decimal.
-ghost use Rattle.std.specs.Prelude.{◌++◌, IfOk, codes};
+ghost use Rattle.std.specs.Prelude.{◌++◌, IfErr, IfOk, codes};
 ghost use Rattle.ods_text.specs.Numbers.{IsLargeNumber, IsNumber};
 ghost use Rattle.ods_words.specs.Telling.{IsWrong};
-ghost use Rattle.fs_words.specs.Values.{IsValue, value_of};
+ghost use Rattle.fs_words.specs.{Refused.HasReason, Refused.IsNoValue, Refused.SpellsNone, Values.IsValue, Values.value_of};
 
 use ods_text::{read_decimal, read_large};
 use ods_words::WordsFault;
@@ -10,7 +10,8 @@ use std::alloc::{AllocError, Global};
 
 /// The number that the value of an option says, where there is one. Clap has refused a word that is no number.
 pub(crate) fn number_of(alloc: Global, text: Option<&str>) -> Result<Option<u32>, WordsFault>
-    ensures { IfOk result (IsValue IsNumber (value_of text.entry)) }
+    ensures value { IfOk result (IsValue IsNumber (value_of text.entry)) }
+    ensures refused { IfErr result (HasReason (IsNoValue IsNumber (value_of text.entry))) }
 {
     let Some(text) = text else {
         return Ok(None);
@@ -23,7 +24,8 @@ pub(crate) fn number_of(alloc: Global, text: Option<&str>) -> Result<Option<u32>
 
 /// The number that a word says, which may need 64 bits.
 pub(crate) fn large_number_of(alloc: Global, text: &str) -> Result<u64, WordsFault>
-    ensures { IfOk result (IsLargeNumber text.now) }
+    ensures value { IfOk result (IsLargeNumber text.now) }
+    ensures refused { IfErr result (HasReason (SpellsNone IsLargeNumber text.now)) }
 {
     match read_large(text.as_bytes()) {
         Some(number) => Ok(number),

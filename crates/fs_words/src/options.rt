@@ -37,10 +37,12 @@ pub enum Choice {
     KeepGoing,
     /// `--blocks`: the size of the volume in blocks, whatever the image says.
     Blocks,
+    /// `--order`: how the sectors of the volume stand in the image.
+    Order,
 }
 
 /// All options.
-pub(crate) const CHOICES: [Choice; 11] = [
+pub(crate) const CHOICES: [Choice; 12] = [
     Choice::Out,
     Choice::Backup,
     Choice::BreakLinks,
@@ -52,6 +54,7 @@ pub(crate) const CHOICES: [Choice; 11] = [
     Choice::Quiet,
     Choice::KeepGoing,
     Choice::Blocks,
+    Choice::Order,
 ];
 
 /// Whether a command may do something with an option.
@@ -72,9 +75,15 @@ pub fn serves(choice: Choice, verb: Verb) -> bool
                 Verb::Put | Verb::Cp | Verb::Mkdir | Verb::Init | Verb::File
             )
         }
-        Choice::User => !matches!(verb, Verb::Df | Verb::Du | Verb::Check | Verb::Rescue),
+        Choice::User => {
+            !matches!(
+                verb,
+                Verb::Df | Verb::Info | Verb::Du | Verb::Check | Verb::Rescue
+            )
+        }
         Choice::Quiet | Choice::Blocks => !matches!(verb, Verb::Init),
         Choice::KeepGoing => matches!(verb, Verb::File),
+        Choice::Order => true,
     }
 }
 
@@ -102,6 +111,7 @@ impl Choice {
             Choice::Quiet => "-q",
             Choice::KeepGoing => "--keep-going",
             Choice::Blocks => "--blocks",
+            Choice::Order => "--order",
         }
     }
 
@@ -115,6 +125,7 @@ impl Choice {
             Choice::Stamp => Some("STAMP"),
             Choice::User => Some("USER"),
             Choice::Blocks => Some("N"),
+            Choice::Order => Some("ORDER"),
             _ => None,
         }
     }
@@ -145,6 +156,7 @@ impl Choice {
             Choice::Blocks => {
                 "Assume that the volume has N blocks, 1 to 1048576, whatever the image says"
             }
+            Choice::Order => order_help(verb),
         }
     }
 
@@ -209,6 +221,17 @@ fn force_help<'a>(verb: Option<Verb>) -> &'a str {
         Some(_) => "Change the image even if another process has it open",
         None =>
             "For get: replace host files that exist. For a change: change IMAGE even if another process has it open",
+    }
+}
+
+/// What `--order` does.
+fn order_help<'a>(verb: Option<Verb>) -> &'a str {
+    match verb {
+        Some(Verb::Init) => {
+            "Write the sectors of the image in this order: plain, rx01, rx02 or rx50. Default: plain"
+        }
+        _ =>
+            "Read and write the sectors of the image in this order: plain, rx01, rx02 or rx50. Default: f11fs finds it",
     }
 }
 

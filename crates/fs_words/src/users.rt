@@ -1,8 +1,8 @@
 //! How words name users.
-ghost use Rattle.std.specs.Prelude.{IfOk, codes};
+ghost use Rattle.std.specs.Prelude.{IfErr, IfOk, codes};
 ghost use Rattle.clap.specs.Words.{first_value, found_of};
 ghost use Rattle.ods_text.specs.One.{IsTheOne};
-ghost use Rattle.fs_words.specs.{Users.IsSaid, Values.IsValue, Values.value_of};
+ghost use Rattle.fs_words.specs.{Refused.HasReason, Refused.IsNoValue, Users.IsSaid, Values.IsValue, Values.value_of};
 
 use crate::said::wrong;
 use clap::ArgMatches;
@@ -30,7 +30,8 @@ pub(crate) fn said_user(
     text: Option<&str>,
     why: &str,
 ) -> Result<Option<Uic>, WordsFault>
-    ensures { IfOk result (IsValue IsSaid (value_of text.entry)) }
+    ensures value { IfOk result (IsValue IsSaid (value_of text.entry)) }
+    ensures refused { IfErr result (HasReason (IsNoValue IsSaid (value_of text.entry))) }
 {
     let Some(text) = text else {
         return Ok(None);
@@ -43,7 +44,8 @@ pub(crate) fn said_user(
 
 /// The owner that `--owner` says.
 pub(crate) fn owner_of(alloc: Global, own: &ArgMatches<'_>) -> Result<Option<Uic>, WordsFault>
-    ensures { IfOk result (IsValue IsSaid (first_value (found_of own.now) (codes "--owner"))) }
+    ensures value { IfOk result (IsValue IsSaid (first_value (found_of own.now) (codes "--owner"))) }
+    ensures refused { IfErr result (HasReason (IsNoValue IsSaid (first_value (found_of own.now) (codes "--owner")))) }
 {
     said_user(alloc, own.get_str("--owner"), "is no owner, as [1,2]")
 }

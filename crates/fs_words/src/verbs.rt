@@ -21,6 +21,8 @@ pub enum Verb {
     Get,
     /// `df`: shows how much of the volume is used.
     Df,
+    /// `info`: shows the label, owner, size and layout of the volume.
+    Info,
     /// `du`: shows how many blocks the files of directories have.
     Du,
     /// `check`: shows what is wrong with an image.
@@ -50,13 +52,14 @@ pub enum Verb {
 }
 
 /// The commands, in the order of the help.
-pub(crate) const VERBS: [Verb; 18] = [
+pub(crate) const VERBS: [Verb; 19] = [
     Verb::Ls,
     Verb::Find,
     Verb::Stat,
     Verb::Cat,
     Verb::Get,
     Verb::Df,
+    Verb::Info,
     Verb::Du,
     Verb::Check,
     Verb::Rescue,
@@ -83,6 +86,7 @@ impl Verb {
             Verb::Cat => "cat",
             Verb::Get => "get",
             Verb::Df => "df",
+            Verb::Info => "info",
             Verb::Du => "du",
             Verb::Check => "check",
             Verb::Rescue => "rescue",

@@ -1,12 +1,13 @@
 //! What the words of a command line, or of a line in a file of commands, ask for.
-ghost use Rattle.std.specs.Prelude.{◌≡◌, ◌++◌, ◌&&◌, true, All, IfOk, OnOk, codes, drop, is_some, map, not};
+ghost use Rattle.std.specs.Prelude.{◌≡◌, ◌++◌, ◌&&◌, true, false, All, IfErr, IfOk, OnOk, codes, drop, is_some, map, not};
 ghost use Rattle.ods_words.specs.Telling.{IsWrong};
-ghost use Rattle.fs_words.specs.{Found.AreOfCommand, Found.AreOfFile, Found.IsFound, Found.IsSaving, Found.IsStamp, Found.PlansWhereJson, Found.ServesWhereSaid, Names.verb_text, Options.option_serves, Options.option_text, Options.options, Parts.AreWordsOf, Parts.IsLineOf, Saying.text_said, Values.IsValue};
+ghost use Rattle.fs_words.specs.{Found.AreOfCommand, Found.AreOfFile, Found.IsFound, Found.IsSaving, Found.IsStamp, Found.PlansWhereJson, Found.ServesWhereSaid, Names.verb_text, Options.option_serves, Options.option_text, Options.options, Parts.AreWordsOf, Parts.IsLineOf, Refused.AreNoWords, Refused.HasIdle, Refused.HasReason, Refused.IsBeside, Refused.IsIdle, Refused.IsJsonAlone, Refused.IsNoCommand, Refused.IsNoFile, Refused.IsNoLine, Refused.IsNoValue, Saying.text_said, Values.IsValue};
 
 use crate::actions::Action;
 use crate::commands::action_of;
 use crate::days::is_true_day;
 use crate::hints::{before_image, no_command, wanting};
+use crate::layering::{Layering, read_layering};
 use crate::numbers::number_of;
 use crate::options::{CHOICES, Choice, prints_only_plans, serves};
 use crate::parse::{behind_first, command_matches, first_matches, rest_of, tell};
@@ -42,6 +43,8 @@ pub struct Words<'a> {
     pub saving: Saving<'a>,
     /// How many blocks the volume has, whatever the image says.
     pub blocks: Option<u32>,
+    /// How the sectors of the volume stand in the image, where it is said; with none `f11fs` looks itself.
+    pub order: Option<Layering>,
 }
 
 /// How a changed image is saved.
@@ -69,6 +72,7 @@ impl Saving<'_> {
 /// What the words after the program's name ask for.
 pub fn parse_words<'a, S: AsStr>(alloc: Global, words: &'a [S]) -> Result<Words<'a>, WordsFault>
     ensures found { IfOk result (AreWordsOf (map S.text words.entry.now)) }
+    ensures refused { IfErr result (HasReason (AreNoWords (map S.text words.entry.now))) }
 {
     let before = match first_matches(alloc, words, true) {
         Ok(before) => before,
@@ -100,6 +104,7 @@ pub fn parse_line<'a, S: AsStr>(
     words: &'a [S],
 ) -> Result<Option<Words<'a>>, WordsFault>
     ensures found { IfOk result (IsLineOf image.entry (map S.text words.entry.now)) }
+    ensures refused { IfErr result (HasReason (IsNoLine (map S.text words.entry.now))) }
 {
     if words.is_empty() {
         return Ok(None);
@@ -132,7 +137,8 @@ fn file_words<'a>(
     file: &'a str,
     before: &ArgMatches<'a>,
 ) -> Result<Words<'a>, WordsFault>
-    ensures { IfOk result (AreOfFile image.entry file.entry before.entry) }
+    ensures found { IfOk result (AreOfFile image.entry file.entry before.entry) }
+    ensures refused { IfErr result (HasReason (IsNoFile before.entry)) }
 {
     let said = Said {
         before: Some(before),
@@ -151,7 +157,8 @@ fn obeyed_words<'a, S: AsStr>(
     words: &'a [S],
     before: Option<&ArgMatches<'a>>,
 ) -> Result<Words<'a>, WordsFault>
-    ensures { IfOk result (AreOfCommand image.entry verb (map S.text (drop 1 words.entry.now)) before.entry) }
+    ensures found { IfOk result (AreOfCommand image.entry verb (map S.text (drop 1 words.entry.now)) before.entry) }
+    ensures refused { IfErr result (HasReason (IsNoCommand verb (map S.text (drop 1 words.entry.now)) before.entry)) }
 {
     let own = match command_matches(alloc, verb, behind_first(words)) {
         Ok(own) => own,
@@ -175,6 +182,7 @@ fn found_words<'a>(
 ) -> Result<Words<'a>, WordsFault>
     ensures found { IfOk result (IsFound image.entry said.now verb action.entry) }
     ensures serves { IfOk result (λ _. All (ServesWhereSaid said.now verb) options × PlansWhereJson said.now verb) }
+    ensures refused { IfErr result (HasReason (IsBeside said.now verb)) }
 {
     refuse_idle(alloc, verb, said)?;
     Ok(Words {
@@ -188,6 +196,7 @@ fn found_words<'a>(
         stamp: said_stamp(alloc, said)?,
         saving: how_saved(said, verb),
         blocks: number_of(alloc, said.text(Choice::Blocks))?,
+        order: read_layering(alloc, said.text(Choice::Order))?,
     })
 }
 
@@ -210,6 +219,7 @@ fn how_saved<'a>(said: &Said<'_, '_, 'a>, verb: Verb) -> Saving<'a>
 fn refuse_idle(alloc: Global, verb: Verb, said: &Said<'_, '_, '_>) -> Result<(), WordsFault>
     ensures serves { OnOk result (All (ServesWhereSaid said.now verb) options) }
     ensures json { OnOk result (PlansWhereJson said.now verb) }
+    ensures refused { IfErr result (HasReason (IsBeside said.now verb)) }
 {
     refuse_among(alloc, &CHOICES, verb, said)?;
     refuse_json_alone(alloc, verb, said)
@@ -222,7 +232,8 @@ fn refuse_among(
     verb: Verb,
     said: &Said<'_, '_, '_>,
 ) -> Result<(), WordsFault>
-    ensures { OnOk result (All (ServesWhereSaid said.now verb) choices.now) }
+    ensures serves { OnOk result (All (ServesWhereSaid said.now verb) choices.now) }
+    ensures refused { IfErr result (HasReason (HasIdle said.now verb choices.now)) }
 {
     for choice in choices {
         refuse_where_idle(alloc, *choice, verb, said)?;
@@ -237,7 +248,8 @@ fn refuse_where_idle(
     verb: Verb,
     said: &Said<'_, '_, '_>,
 ) -> Result<(), WordsFault>
-    ensures { OnOk result (ServesWhereSaid said.now verb choice) }
+    ensures serves { OnOk result (ServesWhereSaid said.now verb choice) }
+    ensures refused { IfErr result (HasReason (IsIdle said.now verb choice)) }
 {
     // A parse gives an option without a value the text `false` where it was not said.
     match choice.value(None) {
@@ -248,7 +260,8 @@ fn refuse_where_idle(
 
 /// That an option does something for the command, or was not said.
 fn refuse_said(alloc: Global, choice: Choice, verb: Verb, is_said: bool) -> Result<(), WordsFault>
-    ensures { OnOk result (is_said ≡ true → option_serves choice verb ≡ true) }
+    ensures serves { OnOk result (is_said ≡ true → option_serves choice verb ≡ true) }
+    ensures refused { IfErr result (HasReason ((is_said ≡ true) × (option_serves choice verb ≡ false))) }
 {
     if is_said && !serves(choice, verb) {
         return Err(idle(alloc, choice, verb, "")?);
@@ -258,7 +271,8 @@ fn refuse_said(alloc: Global, choice: Choice, verb: Verb, is_said: bool) -> Resu
 
 /// That JSON of what prints only plans is asked for beside `-n`.
 fn refuse_json_alone(alloc: Global, verb: Verb, said: &Said<'_, '_, '_>) -> Result<(), WordsFault>
-    ensures { OnOk result (PlansWhereJson said.now verb) }
+    ensures plans { OnOk result (PlansWhereJson said.now verb) }
+    ensures refused { IfErr result (HasReason (IsJsonAlone said.now verb)) }
 {
     let json = said.flag(Choice::Json);
     let only_tells = said.flag(Choice::OnlyTells);
@@ -278,7 +292,8 @@ fn idle(alloc: Global, choice: Choice, verb: Verb, more: &str) -> Result<WordsFa
 
 /// The time that `--stamp` says.
 fn said_stamp(alloc: Global, said: &Said<'_, '_, '_>) -> Result<Option<Stamp>, WordsFault>
-    ensures { IfOk result (IsValue IsStamp (text_said said.now (codes "--stamp"))) }
+    ensures value { IfOk result (IsValue IsStamp (text_said said.now (codes "--stamp"))) }
+    ensures refused { IfErr result (HasReason (IsNoValue IsStamp (text_said said.now (codes "--stamp")))) }
 {
     let Some(text) = said.text(Choice::Stamp) else {
         return Ok(None);

@@ -1,10 +1,11 @@
 //! `du`: shows how many blocks directories have.
-ghost use Rattle.std.specs.Prelude.{IfOk};
-ghost use Rattle.fs_words.specs.Asked.{IsDu};
+ghost use Rattle.std.specs.Prelude.{IfErr, IfOk};
+ghost use Rattle.fs_words.specs.{Asked.IsDu, Refused.HasReason, Refused.IsUnasked};
 
 use crate::actions::Action;
 use crate::arguments::{Argument, Row};
 use crate::numbers::number_of;
+use crate::verbs::Verb;
 use clap::ArgMatches;
 use ods_words::WordsFault;
 use std::alloc::Global;
@@ -19,7 +20,8 @@ pub(crate) const ROW: Row<'static> = Row {
 
 /// What its words ask for.
 pub(crate) fn action<'a>(alloc: Global, own: &ArgMatches<'_>) -> Result<Action<'a>, WordsFault>
-    ensures { IfOk result (IsDu own.now) }
+    ensures asked { IfOk result (IsDu own.now) }
+    ensures refused { IfErr result (HasReason (IsUnasked Verb.Du own.now)) }
 {
     let top = number_of(alloc, own.get_str("--top"))?;
     Ok(Action::Du { top })

@@ -1,12 +1,13 @@
 //! `init`: makes the image of a new volume.
-ghost use Rattle.std.specs.Prelude.{IfOk};
-ghost use Rattle.fs_words.specs.Asked.{IsInit, IsSize};
+ghost use Rattle.std.specs.Prelude.{◌≡◌, [], IfErr, IfOk, codes, unwrap_or};
+ghost use Rattle.fs_words.specs.{Asked.IsInit, Asked.IsSize, Asked.text_of, Refused.HasReason, Refused.IsUnasked, Refused.SpellsNone};
 
 use crate::actions::Action;
 use crate::arguments::{Argument, Row};
 use crate::devices::device_blocks;
 use crate::numbers::number_of;
 use crate::said::wrong;
+use crate::verbs::Verb;
 use clap::ArgMatches;
 use ods_text::read_decimal;
 use ods_words::WordsFault;
@@ -39,9 +40,10 @@ pub(crate) const ROW: Row<'static> = Row {
 
 /// What its words ask for.
 pub(crate) fn action<'a>(alloc: Global, own: &ArgMatches<'a>) -> Result<Action<'a>, WordsFault>
-    ensures { IfOk result (IsInit own.now) }
+    ensures asked { IfOk result (IsInit own.now) }
+    ensures refused { IfErr result (HasReason (IsUnasked Verb.Init own.now)) }
 {
-    let blocks = size_of(alloc, own.get_str("size").unwrap_or(""))?;
+    let blocks = size_of(alloc, size_in(own))?;
     let files = number_of(alloc, own.get_str("--files"))?;
     Ok(Action::Init {
         blocks,
@@ -50,9 +52,17 @@ pub(crate) fn action<'a>(alloc: Global, own: &ArgMatches<'a>) -> Result<Action<'
     })
 }
 
+/// The word for the size.
+fn size_in<'a>(own: &ArgMatches<'a>) -> &'a str
+    ensures { result.now ≡ unwrap_or (text_of own.now (codes "size")) [] }
+{
+    own.get_str("size").unwrap_or("")
+}
+
 /// How many blocks a new volume has, by their number or by the name of a device.
 fn size_of(alloc: Global, text: &str) -> Result<u32, WordsFault>
-    ensures { IfOk result (IsSize text.now) }
+    ensures size { IfOk result (IsSize text.now) }
+    ensures refused { IfErr result (HasReason (SpellsNone IsSize text.now)) }
 {
     if let Some(blocks) = device_blocks(text) {
         return Ok(blocks);

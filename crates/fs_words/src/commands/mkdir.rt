@@ -1,11 +1,12 @@
 //! `mkdir`: makes directories.
-ghost use Rattle.std.specs.Prelude.{IfOk};
-ghost use Rattle.fs_words.specs.Asked.{IsMkdir};
+ghost use Rattle.std.specs.Prelude.{IfErr, IfOk};
+ghost use Rattle.fs_words.specs.{Asked.IsMkdir, Refused.HasReason, Refused.IsUnasked};
 
 use crate::actions::{Action, Change};
 use crate::arguments::{Argument, Row};
 use crate::numbers::number_of;
 use crate::users::owner_of;
+use crate::verbs::Verb;
 use clap::ArgMatches;
 use ods_words::WordsFault;
 use std::alloc::Global;
@@ -28,7 +29,8 @@ pub(crate) const ROW: Row<'static> = Row {
 
 /// What its words ask for.
 pub(crate) fn action<'a>(alloc: Global, own: &ArgMatches<'_>) -> Result<Action<'a>, WordsFault>
-    ensures { IfOk result (IsMkdir own.now) }
+    ensures asked { IfOk result (IsMkdir own.now) }
+    ensures refused { IfErr result (HasReason (IsUnasked Verb.Mkdir own.now)) }
 {
     let names = number_of(alloc, own.get_str("--names"))?;
     let owner = owner_of(alloc, own)?;

@@ -1,13 +1,14 @@
 //! `put`: puts files of the host.
-ghost use Rattle.std.specs.Prelude.{IfOk};
+ghost use Rattle.std.specs.Prelude.{IfErr, IfOk};
 ghost use Rattle.ods_records.specs.Forms.{IsForm};
 ghost use Rattle.fs_words.specs.Values.{IsValue, value_of};
-ghost use Rattle.fs_words.specs.Asked.{IsPut};
+ghost use Rattle.fs_words.specs.{Asked.IsPut, Refused.HasReason, Refused.IsNoValue, Refused.IsUnasked};
 
 use crate::actions::{Action, Change, PutWords};
 use crate::arguments::{Argument, Row};
 use crate::said::wrong;
 use crate::users::owner_of;
+use crate::verbs::Verb;
 use clap::ArgMatches;
 use ods_records::parse_form;
 use ods_words::WordsFault;
@@ -50,7 +51,8 @@ pub(crate) const ROW: Row<'static> = Row {
 
 /// What its words ask for.
 pub(crate) fn action<'a>(alloc: Global, own: &ArgMatches<'a>) -> Result<Action<'a>, WordsFault>
-    ensures { IfOk result (IsPut own.now) }
+    ensures asked { IfOk result (IsPut own.now) }
+    ensures refused { IfErr result (HasReason (IsUnasked Verb.Put own.now)) }
 {
     let form = form_of(alloc, own.get_str("--form"))?;
     let owner = owner_of(alloc, own)?;
@@ -66,7 +68,8 @@ pub(crate) fn action<'a>(alloc: Global, own: &ArgMatches<'a>) -> Result<Action<'
 
 /// The form that the value of `--form` says, where there is one: the first four bytes of the attributes.
 fn form_of(alloc: Global, text: Option<&str>) -> Result<Option<[u8; 4]>, WordsFault>
-    ensures { IfOk result (IsValue IsForm (value_of text.entry)) }
+    ensures value { IfOk result (IsValue IsForm (value_of text.entry)) }
+    ensures refused { IfErr result (HasReason (IsNoValue IsForm (value_of text.entry))) }
 {
     let Some(text) = text else {
         return Ok(None);

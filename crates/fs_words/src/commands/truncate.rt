@@ -1,11 +1,12 @@
 //! `truncate`: cuts a file.
-ghost use Rattle.std.specs.Prelude.{IfOk};
-ghost use Rattle.fs_words.specs.Asked.{IsTruncate};
+ghost use Rattle.std.specs.Prelude.{IfErr, IfOk};
+ghost use Rattle.fs_words.specs.{Asked.IsTruncate, Refused.HasReason, Refused.IsUnasked};
 
 use crate::actions::{Action, Change};
 use crate::arguments::{Argument, Row};
 use crate::hints::wanting;
 use crate::numbers::large_number_of;
+use crate::verbs::Verb;
 use clap::ArgMatches;
 use ods_words::WordsFault;
 use std::alloc::Global;
@@ -23,7 +24,8 @@ pub(crate) const ROW: Row<'static> = Row {
 
 /// What its words ask for.
 pub(crate) fn action<'a>(alloc: Global, own: &ArgMatches<'_>) -> Result<Action<'a>, WordsFault>
-    ensures { IfOk result (IsTruncate own.now) }
+    ensures asked { IfOk result (IsTruncate own.now) }
+    ensures refused { IfErr result (HasReason (IsUnasked Verb.Truncate own.now)) }
 {
     let Some(text) = own.get_str("bytes") else {
         return Err(wanting(alloc, false)?);

@@ -27,6 +27,10 @@ pub row_command-requires-in-Df : goal.row_command-requires-in-Df
 unfolding own_rules
 row_command-requires-in-Df c = rw c.in-Df.is refl
 
+pub row_command-requires-in-Info : goal.row_command-requires-in-Info
+unfolding own_rules
+row_command-requires-in-Info c = rw c.in-Info.is refl
+
 pub row_command-requires-in-Du : goal.row_command-requires-in-Du
 unfolding own_rules
 row_command-requires-in-Du c = rw c.in-Du.is refl
