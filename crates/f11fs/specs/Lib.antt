@@ -1,5 +1,6 @@
 pub mod Changed
 pub mod Forms
+pub mod Orders
 pub mod Plans
 pub mod Readings
 pub mod Saved

@@ -1,7 +1,7 @@
 -- How a run ends that changes an image: what is locked, and what is saved of it.
 use Rattle.std.specs.Prelude.{◌≡◌, ◌⊎◌, ℕ, List, Bool, Result, Ok, Err, IsTrue}
 use Rattle.std.specs.Borrow.{Bor}
-use Rattle.fs_host.specs.Faults.{may_end_locking, may_end_saving, may_end_writing}
+use Rattle.fs_host.specs.Faults.{may_end_locking, may_end_storing, may_end_copying}
 use Rattle.fs_host.specs.declared.faults.SaveFault.{SaveFault}
 use Rattle.fs_reads.specs.Volumes.{IsNoVolume}
 use Rattle.fs_reads.specs.declared.stop.Stop.{Stop}
@@ -28,13 +28,13 @@ IsNotLocked path writes force s =
     ((fault : SaveFault) × IsTrue (may_end_locking writes force fault) × (s ≡ stop.Word path (word.Unsaved fault)))
     ⊎ (((fault : VolumeFault) × IsNoVolume path fault s) ⊎ (s ≡ stop.NoMemory))
 
--- the image is saved in a new file at this path, or it is said why it is not
-abbrev pub IsWrittenTo : Bor (List ℕ) → Result Finished Stop → Type 0
-IsWrittenTo path (Ok f) = (s : Status) × (f ≡ ended.Saved s)
-IsWrittenTo path (Err s) = (fault : SaveFault) × IsTrue (may_end_writing fault) × (s ≡ stop.Word path (word.Unsaved fault))
+-- the image, which may be a floppy in physical order, is saved in a new file at this path, or it is said why it is not
+abbrev pub IsWrittenTo : Bool → Bor (List ℕ) → Result Finished Stop → Type 0
+IsWrittenTo floppy path (Ok f) = (s : Status) × (f ≡ ended.Saved s)
+IsWrittenTo floppy path (Err s) = (fault : SaveFault) × IsTrue (may_end_copying floppy fault) × (s ≡ stop.Word path (word.Unsaved fault))
 
 -- why an image is not saved in its place: it is shorter than its volume, or the host does not take it
-abbrev pub IsNotSaved : Bor (List ℕ) → Bool → Bool → Bool → Stop → Type 0
-IsNotSaved path force backup break_links s =
+abbrev pub IsNotSaved : Bor (List ℕ) → Bool → Bool → Bool → Bool → Stop → Type 0
+IsNotSaved path floppy force backup break_links s =
     (s ≡ stop.Word path word.Short)
-    ⊎ ((fault : SaveFault) × IsTrue (may_end_saving force backup break_links fault) × (s ≡ stop.Word path (word.Unsaved fault)))
+    ⊎ ((fault : SaveFault) × IsTrue (may_end_storing floppy force backup break_links fault) × (s ≡ stop.Word path (word.Unsaved fault)))

@@ -1,6 +1,6 @@
 //! The commands that change a volume: put, cp, mv, rm, mkdir, rmdir and truncate.
 ghost use Rattle.std.specs.Prelude.{◌≡◌, ◌⊎◌, ◌&&◌, true, false, None, IfErr, IfOk, IfSome, IsOk, IsSomeAnd, MatchOption, OnOk, is_some, length, not, unwrap_or};
-ghost use Rattle.fs_host.specs.{Found.SaysShort, Kept.force_kept, Kept.remark_kept, Times.IsStampOfLocal};
+ghost use Rattle.fs_host.specs.{Found.SaysShort, Kept.force_kept, Kept.is_floppy, Kept.remark_kept, Times.IsStampOfLocal};
 ghost use Rattle.ods_shell.specs.declared.status.Status.{Status as Code};
 ghost use Rattle.ods_upkeep.specs.Pieces.{HasStatus};
 ghost use Rattle.fs_reads.specs.Ends.{StopsWith};
@@ -9,9 +9,10 @@ ghost use Rattle.f11fs.specs.{Changed.IsChanged, Changed.IsRefusal, Changed.Keep
 
 use crate::early::Early;
 use crate::host::Host;
+use crate::orders::layers_of;
 use crate::putting::put;
 use crate::telling::plan_text;
-use fs_host::{Locked, Shown, Unfinished, stamp_of_now, write_new};
+use fs_host::{Locked, Shown, Unfinished, stamp_of_now};
 use fs_reads::{Stop, WordFault, say_extent, send, stop_about, volume_of};
 use fs_words::{Change, Saving, Words};
 use ods_base::Uic;
@@ -80,7 +81,7 @@ pub fn lock_volume<'a, R: Host>(
         Ok(locked) => locked,
         Err(fault) => return Err(Stop::Word(words.image, WordFault::Unsaved(fault))),
     };
-    let image = locked.read(rt.alloc(), words.blocks);
+    let image = locked.read(rt.alloc(), words.blocks, layers_of(words.order));
     say_extent(rt, words.image, locked.extent(), false);
     let volume = match volume_of(rt, words.image, image) {
         Ok(volume) => volume,
@@ -171,10 +172,10 @@ pub fn finish<'a, R: Host>(
 ) -> Result<Finished, Stop<'a>>
     ensures told { IfSome before.now (λ _. IfOk result (λ f. f ≡ Finished.Told Code.Done)) }
     ensures status { IfOk result EndsSaved }
-    ensures out { before.now ≡ None → IfSome words.now.saving.out (λ out. IsWrittenTo out result) }
+    ensures out { before.now ≡ None → IfSome words.now.saving.out (λ out. IsWrittenTo (is_floppy locked.old) out result) }
     // An image that is shorter than its volume is written only where the words say so.
     ensures short { before.now ≡ None → words.now.saving.out ≡ None → words.now.force ≡ false → IsSomeAnd (remark_kept locked.old) SaysShort → IfOk result (λ f. f ≡ Finished.Told Code.Done) }
-    ensures err { before.now ≡ None → words.now.saving.out ≡ None → IfErr result (IsNotSaved words.now.image (force_kept locked.old) words.now.saving.backup words.now.saving.break_links) }
+    ensures err { before.now ≡ None → words.now.saving.out ≡ None → IfErr result (IsNotSaved words.now.image (is_floppy locked.old) (force_kept locked.old) words.now.saving.backup words.now.saving.break_links) }
 {
     let image = volume.image();
     if let Some(before) = before {
@@ -182,7 +183,7 @@ pub fn finish<'a, R: Host>(
         return Ok(Finished::Told(send(rt, text.as_str())?));
     }
     if let Some(out) = words.saving.out {
-        return match write_new(rt, out, image, locked.behind(), locked.mode()) {
+        return match locked.write_copy(rt, out, image) {
             Ok(wanting) => Ok(Finished::Saved(say_unfinished(rt, out, wanting))),
             Err(fault) => Err(Stop::Word(out, WordFault::Unsaved(fault))),
         };

@@ -6,6 +6,7 @@ use crate::changing::change_image;
 use crate::command_files::obey_file;
 use crate::host::Host;
 use crate::making::init_image;
+use crate::orders::layers_of;
 use fs_reads::{Progress, Stop, check, obey, open_volume, rescue, say_end};
 use fs_words::{Action, Words};
 use ods_shell::Status;
@@ -24,12 +25,22 @@ pub struct Seen {
 pub fn run_command<R: Host>(rt: &R, words: &Words<'_>, seen: Seen) -> Status {
     let mut progress = Progress::begin(rt, shows_progress(words, seen));
     let done = match words.action {
-        Action::Check { all } => check(rt, words.image, words.blocks, all, words.json),
+        Action::Check { all } => check(
+            rt,
+            words.image,
+            words.blocks,
+            layers_of(words.order),
+            all,
+            words.json,
+        ),
         Action::Rescue {
             text,
             scan,
             partial,
-        } => rescue(rt, words, text, scan, partial, &mut progress),
+        } => {
+            let layers = layers_of(words.order);
+            rescue(rt, words, layers, text, scan, partial, &mut progress)
+        }
         Action::Change(change) => change_image(rt, words, change),
         Action::Init {
             blocks,
@@ -72,6 +83,7 @@ fn read_volume<'a, R: Files<File = File> + Clock + AllocGlobal + Print + Eprint>
     progress: &mut Progress,
 ) -> Result<Status, Stop<'a>> {
     let tells_behind = matches!(words.action, Action::Df) && !words.quiet;
-    let volume = open_volume(rt, words.image, words.blocks, tells_behind)?;
+    let layers = layers_of(words.order);
+    let volume = open_volume(rt, words.image, words.blocks, layers, tells_behind)?;
     obey(rt, &volume, words, progress)
 }

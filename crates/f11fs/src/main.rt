@@ -12,6 +12,7 @@ mod early;
 mod host;
 mod lines;
 mod making;
+mod orders;
 mod putting;
 mod telling;
 

@@ -1,25 +1,28 @@
 //! `init`: the image of a new volume.
-ghost use Rattle.std.specs.Prelude.{◌≡◌, false, true, IfErr, IfOk, IsTrue};
-ghost use Rattle.fs_host.specs.Faults.{may_end_writing};
+ghost use Rattle.std.specs.Prelude.{◌≡◌, false, true, IfErr, IfOk, IfSome, IsTrue, OnOk, is_some};
+ghost use Rattle.fs_host.specs.Faults.{may_end_copying};
 ghost use Rattle.fs_host.specs.declared.faults.SaveFault.{SaveFault as Fault};
 ghost use Rattle.fs_reads.specs.declared.stop.Stop.{Stop as End};
-ghost use Rattle.f11fs.specs.Saved.{IsSavedStatus};
+ghost use Rattle.f11fs.specs.{Orders.HasOtherBlocks, Orders.order_said, Saved.IsSavedStatus};
+ghost use Rattle.ods_order.specs.Order.{block_count};
 ghost use Rattle.ods_shell.specs.declared.status.Status.{Status as Code};
 
 use crate::changing::{asker_of, say_unfinished};
 use crate::host::Host;
-use fs_host::{SaveFault, Shown, write_new};
+use crate::orders::floppy_order;
+use fs_host::{SaveFault, Shown, write_ordered};
 use fs_reads::{Stop, WordFault, send, stop_about};
 use fs_words::Words;
 use ods_base::Image;
 use ods_init::{InitFault, Label, NewVolume, default_files, init};
+use ods_order::Order;
 use ods_shell::{Status, text_object};
 use std::fs;
 
 /// The label of a new volume where none is said.
 const LABEL: &str = "NEWVOLUME";
 
-/// `init`: an image that is not there before.
+/// `init`: an image that is not there before. One of a floppy in physical order has just the blocks of that.
 pub fn init_image<'a, R: Host>(
     rt: &R,
     words: &Words<'a>,
@@ -31,6 +34,7 @@ pub fn init_image<'a, R: Host>(
     ensures told { words.now.saving.only_tells ≡ true → IfOk result (λ s. s ≡ Code.Done) }
 {
     let path = words.image;
+    check_blocks(path, floppy_order(words.order), blocks)?;
     let text = label.unwrap_or(LABEL);
     let Some(label) = Label::parse(text) else {
         return Err(Stop::Word(text, WordFault::NoLabel));
@@ -54,11 +58,26 @@ pub fn init_image<'a, R: Host>(
     }
 }
 
+/// That a new floppy of the order that is said has so many blocks.
+fn check_blocks<'a>(path: &'a str, order: Option<Order>, blocks: u32) -> Result<(), Stop<'a>>
+    ensures ok { OnOk result (IfSome order (λ o. blocks ≡ block_count o)) }
+    ensures err { IfErr result (HasOtherBlocks path.entry order blocks) }
+{
+    let Some(order) = order else {
+        return Ok(());
+    };
+    let count = order.block_count();
+    if blocks == count {
+        return Ok(());
+    }
+    Err(Stop::Word(path, WordFault::OtherBlocks(count)))
+}
+
 /// Writes a new image, or only tells of it.
 fn write_image<'a, R: Host>(rt: &R, words: &Words<'a>, image: &Image) -> Result<Status, Stop<'a>>
     ensures status { IfOk result IsSavedStatus }
     ensures told { words.now.saving.only_tells ≡ true → IfOk result (λ s. s ≡ Code.Done) }
-    ensures err { words.now.saving.only_tells ≡ false → IfErr result (λ stop. (fault : Fault) × IsTrue (may_end_writing fault) × (stop ≡ End.Word words.now.image (WordFault.Unsaved fault))) }
+    ensures err { words.now.saving.only_tells ≡ false → IfErr result (λ stop. (fault : Fault) × IsTrue (may_end_copying (is_some (order_said words.now.order)) fault) × (stop ≡ End.Word words.now.image (WordFault.Unsaved fault))) }
 {
     let path = words.image;
     if words.saving.only_tells {
@@ -70,7 +89,7 @@ fn write_image<'a, R: Host>(rt: &R, words: &Words<'a>, image: &Image) -> Result<
         };
         return send(rt, text.as_str());
     }
-    match write_new(rt, path, image, &[], None) {
+    match write_ordered(rt, path, image, floppy_order(words.order)) {
         Ok(wanting) => Ok(say_unfinished(rt, path, wanting)),
         Err(fault) => Err(Stop::Word(path, WordFault::Unsaved(fault))),
     }

@@ -6,3 +6,5 @@ mod MayEnd
 mod HiddenNames
 mod HolderTexts
 mod Failed
+mod Storing
+mod Ordered

@@ -9,7 +9,7 @@ use Rattle.std.proofs.Common.{refl, sym, ap, ◌∙◌, arith}
 use Rattle.fs_host.specs.declared.host_fault.HostFault.{HostFault}
 use Rattle.fs_host.specs.declared.host_fault.HostFault.TheVariants.{Device, Closed, TooManyOpen, Failed, IsThere, Denied, Unsupported, Held, Changed, NoMemory}
 use Rattle.fs_host.specs.Reasons.{reason_of, reason_of_kind, reason_of_number}
-use Rattle.fs_host.specs.Faults.{is_reason, is_reason_but_there, is_reason_but_denied, is_reason_but_unsupported, may_end_path, may_end_beginning, may_end_naming, may_end_finish, may_refuse_name, may_end_opening, may_end_asking, may_end_locking, may_end_keeping, may_end_filling, may_end_giving, may_end_leaving, may_end_saving, may_end_writing}
+use Rattle.fs_host.specs.Faults.{is_reason, is_reason_but_there, is_reason_but_denied, is_reason_but_unsupported, may_end_path, may_end_beginning, may_end_naming, may_end_finish, may_refuse_name, may_end_opening, may_end_asking, may_end_locking, may_end_keeping, may_end_filling, may_end_giving, may_end_leaving, may_end_saving, may_end_storing, may_end_writing, may_end_copying}
 use Rattle.fs_host.specs.Stopped.{fault_told}
 use Rattle.fs_saving.specs.Saving.{MayCome}
 use Rattle.fs_saving.specs.declared.unsaved.Unsaved.{Unsaved}
@@ -218,3 +218,13 @@ stopped_ends_writing (unsaved.Make f) fault h e = ap may_end_writing e ∙ h
 stopped_ends_writing (unsaved.Write f) fault h e = ap may_end_writing e ∙ h
 stopped_ends_writing unsaved.Differs fault h e = ap may_end_writing e
 stopped_ends_writing (unsaved.Rename f) fault h e = ap may_end_writing e ∙ h
+
+-- what ends a saving, or a writing, ends it for a floppy too
+pub saving_ends_storing : (floppy force backup break_links : Bool) (fault : SaveFault) → may_end_saving force backup break_links fault ≡ true → may_end_storing floppy force backup break_links fault ≡ true
+saving_ends_storing floppy force backup break_links fault h = grind arith
+
+pub memory_ends_storing : (floppy force backup break_links : Bool) (fault : SaveFault) → fault ≡ ImageNoMemory → may_end_storing floppy force backup break_links fault ≡ true
+memory_ends_storing floppy force backup break_links fault e = ap (may_end_storing floppy force backup break_links) e
+
+pub writing_ends_copying : (floppy : Bool) (fault : SaveFault) → may_end_writing fault ≡ true → may_end_copying floppy fault ≡ true
+writing_ends_copying floppy fault h = grind arith

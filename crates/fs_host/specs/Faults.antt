@@ -3,7 +3,7 @@ use Rattle.std.specs.Prelude.{Bool, true, false, not, ◌&&◌, ◌||◌}
 use Rattle.fs_host.specs.declared.host_fault.HostFault.{HostFault}
 use Rattle.fs_host.specs.declared.host_fault.HostFault.TheVariants.{NotPlain, Held, Changed, Left, IsThere, Denied, Unsupported}
 use Rattle.fs_host.specs.declared.faults.SaveFault.{SaveFault}
-use Rattle.fs_host.specs.declared.faults.SaveFault.TheVariants.{Read, Lock, InUse, Links, Make, Mode, Write, Differs, Backup, Rename, NoMemory}
+use Rattle.fs_host.specs.declared.faults.SaveFault.TheVariants.{Read, Lock, InUse, Links, Make, Mode, Write, Differs, Unfit, Backup, Rename, NoMemory}
 use Rattle.fs_host.specs.declared.faults.SaveFault.TheVariants.{NotPlain as ImageNotPlain, Held as ImageHeld, Changed as ImageChanged, Denied as ImageDenied, IsThere as ImageIsThere}
 use Rattle.fs_host.specs.declared.faults.Unfinished.{Unfinished}
 use Rattle.fs_host.specs.declared.faults.Unfinished.TheVariants.{Unsynced}
@@ -114,12 +114,22 @@ may_end_saving force backup break_links Differs = true
 may_end_saving force backup break_links (Rename fault) = may_end_finish true fault
 may_end_saving force backup break_links fault = may_end_leaving force backup fault
 
+-- the same of an image that may be a floppy in physical order: a volume of another size does not fit there
+abbrev pub may_end_storing : Bool → Bool → Bool → Bool → SaveFault → Bool
+may_end_storing floppy force backup break_links Unfit = floppy
+may_end_storing floppy force backup break_links fault = may_end_saving force backup break_links fault
+
 -- why an image is not written to a file that was not there
 abbrev pub may_end_writing : SaveFault → Bool
 may_end_writing ImageIsThere = true
 may_end_writing (Make fault) = may_end_beginning fault
 may_end_writing (Rename fault) = may_refuse_name fault
 may_end_writing fault = may_end_filling fault
+
+-- the same of an image that may be a floppy in physical order
+abbrev pub may_end_copying : Bool → SaveFault → Bool
+may_end_copying floppy Unfit = floppy
+may_end_copying floppy fault = may_end_writing fault
 
 -- what is wanting is that a folder is not synced, for a reason
 abbrev pub is_unsynced : Unfinished → Bool

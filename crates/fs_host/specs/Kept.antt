@@ -1,5 +1,6 @@
 -- What a locked image keeps of its file.
-use Rattle.std.specs.Prelude.{◌≡◌, ℕ, Bool, List, Option, string_bytes}
+use Rattle.std.specs.Prelude.{◌≡◌, ℕ, Bool, List, Option, string_bytes, is_some}
+use Rattle.ods_order.specs.declared.order.Order.{Order}
 use Rattle.fs_host.specs.declared.containers.Extent.{Extent}
 use Rattle.fs_host.specs.declared.saving.Locked.{Locked}
 
@@ -10,6 +11,14 @@ bytes_kept locked = locked.behind.items
 -- the remark on its length
 abbrev pub remark_kept : Locked → Option Extent
 remark_kept locked = locked.extent
+
+-- the order and the bytes of a floppy in physical order
+abbrev pub floppy_kept : Locked → Option (Order × List ℕ)
+floppy_kept locked = locked.floppy
+
+-- the image is such a floppy
+abbrev pub is_floppy : Locked → Bool
+is_floppy locked = is_some (floppy_kept locked)
 
 -- the bits of its mode
 abbrev pub mode_kept : Locked → ℕ
@@ -27,8 +36,8 @@ path_kept locked = string_bytes locked.path
 abbrev pub size_kept : Locked → ℕ
 size_kept locked = locked.mark.size
 
--- all stays but the place in the file
+-- all stays but the place in the file, and the volume on a floppy
 abbrev pub KeepsAll : Locked → Locked → Type 0
 KeepsAll old new =
     (bytes_kept new ≡ bytes_kept old) × (remark_kept new ≡ remark_kept old) × (mode_kept new ≡ mode_kept old)
-    × (force_kept new ≡ force_kept old) × (path_kept new ≡ path_kept old) × (size_kept new ≡ size_kept old)
+    × (is_floppy new ≡ is_floppy old) × (force_kept new ≡ force_kept old) × (path_kept new ≡ path_kept old) × (size_kept new ≡ size_kept old)

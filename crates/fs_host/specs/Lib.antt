@@ -5,6 +5,7 @@ pub mod Noted
 pub mod Texts
 pub mod Holders
 pub mod Found
+pub mod Layers
 pub mod Times
 pub mod Kept
 pub mod Making

@@ -1,5 +1,5 @@
 //! Whether a file of the host has the bytes of a volume, with others behind them.
-ghost use Rattle.std.specs.Prelude.{◌≡◌, ◌+◌, ◌%◌, ◌<◌, ◌≤◌, ◌++◌, ℕ, List, IfSome, IsSome, IsTrue, true, length, take};
+ghost use Rattle.std.specs.Prelude.{◌≡◌, ◌+◌, ◌%◌, ◌<◌, ◌≤◌, ◌++◌, ℕ, List, IfSome, IsSome, IsTrue, true, false, length, take};
 ghost use Rattle.std.specs.List.{list_all};
 ghost use Rattle.std.specs.Io.KnownBytes.{Consumes, IsAtEnd};
 ghost use Rattle.ods_base.specs.Image.{image_bytes};
@@ -27,6 +27,28 @@ pub fn has_bytes<F: Read + Seek>(
         Ok(_) => gives_whole(file, image, behind, ends_in_zeros),
         Err(_) => false,
     }
+}
+
+/// Whether the file has these bytes, and no more.
+pub fn has_only<F: Read + Seek>(file: &mut F, bytes: &[u8]) -> bool
+    // Of a file whose bytes are known.
+    ensures { ReadsWhole F.remaining F.stream_position F.stream_bytes → IsSome (F.stream_position file.old)
+        → IfSome (F.stream_bytes file.old) (λ all. IsTrue result → HasAll false all bytes.now) }
+{
+    match file.seek(SeekFrom::Start(0)) {
+        Ok(_) => gives_only(file, bytes),
+        Err(_) => false,
+    }
+}
+
+/// Whether a reader gives these bytes, and no more.
+fn gives_only<R: Read>(reader: &mut R, bytes: &[u8]) -> bool
+    ensures { IfSome (R.remaining reader.old) (λ all. IsTrue result → HasAll false all bytes.now) }
+{
+    if !gives(reader, bytes, false) {
+        return false;
+    }
+    is_at_end(reader)
 }
 
 /// Whether a reader gives the bytes of an image and these behind them, and no more.

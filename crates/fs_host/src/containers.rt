@@ -63,7 +63,7 @@ fn volume_in_no_image<F: Read + Seek>(
 }
 
 /// How many bytes a file has, which is at its start then; 0 for a stream.
-fn end_of<F: Seek>(file: &mut F) -> Result<u64, ImageError>
+pub fn end_of<F: Seek>(file: &mut F) -> Result<u64, ImageError>
     ensures start { F.stream_position file.old ≡ Some 0 → OnOk result (F.stream_position file.new ≡ Some 0) }
     ensures bytes { Keeps (F.stream_bytes file.old) (F.stream_bytes file.new) }
     ensures size { F.stream_position file.old ≡ Some 0 → IfSome (F.stream_bytes file.old) (λ bytes. IfOk result (λ end. (end ≡ 0) ⊎ (end ≡ length bytes))) }

@@ -49,6 +49,9 @@ pub enum SaveFault {
     /// The bytes that were read back are not those that were written.
     #[error("what was written is not what is read back")]
     Differs,
+    /// The volume does not fill the sectors of the floppy.
+    #[error("the volume and the floppy have not the same size")]
+    Unfit,
     /// The old image cannot be kept under its other name.
     #[error("the old image cannot be kept: {0}")]
     Backup(HostFault),

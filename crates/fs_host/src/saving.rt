@@ -1,25 +1,27 @@
 //! Images of the host that are changed: locked before they are read, and saved whole under their name or not at all.
-ghost use Rattle.std.specs.Prelude.{◌≡◌, ◌↔◌, ◌||◌, ◌<◌, ◌^◌, ℕ, List, [], Some, None, not, IfOk, IfErr, IfSome, OnErr, IsSomeAnd, IsTrue, length};
+ghost use Rattle.std.specs.Prelude.{◌≡◌, ◌↔◌, ◌||◌, ◌<◌, ◌^◌, ℕ, List, [], Some, None, not, IfOk, IfErr, IfSome, OnOk, OnErr, IsSomeAnd, IsTrue, IsFalse, length};
 ghost use Rattle.std.specs.Fs.{metadata_len};
-ghost use Rattle.fs_host.specs.Faults.{may_end_opening, may_end_asking, may_end_locking, may_end_keeping, may_end_giving, may_end_leaving, may_end_saving, is_unsynced};
-ghost use Rattle.ods_container.specs.Container.{IsContained};
+ghost use Rattle.fs_host.specs.Faults.{may_end_opening, may_end_asking, may_end_locking, may_end_keeping, may_end_giving, may_end_leaving, may_end_saving, may_end_storing, may_end_copying, is_unsynced, may_be_wanting};
 ghost use Rattle.fs_host.specs.Found.{IsRemark, SaysShort};
-ghost use Rattle.fs_host.specs.Kept.{bytes_kept, remark_kept, mode_kept, force_kept, path_kept, size_kept, KeepsAll};
+ghost use Rattle.fs_host.specs.Layers.{IsReadIn, IsLaidIn, IsUnfit, MayNotBeRead};
+ghost use Rattle.fs_host.specs.Kept.{bytes_kept, remark_kept, floppy_kept, is_floppy, mode_kept, force_kept, path_kept, size_kept, KeepsAll};
 ghost use Rattle.fs_host.specs.Names.{IsReached};
 
 mod replacing;
 
-use crate::comparing_bytes::has_bytes;
-use crate::containers::{Extent, volume_in};
+use crate::comparing_bytes::{has_bytes, has_only};
+use crate::containers::Extent;
 use crate::faults::{SaveFault, Unfinished};
+use crate::floppies::{Floppy, no_blocks, write_floppy};
 use crate::host_fault::HostFault;
 use crate::in_use::holder_of;
+use crate::layers::{Layered, Layers, ReadFault, layered_in};
 use crate::marks::Mark;
 use crate::names::{follow_links, hidden_name};
 use crate::new_file::paths_of;
-use crate::writing::{fault_of, sync_folder};
+use crate::writing::{fault_of, sync_folder, write_new};
 use fs_saving::save;
-use ods_base::{Image, ImageError};
+use ods_base::Image;
 use replacing::Replacing;
 use std::alloc::Global;
 use std::fs;
@@ -44,6 +46,8 @@ pub struct Locked {
     /// What stands behind the volume that was read, and what is to be said of it.
     behind: Vec<u8>,
     extent: Option<Extent>,
+    /// The bytes of a floppy in physical order, where the image is one.
+    floppy: Option<Floppy>,
 }
 
 impl Locked {
@@ -57,6 +61,7 @@ impl Locked {
         force: bool,
     ) -> Result<Locked, SaveFault>
         ensures unread { IfOk result (λ locked. (bytes_kept locked ≡ []) × (remark_kept locked ≡ None)) }
+        ensures plain { IfOk result (λ locked. floppy_kept locked ≡ None) }
         ensures reached { IfOk result (λ locked. IsReached path.now (path_kept locked)) }
         ensures bits { IfOk result (λ locked. mode_kept locked < 2 ^ 12) }
         ensures alone { IfOk result (λ locked. force_kept locked ≡ (force || not writes)) }
@@ -84,24 +89,34 @@ impl Locked {
             force: force || !writes,
             behind: Vec::new(rt.alloc()),
             extent: None,
+            floppy: None,
         };
         // Who had the lock before may have put another file under this name.
         locked.ask_alone(rt)?;
         Ok(locked)
     }
 
-    /// The volume in the image that was locked, of so many blocks where a number is given.
+    /// The volume in the image that was locked, of so many blocks where a number is given, and in the order that is said.
     /// No contract can say which bytes a host file gives.
-    pub fn read(&mut self, alloc: Global, given: Option<u32>) -> Result<Image, ImageError>
-        ensures ok { IfOk result (λ image. (bytes : List ℕ) × (n : ℕ) × IsContained bytes given image (bytes_kept self.new) n
+    pub fn read(
+        &mut self,
+        alloc: Global,
+        given: Option<u32>,
+        layers: Layers,
+    ) -> Result<Image, ReadFault>
+        ensures ok { IfOk result (λ image. (told : ℕ) × (n : ℕ) × IsReadIn layers told given image (bytes_kept self.new) n (floppy_kept self.new)
             × IsRemark n (length image) (bytes_kept self.new) (remark_kept self.new)) }
-        ensures err { OnErr result ((bytes_kept self.new ≡ bytes_kept self.old) × (remark_kept self.new ≡ remark_kept self.old)) }
+        ensures err { IfErr result (λ fault. (told : ℕ) × MayNotBeRead layers told fault) }
+        ensures unread { OnErr result ((bytes_kept self.new ≡ bytes_kept self.old) × (remark_kept self.new ≡ remark_kept self.old) × (floppy_kept self.new ≡ floppy_kept self.old)) }
         ensures mode { mode_kept self.new ≡ mode_kept self.old }
+        ensures force { force_kept self.new ≡ force_kept self.old }
     {
-        match volume_in(alloc, &mut self.file, given) {
-            Ok(contained) => {
+        match layered_in(alloc, &mut self.file, given, layers) {
+            Ok(read) => {
+                let Layered { contained, floppy } = read;
                 self.extent = Extent::of(&contained);
                 self.behind = contained.behind;
+                self.floppy = floppy;
                 Ok(contained.image)
             }
             Err(fault) => Err(fault),
@@ -132,13 +147,33 @@ impl Locked {
         self.behind.as_slice()
     }
 
-    /// Whether the file has the bytes of this volume, and those that stood behind it.
+    /// Puts this volume into the floppy that is kept, where the image is one; whether it fits there.
+    fn lay(&mut self, image: &Image) -> bool
+        ensures keeps { KeepsAll self.old self.new }
+        ensures laid { IsTrue result → IsLaidIn image.now (bytes_kept self.old) (floppy_kept self.old) (floppy_kept self.new) }
+        ensures unfit { IsFalse result → IsUnfit image.now (bytes_kept self.old) (floppy_kept self.old) }
+        ensures stays { IsFalse result → floppy_kept self.new ≡ floppy_kept self.old }
+    {
+        match &mut self.floppy {
+            Some(floppy) => floppy.lay(image, self.behind.as_slice()),
+            None => true,
+        }
+    }
+
+    /// Whether the file has the bytes of this volume, and those that stood behind it. A floppy is kept with this volume then.
     /// No contract can say which bytes a host file gives.
     pub fn is(&mut self, image: &Image) -> bool
-        ensures { KeepsAll self.old self.new }
+        ensures keeps { KeepsAll self.old self.new }
+        ensures laid { IsTrue result → IsLaidIn image.now (bytes_kept self.old) (floppy_kept self.old) (floppy_kept self.new) }
     {
+        if !self.lay(image) {
+            return false;
+        }
         let is_short = self.is_short();
-        has_bytes(&mut self.file, image, self.behind.as_slice(), is_short)
+        match &self.floppy {
+            Some(floppy) => has_only(&mut self.file, floppy.bytes()),
+            None => has_bytes(&mut self.file, image, self.behind.as_slice(), is_short),
+        }
     }
 
     /// The bits of its mode, as `write_new` takes them.
@@ -178,16 +213,65 @@ impl Locked {
         }
     }
 
-    /// Saves the image under the name of the one that was locked: a new file beside it gets its owner and mode and the new bytes, is
+    /// Saves the image under the name of the one that was locked, as `store` says. A floppy gets the volume in its places, and keeps its
+    /// other bytes.
+    #[tactic(auto, using(crate::proofs::MayEnd::memory_ends_storing, crate::proofs::Failed::on_ok, crate::proofs::Storing::unfit_ends_storing, crate::proofs::Storing::errs_storing))]
+    pub fn save<R: Files<File = File> + Clock + AllocGlobal + Clone + Drop>(
+        &mut self,
+        rt: &R,
+        image: &Image,
+        backup: bool,
+        break_links: bool,
+    ) -> Result<Option<Unfinished>, SaveFault>
+        ensures ok { IfOk result (λ wanting. IfSome wanting (λ unfinished. IsTrue (is_unsynced unfinished))) }
+        ensures laid { OnOk result (IsLaidIn image.now (bytes_kept self.old) (floppy_kept self.old) (floppy_kept self.new)) }
+        ensures err { IfErr result (λ fault. IsTrue (may_end_storing (is_floppy self.old) (force_kept self.old) backup break_links fault)) }
+    {
+        if !self.lay(image) {
+            return Err(SaveFault::Unfit);
+        }
+        match &self.floppy {
+            Some(floppy) => {
+                let none = no_blocks(rt.alloc())?;
+                self.store(rt, &none, floppy.bytes(), backup, break_links)
+            }
+            None => self.store(rt, image, self.behind.as_slice(), backup, break_links),
+        }
+    }
+
+    /// Writes the image to a file that is not there before, as `write_new` says, with the mode of the one that was locked. A floppy
+    /// is written whole.
+    #[tactic(auto, using(crate::proofs::Failed::on_ok, crate::proofs::Storing::unfit_ends_copying, crate::proofs::Storing::errs_copying))]
+    pub fn write_copy<R: Files<File = File> + AllocGlobal>(
+        &mut self,
+        rt: &R,
+        path: &str,
+        image: &Image,
+    ) -> Result<Option<Unfinished>, SaveFault>
+        ensures ok { IfOk result (λ wanting. IfSome wanting (λ unfinished. IsTrue (may_be_wanting unfinished))) }
+        ensures laid { OnOk result (IsLaidIn image.now (bytes_kept self.old) (floppy_kept self.old) (floppy_kept self.new)) }
+        ensures err { IfErr result (λ fault. IsTrue (may_end_copying (is_floppy self.old) fault)) }
+    {
+        if !self.lay(image) {
+            return Err(SaveFault::Unfit);
+        }
+        match &self.floppy {
+            Some(floppy) => write_floppy(rt, path, floppy, Some(self.mode)),
+            None => write_new(rt, path, image, self.behind.as_slice(), Some(self.mode)),
+        }
+    }
+
+    /// Saves these blocks, and the bytes behind them, under the name of the image that was locked: a new file beside it gets its owner and mode and the new bytes, is
     /// read back, and takes its name. After a failure that file is gone, and the old image is there. What it gives is to be said, and
     /// the image is saved.
     /// `fs_saving` keeps the order of these, over any host. No contract can say what a host file takes: `tests/fs_faults` checks that
     /// the image is whole or as it was.
     #[tactic(auto, using(crate::proofs::MayEnd::changed_ends_saving, crate::proofs::MayEnd::memory_ends_saving, crate::proofs::MayEnd::stopped_ends_saving, crate::proofs::MayEnd::is_not))]
-    pub fn save<R: Files<File = File> + Clock + AllocGlobal + Clone + Drop>(
+    fn store<R: Files<File = File> + Clock + AllocGlobal + Clone + Drop>(
         &self,
         rt: &R,
         image: &Image,
+        behind: &[u8],
         backup: bool,
         break_links: bool,
     ) -> Result<Option<Unfinished>, SaveFault>
@@ -224,7 +308,7 @@ impl Locked {
             paths.hidden.as_str(),
             paths.taken.as_str(),
             image,
-            self.behind.as_slice(),
+            behind,
         ) {
             Ok(()) => Ok(sync_folder(rt, self.path.as_str())),
             Err(unsaved) => Err(fault_of(unsaved)),

@@ -10,5 +10,6 @@ use Rattle.fs_reads.specs.declared.volume.VolumeFault.TheVariants as fault
 abbrev pub advice_for : VolumeFault → Option (List ℕ × List ℕ)
 advice_for (fault.Read why) = None
 advice_for fault.NoMemory = None
+advice_for (fault.OtherSize order) = None
 advice_for (fault.Image refusal look) = option_map row_words (row_of (image_row refusal).1)
 advice_for (fault.Volume refusal look) = option_map row_words (row_of (mount_row refusal).1)

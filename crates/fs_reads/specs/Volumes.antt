@@ -6,6 +6,9 @@ use Rattle.fs_host.specs.declared.containers.Extent.TheVariants as extent
 use Rattle.fs_host.specs.declared.host_fault.HostFault.{HostFault}
 use Rattle.ods_base.specs.declared.faults.ImageError.{ImageError}
 use Rattle.ods_base.specs.declared.faults.ImageError.TheVariants as image
+use Rattle.fs_host.specs.declared.layers.ReadFault.{ReadFault}
+use Rattle.fs_host.specs.declared.layers.ReadFault.TheVariants as reading
+use Rattle.ods_order.specs.Order.{container_size}
 use Rattle.ods_mount.specs.Faults.{FaultIsTrue}
 use Rattle.ods_mount.specs.declared.fault.MountFault.{MountFault}
 use Rattle.ods_mount.specs.declared.fault.MountFault.TheVariants as mount
@@ -23,10 +26,16 @@ IsNotRead image.NoMemory why f = f ≡ fault.NoMemory
 IsNotRead image.NotWholeBlocks why f = (look : Option Look) × (f ≡ fault.Image image.NotWholeBlocks look)
 IsNotRead image.TooBig why f = (look : Option Look) × (f ≡ fault.Image image.TooBig look)
 
+-- the same in the order that is said: the file may have another size than a floppy of that order
+abbrev pub IsNotReadIn : ReadFault → HostFault → VolumeFault → Type 0
+IsNotReadIn (reading.Image error) why f = IsNotRead error why f
+IsNotReadIn (reading.OtherSize order) why f = f ≡ fault.OtherSize order
+
 -- why an image is not mounted: a fault is true of it, or memory failed
 abbrev pub IsNotMounted : List (List ℕ) → VolumeFault → Type 0
 IsNotMounted I (fault.Read why) = ⊥
 IsNotMounted I fault.NoMemory = Unit {0}
+IsNotMounted I (fault.OtherSize order) = ⊥
 IsNotMounted I (fault.Image refusal look) = ⊥
 IsNotMounted I (fault.Volume refusal look) = FaultIsTrue I refusal
 
@@ -34,6 +43,7 @@ IsNotMounted I (fault.Volume refusal look) = FaultIsTrue I refusal
 abbrev pub IsFaultOf : MountFault → VolumeFault → Type 0
 IsFaultOf said (fault.Read why) = ⊥
 IsFaultOf said fault.NoMemory = said ≡ mount.NoMemory
+IsFaultOf said (fault.OtherSize order) = ⊥
 IsFaultOf said (fault.Image refusal look) = ⊥
 IsFaultOf said (fault.Volume refusal look) = (refusal ≡ said) × (said ≢ mount.NoMemory)
 
@@ -41,6 +51,7 @@ IsFaultOf said (fault.Volume refusal look) = (refusal ≡ said) × (said ≢ mou
 abbrev pub IsNoVolume : Bor (List ℕ) → VolumeFault → Stop → Type 0
 IsNoVolume path (fault.Read why) s = s ≡ stop.Word path (word.Unread why)
 IsNoVolume path fault.NoMemory s = s ≡ stop.NoMemory
+IsNoVolume path (fault.OtherSize order) s = s ≡ stop.Word path (word.OtherSize (container_size order))
 IsNoVolume path (fault.Image refusal look) s = s ≡ stop.Image path (fault.Image refusal look)
 IsNoVolume path (fault.Volume refusal look) s = s ≡ stop.Image path (fault.Volume refusal look)
 
@@ -48,13 +59,15 @@ IsNoVolume path (fault.Volume refusal look) s = s ≡ stop.Image path (fault.Vol
 abbrev pub look_in : VolumeFault → Option Look
 look_in (fault.Read why) = None
 look_in fault.NoMemory = None
+look_in (fault.OtherSize order) = None
 look_in (fault.Image refusal look) = look
 look_in (fault.Volume refusal look) = look
 
--- why no image is opened: its file is not read, or its bytes are refused
+-- why no image is opened: its file is not read, or its bytes are refused, or they have another size than the order that is said
 abbrev pub IsNotOpened : VolumeFault → Type 0
 IsNotOpened (fault.Read why) = Unit {0}
 IsNotOpened fault.NoMemory = Unit {0}
+IsNotOpened (fault.OtherSize order) = Unit {0}
 IsNotOpened (fault.Image refusal look) = (refusal ≡ image.NotWholeBlocks) ⊎ (refusal ≡ image.TooBig)
 IsNotOpened (fault.Volume refusal look) = ⊥
 

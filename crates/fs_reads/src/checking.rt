@@ -9,7 +9,7 @@ ghost use Rattle.ods_space.specs.Disks.{on};
 use crate::output::Output;
 use crate::stop::{Stop, send, stop_at_own_output};
 use crate::volume::{VolumeFault, no_volume, open_image, say_extent};
-use fs_host::Extent;
+use fs_host::{Extent, Layers};
 use ods_base::Image;
 use ods_check::{MOST_LINES, are_all_read, check_all, check_first, count_findings, findings};
 use ods_shell::{Status, number_object, spoiled_records, text_object};
@@ -23,13 +23,14 @@ pub fn check<'a, R: Files<File = File> + AllocGlobal + Print + Eprint>(
     rt: &R,
     path: &'a str,
     given: Option<u32>,
+    layers: Layers,
     all: bool,
     json: bool,
 ) -> Result<Status, Stop<'a>>
     ensures { IfOk result (λ s. (s ≡ Code.Done) ⊎ (s ≡ Code.Found)) }
 {
     stop_at_own_output(rt, path)?;
-    match open_image(rt, path, given) {
+    match open_image(rt, path, given, layers) {
         Ok((image, extent)) => {
             say_extent(rt, path, extent, true);
             check_with(

@@ -16,6 +16,7 @@ use crate::progress::Progress;
 use crate::reading::check_right;
 use crate::stop::{Stop, send, stop_about};
 use crate::volume::open_volume;
+use fs_host::Layers;
 use fs_words::Words;
 use ods_base::{FileId, Listed, Uic};
 use ods_mount::Mounted;
@@ -49,7 +50,7 @@ pub(crate) fn compare_all<'a, R: Files<File = File> + Clock + AllocGlobal + Prin
     let Some(path) = words.paths.first() else {
         return Ok(Status::Words);
     };
-    let other = open_volume(rt, *path, None, false)?;
+    let other = open_volume(rt, *path, None, Layers::Found, false)?;
     let alloc = rt.alloc();
     let ours = all_known(alloc, volume, words.user)?;
     let theirs = all_known(alloc, &other, words.user)?;

@@ -32,13 +32,13 @@ pub enum Look {
     #[error("it looks like a volume of Files-11 ODS-2, which VMS has")]
     Ods2,
     /// An RX01 image in physical order, by its length of 256,256 bytes.
-    #[error("it is as long as an RX01 in physical order: bring its sectors into logical order")]
+    #[error("it is as long as an RX01 in physical order, which --order rx01 reads")]
     Rx01,
     /// An RX02 image in physical order, by its length of 512,512 bytes.
-    #[error("it is as long as an RX02 in physical order: bring its sectors into logical order")]
+    #[error("it is as long as an RX02 in physical order, which --order rx02 reads")]
     Rx02,
     /// An RX50 image, perhaps in physical order, by its length of 409,600 bytes.
-    #[error("it is as long as an RX50, maybe in physical order: bring its sectors into logical order")]
+    #[error("it is as long as an RX50, which --order rx50 reads in physical order")]
     Rx50,
 }
 

@@ -5,7 +5,7 @@ ghost use Rattle.fs_reads.specs.declared.volume.VolumeFault.{VolumeFault as Faul
 
 use crate::stop::Stop;
 use crate::volume::{VolumeFault, no_volume, not_read, open_image, say_extent};
-use fs_host::{HostFault, Noting, read_host};
+use fs_host::{HostFault, Layers, Noting, read_host};
 use ods_base::{Image, ImageError, MAX_BYTES};
 use std::fs;
 use std::fs::File;
@@ -21,11 +21,12 @@ pub(crate) fn read_whole_blocks<'a, R: Files<File = File> + AllocGlobal + Eprint
     rt: &R,
     path: &'a str,
     given: Option<u32>,
+    layers: Layers,
 ) -> Result<(Image, u64), Stop<'a>>
     ensures rest { IfOk result (λ found. found.1 < 512) }
     ensures err { IfErr result (λ stop. (fault : Fault) × IsNoVolume path.entry fault stop) }
 {
-    match read_whole_image(rt, path, given) {
+    match read_whole_image(rt, path, given, layers) {
         Ok(found) => Ok(found),
         Err(fault) => Err(no_volume(path, fault)),
     }
@@ -36,6 +37,7 @@ fn read_whole_image<R: Files<File = File> + AllocGlobal + Eprint>(
     rt: &R,
     path: &str,
     given: Option<u32>,
+    layers: Layers,
 ) -> Result<(Image, u64), VolumeFault>
     ensures { IfOk result (λ found. found.1 < 512) }
 {
@@ -46,7 +48,7 @@ fn read_whole_image<R: Files<File = File> + AllocGlobal + Eprint>(
     if !found.is_file() {
         return read_stream(rt, path);
     }
-    match open_image(rt, path, given) {
+    match open_image(rt, path, given, layers) {
         Ok((image, extent)) => {
             say_extent(rt, path, extent, false);
             return Ok((image, 0));

@@ -11,7 +11,7 @@ use crate::rescue_folder::take_folder;
 use crate::rescue_image::read_whole_blocks;
 use crate::scanning::rescue_scanned;
 use crate::stop::{Stop, send, stop_about, stop_at_own_output};
-use fs_host::{HostFault, SaveFault, Shown};
+use fs_host::{HostFault, Layers, SaveFault, Shown};
 use fs_words::Words;
 use ods_base::FileId;
 use ods_check::{Finding, bad_headers, check_first};
@@ -46,6 +46,7 @@ pub(crate) struct How<'a> {
 pub fn rescue<'a, R: Files<File = File> + Clock + AllocGlobal + Print + Eprint>(
     rt: &R,
     words: &Words<'a>,
+    layers: Layers,
     text: bool,
     scan: bool,
     partial: bool,
@@ -63,7 +64,7 @@ pub fn rescue<'a, R: Files<File = File> + Clock + AllocGlobal + Print + Eprint>(
         json: words.json,
     };
     stop_at_own_output(rt, path)?;
-    let (image, rest) = read_whole_blocks(rt, path, words.blocks)?;
+    let (image, rest) = read_whole_blocks(rt, path, words.blocks, layers)?;
     let mut status = Status::Done;
     if rest > 0 {
         say_rest(rt, path, rest, how.json)?;

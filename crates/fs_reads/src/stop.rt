@@ -71,6 +71,9 @@ pub enum WordFault {
     /// The image would be saved, and is shorter than its volume.
     #[error("the image is shorter than its volume; --force writes it whole")]
     Short,
+    /// The image has another size than a floppy of the order that is said, which has so many bytes.
+    #[error("OtherSize: a floppy in this order has {0} bytes; another --order may fit")]
+    OtherSize(usize),
     /// A file of commands is no text.
     #[error("no UTF-8 text")]
     NoText,
@@ -80,6 +83,9 @@ pub enum WordFault {
     /// No label of a volume.
     #[error("no label: 1 to 12 of A to Z, 0 to 9 and dots")]
     NoLabel,
+    /// A new floppy of the order that is said has so many blocks, and another number is said.
+    #[error("a floppy in this order has {0} blocks")]
+    OtherBlocks(u32),
     /// Standard input is put, and no path of the volume is said.
     #[error("standard input wants a PATH")]
     NoPath,
@@ -101,6 +107,8 @@ impl WordFault {
             | WordFault::NoText
             | WordFault::ManyBytes(_)
             | WordFault::NoLabel
+            | WordFault::OtherBlocks(_)
+            | WordFault::OtherSize(_)
             | WordFault::NoPath => Status::Words,
             WordFault::Short | WordFault::Large(_, _) | WordFault::LargeStream(_) => {
                 Status::Refused

@@ -1,14 +1,15 @@
 //! The volume of an image in a file.
 ghost use Rattle.std.specs.Prelude.{◌≡◌, IfErr, IfOk, Ok, option_map};
 ghost use Rattle.ods_shell.specs.Remedies.{advice_words};
-ghost use Rattle.fs_reads.specs.{Advised.advice_for, Volumes.IsFaultOf, Volumes.IsNoVolume, Volumes.IsNotMounted, Volumes.IsNotOpened, Volumes.IsNotRead, Volumes.look_in, Volumes.said_extent as extent_said};
+ghost use Rattle.fs_reads.specs.{Advised.advice_for, Volumes.IsFaultOf, Volumes.IsNoVolume, Volumes.IsNotMounted, Volumes.IsNotOpened, Volumes.IsNotRead, Volumes.IsNotReadIn, Volumes.look_in, Volumes.said_extent as extent_said};
 ghost use Rattle.fs_reads.specs.declared.volume.VolumeFault.{VolumeFault as Fault};
 
 use crate::looks::{Look, looks_like};
 use crate::stop::{Stop, WordFault, say_about};
-use fs_host::{Extent, HostFault, Noting, read_some, volume_in};
+use fs_host::{Extent, HostFault, Layers, Noting, ReadFault, layered_in, read_some};
 use ods_base::{Coded, Image, ImageError};
 use ods_mount::{MountFault, Mounted, mount};
+use ods_order::Order;
 use ods_shell::{Advice, remedy};
 use std::fs;
 use std::fs::File;
@@ -28,6 +29,9 @@ pub enum VolumeFault {
     /// The allocator refused memory.
     #[error("no memory")]
     NoMemory,
+    /// The file has another size than a floppy of this order, which was said.
+    #[error("OtherSize")]
+    OtherSize(Order),
     /// The bytes are no image; and what they look like.
     #[error("{0}")]
     Image(ImageError, Option<Look>),
@@ -42,7 +46,7 @@ impl VolumeFault {
         ensures { option_map advice_words result ≡ advice_for self.now }
     {
         match self {
-            VolumeFault::Read(_) | VolumeFault::NoMemory => None,
+            VolumeFault::Read(_) | VolumeFault::NoMemory | VolumeFault::OtherSize(_) => None,
             VolumeFault::Image(refusal, _) => remedy(refusal.name()),
             VolumeFault::Volume(fault, _) => remedy(fault.name()),
         }
@@ -53,18 +57,20 @@ impl VolumeFault {
         ensures { result ≡ look_in self.now }
     {
         match self {
-            VolumeFault::Read(_) | VolumeFault::NoMemory => None,
+            VolumeFault::Read(_) | VolumeFault::NoMemory | VolumeFault::OtherSize(_) => None,
             VolumeFault::Image(_, look) | VolumeFault::Volume(_, look) => *look,
         }
     }
 }
 
-/// The volume in the image at this path, of so many blocks where a number is given, and what is to be said of an image that is longer or
-/// shorter than it.
+/// The volume in the image at this path, of so many blocks where a number is given, with its sectors in the order that is said, and what is
+/// to be said of an image that is longer or shorter than it.
+#[tactic(auto, using(crate::proofs::Mounting::not_opened))]
 pub(crate) fn open_image<R: Files<File = File> + AllocGlobal>(
     rt: &R,
     path: &str,
     given: Option<u32>,
+    layers: Layers,
 ) -> Result<(Image, Option<Extent>), VolumeFault>
     ensures { IfErr result IsNotOpened }
 {
@@ -73,12 +79,13 @@ pub(crate) fn open_image<R: Files<File = File> + AllocGlobal>(
         Err(error) => return Err(VolumeFault::Read(HostFault::of(&error))),
     };
     let mut noting = Noting::new(&mut file);
-    match volume_in(rt.alloc(), &mut noting, given) {
-        Ok(contained) => {
+    match layered_in(rt.alloc(), &mut noting, given, layers) {
+        Ok(read) => {
+            let contained = read.contained;
             let extent = Extent::of(&contained);
             Ok((contained.image, extent))
         }
-        Err(fault) => Err(not_read(rt, path, fault, noting.why())),
+        Err(fault) => Err(not_read_in(rt, path, fault, noting.why())),
     }
 }
 
@@ -96,6 +103,21 @@ fn said_extent(extent: Option<Extent>, tells_behind: bool) -> Option<Extent>
     match extent {
         Some(extent) if tells_behind || extent.is_short() => Some(extent),
         _ => None,
+    }
+}
+
+/// Why there is no volume in the order that was said; `why` reading failed, if it did.
+pub(crate) fn not_read_in<R: Files<File = File> + AllocGlobal>(
+    rt: &R,
+    path: &str,
+    fault: ReadFault,
+    why: HostFault,
+) -> VolumeFault
+    ensures { IsNotReadIn fault why result }
+{
+    match fault {
+        ReadFault::Image(fault) => not_read(rt, path, fault, why),
+        ReadFault::OtherSize(order) => VolumeFault::OtherSize(order),
     }
 }
 
@@ -163,17 +185,18 @@ fn not_mounted<R: Files<File = File> + AllocGlobal>(
     }
 }
 
-/// The volume of the image at this path, of so many blocks where a number is given; that an image is refused is said, and that it is shorter than
-/// its volume, or where `tells_behind` longer.
+/// The volume of the image at this path, of so many blocks where a number is given, with its sectors in the order that is said; that an image is
+/// refused is said, and that it is shorter than its volume, or where `tells_behind` longer.
 pub fn open_volume<'a, R: Files<File = File> + AllocGlobal + Eprint>(
     rt: &R,
     path: &'a str,
     given: Option<u32>,
+    layers: Layers,
     tells_behind: bool,
 ) -> Result<Mounted, Stop<'a>>
     ensures { IfErr result (λ stop. (fault : Fault) × IsNoVolume path.entry fault stop) }
 {
-    match open_image(rt, path, given) {
+    match open_image(rt, path, given, layers) {
         Ok((image, extent)) => {
             say_extent(rt, path, extent, tells_behind);
             mount_or_stop(rt, path, image)
@@ -186,14 +209,14 @@ pub fn open_volume<'a, R: Files<File = File> + AllocGlobal + Eprint>(
 pub fn volume_of<'a, R: Files<File = File> + AllocGlobal>(
     rt: &R,
     path: &'a str,
-    image: Result<Image, ImageError>,
+    image: Result<Image, ReadFault>,
 ) -> Result<Mounted, Stop<'a>>
     ensures ok { IfOk result (λ volume. image ≡ Ok volume.image) }
     ensures err { IfErr result (λ stop. (fault : Fault) × IsNoVolume path.entry fault stop) }
 {
     match image {
         Ok(image) => mount_or_stop(rt, path, image),
-        Err(fault) => Err(no_volume(path, not_read(rt, path, fault, HostFault::Unknown))),
+        Err(fault) => Err(no_volume(path, not_read_in(rt, path, fault, HostFault::Unknown))),
     }
 }
 
@@ -219,6 +242,9 @@ pub(crate) fn no_volume<'a>(path: &'a str, fault: VolumeFault) -> Stop<'a>
     match fault {
         VolumeFault::Read(why) => Stop::Word(path, WordFault::Unread(why)),
         VolumeFault::NoMemory => Stop::NoMemory,
+        VolumeFault::OtherSize(order) => {
+            Stop::Word(path, WordFault::OtherSize(order.container_size()))
+        }
         fault => Stop::Image(path, fault),
     }
 }

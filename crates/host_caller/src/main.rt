@@ -6,7 +6,7 @@ ghost use Rattle.std.specs.Prelude.{IfOk};
 ghost use Rattle.host_caller.specs.Putting.{IsPut};
 
 use anyhow::{Context, bail};
-use fs_host::{Locked, hold_streams, stamp_of_now};
+use fs_host::{Layers, Locked, hold_streams, stamp_of_now};
 use ods_base::{DIRECTORY_TYPE, FileId, MAX_BYTES, Uic, parse_name, print_name};
 use ods_filing::{Filing, NewFile, put_file};
 use ods_mount::{Mounted, is_directory_file, mount};
@@ -41,7 +41,7 @@ fn main(rt: HostRuntime) -> anyhow::Result<()> {
     };
     // Nobody else changes the image while it is locked.
     let mut locked = Locked::of(&rt, path.as_str(), true, false)?;
-    let image = locked.read(rt.alloc(), None)?;
+    let image = locked.read(rt.alloc(), None, Layers::Found)?;
     let volume = mount(rt.alloc(), image).ok().context("a sound image")?;
     list(&rt, &volume)?;
     let stamp = stamp_of_now(&rt).context("the time")?;

@@ -1,0 +1,138 @@
+//! The bytes of a floppy in physical order, with the volume in its places.
+ghost use Rattle.std.specs.Prelude.{◌≡◌, ◌+◌, ◌*◌, ◌++◌, [], MatchBool, IfOk, IfErr, IfSome, IsTrue, IsFalse, is_some, length, replicate};
+ghost use Rattle.ods_base.specs.Image.{image_bytes};
+ghost use Rattle.ods_order.specs.Order.{block_count, container_size};
+ghost use Rattle.ods_order.specs.Volumes.{IsLaidOut};
+ghost use Rattle.fs_host.specs.Faults.{may_end_writing, may_end_copying, may_be_wanting};
+ghost use Rattle.fs_host.specs.Layers.{DoesNotFit};
+
+use crate::faults::{SaveFault, Unfinished};
+use crate::host_fault::HostFault;
+use crate::writing::write_new;
+use ods_base::Image;
+use ods_order::{Order, empty_container, write_contained_volume};
+use std::alloc::{AllocError, Global};
+use std::fs::File;
+use std::marker::Model;
+use std::rt::Files;
+
+/// The bytes of a floppy in physical order.
+#[derive(Drop)]
+pub struct Floppy {
+    order: Order,
+    bytes: Vec<u8>,
+}
+
+impl Model for Floppy {
+    ghost use Rattle.std.specs.Prelude.{◌≡◌, ℕ, List, length};
+    ghost use Rattle.ods_order.specs.declared.order.Order.{Order as AnOrder};
+    ghost use Rattle.ods_order.specs.Order.{container_size};
+
+    ghost Value = { AnOrder × List ℕ };
+
+    ghost view = { λ f. (f.order, f.bytes.items) };
+
+    ghost invariant = { λ f. length f.bytes.items ≡ container_size f.order };
+}
+
+impl Floppy {
+    /// A floppy of zeros.
+    pub fn empty(alloc: Global, order: Order) -> Result<Floppy, AllocError>
+        ensures { IfOk result (λ floppy. floppy ≡ (order, replicate (container_size order) 0)) }
+    {
+        let bytes = empty_container(alloc, order)?;
+        Ok(Floppy { order, bytes })
+    }
+
+    /// The floppy of these bytes.
+    pub(crate) fn of(order: Order, bytes: Vec<u8>) -> Floppy
+        requires { length bytes.items ≡ container_size order }
+        ensures { result ≡ (order, bytes.items) }
+    {
+        Floppy { order, bytes }
+    }
+
+    /// Its bytes.
+    pub(crate) fn bytes(&self) -> &[u8]
+        ensures { result.now ≡ self.now.1 }
+    {
+        self.bytes.as_slice()
+    }
+
+    /// The sectors of the volume become those of this one, with these bytes behind it; whether they fit. Where they do not, nothing changes.
+    pub fn lay(&mut self, image: &Image, behind: &[u8]) -> bool
+        ensures order { self.new.0 ≡ self.old.0 }
+        ensures laid { IsTrue result → IsLaidOut self.old.0 self.old.1 (image_bytes image.now ++ behind.now) self.new.1 }
+        ensures stays { IsFalse result → self.new ≡ self.old }
+        ensures unfit { IsFalse result → DoesNotFit self.old.0 (length image.now) (length behind.now) }
+    {
+        if !fits(self.order, image.len(), behind.len()) {
+            return false;
+        }
+        write_contained_volume(self.order, &mut self.bytes, image, behind);
+        true
+    }
+}
+
+/// Whether so many blocks, with so many bytes behind them, fill the sectors of the volume.
+fn fits(order: Order, blocks: u32, behind: usize) -> bool
+    ensures { MatchBool result (512 * blocks + behind ≡ 512 * block_count order) (DoesNotFit order blocks behind) }
+{
+    let size = 512 * order.block_count() as usize;
+    let blocks = 512 * blocks as usize;
+    if size < blocks {
+        return false;
+    }
+    size - blocks == behind
+}
+
+/// Writes a floppy to a file that is not there before, as [`write_new`] says.
+pub fn write_floppy<R: Files<File = File> + AllocGlobal>(
+    rt: &R,
+    path: &str,
+    floppy: &Floppy,
+    mode: Option<u32>,
+) -> Result<Option<Unfinished>, SaveFault>
+    ensures ok { IfOk result (λ wanting. IfSome wanting (λ unfinished. IsTrue (may_be_wanting unfinished))) }
+    ensures err { IfErr result (λ fault. IsTrue (may_end_writing fault)) }
+{
+    match no_blocks(rt.alloc()) {
+        Ok(none) => write_new(rt, path, &none, floppy.bytes(), mode),
+        Err(_) => Err(SaveFault::Make(HostFault::NoMemory)),
+    }
+}
+
+/// Writes a new volume to a file that is not there before, as [`write_new`] says: as it stands, or as a floppy of this order whose other bytes
+/// are zeros.
+#[tactic(auto, using(crate::proofs::Storing::errs_copying))]
+pub fn write_ordered<R: Files<File = File> + AllocGlobal>(
+    rt: &R,
+    path: &str,
+    image: &Image,
+    order: Option<Order>,
+) -> Result<Option<Unfinished>, SaveFault>
+    ensures ok { IfOk result (λ wanting. IfSome wanting (λ unfinished. IsTrue (may_be_wanting unfinished))) }
+    ensures err { IfErr result (λ fault. IsTrue (may_end_copying (is_some order) fault)) }
+{
+    let Some(order) = order else {
+        return write_new(rt, path, image, &[], None);
+    };
+    let Ok(mut floppy) = Floppy::empty(rt.alloc(), order) else {
+        return Err(SaveFault::Make(HostFault::NoMemory));
+    };
+    if floppy.lay(image, &[]) {
+        write_floppy(rt, path, &floppy, None)
+    } else {
+        Err(SaveFault::Unfit)
+    }
+}
+
+/// An image with no blocks, before bytes that are no blocks.
+pub(crate) fn no_blocks(alloc: Global) -> Result<Image, AllocError>
+    ensures { IfOk result (λ none. image_bytes none ≡ []) }
+{
+    match Image::from_bytes(alloc, &[]) {
+        Ok(none) => Ok(none),
+        Err(_) => Err(AllocError),
+    }
+}

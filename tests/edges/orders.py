@@ -1,0 +1,173 @@
+"""Floppies in physical order: what is read of them, and which bytes change. The order is a second table here: a track is gone round in steps of two
+sectors, and over a sector that is taken."""
+import struct
+from collections.abc import Callable, Iterator
+
+from fs_image import BLOCK, MAP_PLACE, Volume, variable
+from fs_room import STAMP, Room, equal
+from fs_rows import row
+
+# Of each order: the bytes of a sector, the tracks, the sectors of a track, how far the next track turns, and whether track 0 is the volume's last.
+ORDERS = {"rx01": (128, 77, 26, 6, False), "rx02": (256, 77, 26, 6, False), "rx50": (512, 80, 10, 2, True)}
+NOTES = "1,2/NOTES.TXT"
+BESIDE = b"\xa5"
+
+
+def places(order: str) -> Iterator[tuple[int, int]]:
+    """Where the sectors of the volume stand, one behind another: the track, and the place on it."""
+    _, tracks, count, turn, wraps = ORDERS[order]
+    for nth, track in enumerate([*range(1, tracks), *([0] if wraps else [])]):
+        at, taken = turn * nth % count, set()
+        for _ in range(count):
+            if at in taken:
+                at = (at + 1) % count
+            taken.add(at)
+            yield track, at
+            at = (at + 2) % count
+
+
+def floppy(order: str, volume: bytes, old: bytes | None = None) -> bytes:
+    """The floppy with this volume, whose other bytes are those of an old one."""
+    size, tracks, count, _, _ = ORDERS[order]
+    made = bytearray(BESIDE * (size * tracks * count) if old is None else old)
+    for nth, (track, at) in enumerate(places(order)):
+        first = size * (count * track + at)
+        made[first : first + size] = volume[size * nth : size * (nth + 1)]
+    return bytes(made)
+
+
+def volume_of(order: str, data: bytes) -> bytes:
+    """The volume of a floppy."""
+    size, _, count, _, _ = ORDERS[order]
+    return b"".join(data[size * (count * track + at) :][:size] for track, at in places(order))
+
+
+def blocks_of(order: str) -> int:
+    return ORDERS[order][0] * sum(1 for _ in places(order)) // BLOCK
+
+
+def volume(order: str) -> bytes:
+    """A sound volume of as many blocks, with a file in its last ones, which say where they are."""
+    blocks = blocks_of(order)
+    made = Volume(blocks)
+    made.directory(4, "000000.DIR;1", ("000000.DIR;1", 4, 4), ("001002.DIR;1", 6, 1), ("INDEXF.SYS;1", 1, 1), ("BITMAP.SYS;1", 2, 2),
+               ("BADBLK.SYS;1", 3, 3), ("CORIMG.SYS;1", 5, 5))
+    made.directory(6, "001002.DIR;1", ("NOTES.TXT;1", 9, 1), ("LAST.DAT;1", 10, 1))
+    made.file(9, "NOTES.TXT;1", variable(b"first", b"second"), control=2, size=6)
+    last = range(blocks - 100, blocks)
+    made.file(10, "LAST.DAT;1", b"".join(struct.pack("<I", lbn) * 128 for lbn in last), places=last, kind=1)
+    control = bytearray(BLOCK)
+    control[3] = 1
+    struct.pack_into("<2H", control, 8, *divmod(blocks, 65536))
+    made.put(MAP_PLACE, control)
+    return made.bytes()
+
+
+def on_floppy(order: str) -> Callable[[], bytes]:
+    return lambda: floppy(order, volume(order))
+
+
+READS = (["ls", "-l", "1,2/"], ["find"], ["df"], ["du"], ["stat", NOTES], ["cat", NOTES], ["cat", "-b", "1,2/LAST.DAT"], ["check"], ["check", "--all"],
+         ["ls", "--json"])
+
+
+def reads_as_plain(room: Room, order: str) -> None:
+    (room.folder / "plain").write_bytes(volume(order))
+    for words in READS:
+        wanted = room.run("plain", *words)
+        for said in ([], ["--order", order]):
+            found = room.run(*said, "disk", *words)
+            equal(found, (wanted[0], wanted[1], wanted[2].replace(b"plain", b"disk")), f"{said} {words}")
+    equal(room.run("disk", "cmp", "plain"), (0, b"", b""), "cmp with the plain image")
+    equal(room.run("plain", "cmp", "disk"), (0, b"", b""), "cmp of the plain image")
+    equal(room.run("--order", order, "disk", "rescue", "out")[0], 0, "rescue")
+    equal((room.folder / "out" / "NOTES.TXT;1").read_bytes(), variable(b"first", b"second"), "a rescued file")
+    assert room.is_untouched(), "a read changed the image"
+
+
+def does(room: Room, *words: str) -> None:
+    """The command is done, and nothing is said on standard error."""
+    status, _, errors = room.run(*words)
+    equal((status, errors), (0, b""), f"{words}")
+
+
+def has_new_file(room: Room, order: str, name: str, what: str) -> None:
+    """The floppy has the new file, and its other bytes are those of the old one."""
+    data = (room.folder / name).read_bytes()
+    (room.folder / "alone").write_bytes(volume_of(order, data))
+    equal(room.volume("alone").records("[1,2]MORE.TXT;1"), [b"more"], f"the new file, {what}")
+    equal(data, floppy(order, volume_of(order, data), room.before), f"the bytes beside the volume, {what}")
+    equal(room.run(name, "cat", "1,2/MORE.TXT")[1], b"more\n", f"cat, {what}")
+
+
+def changes_in_place(room: Room, order: str) -> None:
+    (room.folder / "more.txt").write_bytes(b"more\n")
+    (room.folder / "commands").write_bytes(b"put more.txt 1,2/\n")
+    does(room, "-n", "disk", "put", "more.txt", "1,2/")
+    assert room.is_untouched(), "put -n changed the image"
+    does(room, "-o", "copy", "disk", "put", "more.txt", "1,2/")
+    assert room.is_untouched(), "put -o changed the image"
+    has_new_file(room, order, "copy", "-o")
+    does(room, "--order", order, "-o", "other", "-f", "commands", "disk")
+    has_new_file(room, order, "other", "-f")
+    does(room, "--backup", "disk", "put", "more.txt", "1,2/")
+    has_new_file(room, order, "disk", "put")
+    equal((room.folder / "disk~").read_bytes(), room.before, "the backup")
+    does(room, "disk", "rm", "1,2/MORE.TXT;1")
+    equal(room.run("disk", "check"), (0, b"sound\n", b""), "check")
+
+
+def other_orders(room: Room, order: str) -> None:
+    """Another order than that of the floppy is refused: a size by status 2, and plain blocks by their missing home block."""
+    (room.folder / "more.txt").write_bytes(b"more\n")
+    for words in (["ls"], ["check"], ["rescue", "out"], ["put", "more.txt", "1,2/"]):
+        for other in ORDERS:
+            if other != order:
+                status, out, errors = room.run("--order", other, "disk", *words)
+                equal((status, out, errors[:28]), (2, b"", b"f11fs: disk: OtherSize: a flo"[:28]), f"--order {other} {words}")
+    for words in (["ls"], ["put", "more.txt", "1,2/"]):
+        status, out, errors = room.run("--order", "plain", "disk", *words)
+        equal((status, out), (1, b""), f"--order plain {words}")
+        assert errors.startswith(b"f11fs: disk: NotWholeBlocks" if order == "rx01" else b"f11fs: disk: NoHome"), errors
+        assert f"--order {order}".encode() in errors, errors
+    assert room.is_untouched(), "a refused command changed the image"
+
+
+def init_makes_one(room: Room, order: str) -> None:
+    blocks = str(blocks_of(order))
+    words = ["--stamp", STAMP, "--order", order]
+    equal(room.run(*words, "disk", "init", "100")[0], 2, "init of another size")
+    assert not room.image.exists(), "a refused init made an image"
+    does(room, *words, "disk", "init", blocks)
+    does(room, "--stamp", STAMP, "plain", "init", blocks)
+    plain = (room.folder / "plain").read_bytes()
+    size, tracks, count, _, _ = ORDERS[order]
+    equal(room.image.read_bytes(), floppy(order, plain, bytes(size * tracks * count)), "the new floppy")
+    equal(room.run("disk", "check", "--all"), (0, b"sound\n", b""), "check")
+
+
+for ORDER in ORDERS:
+    row(lambda room, order=ORDER: reads_as_plain(room, order), image=on_floppy(ORDER), name=f"an {ORDER} is read as the plain image")
+    row(lambda room, order=ORDER: changes_in_place(room, order), image=on_floppy(ORDER), name=f"an {ORDER} is changed in its places")
+    row(lambda room, order=ORDER: other_orders(room, order), image=on_floppy(ORDER), name=f"an {ORDER} in another order is refused")
+    row(lambda room, order=ORDER: init_makes_one(room, order), image=lambda: None, name=f"init makes an {ORDER}")
+
+
+@row(image=lambda: volume("rx50"))
+def an_rx50_of_plain_blocks_stays_plain(room: Room) -> None:
+    (room.folder / "more.txt").write_bytes(b"more\n")
+    equal(room.run("disk", "cat", NOTES), (0, b"first\nsecond\n", b""), "cat")
+    does(room, "disk", "put", "more.txt", "1,2/")
+    equal(room.volume().records("[1,2]MORE.TXT;1"), [b"more"], "the new file")
+    status, out, errors = room.run("--order", "rx50", "disk", "ls")
+    equal((status, out), (1, b""), "ls in physical order")
+    assert b"NoHome" in errors, errors
+
+
+@row(image=on_floppy("rx01"))
+def a_volume_larger_than_its_floppy_is_not_saved(room: Room) -> None:
+    (room.folder / "more.txt").write_bytes(b"more\n")
+    words = ["--blocks", "600", "--order", "rx01", "disk", "put", "more.txt", "1,2/"]
+    equal(room.run(*words)[0], 5, "put")
+    equal(room.run("--force", *words)[0], 3, "put --force")
+    assert room.is_untouched(), "the image was changed"
