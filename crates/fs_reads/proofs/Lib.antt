@@ -2,6 +2,7 @@ mod Closing
 mod DeletedShown
 mod FilesGot
 mod Growing
+mod InfoEnds
 mod Likeness
 mod Lines
 mod Mounting

@@ -3,6 +3,7 @@ pub mod Alike
 pub mod Deleted
 pub mod Denied
 pub mod Ends
+pub mod Infos
 pub mod Looks
 pub mod Shown
 pub mod Volumes

@@ -10,6 +10,7 @@ mod deleted;
 mod finding;
 mod getting;
 mod host_files;
+mod informing;
 mod listing;
 mod looks;
 mod obeying;
@@ -28,6 +29,7 @@ mod volume;
 
 pub use checking::{check, check_image};
 pub use comparing::{Known, all_known, difference_by_id, place_of};
+pub use informing::{behind_by, info, info_image};
 pub use looks::{Look, looks_like};
 pub use obeying::obey;
 pub use progress::Progress;

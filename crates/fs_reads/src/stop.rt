@@ -217,7 +217,7 @@ fn say_unwritten<R: Eprint>(rt: &R, why: HostFault) {
 }
 
 /// Says of an image that is refused the name of the refusal, why it comes, and what one can do, or what the bytes look like.
-fn say_refused<R: Eprint>(rt: &R, path: &str, fault: VolumeFault) {
+pub(crate) fn say_refused<R: Eprint>(rt: &R, path: &str, fault: VolumeFault) {
     let path = Shown(path);
     let _ = match (fault.advice(), fault.look()) {
         (Some(advice), Some(look)) => {

@@ -171,7 +171,7 @@ fn mount_image<R: Files<File = File> + AllocGlobal>(
 }
 
 /// Why an image that was read from this path is no sound volume, in the words of a mount.
-fn not_mounted<R: Files<File = File> + AllocGlobal>(
+pub(crate) fn not_mounted<R: Files<File = File> + AllocGlobal>(
     rt: &R,
     path: &str,
     fault: MountFault,

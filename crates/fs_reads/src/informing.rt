@@ -1,0 +1,134 @@
+//! `info`: what is known of the volume in an image, sound or not.
+ghost use Rattle.std.specs.Prelude.{◌≡◌, ◌⊎◌, IfOk, string_bytes};
+ghost use Rattle.fs_reads.specs.Infos.{EndsInfo, ShowsInfo, bytes_behind};
+ghost use Rattle.ods_mount.specs.Faults.{IsSound};
+ghost use Rattle.ods_shell.specs.declared.status.Status.{Status as Code};
+ghost use Rattle.ods_space.specs.Disks.{on};
+ghost use Rattle.ods_space.specs.Files.{IsLayoutOf};
+
+use crate::stop::{Stop, say_refused, send, stop_at_own_output};
+use crate::volume::{VolumeFault, no_volume, not_mounted, open_image, say_extent};
+use fs_host::Extent;
+use ods_base::Image;
+use ods_mount::{MountFault, check_image, read_layout};
+use ods_shell::{Status, info_lines, info_object, volume_info};
+use ods_space::Disk;
+use std::alloc::{AllocError, Global};
+use std::fs::File;
+use std::rt::Files;
+
+/// `info` of the image at this path, of so many blocks where a number is given. Bytes behind the volume are said too where `tells_behind`.
+pub fn info<'a, R: Files<File = File> + AllocGlobal + Print + Eprint>(
+    rt: &R,
+    path: &'a str,
+    given: Option<u32>,
+    json: bool,
+    tells_behind: bool,
+) -> Result<Status, Stop<'a>>
+    ensures { IfOk result (λ s. (s ≡ Code.Done) ⊎ (s ≡ Code.Image)) }
+{
+    stop_at_own_output(rt, path)?;
+    match open_image(rt, path, given) {
+        Ok((image, extent)) => {
+            say_extent(rt, path, extent, tells_behind);
+            info_image(rt, path, &image, behind_by(extent), json)
+        }
+        Err(fault) => Err(no_volume(path, fault)),
+    }
+}
+
+/// How many bytes stand behind the volume, by what is to be said of its image.
+pub fn behind_by(extent: Option<Extent>) -> u64
+    ensures { result ≡ bytes_behind extent }
+{
+    match extent {
+        Some(Extent::Longer(count)) => count as u64,
+        Some(Extent::Simh(count)) => count as u64,
+        Some(Extent::Vhd(count)) => count as u64,
+        Some(Extent::Shorter(_, _)) | None => 0,
+    }
+}
+
+/// `info` of an image that was read from this path, behind whose volume so many bytes stand.
+#[tactic(auto, using(crate::proofs::InfoEnds::ends_sound))]
+pub fn info_image<'a, R: Files<File = File> + AllocGlobal + Print + Eprint>(
+    rt: &R,
+    path: &'a str,
+    image: &Image,
+    behind: u64,
+    json: bool,
+) -> Result<Status, Stop<'a>>
+    ensures { IfOk result (EndsInfo (IsSound image.now)) }
+{
+    match check_image(rt.alloc(), image) {
+        Ok(layout) => {
+            let disk = Disk {
+                image,
+                layout: &layout,
+            };
+            tell_info(rt, &disk, behind, "sound", json)
+        }
+        Err(fault) => info_refused(rt, path, image, &not_mounted(rt, path, fault), behind, json),
+    }
+}
+
+/// `info` of an image that a mount refuses: the refusal comes first. An image without a layout has nothing to show.
+fn info_refused<'a, R: AllocGlobal + Print + Eprint>(
+    rt: &R,
+    path: &'a str,
+    image: &Image,
+    why: &VolumeFault,
+    behind: u64,
+    json: bool,
+) -> Result<Status, Stop<'a>>
+    ensures { IfOk result (λ s. s ≡ Code.Image) }
+{
+    match read_layout(rt.alloc(), image) {
+        Ok((_, layout)) => {
+            let disk = Disk {
+                image,
+                layout: &layout,
+            };
+            say_refused(rt, path, *why);
+            let answer = format!(in rt.alloc(); "{why}")?;
+            tell_info(rt, &disk, behind, answer.as_str(), json)?;
+            Ok(Status::Image)
+        }
+        Err(MountFault::NoMemory) => Err(Stop::NoMemory),
+        Err(_) => Err(no_volume(path, *why)),
+    }
+}
+
+/// Prints what is known of a volume; this is what a mount answers.
+fn tell_info<'a, R: AllocGlobal + Print>(
+    rt: &R,
+    disk: &Disk<'_>,
+    behind: u64,
+    answer: &str,
+    json: bool,
+) -> Result<Status, Stop<'a>>
+    requires { on IsLayoutOf disk.now }
+    ensures { IfOk result (λ s. s ≡ Code.Done) }
+{
+    let text = info_shown(rt.alloc(), disk, behind, answer, json)?;
+    send(rt, text.as_str())
+}
+
+/// What is known of a volume, as lines or as an object.
+fn info_shown(
+    alloc: Global,
+    disk: &Disk<'_>,
+    behind: u64,
+    answer: &str,
+    json: bool,
+) -> Result<String, AllocError>
+    requires { on IsLayoutOf disk.now }
+    ensures { IfOk result (λ text. on ShowsInfo disk.now json behind answer.now (string_bytes text)) }
+{
+    let info = volume_info(disk);
+    if json {
+        info_object(alloc, &info, behind, answer)
+    } else {
+        info_lines(alloc, &info, disk.layout.index(), behind, answer)
+    }
+}
