@@ -11,7 +11,7 @@ use crate::early::{Early, read_bytes};
 use crate::host::Host;
 use crate::lines::{say_no_memory, say_wrong};
 use fs_host::{Collecting, HostFault, Noting};
-use fs_reads::{Progress, Stop, WordFault, check_image, obey, say_end};
+use fs_reads::{Progress, Stop, WordFault, check_image, info_image, obey, say_end};
 use fs_words::{Action, Change, LineFault, Words, WordsFault, line_words, parse_line};
 use ods_base::write_bytes;
 use ods_filing::Filing;
@@ -49,6 +49,7 @@ pub fn obey_file<'a, R: Host>(
         outer: words,
         file,
         keep_going,
+        behind: locked.behind().len() as u64,
     };
     let (status, done) = obey_text(rt, &run, &printed, volume, text, &mut early)?;
     let Some(filing) = done else {
@@ -73,6 +74,8 @@ struct Run<'r, 'a> {
     outer: &'r Words<'a>,
     file: &'a str,
     keep_going: bool,
+    /// How many bytes stand behind the volume.
+    behind: u64,
 }
 
 /// The bytes of a file of commands, or of standard input.
@@ -340,6 +343,11 @@ fn obey_action<R: Files<File = File> + Clock + Input + AllocGlobal + Print + Epr
         },
         Action::Check { all } => {
             let done = check_image(rt, filing.mounted().image(), all, own.json);
+            (say_end(rt, done), true)
+        }
+        Action::Info => {
+            let image = filing.mounted().image();
+            let done = info_image(rt, run.outer.image, image, run.behind, own.json);
             (say_end(rt, done), true)
         }
         Action::Commands { .. } | Action::Init { .. } | Action::Rescue { .. } => {

@@ -7,7 +7,7 @@ use crate::command_files::obey_file;
 use crate::host::Host;
 use crate::making::init_image;
 use crate::orders::layers_of;
-use fs_reads::{Progress, Stop, check, obey, open_volume, rescue, say_end};
+use fs_reads::{Progress, Stop, check, info, obey, open_volume, rescue, say_end};
 use fs_words::{Action, Words};
 use ods_shell::Status;
 use std::fs::File;
@@ -32,6 +32,14 @@ pub fn run_command<R: Host>(rt: &R, words: &Words<'_>, seen: Seen) -> Status {
             layers_of(words.order),
             all,
             words.json,
+        ),
+        Action::Info => info(
+            rt,
+            words.image,
+            words.blocks,
+            layers_of(words.order),
+            words.json,
+            !words.quiet,
         ),
         Action::Rescue {
             text,

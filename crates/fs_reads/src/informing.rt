@@ -8,7 +8,7 @@ ghost use Rattle.ods_space.specs.Files.{IsLayoutOf};
 
 use crate::stop::{Stop, say_refused, send, stop_at_own_output};
 use crate::volume::{VolumeFault, no_volume, not_mounted, open_image, say_extent};
-use fs_host::Extent;
+use fs_host::{Extent, Layers};
 use ods_base::Image;
 use ods_mount::{MountFault, check_image, read_layout};
 use ods_shell::{Status, info_lines, info_object, volume_info};
@@ -17,18 +17,19 @@ use std::alloc::{AllocError, Global};
 use std::fs::File;
 use std::rt::Files;
 
-/// `info` of the image at this path, of so many blocks where a number is given. Bytes behind the volume are said too where `tells_behind`.
+/// `info` of the image at this path, of so many blocks where a number is given, in this order. Bytes behind the volume are said too where `tells_behind`.
 pub fn info<'a, R: Files<File = File> + AllocGlobal + Print + Eprint>(
     rt: &R,
     path: &'a str,
     given: Option<u32>,
+    layers: Layers,
     json: bool,
     tells_behind: bool,
 ) -> Result<Status, Stop<'a>>
     ensures { IfOk result (λ s. (s ≡ Code.Done) ⊎ (s ≡ Code.Image)) }
 {
     stop_at_own_output(rt, path)?;
-    match open_image(rt, path, given) {
+    match open_image(rt, path, given, layers) {
         Ok((image, extent)) => {
             say_extent(rt, path, extent, tells_behind);
             info_image(rt, path, &image, behind_by(extent), json)

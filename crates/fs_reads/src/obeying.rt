@@ -30,7 +30,7 @@ pub fn obey<'a, R: Files<File = File> + Clock + AllocGlobal + Print + Eprint>(
     stop_at_own_output(rt, words.image)?;
     match words.action {
         Action::Cat(wanted) => cat(rt, volume, words, wanted),
-        Action::Get { wanted, target, .. } => get(rt, volume, words, target, wanted, progress),
+        Action::Get { wanted, target } => get(rt, volume, words, target, wanted, progress),
         Action::Cmp { all } => compare_all(rt, volume, words, all, progress),
         _ => {
             let mut text = String::new(rt.alloc());
@@ -79,6 +79,7 @@ fn push_shown<'a>(
         Action::Cat(_)
         | Action::Get { .. }
         | Action::Cmp { .. }
+        | Action::Info
         | Action::Check { .. }
         | Action::Rescue { .. }
         | Action::Change(_)

@@ -48,7 +48,7 @@ abbrev pub IsCat : ArgMatches → Action → Type 0
 IsCat m a = (wanted : Wanted) × IsWanted m wanted × (a ≡ action.Cat wanted)
 
 abbrev pub IsGet : ArgMatches → Option (Bor (List ℕ)) → Action → Type 0
-IsGet m out a = (wanted : Wanted) × (deleted partial : Bool) × IsWanted m wanted × IsSet m (codes "--deleted") deleted × IsSet m (codes "--partial") partial × (a ≡ action.Get wanted out deleted partial)
+IsGet m out a = (wanted : Wanted) × IsWanted m wanted × (a ≡ action.Get wanted out)
 
 abbrev pub IsDu : ArgMatches → Action → Type 0
 IsDu m a = (top : Option ℕ) × IsValue IsNumber (text_of m (codes "--top")) top × (a ≡ action.Du top)

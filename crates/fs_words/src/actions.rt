@@ -22,13 +22,10 @@ pub enum Action<'a> {
     Stat,
     /// Writes files to standard output.
     Cat(Wanted),
-    /// Writes files to the host: to this target, or where there is none into the working folder or to the last word. Deleted files where `deleted`;
-    /// what is there of a file that is not whole where `partial`.
+    /// Writes files to the host: to this target, or where there is none into the working folder or to the last word.
     Get {
         wanted: Wanted,
         target: Option<&'a str>,
-        deleted: bool,
-        partial: bool,
     },
     /// Shows how much of the volume is used.
     Df,

@@ -3,24 +3,14 @@ ghost use Rattle.fs_words.specs.Asked.{IsGet};
 
 use crate::actions::Action;
 use crate::arguments::{Argument, Row};
-use crate::forms::{BINARY, FORMS_APART, PARTIAL, RAW, TEXT, wanted_form};
+use crate::forms::{BINARY, FORMS_APART, RAW, TEXT, wanted_form};
 use clap::ArgMatches;
 
 /// How `get` is written.
 pub(crate) const ROW: Row<'static> = Row {
-    usage: "f11fs IMAGE get [OPTIONS] [-t|-b|--raw] [--deleted] [--partial] PATH.. [TARGET]",
+    usage: "f11fs IMAGE get [OPTIONS] [-t|-b|--raw] PATH.. [TARGET]",
     about: "Copy files to the host",
-    arguments: &[
-        TEXT,
-        BINARY,
-        RAW,
-        Argument::Flag(
-            "--deleted",
-            "Copy deleted files. PATH is an ID that find --deleted shows",
-        ),
-        PARTIAL,
-        Argument::SomePaths,
-    ],
+    arguments: &[TEXT, BINARY, RAW, Argument::SomePaths],
     conflicts: &FORMS_APART,
 };
 
@@ -31,7 +21,5 @@ pub(crate) fn action<'a>(own: &ArgMatches<'a>, out: Option<&'a str>) -> Action<'
     Action::Get {
         wanted: wanted_form(own),
         target: out,
-        deleted: own.get_flag("--deleted"),
-        partial: own.get_flag("--partial"),
     }
 }

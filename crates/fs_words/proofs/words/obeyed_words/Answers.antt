@@ -10,7 +10,7 @@ use Rattle.fs_words.proofs.words.obeyed_words.Goals as goal
 pub returns-in-Err-clause-refused : goal.returns-in-Err-clause-refused
 returns-in-Err-clause-refused g c =
     subst (λ ws. HasReason (IsNoCommand c.args.verb (map g.S.AsStr.text ws) c.args.before) c.in_ok-tell-in-Err.field-0) c.behind_first.ensures
-      (reason_of c.in_ok-tell-in-Err.field-0 (clap_refuses (whole_app c.args.verb) (map g.S.AsStr.text c.behind_first.result.now) c.in-Err.error c.in_ok-tell-in-Err.field-0 c.in_ok-tell-in-Err.ensures c.in-Err.ensures.refused c.in-Err.ensures.kinds) command_refused)
+    (reason_of c.in_ok-tell-in-Err.field-0 (clap_refuses (whole_app c.args.verb) (map g.S.AsStr.text c.behind_first.result.now) c.in-Err.error c.in_ok-tell-in-Err.field-0 c.in_ok-tell-in-Err.ensures c.in-Err.ensures.refused c.in-Err.ensures.kinds) command_refused)
 
 pub returns-in_err-action-clause-refused : goal.returns-in_err-action-clause-refused
 returns-in_err-action-clause-refused g c =
