@@ -10,7 +10,8 @@ ghost use Rattle.ods_shell.specs.Facts.{AreFacts};
 use fs_reads::{Known, Stop, all_known, difference_by_id, place_of};
 use ods_base::FileId;
 use ods_mount::Mounted;
-use ods_shell::{facts_by_id, facts_of, text_object};
+use ods_shell::mounted::{facts_by_id, facts_of};
+use ods_shell::text_object;
 use std::alloc::{AllocError, Global};
 
 /// The lines of a plan, or its objects.

@@ -10,7 +10,8 @@ use crate::stop::{Stop, say_lines};
 use ods_base::Uic;
 use ods_mount::Mounted;
 use ods_request::{Right, permits};
-use ods_shell::{Directory, Kind, Status, facts_of, push_directory};
+use ods_shell::mounted::facts_of;
+use ods_shell::{Directory, Kind, Status, push_directory};
 use ods_space::last_number;
 use std::alloc::{AllocError, Global};
 

@@ -20,10 +20,8 @@ use fs_host::Layers;
 use fs_words::Words;
 use ods_base::{FileId, Listed, Uic};
 use ods_mount::Mounted;
-use ods_shell::{
-    Directory, Facts, FormFault, FoundLines, Kind, Status, facts_by_id, have_same_bytes,
-    pair_object, push_path,
-};
+use ods_shell::mounted::{facts_by_id, have_same_bytes};
+use ods_shell::{Directory, Facts, FormFault, FoundLines, Kind, Status, pair_object, push_path};
 use std::alloc::{AllocError, Global};
 use std::cmp::Ordering;
 use std::fs::File;

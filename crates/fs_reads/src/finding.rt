@@ -10,10 +10,10 @@ use crate::stop::Stop;
 use fs_words::Words;
 use ods_mount::Mounted;
 use ods_paths::{Folder, Path, Place, Versions, parse_path};
-use ods_shell::{
-    FoundLines, PathFault, find_lines, find_open, largest_lines, lost_lines, ls_objects,
-    unreached_lines, usage_lines,
+use ods_shell::mounted::{
+    find_open, largest_lines, lost_lines, ls_objects, unreached_lines, usage_lines,
 };
+use ods_shell::{FoundLines, PathFault, find_lines};
 use std::alloc::{AllocError, Global};
 
 /// Appends what `find` shows.

@@ -7,7 +7,8 @@ use crate::stop::Stop;
 use fs_words::Words;
 use ods_mount::Mounted;
 use ods_paths::{Path, Versions, parse_path};
-use ods_shell::{Columns, FoundLines, PathFault, find_open, ls_lines, ls_objects};
+use ods_shell::mounted::{find_open, ls_lines, ls_objects};
+use ods_shell::{Columns, FoundLines, PathFault};
 use std::alloc::{AllocError, Global};
 
 /// Appends what `ls` shows.

@@ -14,7 +14,8 @@ use fs_words::Words;
 use ods_base::Uic;
 use ods_mount::Mounted;
 use ods_paths::Versions;
-use ods_shell::{FormFault, Found, PathFault, Remark, Status, Wanted, find_path};
+use ods_shell::mounted::find_path;
+use ods_shell::{FormFault, Found, PathFault, Remark, Status, Wanted};
 use std::io;
 
 /// Who reads, and whether remarks that are no faults are left out.

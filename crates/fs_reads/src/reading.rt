@@ -6,7 +6,8 @@ ghost use Rattle.fs_reads.specs.Denied.{IsDenied, IsUnread, MayRead};
 use ods_base::Uic;
 use ods_mount::Mounted;
 use ods_request::{Right, permits};
-use ods_shell::{Facts, FormFault, Found, Got, Wanted, open_contents};
+use ods_shell::mounted::open_contents;
+use ods_shell::{Facts, FormFault, Found, Got, Wanted};
 use std::alloc::Global;
 use thiserror::Error;
 

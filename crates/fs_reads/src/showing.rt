@@ -8,9 +8,8 @@ use crate::stop::{Stop, stop_about};
 use fs_words::Words;
 use ods_mount::Mounted;
 use ods_paths::Versions;
-use ods_shell::{
-    Directory, FormFault, Found, PathFault, Status, find_path, stat_lines, stat_object,
-};
+use ods_shell::mounted::find_path;
+use ods_shell::{Directory, FormFault, Found, PathFault, Status, stat_lines, stat_object};
 use ods_space::chain;
 use std::alloc::Global;
 

@@ -36,13 +36,10 @@ pub record AreAdded (start : Directory) (table : List Entered) (before after : L
   pub all : (k : ℕ) → k < length table → Contains (map (λ d. d.number) after) (number_at table k)
   pub once : IsDistinct nat_eq (map (λ d. d.number) before) → IsDistinct nat_eq (map (λ d. d.number) after)
 
--- what a walk of a disk says it says of the volume, and of the closed numbers from the start
-pub walk_of : (i I : List (List ℕ)) (l L : VolumeLayout) (n closed : List ℕ) (start : ℕ) (w : Tables) → i ≡ I → l ≡ L → n ≡ closed → IsWalkButFor i l start n w → AreReached i l start (4 ∷ n) w.directories
+-- what a walk past these closed numbers says it says of the closed ones from the start
+pub walk_of : (I : List (List ℕ)) (L : VolumeLayout) (n closed : List ℕ) (start : ℕ) (w : Tables) → n ≡ closed → IsWalkButFor I L start n w → AreReached I L start (4 ∷ n) w.directories
     → IsWalkButFor I L start closed w × AreReached I L start (4 ∷ closed) w.directories
-walk_of i I l L n closed start w same_i same_l same_n walk reached =
-    subst (λ c. IsWalkButFor I L start c w × AreReached I L start (4 ∷ c) w.directories) same_n
-    (subst (λ y. IsWalkButFor I y start n w × AreReached I y start (4 ∷ n) w.directories) same_l
-    (subst (λ x. IsWalkButFor x l start n w × AreReached x l start (4 ∷ n) w.directories) same_i (walk, reached)))
+walk_of I L n closed start w same walk reached = subst (λ c. IsWalkButFor I L start c w × AreReached I L start (4 ∷ c) w.directories) same (walk, reached)
 
 module _ (I : List (List ℕ)) (L : VolumeLayout) where
   -- one more name leads on past the shut ones

@@ -14,6 +14,7 @@ mod OneName
 mod Places
 mod Runs
 mod RunTexts
+mod Reached
 mod RowsFound
 mod SoughtFiles
 mod Unreached

@@ -2,10 +2,12 @@
 use Rattle.std.specs.Prelude.{◌≡◌, ℕ, ◌⊎◌, List, Some, None}
 use Rattle.ods_space.specs.Layout.{VolumeLayout}
 use Rattle.ods_space.specs.Files.{IsFile}
+use Rattle.ods_space.specs.Faults.{IsChainFault}
+use Rattle.ods_space.specs.declared.fault.ChainFault.TheVariants as chain
 use Rattle.ods_files.specs.Body.{Body, HasBody, bytes_in}
 use Rattle.ods_files.specs.declared.form.Form.TheVariants.{Binary, Raw}
 use Rattle.ods_shell.specs.declared.form.FormFault.{FormFault}
-use Rattle.ods_shell.specs.declared.form.FormFault.TheVariants.{NoSuchFile, EndPastBlocks, Records, TooLongForBlock, NoMemory}
+use Rattle.ods_shell.specs.declared.form.FormFault.TheVariants.{NoSuchFile, BadChain, OutsideVolume, EndPastBlocks, Records, TooLongForBlock, NoMemory}
 
 -- the bytes up to the end of file, or of all blocks where that lies past them
 abbrev pub AreCompared : Body → List ℕ → Type 0
@@ -15,9 +17,11 @@ AreCompared body bytes = (bytes_in Binary body ≡ Some bytes) ⊎ ((bytes_in Bi
 abbrev pub HasCompared : List (List ℕ) → VolumeLayout → ℕ → List ℕ → Type 0
 HasCompared I L n bytes = (body : Body) × HasBody I L n body × AreCompared body bytes
 
--- why file n has no such bytes: it is no file; memory may run out at any moment
+-- why file n has no such bytes: it is no file, or its chain is not whole; memory may run out at any moment
 abbrev pub HasNone : List (List ℕ) → VolumeLayout → ℕ → FormFault → Type 0
 HasNone I L n NoSuchFile = ¬ IsFile I L n
+HasNone I L n BadChain = IsFile I L n × IsChainFault I L n chain.BadChain
+HasNone I L n (OutsideVolume lbn) = IsFile I L n × IsChainFault I L n (chain.OutsideVolume lbn)
 HasNone I L n EndPastBlocks = ⊥
 HasNone I L n (Records f) = ⊥
 HasNone I L n (TooLongForBlock size) = ⊥

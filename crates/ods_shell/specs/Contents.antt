@@ -2,6 +2,9 @@
 use Rattle.std.specs.Prelude.{◌≡◌, ℕ, ◌<◌, ◌≤◌, ◌&&◌, ◌||◌, ◌==◌, ◌⊎◌, nat_le, not, Bool, true, false, List, length, slice_index, take, Option, Some, None, MatchBool, if◌then◌else◌}
 use Rattle.ods_space.specs.Layout.{VolumeLayout}
 use Rattle.ods_space.specs.Files.{IsFile}
+use Rattle.ods_space.specs.Faults.{IsChainFault}
+use Rattle.ods_space.specs.declared.fault.ChainFault.TheVariants as chain
+use Rattle.ods_mount.specs.Sound.{IsSoundBy}
 use Rattle.ods_files.specs.Body.{Body, HasBody, bytes_in, are_zeros}
 use Rattle.ods_files.specs.declared.form.Form.{Form}
 use Rattle.ods_files.specs.declared.form.Form.TheVariants as form
@@ -120,6 +123,8 @@ IsGot I L n wanted got said = (body : Body) × HasBody I L n body × IsGotBy wan
 -- why bytes with these attributes have no text: the first fault of their records, or records of one size that are longer than the block that each is in
 abbrev pub HasNoText : List ℕ → List ℕ → FormFault → Type 0
 HasNoText attributes bytes fault.NoSuchFile = ⊥
+HasNoText attributes bytes fault.BadChain = ⊥
+HasNoText attributes bytes (fault.OutsideVolume lbn) = ⊥
 HasNoText attributes bytes fault.EndPastBlocks = ⊥
 HasNoText attributes bytes (fault.Records f) = (kind : RecordKind) × (kind_in attributes ≡ Some kind) × IsFirstFault kind bytes f
 HasNoText attributes bytes (fault.TooLongForBlock size) = (text_form_in attributes ≡ text.Blocked size) × (512 < size)
@@ -128,15 +133,23 @@ HasNoText attributes bytes fault.NoMemory = Unit {0}
 -- Why nothing is got out of a file with this body: its end lies past its blocks, and not all are asked for; or its records are read, and have a fault. Memory may run out at any moment.
 abbrev pub IsNotGotBy : Wanted → Body → FormFault → Type 0
 IsNotGotBy wanted body fault.NoSuchFile = ⊥
+IsNotGotBy wanted body fault.BadChain = ⊥
+IsNotGotBy wanted body (fault.OutsideVolume lbn) = ⊥
 IsNotGotBy wanted body fault.EndPastBlocks = bytes_in (form_got wanted) body ≡ None
 IsNotGotBy wanted body (fault.Records f) = (kind : RecordKind) × (kind_got wanted body.attributes ≡ Some kind) × ((bytes : List ℕ) × (bytes_in form.Binary body ≡ Some bytes) × IsFirstFault kind bytes f)
 IsNotGotBy wanted body (fault.TooLongForBlock size) = (wanted ≡ Text) × (text_form_in body.attributes ≡ text.Blocked size) × (512 < size)
 IsNotGotBy wanted body fault.NoMemory = Unit {0}
 
--- Why nothing is got out of file n: it is no file; or it is one, and has not this form.
+-- Why nothing is got out of file n: it is no file; or its chain is not whole; or it is, and the file has not this form.
 abbrev pub IsNotGot : List (List ℕ) → VolumeLayout → ℕ → Wanted → FormFault → Type 0
 IsNotGot I L n wanted fault.NoSuchFile = ¬ IsFile I L n
+IsNotGot I L n wanted fault.BadChain = IsFile I L n × IsChainFault I L n chain.BadChain
+IsNotGot I L n wanted (fault.OutsideVolume lbn) = IsFile I L n × IsChainFault I L n (chain.OutsideVolume lbn)
 IsNotGot I L n wanted fault.EndPastBlocks = (body : Body) × HasBody I L n body × IsNotGotBy wanted body fault.EndPastBlocks
 IsNotGot I L n wanted (fault.Records f) = (body : Body) × HasBody I L n body × IsNotGotBy wanted body (fault.Records f)
 IsNotGot I L n wanted (fault.TooLongForBlock size) = (body : Body) × HasBody I L n body × IsNotGotBy wanted body (fault.TooLongForBlock size)
 IsNotGot I L n wanted fault.NoMemory = Unit {0}
+
+-- On a sound image no file is refused for its chain.
+abbrev pub SoundChainsAreGot : Type 0
+SoundChainsAreGot = (I : List (List ℕ)) (L : VolumeLayout) (n lbn : ℕ) (wanted : Wanted) → IsSoundBy I L → (¬ IsNotGot I L n wanted fault.BadChain) × ¬ IsNotGot I L n wanted (fault.OutsideVolume lbn)

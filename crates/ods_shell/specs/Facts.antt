@@ -1,11 +1,16 @@
 -- What is known of a file, as its first header and its blocks say it.
-use Rattle.std.specs.Prelude.{◌≡◌, ℕ, ◌*◌, List, length, codes, slice_range, if◌then◌else◌, is_some}
+use Rattle.std.specs.Prelude.{◌≡◌, ℕ, ◌*◌, ◌<◌, ◌≤◌, Bool, true, false, List, [], length, codes, slice_range, if◌then◌else◌, is_some}
+use Rattle.std.specs.List.{All, Contains}
 use Rattle.ods_base.specs.Block.{word}
 use Rattle.ods_header.specs.Header.{sequence_of, owner_of, protection_of, user_char_of, system_char_of, ident_of, attributes_of, is_directory_header}
 use Rattle.ods_space.specs.Layout.{VolumeLayout, header_at}
 use Rattle.ods_space.specs.Files.{IsFile, HasBlocks}
+use Rattle.ods_space.specs.Reach.{ReachesBy}
+use Rattle.ods_mount.specs.Sound.{IsSoundBy}
 use Rattle.ods_files.specs.Body.{are_zeros, end_of}
 use Rattle.ods_records.specs.Attributes.{kind_in, is_controlled}
+use Rattle.ods_shell.specs.declared.facts.Condition.{Condition}
+use Rattle.ods_shell.specs.declared.facts.Condition.TheVariants.{Whole, Broken, Outside}
 use Rattle.ods_shell.specs.declared.facts.Kind.{Kind}
 use Rattle.ods_shell.specs.declared.facts.Kind.TheVariants.{Directory, Text, Records, Binary}
 use Rattle.ods_shell.specs.declared.facts.Facts.{Facts}
@@ -24,6 +29,18 @@ kind_word Text = codes "text"
 kind_word Records = codes "records"
 kind_word Binary = codes "binary"
 
+-- the word for how much of a file is there
+abbrev pub condition_word : Condition → List ℕ
+condition_word Whole = []
+condition_word Broken = codes "chain broken"
+condition_word Outside = codes "outside"
+
+-- In an image of so many blocks this much is there of a file whose headers name these LBNs: all; or a header is missing; or each is there, and a block lies past the image.
+abbrev pub HasCondition : ℕ → List ℕ → Bool → Condition → Type 0
+HasCondition len lbns whole Whole = (whole ≡ true) × All (λ lbn. lbn < len) lbns
+HasCondition len lbns whole Broken = whole ≡ false
+HasCondition len lbns whole Outside = (whole ≡ true) × (lbn : ℕ) × Contains lbns lbn × (len ≤ lbn)
+
 -- in an ident area the 13 bytes of the date of creation
 abbrev pub created_in : List ℕ → List ℕ
 created_in ident = slice_range ident 25 38
@@ -40,11 +57,12 @@ revision_in ident = word ident 5
 abbrev pub bytes_by : List ℕ → ℕ → ℕ
 bytes_by attributes blocks = if are_zeros attributes then 512 * blocks else end_of attributes
 
--- what a first header says of file n, which has so many blocks
-abbrev pub facts_in : ℕ → List ℕ → ℕ → Facts
-facts_in n header blocks = record {
+-- what a first header says of file n, of which so many blocks are there
+abbrev pub facts_in : ℕ → List ℕ → ℕ → Condition → Facts
+facts_in n header blocks condition = record {
   file = record { number = n; sequence = sequence_of header };
   kind = kind_by n header;
+  condition = condition;
   blocks = blocks;
   bytes = bytes_by (attributes_of header) blocks;
   owner = owner_of header;
@@ -55,9 +73,19 @@ facts_in n header blocks = record {
   attributes = attributes_of header;
 }
 
--- this is what is known of file n
+-- This is what is known of file n: its headers, up to the last that is there, name these LBNs.
 pub record AreFacts (I : List (List ℕ)) (L : VolumeLayout) (n : ℕ) (facts : Facts) : Type 0 where
   pub file : IsFile I L n
   pub lbns : List ℕ
-  pub held : HasBlocks I L n lbns
-  pub are : facts ≡ facts_in n (header_at I L n) (length lbns)
+  pub whole : Bool
+  pub reached : ReachesBy I L n lbns whole
+  pub condition : HasCondition (length I) lbns whole facts.condition
+  pub are : facts ≡ facts_in n (header_at I L n) (length lbns) facts.condition
+
+-- what is known of file n, which has a whole chain
+abbrev pub AreFactsOfWhole : List (List ℕ) → VolumeLayout → ℕ → Facts → Type 0
+AreFactsOfWhole I L n facts = (lbns : List ℕ) × HasBlocks I L n lbns × (facts ≡ facts_in n (header_at I L n) (length lbns) Whole)
+
+-- On a sound image each file that is known has a whole chain.
+abbrev pub FactsOfSound : Type 0
+FactsOfSound = (I : List (List ℕ)) (L : VolumeLayout) (n : ℕ) (facts : Facts) → IsSoundBy I L → AreFacts I L n facts → AreFactsOfWhole I L n facts

@@ -4,8 +4,10 @@ use Rattle.ods_base.specs.declared.file_id.FileId.{FileId}
 use Rattle.ods_header.specs.Text.{file_id_text, ident_text}
 use Rattle.serde_json.specs.Data.{Members, no_members, number, object, put, string, unsigned}
 use Rattle.serde_json.specs.Written.{compact_text}
-use Rattle.ods_shell.specs.Facts.{created_in, kind_word, revised_in, revision_in}
+use Rattle.ods_shell.specs.Facts.{condition_word, created_in, kind_word, revised_in, revision_in}
 use Rattle.ods_shell.specs.Texts.{shown_date, shown_rights, shown_user}
+use Rattle.ods_shell.specs.declared.facts.Condition.{Condition}
+use Rattle.ods_shell.specs.declared.facts.Condition.TheVariants.{Whole, Broken, Outside}
 use Rattle.ods_shell.specs.declared.facts.Facts.{Facts}
 use Rattle.ods_shell.specs.declared.space.Space.{Space}
 
@@ -21,12 +23,18 @@ with_number name n ms = put name (number (unsigned n)) ms
 unfoldable pub object_line : Members → List ℕ
 object_line ms = compact_text (object ms) ++ 10 ∷ []
 
+-- the members, and how much of a file is there, where that is not all
+abbrev pub with_condition : Condition → Members → Members
+with_condition Whole ms = ms
+with_condition Broken ms = with_text (codes "condition") (condition_word Broken) ms
+with_condition Outside ms = with_text (codes "condition") (condition_word Outside) ms
+
 -- the members, and what is known of a file
 abbrev pub with_facts : Facts → Members → Members
 with_facts facts ms =
-    with_text (codes "revised") (shown_date (revised_in facts.ident)) (with_text (codes "created") (shown_date (created_in facts.ident))
+    with_condition facts.condition (with_text (codes "revised") (shown_date (revised_in facts.ident)) (with_text (codes "created") (shown_date (created_in facts.ident))
     (with_text (codes "protection") (shown_rights facts.protection) (with_text (codes "owner") (shown_user facts.owner)
-    (with_text (codes "kind") (kind_word facts.kind) (with_number (codes "bytes") facts.bytes (with_number (codes "blocks") facts.blocks ms))))))
+    (with_text (codes "kind") (kind_word facts.kind) (with_number (codes "bytes") facts.bytes (with_number (codes "blocks") facts.blocks ms)))))))
 
 -- what is known of a file that a path names
 abbrev pub stat_members : List ℕ → Facts → Members

@@ -7,6 +7,8 @@ use Rattle.ods_base.specs.declared.file_id.Uic.{Uic}
 use Rattle.ods_base.specs.declared.listed.Listed.{Listed}
 use Rattle.ods_shell.specs.Facts.{created_in, kind_word}
 use Rattle.ods_shell.specs.Texts.{shown_date, shown_id, shown_rights, shown_user, shown_directory}
+use Rattle.ods_shell.specs.declared.facts.Condition.{Condition}
+use Rattle.ods_shell.specs.declared.facts.Condition.TheVariants.{Whole, Broken, Outside}
 use Rattle.ods_shell.specs.declared.facts.Facts.{Facts}
 use Rattle.ods_shell.specs.declared.facts.Kind.{Kind}
 use Rattle.ods_shell.specs.declared.folders.Directory.{Directory}
@@ -37,9 +39,15 @@ kind_columns kind owner = column 9 (kind_word kind) ++ codes "  " ++ shown_user 
 unfoldable pub rights_columns : ℕ → List ℕ → List ℕ
 rights_columns protection ident = codes "  " ++ shown_rights protection ++ codes "  " ++ shown_date (created_in ident)
 
+-- how much of a file is there, as the last column, where that is not all
+unfoldable pub condition_column : Condition → List ℕ
+condition_column Whole = []
+condition_column Broken = codes "  chain broken"
+condition_column Outside = codes "  outside"
+
 -- what is known of a file, in columns
 abbrev pub facts_columns : Facts → List ℕ
-facts_columns facts = size_columns facts.blocks facts.bytes ++ kind_columns facts.kind facts.owner ++ rights_columns facts.protection facts.ident
+facts_columns facts = size_columns facts.blocks facts.bytes ++ kind_columns facts.kind facts.owner ++ rights_columns facts.protection facts.ident ++ condition_column facts.condition
 
 -- the same where the file is not known, too
 abbrev pub known_columns : Option Facts → List ℕ

@@ -9,6 +9,8 @@ use Rattle.ods_files.specs.Body.{are_zeros}
 use Rattle.ods_header.specs.Text.{file_id_text, ident_text}
 use Rattle.ods_shell.specs.Facts.{created_in, kind_word, revised_in, revision_in}
 use Rattle.ods_shell.specs.Texts.{shown_date, shown_rights, shown_user}
+use Rattle.ods_shell.specs.declared.facts.Condition.{Condition}
+use Rattle.ods_shell.specs.declared.facts.Condition.TheVariants.{Whole, Broken, Outside}
 use Rattle.ods_shell.specs.declared.facts.Facts.{Facts}
 use Rattle.ods_shell.specs.declared.facts.Kind.{Kind}
 
@@ -123,6 +125,12 @@ header_name_line ident = codes "Name in header: " ++ ident_text ident ++ 10 ∷ 
 unfoldable pub kind_line : Kind → List ℕ
 kind_line kind = codes "Kind: " ++ kind_word kind ++ 10 ∷ []
 
+-- the line of how much of it is there, where that is not all
+unfoldable pub condition_line : Condition → List ℕ
+condition_line Whole = []
+condition_line Broken = codes "Chain: broken" ++ 10 ∷ []
+condition_line Outside = codes "Chain: outside" ++ 10 ∷ []
+
 -- the line of how many blocks it has
 unfoldable pub blocks_line : ℕ → List ℕ
 blocks_line blocks = codes "Blocks: " ++ decimal blocks ++ 10 ∷ []
@@ -143,9 +151,9 @@ protection_label = codes "Protection: "
 unfoldable pub protection_line : ℕ → List ℕ
 protection_line protection = protection_label ++ shown_rights protection ++ 10 ∷ []
 
--- a file's path, its ID, the name in its header, and what it holds
+-- a file's path, its ID, the name in its header, what it holds, and how much of it is there
 abbrev pub head_text : List ℕ → Facts → List ℕ
-head_text path facts = path_line path ++ id_line facts.file ++ header_name_line facts.ident ++ kind_line facts.kind
+head_text path facts = path_line path ++ id_line facts.file ++ header_name_line facts.ident ++ kind_line facts.kind ++ condition_line facts.condition
 
 -- how large a file is, whose it is, and its protection
 abbrev pub size_text : Facts → List ℕ

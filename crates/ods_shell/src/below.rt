@@ -5,47 +5,48 @@ ghost use Rattle.ods_walk.specs.declared.tables.Line.{Line as Placed};
 ghost use Rattle.ods_walk.specs.{Paths.path_to, Paths.number_at, Steps.AreEntered, Walk.NamesDirectory};
 ghost use Rattle.ods_shell.specs.declared.folders.Directory.{Directory as One};
 ghost use Rattle.ods_shell.specs.Ways.{AreAllBelow, AreMet, CountAsClosed};
+ghost use Rattle.ods_space.specs.Disks.{on};
 
 use crate::folders::{Closed, Directory, directory_of, is_directory_file};
 use crate::ways::longer;
 use ods_base::Name;
-use ods_mount::Mounted;
+use ods_space::Disk;
 use ods_walk::{Line, Walk, walk_past};
 use std::alloc::{AllocError, Global};
 
 /// These directories and all below them, each once.
 pub(crate) fn with_all_below(
     alloc: Global,
-    volume: &Mounted,
+    disk: &Disk<'_>,
     starts: &[Directory],
     closed: &mut Closed<'_>,
 ) -> Result<Vec<Directory>, AllocError>
     ensures found { IfOk result (λ found. (shut : List ℕ) → CountAsClosed closed.old.numbers.now closed.new.met.items shut
-        → AreAllBelow volume.now.image volume.now.layout shut starts.now found.items) }
+        → on AreAllBelow disk.now shut starts.now found.items) }
     ensures same { closed.new.numbers ≡ closed.old.numbers }
     ensures met { OnOk result (AreMet closed.old.numbers.now closed.old.met.items closed.new.met.items) }
 {
     let mut is_added = vec![in alloc; false; 65_536]?;
-    gather(alloc, volume, starts, &mut is_added, closed)
+    gather(alloc, disk, starts, &mut is_added, closed)
 }
 
 /// These directories and all below them, where none is added yet.
 fn gather(
     alloc: Global,
-    volume: &Mounted,
+    disk: &Disk<'_>,
     starts: &[Directory],
     is_added: &mut [bool],
     closed: &mut Closed<'_>,
 ) -> Result<Vec<Directory>, AllocError>
     requires { AreEntered is_added.old [] }
     ensures found { IfOk result (λ found. (shut : List ℕ) → CountAsClosed closed.old.numbers.now closed.new.met.items shut
-        → AreAllBelow volume.now.image volume.now.layout shut starts.now found.items) }
+        → on AreAllBelow disk.now shut starts.now found.items) }
     ensures same { closed.new.numbers ≡ closed.old.numbers }
     ensures met { OnOk result (AreMet closed.old.numbers.now closed.old.met.items closed.new.met.items) }
 {
     let mut found = Vec::new(alloc);
     for start in starts {
-        add_walked(alloc, volume, start, is_added, &mut found, closed)?;
+        add_walked(alloc, disk, start, is_added, &mut found, closed)?;
     }
     Ok(found)
 }
@@ -53,7 +54,7 @@ fn gather(
 /// Adds a directory and all below it, but for those that are added; of a closed one none.
 fn add_walked(
     alloc: Global,
-    volume: &Mounted,
+    disk: &Disk<'_>,
     start: &Directory,
     is_added: &mut [bool],
     found: &mut Vec<Directory>,
@@ -62,20 +63,19 @@ fn add_walked(
     requires { AreEntered is_added.old (map (λ d. d.number) found.old.items) }
     ensures flags { OnOk result (AreEntered is_added.new (map (λ d. d.number) found.new.items)) }
     ensures found { OnOk result ((shut : List ℕ) (before : List One) → CountAsClosed closed.old.numbers.now closed.new.met.items shut
-        → AreAllBelow volume.now.image volume.now.layout shut before found.old.items → AreAllBelow volume.now.image volume.now.layout shut (before ++ start.now ∷ []) found.new.items) }
+        → on AreAllBelow disk.now shut before found.old.items → on AreAllBelow disk.now shut (before ++ start.now ∷ []) found.new.items) }
     ensures same { closed.new.numbers ≡ closed.old.numbers }
     ensures met { OnOk result (AreMet closed.old.numbers.now closed.old.met.items closed.new.met.items) }
 {
     if closed.stops(alloc, start.number, &start.names)? {
         return Ok(());
     }
-    if !is_directory_file(volume, start.number) {
+    if !is_directory_file(disk, start.number) {
         return Ok(());
     }
-    let disk = volume.disk();
-    let walk = walk_past(alloc, &disk, start.number, closed.numbers)?;
+    let walk = walk_past(alloc, disk, start.number, closed.numbers)?;
     add_entered(alloc, start, &walk, is_added, found)?;
-    note_closed(alloc, volume, start, &walk, closed)?;
+    note_closed(alloc, disk, start, &walk, closed)?;
     Ok(())
 }
 
@@ -134,13 +134,13 @@ fn add_one(
 /// Notes each closed directory that a line of a walk names.
 fn note_closed(
     alloc: Global,
-    volume: &Mounted,
+    disk: &Disk<'_>,
     start: &Directory,
     walk: &Walk,
     closed: &mut Closed<'_>,
 ) -> Result<(), AllocError>
     ensures none { OnOk result (closed.new.met.items ≡ [] → (l : Placed) → Contains walk.now.lines l
-        → NamesDirectory volume.now.image volume.now.layout l.entry → ¬ Contains closed.old.numbers.now l.entry.file.number) }
+        → on NamesDirectory disk.now l.entry → ¬ Contains closed.old.numbers.now l.entry.file.number) }
     ensures same { closed.new.numbers ≡ closed.old.numbers }
     ensures met { OnOk result (AreMet closed.old.numbers.now closed.old.met.items closed.new.met.items) }
 {
@@ -148,7 +148,7 @@ fn note_closed(
         return Ok(());
     }
     for line in walk.lines() {
-        note_line(alloc, volume, start, walk, line, closed)?;
+        note_line(alloc, disk, start, walk, line, closed)?;
     }
     Ok(())
 }
@@ -156,18 +156,18 @@ fn note_closed(
 /// Notes the directory that a line of a walk names, where it is closed.
 fn note_line(
     alloc: Global,
-    volume: &Mounted,
+    disk: &Disk<'_>,
     start: &Directory,
     walk: &Walk,
     line: &Line,
     closed: &mut Closed<'_>,
 ) -> Result<(), AllocError>
-    ensures none { OnOk result (closed.new.met.items ≡ [] → NamesDirectory volume.now.image volume.now.layout line.now.entry
+    ensures none { OnOk result (closed.new.met.items ≡ [] → on NamesDirectory disk.now line.now.entry
         → ¬ Contains closed.old.numbers.now line.now.entry.file.number) }
     ensures same { closed.new.numbers ≡ closed.old.numbers }
     ensures met { OnOk result (AreMet closed.old.numbers.now closed.old.met.items closed.new.met.items) }
 {
-    let Some(number) = directory_of(volume, &line.entry) else {
+    let Some(number) = directory_of(disk, &line.entry) else {
         return Ok(());
     };
     let names = names_in(alloc, &start.names, walk, line.directory)?;

@@ -1,25 +1,29 @@
 //! Whether files of two volumes have the same bytes.
 ghost use Rattle.std.specs.Prelude.{◌≡◌, ◌↔◌, ◌⊎◌, ℕ, List, IsTrue, IfOk, IfErr};
 ghost use Rattle.ods_shell.specs.Compared.{AreCompared, HasCompared, HasNone};
+ghost use Rattle.ods_space.specs.Files.{IsLayoutOf};
+ghost use Rattle.ods_space.specs.Disks.{on};
 
 use crate::FormFault;
 use crate::form::body_of;
 use ods_files::{FileBody, Form};
-use ods_mount::Mounted;
+use ods_space::Disk;
 use std::alloc::{AllocError, Global};
 
 /// Whether two files have the same bytes: those up to the end of file, or of all blocks where that lies past them. `NoSuchFile` where one
 /// of them is no file.
 pub fn have_same_bytes(
     alloc: Global,
-    one: &Mounted,
+    one: &Disk<'_>,
     number: u16,
-    other: &Mounted,
+    other: &Disk<'_>,
     other_number: u16,
 ) -> Result<bool, FormFault>
-    ensures ok { IfOk result (λ same. (x : List ℕ) × (y : List ℕ) × HasCompared one.now.image one.now.layout number x
-        × HasCompared other.now.image other.now.layout other_number y × (IsTrue same ↔ (x ≡ y))) }
-    ensures err { IfErr result (λ fault. HasNone one.now.image one.now.layout number fault ⊎ HasNone other.now.image other.now.layout other_number fault) }
+    requires one { on IsLayoutOf one.now }
+    requires other { on IsLayoutOf other.now }
+    ensures ok { IfOk result (λ same. (x : List ℕ) × (y : List ℕ) × on HasCompared one.now number x
+        × on HasCompared other.now other_number y × (IsTrue same ↔ (x ≡ y))) }
+    ensures err { IfErr result (λ fault. on HasNone one.now number fault ⊎ on HasNone other.now other_number fault) }
 {
     let body = match body_of(alloc, one, number) {
         Ok(body) => body,

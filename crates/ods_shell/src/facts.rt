@@ -1,16 +1,18 @@
 //! What is known of a file: the fields of its first header, how many blocks it has, and how many bytes.
-ghost use Rattle.std.specs.Prelude.{◌≡◌, ◌≢◌, ◌≤◌, ◌+◌, slice_range, MatchOption};
+ghost use Rattle.std.specs.Prelude.{◌≡◌, ◌≢◌, ◌≤◌, ◌+◌, ℕ, List, slice_range, MatchOption};
 ghost use Rattle.ods_header.specs.Header.{IsLaidOut};
 ghost use Rattle.ods_files.specs.Body.{are_zeros as all_zeros};
-ghost use Rattle.ods_shell.specs.Facts.{AreFacts, facts_in as facts_shown, kind_by as kind_shown, kind_word, bytes_by, created_in, revised_in, revision_in};
+ghost use Rattle.ods_shell.specs.Facts.{AreFacts, HasCondition, condition_word, facts_in as facts_shown, kind_by as kind_shown, kind_word, bytes_by, created_in, revised_in, revision_in};
+ghost use Rattle.ods_space.specs.Files.{IsFile, IsLayoutOf};
+ghost use Rattle.ods_space.specs.Reach.{IsReachOf};
+ghost use Rattle.ods_space.specs.Disks.{on};
 
 use ods_base::{Block, FileId, Uic};
 use ods_header::{
     attributes, file_sequence, ident, is_directory, owner, protection, system_char, user_char,
 };
-use ods_mount::Mounted;
 use ods_records::{end_of_file, is_controlled, kind_of};
-use ods_space::{block_count, primary_header};
+use ods_space::{Disk, Reach, count_reach, primary_header};
 
 /// What a file holds, by its header.
 #[derive(Clone, Copy, Debug, PartialEq, Eq)]
@@ -39,11 +41,37 @@ impl Kind {
     }
 }
 
+/// How much of a file is there.
+#[derive(Clone, Copy, Debug, PartialEq, Eq)]
+pub enum Condition {
+    /// All: each header of its chain, and each block.
+    Whole,
+    /// A header of its chain is missing.
+    Broken,
+    /// Each header is there, and a block lies past the image.
+    Outside,
+}
+
+impl Condition {
+    /// The word for it. A file that is whole has none.
+    pub fn word(&self) -> &'static str
+        ensures { result.now ≡ condition_word self.now }
+    {
+        match self {
+            Condition::Whole => "",
+            Condition::Broken => "chain broken",
+            Condition::Outside => "outside",
+        }
+    }
+}
+
 /// What is known of a file.
 #[derive(Clone, Copy, Debug)]
 pub struct Facts {
     pub file: FileId,
     pub kind: Kind,
+    pub condition: Condition,
+    /// The blocks that the headers name which are there.
     pub blocks: u32,
     /// The bytes up to the end of file; those of all blocks where the attributes are zeros.
     pub bytes: u64,
@@ -58,34 +86,48 @@ pub struct Facts {
 }
 
 /// What is known of the file with this number; `None` where it is no file.
-pub fn facts_of(volume: &Mounted, number: u16) -> Option<Facts>
-    ensures { MatchOption result ((facts : Facts) → AreFacts volume.now.image volume.now.layout number facts → ⊥) (AreFacts volume.now.image volume.now.layout number) }
+pub fn facts_of(disk: &Disk<'_>, number: u16) -> Option<Facts>
+    requires { on IsLayoutOf disk.now }
+    ensures { MatchOption result (¬ on IsFile disk.now number) (on AreFacts disk.now number) }
 {
-    let disk = volume.disk();
-    let Some(header) = primary_header(&disk, number) else {
+    let Some(header) = primary_header(disk, number) else {
         return None;
     };
-    let Some(blocks) = block_count(&disk, number) else {
+    let Some(reach) = count_reach(disk, number) else {
         return None;
     };
-    Some(facts_in(number, header, blocks))
+    Some(facts_in(number, header, reach.count, condition_in(&reach)))
+}
+
+/// How much of a file is there whose chain goes so far.
+fn condition_in(reach: &Reach) -> Condition
+    ensures { (len : ℕ) (lbns : List ℕ) → IsReachOf len lbns reach.now → HasCondition len lbns reach.now.is_whole result }
+{
+    if !reach.is_whole {
+        return Condition::Broken;
+    }
+    match reach.past {
+        Some(_) => Condition::Outside,
+        None => Condition::Whole,
+    }
 }
 
 /// What is known of the file with this ID; `None` where it is that of no file.
-pub fn facts_by_id(volume: &Mounted, file: FileId) -> Option<Facts>
-    ensures { MatchOption result ((facts : Facts) → AreFacts volume.now.image volume.now.layout file.number facts → facts.file ≢ file)
-        (λ facts. AreFacts volume.now.image volume.now.layout file.number facts × (facts.file ≡ file)) }
+pub fn facts_by_id(disk: &Disk<'_>, file: FileId) -> Option<Facts>
+    requires { on IsLayoutOf disk.now }
+    ensures { MatchOption result ((facts : Facts) → on AreFacts disk.now file.number facts → facts.file ≢ file)
+        (λ facts. on AreFacts disk.now file.number facts × (facts.file ≡ file)) }
 {
-    match facts_of(volume, file.number) {
+    match facts_of(disk, file.number) {
         Some(facts) if facts.file == file => Some(facts),
         _ => None,
     }
 }
 
-/// What a first header says of the file with this number, which has so many blocks.
-fn facts_in(number: u16, header: &Block, blocks: u32) -> Facts
+/// What a first header says of the file with this number, of which so many blocks are there.
+fn facts_in(number: u16, header: &Block, blocks: u32, condition: Condition) -> Facts
     requires { IsLaidOut header.now }
-    ensures { result ≡ facts_shown number header.now blocks }
+    ensures { result ≡ facts_shown number header.now blocks condition }
 {
     let attributes = attributes(header);
     Facts {
@@ -94,6 +136,7 @@ fn facts_in(number: u16, header: &Block, blocks: u32) -> Facts
             sequence: file_sequence(header),
         },
         kind: kind_by(number, header),
+        condition,
         blocks,
         bytes: size(&attributes, blocks),
         owner: owner(header),

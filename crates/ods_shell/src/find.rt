@@ -10,6 +10,7 @@ ghost use Rattle.ods_space.specs.Layout.{last_number as last_of};
 ghost use Rattle.ods_shell.specs.Named.{id_of};
 ghost use Rattle.ods_shell.specs.Texts.{shown_path};
 ghost use Rattle.ods_shell.specs.There.{AreFlags, AreNamedIds, AreUnreached, IsAmong, IsNamedByNone, IsNotAmong, IsThere, IsUnnoted, found_line, ids_in, line_path, unreached_line, unreached_text};
+ghost use Rattle.ods_space.specs.Disks.{on, seen};
 
 use crate::finding::FoundLines;
 use crate::folders::{Directory, is_directory_file, lines_of};
@@ -17,8 +18,7 @@ use crate::json::text_object;
 use crate::texts::{push_id, push_path};
 use ods_base::{FileId, Listed};
 use ods_header::file_sequence;
-use ods_mount::Mounted;
-use ods_space::{last_number, primary_header};
+use ods_space::{Disk, last_number, primary_header};
 use ods_walk::Line;
 use std::alloc::{AllocError, Global};
 
@@ -67,44 +67,44 @@ fn push_path_in(text: &mut String, directory: &Directory, entry: &Listed) -> Res
 /// A line for each file of which no line that was found has the ID: the ID, and `-`.
 pub fn unreached_lines(
     alloc: Global,
-    volume: &Mounted,
+    disk: &Disk<'_>,
     found: &FoundLines,
     json: bool,
 ) -> Result<String, AllocError>
-    ensures { IfOk result (λ text. AreUnreached volume.now.image volume.now.layout
-        (IsNotAmong volume.now.image volume.now.layout (ids_in found.now.lines.items)) json (string_bytes text)) }
+    ensures { IfOk result (λ text. on AreUnreached disk.now
+        (on IsNotAmong disk.now (ids_in found.now.lines.items)) json (string_bytes text)) }
 {
     let mut is_reached = vec![in alloc; false; 65_536]?;
     for line in &found.lines {
-        note(volume, &line.entry, &mut is_reached);
+        note(disk, &line.entry, &mut is_reached);
     }
-    unnamed_lines(alloc, volume, &is_reached, json)
+    unnamed_lines(alloc, disk, &is_reached, json)
 }
 
 /// A line for each file that no line of any directory names, whether a walk reaches that or not.
-pub fn lost_lines(alloc: Global, volume: &Mounted, json: bool) -> Result<String, AllocError>
-    ensures { IfOk result (λ text. AreUnreached volume.now.image volume.now.layout
-        (IsNamedByNone volume.now.image volume.now.layout) json (string_bytes text)) }
+pub fn lost_lines(alloc: Global, disk: &Disk<'_>, json: bool) -> Result<String, AllocError>
+    ensures { IfOk result (λ text. on AreUnreached disk.now
+        (on IsNamedByNone disk.now) json (string_bytes text)) }
 {
     let mut is_named = vec![in alloc; false; 65_536]?;
-    for before in 0..last_number(volume.layout()) {
-        note_names(alloc, volume, before + 1, &mut is_named)?;
+    for before in 0..last_number(disk.layout) {
+        note_names(alloc, disk, before + 1, &mut is_named)?;
     }
-    unnamed_lines(alloc, volume, &is_named, json)
+    unnamed_lines(alloc, disk, &is_named, json)
 }
 
 /// Notes the numbers of the files that the directory with this number names, where it is one.
 fn note_names(
     alloc: Global,
-    volume: &Mounted,
+    disk: &Disk<'_>,
     number: u16,
     is_named: &mut Vec<bool>,
 ) -> Result<(), AllocError>
-    ensures { OnOk result ((ids : List OneId) → AreFlags (IsAmong volume.now.image volume.now.layout ids) is_named.old.items
-        → (more : List OneId) × (AreNamedIds volume.now.image volume.now.layout number more × AreFlags (IsAmong volume.now.image volume.now.layout (ids ++ more)) is_named.new.items)) }
+    ensures { OnOk result ((ids : List OneId) → AreFlags (on IsAmong disk.now ids) is_named.old.items
+        → (more : List OneId) × (on AreNamedIds disk.now number more × AreFlags (on IsAmong disk.now (ids ++ more)) is_named.new.items)) }
 {
-    if is_directory_file(volume, number) {
-        note_entries(alloc, volume, number, is_named)
+    if is_directory_file(disk, number) {
+        note_entries(alloc, disk, number, is_named)
     } else {
         Ok(())
     }
@@ -113,35 +113,35 @@ fn note_names(
 /// Notes the numbers of the files that this directory names.
 fn note_entries(
     alloc: Global,
-    volume: &Mounted,
+    disk: &Disk<'_>,
     number: u16,
     is_named: &mut Vec<bool>,
 ) -> Result<(), AllocError>
-    requires { IsDirectoryFile volume.now.image volume.now.layout number }
-    ensures { OnOk result ((ids : List OneId) → AreFlags (IsAmong volume.now.image volume.now.layout ids) is_named.old.items
-        → (more : List OneId) × (AreNamedIds volume.now.image volume.now.layout number more × AreFlags (IsAmong volume.now.image volume.now.layout (ids ++ more)) is_named.new.items)) }
+    requires { on IsDirectoryFile disk.now number }
+    ensures { OnOk result ((ids : List OneId) → AreFlags (on IsAmong disk.now ids) is_named.old.items
+        → (more : List OneId) × (on AreNamedIds disk.now number more × AreFlags (on IsAmong disk.now (ids ++ more)) is_named.new.items)) }
 {
-    let entries = lines_of(alloc, volume, number)?;
-    note_all(volume, &entries, is_named);
+    let entries = lines_of(alloc, disk, number)?;
+    note_all(disk, &entries, is_named);
     Ok(())
 }
 
 /// Notes the numbers of the files that these entries name.
-fn note_all(volume: &Mounted, entries: &[Listed], is_named: &mut Vec<bool>)
-    ensures { (ids : List OneId) → AreFlags (IsAmong volume.now.image volume.now.layout ids) is_named.old.items
-        → AreFlags (IsAmong volume.now.image volume.now.layout (ids ++ map (λ (e : Entry). e.file) entries.now)) is_named.new.items }
+fn note_all(disk: &Disk<'_>, entries: &[Listed], is_named: &mut Vec<bool>)
+    ensures { (ids : List OneId) → AreFlags (on IsAmong disk.now ids) is_named.old.items
+        → AreFlags (on IsAmong disk.now (ids ++ map (λ (e : Entry). e.file) entries.now)) is_named.new.items }
 {
     for entry in entries {
-        note(volume, entry, is_named);
+        note(disk, entry, is_named);
     }
 }
 
 /// Notes the number of the file that an entry names, where it names one.
-fn note(volume: &Mounted, entry: &Listed, is_named: &mut Vec<bool>)
-    ensures { (IsThere volume.now.image volume.now.layout entry.now.file × (is_named.new.items ≡ slice_set is_named.old.items entry.now.file.number true))
-        ⊎ ((¬ IsThere volume.now.image volume.now.layout entry.now.file) × (is_named.new.items ≡ is_named.old.items)) }
+fn note(disk: &Disk<'_>, entry: &Listed, is_named: &mut Vec<bool>)
+    ensures { (on IsThere disk.now entry.now.file × (is_named.new.items ≡ slice_set is_named.old.items entry.now.file.number true))
+        ⊎ ((¬ on IsThere disk.now entry.now.file) × (is_named.new.items ≡ is_named.old.items)) }
 {
-    if is_there(volume, entry.file) {
+    if is_there(disk, entry.file) {
         note_number(is_named, entry.file.number);
     }
 }
@@ -149,17 +149,17 @@ fn note(volume: &Mounted, entry: &Listed, is_named: &mut Vec<bool>)
 /// A line for each file whose number is not noted.
 fn unnamed_lines(
     alloc: Global,
-    volume: &Mounted,
+    disk: &Disk<'_>,
     is_named: &[bool],
     json: bool,
 ) -> Result<String, AllocError>
-    ensures text { IfOk result (λ text. AreUnreached volume.now.image volume.now.layout
-        (IsUnnoted volume.now.image volume.now.layout is_named.now) json (string_bytes text)) }
-    ensures few { last_of volume.now.layout < 65536 }
+    ensures text { IfOk result (λ text. on AreUnreached disk.now
+        (on IsUnnoted disk.now is_named.now) json (string_bytes text)) }
+    ensures few { last_of disk.now.layout.now < 65536 }
 {
     let mut text = String::new(alloc);
-    for before in 0..last_number(volume.layout()) {
-        push_if_unnoted(alloc, &mut text, volume, before + 1, is_named, json)?;
+    for before in 0..last_number(disk.layout) {
+        push_if_unnoted(alloc, &mut text, disk, before + 1, is_named, json)?;
     }
     Ok(text)
 }
@@ -168,30 +168,30 @@ fn unnamed_lines(
 fn push_if_unnoted(
     alloc: Global,
     text: &mut String,
-    volume: &Mounted,
+    disk: &Disk<'_>,
     number: u16,
     is_named: &[bool],
     json: bool,
 ) -> Result<(), AllocError>
-    ensures { OnOk result ((IsUnnoted volume.now.image volume.now.layout is_named.now number
-        × (string_bytes text.new ≡ string_bytes text.old ++ unreached_text json (id_of volume.now.image volume.now.layout number)))
-        ⊎ ((¬ IsUnnoted volume.now.image volume.now.layout is_named.now number) × (string_bytes text.new ≡ string_bytes text.old))) }
+    ensures { OnOk result ((on IsUnnoted disk.now is_named.now number
+        × (string_bytes text.new ≡ string_bytes text.old ++ unreached_text json (seen id_of disk.now number)))
+        ⊎ ((¬ on IsUnnoted disk.now is_named.now number) × (string_bytes text.new ≡ string_bytes text.old))) }
 {
-    match unnoted(volume, number, is_named) {
+    match unnoted(disk, number, is_named) {
         Some(file) => push_unreached(alloc, text, file, json),
         None => Ok(()),
     }
 }
 
 /// The ID of the file with this number, where there is one and it is not noted.
-fn unnoted(volume: &Mounted, number: u16, is_named: &[bool]) -> Option<FileId>
-    ensures { MatchOption result (¬ IsUnnoted volume.now.image volume.now.layout is_named.now number)
-        (λ file. IsUnnoted volume.now.image volume.now.layout is_named.now number × (file ≡ id_of volume.now.image volume.now.layout number)) }
+fn unnoted(disk: &Disk<'_>, number: u16, is_named: &[bool]) -> Option<FileId>
+    ensures { MatchOption result (¬ on IsUnnoted disk.now is_named.now number)
+        (λ file. on IsUnnoted disk.now is_named.now number × (file ≡ seen id_of disk.now number)) }
 {
     if is_noted(is_named, number) {
         return None;
     }
-    id_of_file(volume, number)
+    id_of_file(disk, number)
 }
 
 /// Whether a number is noted.
@@ -211,11 +211,11 @@ pub(crate) fn note_number(flags: &mut Vec<bool>, number: u16)
 }
 
 /// The ID of the file with this number.
-fn id_of_file(volume: &Mounted, number: u16) -> Option<FileId>
-    ensures { MatchOption result (¬ IsFile volume.now.image volume.now.layout number)
-        (λ file. IsFile volume.now.image volume.now.layout number × (file ≡ id_of volume.now.image volume.now.layout number)) }
+fn id_of_file(disk: &Disk<'_>, number: u16) -> Option<FileId>
+    ensures { MatchOption result (¬ on IsFile disk.now number)
+        (λ file. on IsFile disk.now number × (file ≡ seen id_of disk.now number)) }
 {
-    match primary_header(&volume.disk(), number) {
+    match primary_header(disk, number) {
         Some(header) => Some(FileId {
             number,
             sequence: file_sequence(header),
@@ -225,10 +225,10 @@ fn id_of_file(volume: &Mounted, number: u16) -> Option<FileId>
 }
 
 /// Whether there is a file with this ID.
-fn is_there(volume: &Mounted, file: FileId) -> bool
-    ensures { IsTrue result ↔ IsThere volume.now.image volume.now.layout file }
+fn is_there(disk: &Disk<'_>, file: FileId) -> bool
+    ensures { IsTrue result ↔ on IsThere disk.now file }
 {
-    match primary_header(&volume.disk(), file.number) {
+    match primary_header(disk, file.number) {
         Some(header) => file_sequence(header) == file.sequence,
         None => false,
     }

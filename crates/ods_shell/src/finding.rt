@@ -3,12 +3,13 @@ ghost use Rattle.std.specs.Prelude.{◌≡◌, ◌++◌, ℕ, List, [], map, IfO
 ghost use Rattle.ods_paths.specs.Views.{folder as said_folder, said_files};
 ghost use Rattle.ods_shell.specs.Found.{AreFound, AreFoundIn, placed};
 ghost use Rattle.ods_shell.specs.Ways.{AreMeant, AreMet, CountAsClosed};
+ghost use Rattle.ods_space.specs.Disks.{on};
 
 use crate::choosing::chosen;
 use crate::folders::{Closed, Directory, directories, lines_of};
 use ods_base::Listed;
-use ods_mount::Mounted;
 use ods_paths::{Files, Folder, Versions};
+use ods_space::Disk;
 use ods_walk::Line;
 use std::alloc::{AllocError, Global};
 
@@ -26,25 +27,25 @@ pub struct FoundLines {
 /// says none. Of these closed directories no names are read: nothing is found in them, nor by their names.
 pub fn find_open(
     alloc: Global,
-    volume: &Mounted,
+    disk: &Disk<'_>,
     folder: &Folder<'_>,
     files: &Option<Files<'_>>,
     unsaid: Versions,
     closed: &[u16],
 ) -> Result<FoundLines, AllocError>
     ensures directories { IfOk result (λ found. (shut : List ℕ) → CountAsClosed closed.now found.closed.items shut
-        → AreMeant volume.now.image volume.now.layout shut (said_folder folder.now) found.directories.items) }
-    ensures lines { IfOk result (λ found. AreFound volume.now.image volume.now.layout (said_files files.now) unsaid 0 found.directories.items found.lines.items) }
+        → on AreMeant disk.now shut (said_folder folder.now) found.directories.items) }
+    ensures lines { IfOk result (λ found. on AreFound disk.now (said_files files.now) unsaid 0 found.directories.items found.lines.items) }
     ensures met { IfOk result (λ found. AreMet closed.now [] found.closed.items) }
 {
     let mut shut = Closed {
         numbers: closed,
         met: Vec::new(alloc),
     };
-    let found = directories(alloc, volume, folder, &mut shut)?;
+    let found = directories(alloc, disk, folder, &mut shut)?;
     let mut lines = Vec::new(alloc);
     for place in 0..found.len() {
-        let entries = found_in(alloc, volume, found[place].number, files, unsaid)?;
+        let entries = found_in(alloc, disk, found[place].number, files, unsaid)?;
         add_lines(place, &entries, &mut lines)?;
     }
     Ok(FoundLines {
@@ -57,14 +58,14 @@ pub fn find_open(
 /// The lines that are found in one directory.
 fn found_in(
     alloc: Global,
-    volume: &Mounted,
+    disk: &Disk<'_>,
     number: u16,
     files: &Option<Files<'_>>,
     unsaid: Versions,
 ) -> Result<Vec<Listed>, AllocError>
-    ensures { IfOk result (λ found. AreFoundIn volume.now.image volume.now.layout (said_files files.now) unsaid number found.items) }
+    ensures { IfOk result (λ found. on AreFoundIn disk.now (said_files files.now) unsaid number found.items) }
 {
-    let lines = lines_of(alloc, volume, number)?;
+    let lines = lines_of(alloc, disk, number)?;
     match files {
         Some(files) => chosen(alloc, &lines, files, unsaid),
         None => Ok(lines),

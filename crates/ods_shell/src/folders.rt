@@ -6,14 +6,14 @@ ghost use Rattle.ods_mount.specs.{Faults.IsDirectoryFile};
 ghost use Rattle.ods_walk.specs.{Listing.IsListing, Listing.shown, Walk.NamesDirectory};
 ghost use Rattle.ods_shell.specs.declared.folders.Directory.{Directory as One};
 ghost use Rattle.ods_shell.specs.Ways.{AreMeant, AreMet, AreOpen, AreStarts, CountAsClosed};
+ghost use Rattle.ods_space.specs.Disks.{on};
 
 use crate::below::with_all_below;
 use crate::ways::{find_named, find_numbered};
 use ods_base::{Listed, Name};
 use ods_header::is_directory;
-use ods_mount::Mounted;
 use ods_paths::{Folder, Place};
-use ods_space::primary_header;
+use ods_space::{Disk, primary_header};
 use ods_walk::{listing, names_directory};
 use std::alloc::{AllocError, Global};
 
@@ -56,36 +56,33 @@ impl Closed<'_> {
 }
 
 /// The lines of a directory, in the order of a listing; none where the number is that of no directory.
-pub fn lines_of(alloc: Global, volume: &Mounted, number: u16) -> Result<Vec<Listed>, AllocError>
-    ensures there { IfOk result (λ lines. IsDirectoryFile volume.now.image volume.now.layout number → IsListing volume.now.image volume.now.layout number lines.items) }
-    ensures none { IfOk result (λ lines. ¬ IsDirectoryFile volume.now.image volume.now.layout number → lines.items ≡ []) }
+pub fn lines_of(alloc: Global, disk: &Disk<'_>, number: u16) -> Result<Vec<Listed>, AllocError>
+    ensures there { IfOk result (λ lines. on IsDirectoryFile disk.now number → on IsListing disk.now number lines.items) }
+    ensures none { IfOk result (λ lines. ¬ on IsDirectoryFile disk.now number → lines.items ≡ []) }
     ensures sorted { IfOk result (λ lines. IsSortedByKey shown listing_cmp lines.items) }
 {
-    let disk = volume.disk();
-    if !is_directory_file(volume, number) {
+    if !is_directory_file(disk, number) {
         return Ok(Vec::new(alloc));
     }
-    listing(alloc, &disk, number)
+    listing(alloc, disk, number)
 }
 
 /// Whether the number is that of a directory.
-pub fn is_directory_file(volume: &Mounted, number: u16) -> bool
-    ensures { MatchBool result (IsDirectoryFile volume.now.image volume.now.layout number) (¬ IsDirectoryFile volume.now.image volume.now.layout number) }
+pub fn is_directory_file(disk: &Disk<'_>, number: u16) -> bool
+    ensures { MatchBool result (on IsDirectoryFile disk.now number) (¬ on IsDirectoryFile disk.now number) }
 {
-    let disk = volume.disk();
-    match primary_header(&disk, number) {
+    match primary_header(disk, number) {
         Some(header) => is_directory(number, header),
         None => false,
     }
 }
 
 /// The number of the directory that an entry names; `None` where it names none.
-pub(crate) fn directory_of(volume: &Mounted, entry: &Listed) -> Option<u16>
-    ensures { MatchOption result (¬ NamesDirectory volume.now.image volume.now.layout entry.now)
-        (λ number. NamesDirectory volume.now.image volume.now.layout entry.now × (number ≡ entry.now.file.number)) }
+pub(crate) fn directory_of(disk: &Disk<'_>, entry: &Listed) -> Option<u16>
+    ensures { MatchOption result (¬ on NamesDirectory disk.now entry.now)
+        (λ number. on NamesDirectory disk.now entry.now × (number ≡ entry.now.file.number)) }
 {
-    let disk = volume.disk();
-    if names_directory(&disk, entry) {
+    if names_directory(disk, entry) {
         Some(entry.file.number)
     } else {
         None
@@ -95,18 +92,18 @@ pub(crate) fn directory_of(volume: &Mounted, entry: &Listed) -> Option<u16>
 /// The directories that a path means, in the order of a walk, but for closed ones. Of these no names are read.
 pub(crate) fn directories(
     alloc: Global,
-    volume: &Mounted,
+    disk: &Disk<'_>,
     folder: &Folder<'_>,
     closed: &mut Closed<'_>,
 ) -> Result<Vec<Directory>, AllocError>
     ensures found { IfOk result (λ found. (shut : List ℕ) → CountAsClosed closed.old.numbers.now closed.new.met.items shut
-        → AreMeant volume.now.image volume.now.layout shut (said_folder folder.now) found.items) }
+        → on AreMeant disk.now shut (said_folder folder.now) found.items) }
     ensures same { closed.new.numbers ≡ closed.old.numbers }
     ensures met { OnOk result (AreMet closed.old.numbers.now closed.old.met.items closed.new.met.items) }
 {
-    let starts = find_starts(alloc, volume, &folder.place, closed)?;
+    let starts = find_starts(alloc, disk, &folder.place, closed)?;
     if folder.below {
-        return with_all_below(alloc, volume, &starts, closed);
+        return with_all_below(alloc, disk, &starts, closed);
     }
     open_ones(alloc, starts, closed)
 }
@@ -114,12 +111,12 @@ pub(crate) fn directories(
 /// The directories of a place, closed ones too.
 fn find_starts(
     alloc: Global,
-    volume: &Mounted,
+    disk: &Disk<'_>,
     place: &Place<'_>,
     closed: &mut Closed<'_>,
 ) -> Result<Vec<Directory>, AllocError>
     ensures found { IfOk result (λ found. (shut : List ℕ) → CountAsClosed closed.old.numbers.now closed.new.met.items shut
-        → AreStarts volume.now.image volume.now.layout shut (said_place place.now) found.items) }
+        → on AreStarts disk.now shut (said_place place.now) found.items) }
     ensures same { closed.new.numbers ≡ closed.old.numbers }
     ensures met { OnOk result (AreMet closed.old.numbers.now closed.old.met.items closed.new.met.items) }
 {
@@ -129,8 +126,8 @@ fn find_starts(
             found.push(master(alloc))?;
             Ok(found)
         }
-        Place::Numbered { group, member } => find_numbered(alloc, volume, *group, *member, closed),
-        Place::Named(steps) => find_named(alloc, volume, steps, closed),
+        Place::Numbered { group, member } => find_numbered(alloc, disk, *group, *member, closed),
+        Place::Named(steps) => find_named(alloc, disk, steps, closed),
     }
 }
 

@@ -8,15 +8,16 @@ ghost use Rattle.ods_files.specs.Body.{HasBody, bytes_in};
 ghost use Rattle.ods_files.specs.declared.form.Form.TheVariants as forms;
 ghost use Rattle.ods_records.specs.Attributes.{kind_in, text_form_in};
 ghost use Rattle.ods_records.specs.declared.kind.TextForm.TheVariants as texts;
+ghost use Rattle.ods_space.specs.Files.{IsLayoutOf};
+ghost use Rattle.ods_space.specs.Disks.{on};
 
 use ods_base::{WriteFault, write_bytes};
 use ods_files::{CopyFault, FileBody, FileFault, Form};
-use ods_mount::Mounted;
 use ods_records::{
     RecordFault, RecordKind, TextForm, Wanted, end_of_file, fixed_to_text, kind_of, print_form,
     record_size, records_to_text, stream_to_text, survey_records, text_form,
 };
-use ods_space::ChainFault;
+use ods_space::{ChainFault, Disk};
 use std::alloc::{AllocError, Global};
 use std::fmt;
 use std::io::Write;
@@ -28,6 +29,12 @@ pub enum FormFault {
     /// The number is no file.
     #[error("no such file")]
     NoSuchFile,
+    /// A header of its chain is missing.
+    #[error("its headers do not go on as they say")]
+    BadChain,
+    /// Its headers name this block, which lies past the image.
+    #[error("it goes on behind the end of the image, with block {0}")]
+    OutsideVolume(u32),
     /// The end of file lies past the blocks, and not all blocks are asked for.
     #[error("its end lies past its blocks")]
     EndPastBlocks,
@@ -99,21 +106,25 @@ pub struct Got<'a> {
     pub remark: Option<Remark>,
 }
 
-/// What is got out of the file with this number in the form that is asked for. `NoSuchFile` where it is no file; `EndPastBlocks` where its
-/// end lies past its blocks, and not all of these are asked for; `Records` with the first fault of its records where these are read;
-/// `TooLongForBlock` where a text is asked for, and records of one size that keep to their blocks are longer than one.
+/// What is got out of the file with this number in the form that is asked for. `NoSuchFile` where it is no file. `BadChain` and
+/// `OutsideVolume` where its chain is not whole. `EndPastBlocks` where its end lies past its blocks, and not all of these are asked for.
+/// `Records` with the first fault of its records where these are read. `TooLongForBlock` where a text is asked for, and records of one size
+/// that keep to their blocks are longer than one.
 pub fn open_contents<'a>(
     alloc: Global,
-    volume: &'a Mounted,
+    disk: &Disk<'a>,
     number: u16,
     wanted: Wanted,
 ) -> Result<Got<'a>, FormFault>
-    ensures ok { IfOk result (λ got. (bytes : List ℕ) × ContentsAre got.contents bytes × IsGot volume.now.image volume.now.layout number wanted bytes got.remark) }
-    ensures err { IfErr result (IsNotGot volume.now.image volume.now.layout number wanted) }
+    requires { on IsLayoutOf disk.now }
+    ensures ok { IfOk result (λ got. (bytes : List ℕ) × ContentsAre got.contents bytes × on IsGot disk.now number wanted bytes got.remark) }
+    ensures err { IfErr result (on IsNotGot disk.now number wanted) }
 {
-    match body_of(alloc, volume, number) {
+    match body_of(alloc, disk, number) {
         Ok(body) => contents_of(alloc, body, wanted),
         Err(FormFault::NoSuchFile) => Err(FormFault::NoSuchFile),
+        Err(FormFault::BadChain) => Err(FormFault::BadChain),
+        Err(FormFault::OutsideVolume(lbn)) => Err(FormFault::OutsideVolume(lbn)),
         Err(_) => Err(FormFault::NoMemory),
     }
 }
@@ -121,19 +132,21 @@ pub fn open_contents<'a>(
 /// The body of the file with this number.
 pub(crate) fn body_of<'a>(
     alloc: Global,
-    volume: &'a Mounted,
+    disk: &Disk<'a>,
     number: u16,
 ) -> Result<FileBody<'a>, FormFault>
-    ensures ok { IfOk result (HasBody volume.now.image volume.now.layout number) }
-    ensures err { IfErr result (HasNone volume.now.image volume.now.layout number) }
+    requires { on IsLayoutOf disk.now }
+    ensures ok { IfOk result (on HasBody disk.now number) }
+    ensures err { IfErr result (on HasNone disk.now number) }
 {
-    let disk = volume.disk();
-    match FileBody::open(alloc, &disk, number) {
+    match FileBody::open(alloc, disk, number) {
         Ok(body) => Ok(body),
         Err(FileFault::NoSuchFile) => Err(FormFault::NoSuchFile),
         Err(FileFault::Chain(ChainFault::NoMemory)) => Err(FormFault::NoMemory),
-        Err(FileFault::Chain(ChainFault::BadChain)) => unreachable!(),
-        Err(FileFault::Chain(ChainFault::OutsideVolume(_))) => unreachable!(),
+        Err(FileFault::Chain(ChainFault::BadChain)) => Err(FormFault::BadChain),
+        Err(FileFault::Chain(ChainFault::OutsideVolume(lbn))) => {
+            Err(FormFault::OutsideVolume(lbn))
+        }
     }
 }
 

@@ -7,6 +7,8 @@ ghost use Rattle.ods_shell.specs.declared.folders.Directory.{Directory as Holder
 ghost use Rattle.ods_shell.specs.declared.found.Found.{Found as One};
 ghost use Rattle.ods_shell.specs.Named.{AreLines, AreNamed, AreNamedBy, AreNotNamed, AreWithin, IsEntryOf, IsFileOf, IsPathFault};
 ghost use Rattle.ods_shell.specs.Ways.{AreMet, CountAsClosed};
+ghost use Rattle.ods_space.specs.Files.{IsLayoutOf};
+ghost use Rattle.ods_space.specs.Disks.{on};
 
 use crate::facts::{Facts, facts_by_id};
 use crate::finding::find_open;
@@ -14,9 +16,8 @@ use crate::folders::Directory;
 use crate::path_fault::PathFault;
 use crate::texts::{push_id, push_path};
 use ods_base::{FileId, Listed};
-use ods_mount::Mounted;
 use ods_paths::{Files, Folder, Path, Versions, parse_path};
-use ods_space::sequence;
+use ods_space::{Disk, sequence};
 use ods_walk::Line;
 use std::alloc::{AllocError, Global};
 
@@ -58,34 +59,36 @@ impl Found {
 /// the path is refused. Of these closed directories no names are read, and those that are on the way come back too.
 pub fn find_path(
     alloc: Global,
-    volume: &Mounted,
+    disk: &Disk<'_>,
     path: &str,
     unsaid: Option<Versions>,
     closed: &[u16],
 ) -> Result<(Vec<Found>, Vec<Directory>), PathFault>
+    requires { on IsLayoutOf disk.now }
     ensures named { IfOk result (λ r. (says : Said) × Says path.now says
-        × ((shut : List ℕ) → CountAsClosed closed.now r.1.items shut → AreNamedBy volume.now.image volume.now.layout shut says unsaid r.0.items)) }
+        × ((shut : List ℕ) → CountAsClosed closed.now r.1.items shut → on AreNamedBy disk.now shut says unsaid r.0.items)) }
     ensures met { IfOk result (λ r. AreMet closed.now [] r.1.items) }
     ensures some { IfOk result (λ r. r.0.items ≡ [] → r.1.items ≢ []) }
-    ensures err { IfErr result (IsPathFault volume.now.image volume.now.layout path.now unsaid) }
+    ensures err { IfErr result (on IsPathFault disk.now path.now unsaid) }
 {
     match parse_path(path.as_bytes()) {
-        Ok(Path::File(file)) => Ok((find_file(alloc, volume, file)?, Vec::new(alloc))),
+        Ok(Path::File(file)) => Ok((find_file(alloc, disk, file)?, Vec::new(alloc))),
         Ok(Path::Within(_, None)) => Err(PathFault::NoName),
         Ok(Path::Within(folder, Some(files))) => {
-            find_names(alloc, volume, &folder, files, unsaid, closed)
+            find_names(alloc, disk, &folder, files, unsaid, closed)
         }
         Err(bad) => Err(PathFault::Bad(bad)),
     }
 }
 
 /// The file with this ID.
-fn find_file(alloc: Global, volume: &Mounted, file: FileId) -> Result<Vec<Found>, PathFault>
-    ensures ok { IfOk result (λ found. IsFileOf volume.now.image volume.now.layout file found.items) }
+fn find_file(alloc: Global, disk: &Disk<'_>, file: FileId) -> Result<Vec<Found>, PathFault>
+    requires { on IsLayoutOf disk.now }
+    ensures ok { IfOk result (λ found. on IsFileOf disk.now file found.items) }
     ensures err { IfErr result (λ fault. (fault ≡ PathFault.NoMemory)
-        ⊎ ((fault ≡ PathFault.NoSuchFile) × ((facts : Known) → AreFacts volume.now.image volume.now.layout file.number facts → facts.file ≢ file))) }
+        ⊎ ((fault ≡ PathFault.NoSuchFile) × ((facts : Known) → on AreFacts disk.now file.number facts → facts.file ≢ file))) }
 {
-    let Some(facts) = facts_by_id(volume, file) else {
+    let Some(facts) = facts_by_id(disk, file) else {
         return Err(PathFault::NoSuchFile);
     };
     match named_by_id(alloc, file, facts) {
@@ -112,29 +115,30 @@ fn named_by_id(alloc: Global, file: FileId, facts: Facts) -> Result<Vec<Found>, 
 /// What names of files stand for in directories that a path says: as `find_path` finds it.
 pub fn find_names(
     alloc: Global,
-    volume: &Mounted,
+    disk: &Disk<'_>,
     folder: &Folder<'_>,
     files: Files<'_>,
     unsaid: Option<Versions>,
     closed: &[u16],
 ) -> Result<(Vec<Found>, Vec<Directory>), PathFault>
+    requires { on IsLayoutOf disk.now }
     ensures named { IfOk result (λ r. (shut : List ℕ) → CountAsClosed closed.now r.1.items shut
-        → AreNamed volume.now.image volume.now.layout shut (said_folder folder.now) (said_files files.entry) unsaid r.0.items) }
+        → on AreNamed disk.now shut (said_folder folder.now) (said_files files.entry) unsaid r.0.items) }
     ensures met { IfOk result (λ r. AreMet closed.now [] r.1.items) }
     ensures some { IfOk result (λ r. r.0.items ≡ [] → r.1.items ≢ []) }
-    ensures err { IfErr result (AreNotNamed volume.now.image volume.now.layout (said_folder folder.now) (said_files files.entry) unsaid) }
+    ensures err { IfErr result (on AreNotNamed disk.now (said_folder folder.now) (said_files files.entry) unsaid) }
 {
     let Some(versions) = files.versions.or(unsaid) else {
         return Err(PathFault::NoVersion);
     };
-    let found = match find_open(alloc, volume, folder, &Some(files), versions, closed) {
+    let found = match find_open(alloc, disk, folder, &Some(files), versions, closed) {
         Ok(found) => found,
         Err(AllocError) => return Err(PathFault::NoMemory),
     };
     if found.lines.is_empty() && found.closed.is_empty() {
         return Err(PathFault::Nothing);
     }
-    match files_of(alloc, volume, &found.directories, &found.lines) {
+    match files_of(alloc, disk, &found.directories, &found.lines) {
         Ok(all) => Ok((all, found.closed)),
         Err(AllocError) => Err(PathFault::NoMemory),
     }
@@ -143,15 +147,16 @@ pub fn find_names(
 /// What these lines of these directories name, in their order.
 fn files_of(
     alloc: Global,
-    volume: &Mounted,
+    disk: &Disk<'_>,
     directories: &[Directory],
     lines: &[Line],
 ) -> Result<Vec<Found>, AllocError>
-    ensures { IfOk result (λ found. AreWithin directories.now lines.now → AreLines volume.now.image volume.now.layout directories.now lines.now found.items) }
+    requires { on IsLayoutOf disk.now }
+    ensures { IfOk result (λ found. AreWithin directories.now lines.now → on AreLines disk.now directories.now lines.now found.items) }
 {
     let mut all = Vec::new(alloc);
     for line in lines {
-        add_line(alloc, volume, directories, line, &mut all)?;
+        add_line(alloc, disk, directories, line, &mut all)?;
     }
     Ok(all)
 }
@@ -159,29 +164,31 @@ fn files_of(
 /// Adds what a line names, where its directory is one of these.
 fn add_line(
     alloc: Global,
-    volume: &Mounted,
+    disk: &Disk<'_>,
     directories: &[Directory],
     line: &Line,
     all: &mut Vec<Found>,
 ) -> Result<(), AllocError>
+    requires { on IsLayoutOf disk.now }
     ensures { OnOk result ((directory : Holder) → slice_get directories.now line.now.directory ≡ Some directory
-        → (one : One) × (all.new.items ≡ all.old.items ++ one ∷ []) × IsEntryOf volume.now.image volume.now.layout directory line.now.entry one) }
+        → (one : One) × (all.new.items ≡ all.old.items ++ one ∷ []) × on IsEntryOf disk.now directory line.now.entry one) }
 {
     let Some(directory) = directories.get(line.directory) else {
         return Ok(());
     };
-    all.push(file_at(alloc, volume, directory, &line.entry)?)?;
+    all.push(file_at(alloc, disk, directory, &line.entry)?)?;
     Ok(())
 }
 
 /// What an entry of a directory names.
 fn file_at(
     alloc: Global,
-    volume: &Mounted,
+    disk: &Disk<'_>,
     directory: &Directory,
     entry: &Listed,
 ) -> Result<Found, AllocError>
-    ensures { IfOk result (IsEntryOf volume.now.image volume.now.layout directory.now entry.now) }
+    requires { on IsLayoutOf disk.now }
+    ensures { IfOk result (on IsEntryOf disk.now directory.now entry.now) }
 {
     let mut path = String::new(alloc);
     push_path(&mut path, &directory.names, entry)?;
@@ -190,10 +197,10 @@ fn file_at(
         place: Some(EntryPlace {
             directory: FileId {
                 number: directory.number,
-                sequence: sequence(&volume.disk(), directory.number),
+                sequence: sequence(disk, directory.number),
             },
             entry: *entry,
         }),
-        facts: facts_by_id(volume, entry.file),
+        facts: facts_by_id(disk, entry.file),
     })
 }

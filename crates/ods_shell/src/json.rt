@@ -4,13 +4,15 @@ ghost use Rattle.std.specs.String.{string_bytes};
 ghost use Rattle.serde_json.specs.Data.{no_members, object, put};
 ghost use Rattle.serde_json.specs.View.{members_view, view};
 ghost use Rattle.serde_json.specs.Written.{compact_text, members_have_float};
-ghost use Rattle.ods_shell.specs.Json.{entry_members, object_line, space_members, stat_members, with_block_counts, with_facts, with_file_numbers, with_known, with_number, with_text};
+ghost use Rattle.ods_shell.specs.Json.{entry_members, object_line, space_members, stat_members, with_block_counts, with_condition, with_facts, with_file_numbers, with_known, with_number, with_text};
 ghost use Rattle.ods_shell.specs.Listed.{AreObjects};
 ghost use Rattle.ods_shell.specs.Named.{IsKnown};
 ghost use Rattle.ods_shell.specs.There.{line_path};
 ghost use Rattle.ods_shell.specs.declared.facts.Facts.{Facts as KnownFacts};
+ghost use Rattle.ods_space.specs.Files.{IsLayoutOf};
+ghost use Rattle.ods_space.specs.Disks.{on};
 
-use crate::facts::{Facts, facts_by_id};
+use crate::facts::{Condition, Facts, facts_by_id};
 use crate::find::push_path_of;
 use crate::finding::FoundLines;
 use crate::folders::Directory;
@@ -18,7 +20,7 @@ use crate::space::Space;
 use crate::texts::{date_text, push_user, rights_text};
 use ods_base::FileId;
 use ods_header::print_ident;
-use ods_mount::Mounted;
+use ods_space::Disk;
 use ods_walk::Line;
 use serde_json::{Map, Value};
 use std::alloc::{AllocError, Global};
@@ -159,12 +161,13 @@ pub fn pair_object(
 }
 
 /// An object for each line that was found: its path, the ID that it names, and what is known of the file.
-pub fn ls_objects(alloc: Global, volume: &Mounted, found: &FoundLines) -> Result<String, AllocError>
-    ensures { IfOk result (λ text. AreObjects volume.now.image volume.now.layout found.now.directories.items found.now.lines.items (string_bytes text)) }
+pub fn ls_objects(alloc: Global, disk: &Disk<'_>, found: &FoundLines) -> Result<String, AllocError>
+    requires { on IsLayoutOf disk.now }
+    ensures { IfOk result (λ text. on AreObjects disk.now found.now.directories.items found.now.lines.items (string_bytes text)) }
 {
     let mut text = String::new(alloc);
     for line in &found.lines {
-        push_found_object(alloc, &mut text, volume, &found.directories, line)?;
+        push_found_object(alloc, &mut text, disk, &found.directories, line)?;
     }
     Ok(text)
 }
@@ -173,16 +176,17 @@ pub fn ls_objects(alloc: Global, volume: &Mounted, found: &FoundLines) -> Result
 fn push_found_object(
     alloc: Global,
     text: &mut String,
-    volume: &Mounted,
+    disk: &Disk<'_>,
     directories: &[Directory],
     line: &Line,
 ) -> Result<(), AllocError>
-    ensures { OnOk result ((known : Option KnownFacts) × IsKnown volume.now.image volume.now.layout line.now.entry.file known
+    requires { on IsLayoutOf disk.now }
+    ensures { OnOk result ((known : Option KnownFacts) × on IsKnown disk.now line.now.entry.file known
         × (string_bytes text.new ≡ string_bytes text.old ++ object_line (entry_members (line_path directories.now line.now) line.now.entry.file known))) }
 {
     let mut path = String::new(alloc);
     push_path_of(&mut path, directories, line)?;
-    let known = facts_by_id(volume, line.entry.file);
+    let known = facts_by_id(disk, line.entry.file);
     push_entry(alloc, text, path.as_str(), line.entry.file, &known)
 }
 
@@ -251,7 +255,24 @@ fn add_facts(
         members,
         "revised",
         date_text(&facts.revision_date()).as_str(),
-    )
+    )?;
+    add_condition(alloc, facts.condition, members)
+}
+
+/// Adds how much of a file is there, where that is not all.
+fn add_condition(
+    alloc: Global,
+    condition: Condition,
+    members: &mut Map<String, Value>,
+) -> Result<(), AllocError>
+    ensures members { OnOk result (members_view members.new.entries ≡ with_condition condition (members_view members.old.entries)) }
+    ensures plain { members_have_float (members_view members.old.entries) ≡ false → OnOk result (members_have_float (members_view members.new.entries) ≡ false) }
+{
+    match condition {
+        Condition::Whole => Ok(()),
+        Condition::Broken => add_text(alloc, members, "condition", Condition::Broken.word()),
+        Condition::Outside => add_text(alloc, members, "condition", Condition::Outside.word()),
+    }
 }
 
 /// An object of what is known of a file that a path names.

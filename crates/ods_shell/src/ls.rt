@@ -6,14 +6,16 @@ ghost use Rattle.std.specs.String.{string_bytes, string_len};
 ghost use Rattle.ods_shell.specs.declared.facts.Facts.{Facts as KnownFacts};
 ghost use Rattle.ods_shell.specs.Listed.{IsListing, IsListingUnder, blocks_of, headed_by, places_before, places_from, total_line};
 ghost use Rattle.ods_shell.specs.Named.{IsKnown};
-ghost use Rattle.ods_shell.specs.Lines.{heading, column, columns_text, counted_word, entry_line, facts_columns, kind_columns, known_columns, rights_columns, size_columns, with_headings};
+ghost use Rattle.ods_shell.specs.Lines.{heading, column, columns_text, condition_column, counted_word, entry_line, facts_columns, kind_columns, known_columns, rights_columns, size_columns, with_headings};
+ghost use Rattle.ods_space.specs.Files.{IsLayoutOf};
+ghost use Rattle.ods_space.specs.Disks.{on};
 
-use crate::facts::{Facts, Kind, facts_by_id};
+use crate::facts::{Condition, Facts, Kind, facts_by_id};
 use crate::finding::FoundLines;
 use crate::folders::Directory;
 use crate::texts::{date_text, push_directory, push_id, push_rights, push_user};
 use ods_base::{Listed as Entry, Uic, print_name};
-use ods_mount::Mounted;
+use ods_space::Disk;
 use std::alloc::{AllocError, Global};
 
 /// What `ls` shows.
@@ -32,12 +34,13 @@ pub struct Columns {
 /// The lines of what was found, and a last one with how many files and blocks these are.
 pub fn ls_lines(
     alloc: Global,
-    volume: &Mounted,
+    disk: &Disk<'_>,
     found: &FoundLines,
     columns: Columns,
 ) -> Result<String, AllocError>
-    ensures plain { columns.headings ≡ false → IfOk result (λ text. IsListing volume.now.image volume.now.layout columns found.now.lines.items (length found.now.lines.items) (string_bytes text)) }
-    ensures under { columns.headings ≡ true → IfOk result (λ text. IsListingUnder volume.now.image volume.now.layout columns found.now.directories.items found.now.lines.items (length found.now.lines.items) (string_bytes text)) }
+    requires { on IsLayoutOf disk.now }
+    ensures plain { columns.headings ≡ false → IfOk result (λ text. on IsListing disk.now columns found.now.lines.items (length found.now.lines.items) (string_bytes text)) }
+    ensures under { columns.headings ≡ true → IfOk result (λ text. on IsListingUnder disk.now columns found.now.directories.items found.now.lines.items (length found.now.lines.items) (string_bytes text)) }
 {
     let mut text = String::new(alloc);
     let mut blocks: u64 = 0;
@@ -45,7 +48,7 @@ pub fn ls_lines(
     let mut headed = 0;
     for line in &found.lines {
         headed = push_before(&mut text, found, columns, headed, line.directory)?;
-        blocks = push_listed(&mut text, volume, &line.entry, columns, blocks)?;
+        blocks = push_listed(&mut text, disk, &line.entry, columns, blocks)?;
     }
     push_after(&mut text, found, columns, headed)?;
     push_total(&mut text, found.lines.len() as u64, blocks)?;
@@ -133,15 +136,16 @@ fn push_empty(
 /// The line of an entry. The answer is the blocks with those of the file that it names.
 fn push_listed(
     text: &mut String,
-    volume: &Mounted,
+    disk: &Disk<'_>,
     entry: &Entry,
     columns: Columns,
     blocks: u64,
 ) -> Result<u64, AllocError>
-    ensures { IfOk result (λ sum. (known : Option KnownFacts) × IsKnown volume.now.image volume.now.layout entry.now.file known
+    requires { on IsLayoutOf disk.now }
+    ensures { IfOk result (λ sum. (known : Option KnownFacts) × on IsKnown disk.now entry.now.file known
         × (sum ≡ min (blocks + blocks_of known) (2 ^ 64 - 1)) × (string_bytes text.new ≡ string_bytes text.old ++ entry_line entry.now known columns)) }
 {
-    let facts = facts_by_id(volume, entry.file);
+    let facts = facts_by_id(disk, entry.file);
     push_line(text, entry, &facts, columns)?;
     Ok(blocks.saturating_add(count_of(&facts)))
 }
@@ -313,7 +317,20 @@ fn push_facts(text: &mut String, facts: &Facts) -> Result<(), AllocError>
 {
     push_sizes(text, facts.blocks, facts.bytes)?;
     push_kind(text, facts.kind, facts.owner)?;
-    push_rights_and_date(text, facts)
+    push_rights_and_date(text, facts)?;
+    push_condition(text, facts.condition)
+}
+
+/// How much of a file is there, as the last column, where that is not all.
+#[tactic(auto, unfolding(crate::specs::Lines::condition_column))]
+fn push_condition(text: &mut String, condition: Condition) -> Result<(), AllocError>
+    ensures { OnOk result (string_bytes text.new ≡ string_bytes text.old ++ condition_column condition) }
+{
+    match condition {
+        Condition::Whole => Ok(()),
+        Condition::Broken => text.push_str("  chain broken"),
+        Condition::Outside => text.push_str("  outside"),
+    }
 }
 
 /// What a file holds, and whose it is, in columns.

@@ -1,9 +1,9 @@
 //! The lines of `stat`: one field of a file a line.
 ghost use Rattle.std.specs.Prelude.{◌≡◌, ◌<◌, ◌≤◌, ◌+◌, ◌/◌, ◌==◌, ◌&&◌, ◌++◌, if◌then◌else◌, length, IfOk, OnOk};
 ghost use Rattle.std.specs.String.{string_bytes};
-ghost use Rattle.ods_shell.specs.Stat.{blocks_line, bytes_line, carriage_words, characteristics_label, characteristics_text, contiguous_word, created_line, dates_text, head_text, header_name_line, id_line, is_run_end, kind_line, locked_word, owner_line, no_words, path_line, protection_label, protection_line, said_line, system_words, user_words, revised_line, record_type_word, records_text, run_line, runs_text, size_text, stat_text, text_if};
+ghost use Rattle.ods_shell.specs.Stat.{blocks_line, bytes_line, carriage_words, characteristics_label, characteristics_text, condition_line, contiguous_word, created_line, dates_text, head_text, header_name_line, id_line, is_run_end, kind_line, locked_word, owner_line, no_words, path_line, protection_label, protection_line, said_line, system_words, user_words, revised_line, record_type_word, records_text, run_line, runs_text, size_text, stat_text, text_if};
 
-use crate::facts::{Facts, Kind};
+use crate::facts::{Condition, Facts, Kind};
 use crate::texts::{date_text, push_rights, push_user};
 use ods_base::{FileId, Uic};
 use ods_header::print_ident;
@@ -28,14 +28,15 @@ pub fn stat_lines(
     Ok(text)
 }
 
-/// The path, the ID, the name in the header, and what the file holds.
+/// The path, the ID, the name in the header, what the file holds, and how much of it is there.
 fn push_head(text: &mut String, path: &str, facts: &Facts) -> Result<(), AllocError>
     ensures { OnOk result (string_bytes text.new ≡ string_bytes text.old ++ head_text path.now facts.now) }
 {
     push_path_line(text, path)?;
     push_id_line(text, facts.file)?;
     push_header_name(text, &facts.ident)?;
-    push_kind(text, facts.kind)
+    push_kind(text, facts.kind)?;
+    push_condition(text, facts.condition)
 }
 
 /// The line of the path.
@@ -68,6 +69,18 @@ fn push_kind(text: &mut String, kind: Kind) -> Result<(), AllocError>
     ensures { OnOk result (string_bytes text.new ≡ string_bytes text.old ++ kind_line kind) }
 {
     writeln!(text, "Kind: {}", kind.word())
+}
+
+/// The line of how much of the file is there, where that is not all.
+#[tactic(auto, unfolding(crate::specs::Stat::condition_line))]
+fn push_condition(text: &mut String, condition: Condition) -> Result<(), AllocError>
+    ensures { OnOk result (string_bytes text.new ≡ string_bytes text.old ++ condition_line condition) }
+{
+    match condition {
+        Condition::Whole => Ok(()),
+        Condition::Broken => text.push_str("Chain: broken\n"),
+        Condition::Outside => text.push_str("Chain: outside\n"),
+    }
 }
 
 /// How large the file is, whose it is, and its protection.

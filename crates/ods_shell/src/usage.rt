@@ -10,6 +10,8 @@ ghost use Rattle.ods_shell.specs.There.{AreFlags, ids_in};
 ghost use Rattle.ods_shell.specs.Usage.{AreFalling, AreLargest, AreUsage, AreUses, IsCounted, IsUse, blocks_at, directory_use, file_use, use_text};
 ghost use Rattle.ods_shell.specs.declared.facts.Facts.{Facts as KnownFacts};
 ghost use Rattle.ods_shell.specs.declared.usage.Use.{Use as OneUse};
+ghost use Rattle.ods_space.specs.Files.{IsLayoutOf};
+ghost use Rattle.ods_space.specs.Disks.{on};
 
 use crate::facts::facts_by_id;
 use crate::find::{is_noted, note_number, push_path_of};
@@ -17,7 +19,7 @@ use crate::finding::FoundLines;
 use crate::folders::Directory;
 use crate::json::push_blocks;
 use crate::texts::push_directory;
-use ods_mount::Mounted;
+use ods_space::Disk;
 use ods_walk::Line;
 use std::alloc::{AllocError, Global};
 use std::cmp::Ordering;
@@ -30,29 +32,31 @@ struct Use {
 }
 
 /// The lines that name a file first, with its blocks.
-fn uses(alloc: Global, volume: &Mounted, found: &FoundLines) -> Result<Vec<Use>, AllocError>
-    ensures { IfOk result (λ uses. AreUses volume.now.image volume.now.layout [] found.now.lines.items uses.items) }
+fn uses(alloc: Global, disk: &Disk<'_>, found: &FoundLines) -> Result<Vec<Use>, AllocError>
+    requires { on IsLayoutOf disk.now }
+    ensures { IfOk result (λ uses. on AreUses disk.now [] found.now.lines.items uses.items) }
 {
     let mut is_seen = vec![in alloc; false; 65_536]?;
     let mut all = Vec::new(alloc);
     for line in &found.lines {
-        add_use(volume, line, &mut is_seen, &mut all)?;
+        add_use(disk, line, &mut is_seen, &mut all)?;
     }
     Ok(all)
 }
 
 /// Adds the blocks of the file that a line names, unless a line before named it.
 fn add_use(
-    volume: &Mounted,
+    disk: &Disk<'_>,
     line: &Line,
     is_seen: &mut Vec<bool>,
     all: &mut Vec<Use>,
 ) -> Result<(), AllocError>
-    ensures { OnOk result ((before : List OneLine) → AreFlags (IsCounted volume.now.image volume.now.layout (ids_in before)) is_seen.old.items
-        → (known : Option KnownFacts) × ((counted : List OneUse) × IsKnown volume.now.image volume.now.layout line.now.entry.file known × IsUse before line.now known counted
-        × (all.new.items ≡ all.old.items ++ counted) × AreFlags (IsCounted volume.now.image volume.now.layout (ids_in (before ++ line.now ∷ []))) is_seen.new.items)) }
+    requires { on IsLayoutOf disk.now }
+    ensures { OnOk result ((before : List OneLine) → AreFlags (on IsCounted disk.now (ids_in before)) is_seen.old.items
+        → (known : Option KnownFacts) × ((counted : List OneUse) × on IsKnown disk.now line.now.entry.file known × IsUse before line.now known counted
+        × (all.new.items ≡ all.old.items ++ counted) × AreFlags (on IsCounted disk.now (ids_in (before ++ line.now ∷ []))) is_seen.new.items)) }
 {
-    let Some(facts) = facts_by_id(volume, line.entry.file) else {
+    let Some(facts) = facts_by_id(disk, line.entry.file) else {
         return Ok(());
     };
     if see(is_seen, line.entry.file.number) {
@@ -79,13 +83,14 @@ fn see(is_seen: &mut Vec<bool>, number: u16) -> bool
 /// A line for each directory: the blocks of its files, and its name.
 pub fn usage_lines(
     alloc: Global,
-    volume: &Mounted,
+    disk: &Disk<'_>,
     found: &FoundLines,
     json: bool,
 ) -> Result<String, AllocError>
-    ensures { IfOk result (λ text. AreUsage volume.now.image volume.now.layout found.now.directories.items found.now.lines.items json (string_bytes text)) }
+    requires { on IsLayoutOf disk.now }
+    ensures { IfOk result (λ text. on AreUsage disk.now found.now.directories.items found.now.lines.items json (string_bytes text)) }
 {
-    let all = uses(alloc, volume, found)?;
+    let all = uses(alloc, disk, found)?;
     directory_lines(alloc, &found.directories, &all, json)
 }
 
@@ -205,14 +210,15 @@ fn add(sum: u64, blocks: u32) -> u64
 /// A line for each of the largest files, at most so many: its blocks, and its path.
 pub fn largest_lines(
     alloc: Global,
-    volume: &Mounted,
+    disk: &Disk<'_>,
     found: &FoundLines,
     most: usize,
     json: bool,
 ) -> Result<String, AllocError>
-    ensures { IfOk result (λ text. AreLargest volume.now.image volume.now.layout found.now.directories.items found.now.lines.items most json (string_bytes text)) }
+    requires { on IsLayoutOf disk.now }
+    ensures { IfOk result (λ text. on AreLargest disk.now found.now.directories.items found.now.lines.items most json (string_bytes text)) }
 {
-    let mut all = uses(alloc, volume, found)?;
+    let mut all = uses(alloc, disk, found)?;
     sort_uses(&mut all)?;
     file_lines(alloc, &found.directories, first_uses(&all, most), json)
 }

@@ -6,24 +6,25 @@ ghost use Rattle.ods_walk.specs.Listing.{shown};
 ghost use Rattle.ods_shell.specs.Choosing.{AreThose};
 ghost use Rattle.ods_shell.specs.declared.folders.Directory.{Directory as One};
 ghost use Rattle.ods_shell.specs.Ways.{AreMet, AreNamedIn, AreStarts, AreSteps, AreWays, CountAsClosed, HasNumbers, IsMeant, IsNumberedWay, IsStep, LeadsOn};
+ghost use Rattle.ods_space.specs.Disks.{on};
 
 use crate::choosing::{chosen, is_highest};
 use crate::folders::{Closed, Directory, MASTER, directory_of, lines_of, master};
 use ods_base::{Listed, Name, print_title};
-use ods_mount::Mounted;
 use ods_paths::{Files, Place, Steps, Versions, numbered_name};
+use ods_space::Disk;
 use std::alloc::{AllocError, Global};
 
 /// The entries of a directory that lead on, in the order of a listing; none of a closed one, which is noted.
 fn ways_from(
     alloc: Global,
-    volume: &Mounted,
+    disk: &Disk<'_>,
     number: u16,
     names: &[Name],
     closed: &mut Closed<'_>,
 ) -> Result<Vec<Listed>, AllocError>
     ensures ways { IfOk result (λ ways. (shut : List ℕ) → CountAsClosed closed.old.numbers.now closed.new.met.items shut
-        → AreWays volume.now.image volume.now.layout shut number ways.items) }
+        → on AreWays disk.now shut number ways.items) }
     ensures sorted { IfOk result (λ ways. IsSortedByKey shown listing_cmp ways.items) }
     ensures same { closed.new.numbers ≡ closed.old.numbers }
     ensures met { OnOk result (AreMet closed.old.numbers.now closed.old.met.items closed.new.met.items) }
@@ -32,29 +33,29 @@ fn ways_from(
     if closed.stops(alloc, number, names)? {
         return Ok(ways);
     }
-    let lines = lines_of(alloc, volume, number)?;
+    let lines = lines_of(alloc, disk, number)?;
     for line in &lines {
-        add_way(volume, line, &mut ways)?;
+        add_way(disk, line, &mut ways)?;
     }
     Ok(ways)
 }
 
 /// Adds this entry, where it leads on.
-fn add_way(volume: &Mounted, entry: &Listed, ways: &mut Vec<Listed>) -> Result<(), AllocError>
-    ensures { OnOk result ((before : List Entry) → AreThose (LeadsOn volume.now.image volume.now.layout) before ways.old.items
-        → AreThose (LeadsOn volume.now.image volume.now.layout) (before ++ entry.now ∷ []) ways.new.items) }
+fn add_way(disk: &Disk<'_>, entry: &Listed, ways: &mut Vec<Listed>) -> Result<(), AllocError>
+    ensures { OnOk result ((before : List Entry) → AreThose (on LeadsOn disk.now) before ways.old.items
+        → AreThose (on LeadsOn disk.now) (before ++ entry.now ∷ []) ways.new.items) }
 {
-    if leads_on(volume, entry) {
+    if leads_on(disk, entry) {
         ways.push(*entry)?;
     }
     Ok(())
 }
 
 /// Whether an entry names a directory that is not the master directory.
-fn leads_on(volume: &Mounted, entry: &Listed) -> bool
-    ensures { MatchBool result (LeadsOn volume.now.image volume.now.layout entry.now) (¬ LeadsOn volume.now.image volume.now.layout entry.now) }
+fn leads_on(disk: &Disk<'_>, entry: &Listed) -> bool
+    ensures { MatchBool result (on LeadsOn disk.now entry.now) (¬ on LeadsOn disk.now entry.now) }
 {
-    match directory_of(volume, entry) {
+    match directory_of(disk, entry) {
         Some(number) => number != MASTER,
         None => false,
     }
@@ -63,17 +64,17 @@ fn leads_on(volume: &Mounted, entry: &Listed) -> bool
 /// The directories of a group and a member in the master directory, of all where there is `None`.
 pub(crate) fn find_numbered(
     alloc: Global,
-    volume: &Mounted,
+    disk: &Disk<'_>,
     group: Option<u8>,
     member: Option<u8>,
     closed: &mut Closed<'_>,
 ) -> Result<Vec<Directory>, AllocError>
     ensures found { IfOk result (λ found. (shut : List ℕ) → CountAsClosed closed.old.numbers.now closed.new.met.items shut
-        → AreStarts volume.now.image volume.now.layout shut (Numbered group member) found.items) }
+        → on AreStarts disk.now shut (Numbered group member) found.items) }
     ensures same { closed.new.numbers ≡ closed.old.numbers }
     ensures met { OnOk result (AreMet closed.old.numbers.now closed.old.met.items closed.new.met.items) }
 {
-    let ways = ways_from(alloc, volume, MASTER, &[], closed)?;
+    let ways = ways_from(alloc, disk, MASTER, &[], closed)?;
     let those = numbered_ways(alloc, &ways, group, member)?;
     let mut found = Vec::new(alloc);
     add_named(alloc, &[], &those, &mut found)?;
@@ -156,19 +157,19 @@ fn is_meant(meant: Option<u8>, found: u8) -> bool
 /// The directories of names, or of patterns for them, each within the one before.
 pub(crate) fn find_named(
     alloc: Global,
-    volume: &Mounted,
+    disk: &Disk<'_>,
     steps: &Steps<'_>,
     closed: &mut Closed<'_>,
 ) -> Result<Vec<Directory>, AllocError>
     ensures found { IfOk result (λ found. (shut : List ℕ) → CountAsClosed closed.old.numbers.now closed.new.met.items shut
-        → AreStarts volume.now.image volume.now.layout shut (said_place (Place.Named steps.now)) found.items) }
+        → on AreStarts disk.now shut (said_place (Place.Named steps.now)) found.items) }
     ensures same { closed.new.numbers ≡ closed.old.numbers }
     ensures met { OnOk result (AreMet closed.old.numbers.now closed.old.met.items closed.new.met.items) }
 {
     let mut found = Vec::new(alloc);
     found.push(master(alloc))?;
     for step in steps.text.split(|c| *c == steps.separator) {
-        found = follow_step(alloc, volume, &found, step, closed)?;
+        found = follow_step(alloc, disk, &found, step, closed)?;
     }
     Ok(found)
 }
@@ -176,19 +177,19 @@ pub(crate) fn find_named(
 /// The directories to which a step leads from these, one after another.
 fn follow_step(
     alloc: Global,
-    volume: &Mounted,
+    disk: &Disk<'_>,
     from: &[Directory],
     step: &[u8],
     closed: &mut Closed<'_>,
 ) -> Result<Vec<Directory>, AllocError>
     ensures found { IfOk result (λ found. (shut : List ℕ) → CountAsClosed closed.old.numbers.now closed.new.met.items shut
-        → AreSteps volume.now.image volume.now.layout shut (capitals step.now) from.now found.items) }
+        → on AreSteps disk.now shut (capitals step.now) from.now found.items) }
     ensures same { closed.new.numbers ≡ closed.old.numbers }
     ensures met { OnOk result (AreMet closed.old.numbers.now closed.old.met.items closed.new.met.items) }
 {
     let mut found = Vec::new(alloc);
     for directory in from {
-        add_steps(alloc, volume, directory, step, closed, &mut found)?;
+        add_steps(alloc, disk, directory, step, closed, &mut found)?;
     }
     Ok(found)
 }
@@ -196,18 +197,18 @@ fn follow_step(
 /// Adds the directories to which a step leads from this one.
 fn add_steps(
     alloc: Global,
-    volume: &Mounted,
+    disk: &Disk<'_>,
     from: &Directory,
     step: &[u8],
     closed: &mut Closed<'_>,
     found: &mut Vec<Directory>,
 ) -> Result<(), AllocError>
     ensures found { OnOk result ((next : List One) × (found.new.items ≡ found.old.items ++ next)
-        × ((shut : List ℕ) → CountAsClosed closed.old.numbers.now closed.new.met.items shut → IsStep volume.now.image volume.now.layout shut (capitals step.now) from.now next)) }
+        × ((shut : List ℕ) → CountAsClosed closed.old.numbers.now closed.new.met.items shut → on IsStep disk.now shut (capitals step.now) from.now next)) }
     ensures same { closed.new.numbers ≡ closed.old.numbers }
     ensures met { OnOk result (AreMet closed.old.numbers.now closed.old.met.items closed.new.met.items) }
 {
-    let ways = ways_from(alloc, volume, from.number, &from.names, closed)?;
+    let ways = ways_from(alloc, disk, from.number, &from.names, closed)?;
     let step_files = Files {
         name: step,
         kind: b"*",

@@ -12,6 +12,7 @@ use Rattle.ods_base.specs.Image.{image_bytes}
 use Rattle.ods_header.specs.Header.{attributes_of}
 use Rattle.ods_space.specs.Layout.{VolumeLayout, header_at}
 use Rattle.ods_space.specs.Chain.{index_for}
+use Rattle.ods_space.specs.declared.fault.ChainFault.TheVariants as chain
 use Rattle.ods_space.proofs.Chains.{same_chain}
 use Rattle.ods_mount.specs.Faults.{contents_of}
 use Rattle.ods_request.specs.declared.requests.Request.TheVariants.{Enter}
@@ -23,6 +24,7 @@ use Rattle.ods_files.specs.Body.{Body, HasBody, are_zeros, bytes_in}
 use Rattle.ods_files.specs.declared.form.Form.TheVariants as form
 use Rattle.ods_records.specs.Attributes.{end_block, end_of}
 use Rattle.ods_records.specs.declared.kind.Wanted.TheVariants.{Binary, Text}
+use Rattle.ods_shell.proofs.Bodies.{none_past}
 use Rattle.ods_shell.specs.Contents.{IsGot, IsNotGot}
 use Rattle.ods_shell.specs.declared.form.FormFault.{FormFault}
 use Rattle.ods_shell.specs.declared.form.FormFault.TheVariants as fault
@@ -94,6 +96,10 @@ module _ (I : List (List ℕ)) (L : VolumeLayout) (id : FileId) (a bytes : List 
 
   pub only_memory : GivesBack I L id.number a bytes → (why : FormFault) → IsNotGot I L id.number Binary why → why ≡ fault.NoMemory
   only_memory gives fault.NoSuchFile is = absurd (is file_in.held.file)
+  only_memory gives fault.BadChain is = absurd (is.1 file_in.held.others file_in.blocks file_in.held.whole.chain)
+  only_memory gives (fault.OutsideVolume lbn) is =
+      let body : Body = record { blocks = contents_of I file_in.blocks; attributes = attributes_of (header_at I L id.number) } in
+      absurd (none_past I L id.number (chain.OutsideVolume lbn) lbn body refl is.1 (record { lbns = file_in.blocks; held = file_in.held; blocks = refl; attributes = refl }))
   only_memory gives fault.EndPastBlocks is = absurd (let wrong : None ≡ Some bytes = sym is.2 ∙ (gives.gives is.0 is.1).1 in cc)
   only_memory gives (fault.Records f) is = absurd (let wrong : None ≡ Some is.2.0 = is.2.1 in cc)
   only_memory gives (fault.TooLongForBlock size) is = absurd (let wrong : Binary ≡ Text = is.2.0 in cc)

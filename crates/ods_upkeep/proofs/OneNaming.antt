@@ -8,8 +8,7 @@ use Rattle.std.proofs.lemmas.Option.{same_Some}
 use Rattle.ods_base.specs.Name.{RadName}
 use Rattle.ods_base.specs.declared.file_id.FileId.{FileId}
 use Rattle.ods_base.specs.declared.listed.Listed.{Listed}
-use Rattle.ods_space.specs.Layout.{VolumeLayout, header_at}
-use Rattle.ods_space.proofs.Surveyed.{same_blocks}
+use Rattle.ods_space.specs.Layout.{VolumeLayout}
 use Rattle.ods_mount.specs.Faults.{IsDirectoryFile}
 use Rattle.ods_mount.specs.Sound.{IsSoundBy}
 use Rattle.ods_paths.specs.declared.versions.Versions.{Versions}
@@ -18,7 +17,8 @@ use Rattle.ods_paths.specs.Paths.{Files, Folder, Place, Master, Numbered, Named}
 use Rattle.ods_walk.specs.Complete.{LeadsPast}
 use Rattle.ods_walk.specs.declared.tables.Line.{Line}
 use Rattle.ods_shell.specs.Choosing.{AreThose, IsChosen}
-use Rattle.ods_shell.specs.Facts.{AreFacts, facts_in}
+use Rattle.ods_shell.proofs.Reached.{known_in_one_way}
+use Rattle.ods_shell.specs.Facts.{AreFacts}
 use Rattle.ods_shell.specs.Found.{AreFound, AreFoundIn, AreLinesOf, placed}
 use Rattle.ods_shell.specs.Named.{AreLines, AreNamed, IsKnown}
 use Rattle.ods_shell.specs.Ways.{AreAllBelow, AreLedTo, AreMaster, AreMeant, AreNamedIn, AreOpen, AreOpenOrBelow, AreStarts, AreSteps, AreWays, IsNumberedWay, IsStep, LeadsOn, step_files}
@@ -198,14 +198,11 @@ module _ (I : List (List ℕ)) (L : VolumeLayout) (sound : IsSoundBy I L) where
   meant_one folder ds d a b = one_meant folder.below a.0 b.0 ds d (starts_alike folder.place a.0 b.0 a.1 b.1) a.2 b.2
 
   -- a file is known in one way
-  facts_one : (n : ℕ) (f g : Facts) → AreFacts I L n f → AreFacts I L n g → f ≡ g
-  facts_one n f g a b = a.are ∙ ap (λ l. facts_in n (header_at I L n) (length l)) (same_blocks I L n a.lbns b.lbns a.held b.held) ∙ sym b.are
-
   known_one : (file : FileId) (f g : Option Facts) → IsKnown I L file f → IsKnown I L file g → f ≡ g
   known_one file None None a b = refl
   known_one file None (Some g) a b = absurd (a g b.0 b.1)
   known_one file (Some f) None a b = absurd (b f a.0 a.1)
-  known_one file (Some f) (Some g) a b = ap Some (facts_one file.number f g a.0 b.0)
+  known_one file (Some f) (Some g) a b = ap Some (known_in_one_way I L file.number f g a.0 b.0)
 
   lines_known : (ds es : List Directory) (lines : List Line) (xs ys : List Found) → AreLines I L ds lines xs → AreLines I L es lines ys → map (λ (f : Found). f.facts) xs ≡ map (λ (f : Found). f.facts) ys
   lines_known ds es [] xs ys a b = ap (map (λ (f : Found). f.facts)) (a ∙ sym b)

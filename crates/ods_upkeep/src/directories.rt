@@ -21,7 +21,8 @@ use ods_filing::Filing;
 use ods_mount::Mounted;
 use ods_paths::{Files, Place, Versions, has_wildcard};
 use ods_request::{Answer, Refusal, Request, Stamp};
-use ods_shell::{Found, Kind, PathFault, find_names, lines_of};
+use ods_shell::mounted::{find_names, lines_of};
+use ods_shell::{Found, Kind, PathFault};
 use ods_text::is_text;
 use std::alloc::Global;
 

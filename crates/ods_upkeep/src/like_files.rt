@@ -7,7 +7,8 @@ use crate::failure::{Failure, Why, of_path};
 use ods_mount::Mounted;
 use ods_paths::Versions;
 use ods_request::Refusal;
-use ods_shell::{Kind, PathFault, find_path};
+use ods_shell::mounted::find_path;
+use ods_shell::{Kind, PathFault};
 use std::alloc::Global;
 
 /// The attributes of the file like which others are made.

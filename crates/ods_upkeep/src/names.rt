@@ -8,7 +8,7 @@ ghost use Rattle.ods_upkeep.specs.Counted.{AreCounts, AreCountsOf, one_less, one
 use ods_base::{FileId, Listed};
 use ods_header::is_directory;
 use ods_mount::Mounted;
-use ods_shell::{facts_by_id, lines_of};
+use ods_shell::mounted::{facts_by_id, lines_of};
 use ods_space::{last_number, primary_header};
 use std::alloc::{AllocError, Global};
 use std::marker::Model;

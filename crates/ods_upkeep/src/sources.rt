@@ -8,7 +8,8 @@ ghost use Rattle.ods_upkeep.specs.Once.{HasKeysOf, key_of};
 use crate::failure::{Failure, Why, of_path};
 use ods_mount::Mounted;
 use ods_paths::Versions;
-use ods_shell::{Found, find_path};
+use ods_shell::Found;
+use ods_shell::mounted::find_path;
 use std::alloc::{AllocError, Global};
 use std::collections::BTreeSet;
 

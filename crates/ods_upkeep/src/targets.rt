@@ -20,7 +20,8 @@ use crate::target::Target;
 use ods_base::{FileId, Name, Pick, parse_name};
 use ods_mount::Mounted;
 use ods_paths::{Files, Folder, Path, Versions, has_wildcard, parse_path};
-use ods_shell::{Found, Kind, PathFault, facts_by_id, facts_of, find_names, find_open};
+use ods_shell::mounted::{facts_by_id, facts_of, find_names, find_open};
+use ods_shell::{Found, Kind, PathFault};
 use std::alloc::Global;
 
 /// The target of so many files: a name is that of one.

@@ -12,7 +12,8 @@ use ods_filing::Filing;
 use ods_mount::Mounted;
 use ods_paths::Versions;
 use ods_request::{Refusal, Request};
-use ods_shell::{Facts, Kind, PathFault, find_path};
+use ods_shell::mounted::find_path;
+use ods_shell::{Facts, Kind, PathFault};
 use std::alloc::Global;
 
 /// Cuts a file to so many bytes: the blocks behind them go, and F.EFBK, F.FFBY and F.HIBK say so. It never grows.

@@ -4,7 +4,7 @@ ghost use Rattle.ods_upkeep.specs.Versions.{AreHighest, IsNoted, behind, key_of,
 
 use ods_base::{FileId, Name};
 use ods_mount::Mounted;
-use ods_shell::lines_of;
+use ods_shell::mounted::lines_of;
 use std::alloc::{AllocError, Global};
 use std::collections::BTreeMap;
 use std::marker::Model;

@@ -14,7 +14,7 @@ returns-then-branch-clause-found c = λ shut before counts are.
     let closed = c.args.closed.now.numbers.now in
     let stopped = subst (λ b. IsStop closed c.args.start.now.number b c.args.closed.now.met.items c.stops.new.self.met.items) c.if-branch.true (stop (goal.at.returns-then-branch-clause-found c).In_ok-stops) in
     let all : shut ≡ closed = all_count shut stopped counts in
-    nothing_more c.args.volume.now.image c.args.volume.now.layout shut before c.args.found.now.items c.args.start.now
+    nothing_more c.args.disk.now.image.now c.args.disk.now.layout.now shut before c.args.found.now.items c.args.start.now
     (λ not_shut there. not_shut (subst (λ n. Contains n c.args.start.now.number) (sym all) (is_closed stopped))) are
 
 pub returns-then-branch-clause-met : goal.returns-then-branch-clause-met
@@ -22,20 +22,20 @@ returns-then-branch-clause-met c = met_by_stop c.in_ok-stops.field-0 (stop (goal
 
 pub returns-then-not-is_directory_file-clause-found : goal.returns-then-not-is_directory_file-clause-found
 returns-then-not-is_directory_file-clause-found c = λ shut before counts are.
-    nothing_more c.args.volume.now.image c.args.volume.now.layout shut before c.args.found.now.items c.args.start.now (λ not_shut there. c.if-not-is_directory_file.ensures there) are
+    nothing_more c.args.disk.now.image.now c.args.disk.now.layout.now shut before c.args.found.now.items c.args.start.now (λ not_shut there. c.if-not-is_directory_file.ensures there) are
 
 pub returns-then-not-is_directory_file-clause-met : goal.returns-then-not-is_directory_file-clause-met
 returns-then-not-is_directory_file-clause-met c = met_by_stop c.in_ok-stops.field-0 (stop (goal.at.returns-then-not-is_directory_file-clause-met c).In_ok-stops)
 
 pub returns-clause-found : goal.returns-clause-found
 returns-clause-found c = λ shut before counts are.
-    let I = c.args.volume.now.image in
-    let L = c.args.volume.now.layout in
+    let I = c.args.disk.now.image.now in
+    let L = c.args.disk.now.layout.now in
     let closed = c.args.closed.now.numbers.now in
     let start = c.args.start.now in
     let w = c.in_ok-walk.walk in
     let same = same_now c.stops.new.self.numbers c.args.closed.now.numbers c.in_ok-stops.ensures.same in
-    let walk = walk_of c.disk-disk.result.image.now I c.disk-disk.result.layout.now L c.stops.new.self.numbers.now closed start.number w c.disk-disk.ensures.image c.disk-disk.ensures.layout same
+    let walk = walk_of I L c.stops.new.self.numbers.now closed start.number w same
     c.in_ok-walk.ensures.walk c.in_ok-walk.ensures.reached in
     let stopped = subst (λ b. IsStop closed start.number b c.args.closed.now.met.items c.stops.new.self.met.items) c.if-branch.false (stop (goal.at.returns-clause-found c).In_ok-stops) in
     let added : AreAdded start w.directories c.args.found.now.items c.add_entered.new.found.items = record {

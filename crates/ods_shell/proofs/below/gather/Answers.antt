@@ -11,8 +11,8 @@ use Rattle.ods_shell.proofs.below.gather.Goals as goal
 
 pub loop-start-init : goal.loop-start-init
 loop-start-init c =
-    let I = c.args.volume.now.image in
-    let L = c.args.volume.now.layout in
+    let I = c.args.disk.now.image.now in
+    let L = c.args.disk.now.layout.now in
     let empty : c.new-found.result.items ≡ [] = c.new-found.ensures.items in
     record {
       same = refl;
@@ -23,8 +23,8 @@ loop-start-init c =
 
 pub loop-start-preserved : goal.loop-start-preserved
 loop-start-preserved c =
-    let I = c.args.volume.now.image in
-    let L = c.args.volume.now.layout in
+    let I = c.args.disk.now.image.now in
+    let L = c.args.disk.now.layout.now in
     let closed = c.args.closed.now.numbers.now in
     let inv = c.loop-start.invariant in
     let same = same_now c.loop-start.closed.numbers c.args.closed.now.numbers inv.same in
@@ -48,4 +48,4 @@ pub returns-clause-found : goal.returns-clause-found
 returns-clause-found c = λ shut counts.
     let starts = c.args.starts.now in
     let past : length starts ≤ c.loop-start.start-index = search rules in
-    subst (λ (ds : List Directory). AreAllBelow c.args.volume.now.image c.args.volume.now.layout shut ds c.loop-start.found.items) (take_all c.loop-start.start-index starts past) (c.loop-start.invariant.below shut counts)
+    subst (λ (ds : List Directory). AreAllBelow c.args.disk.now.image.now c.args.disk.now.layout.now shut ds c.loop-start.found.items) (take_all c.loop-start.start-index starts past) (c.loop-start.invariant.below shut counts)

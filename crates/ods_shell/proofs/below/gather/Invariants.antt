@@ -8,5 +8,5 @@ invariant-loop-start l = record {
   same : l.closed.numbers ≡ l.initial.closed.numbers;
   met : AreMet l.initial.closed.numbers.now l.initial.closed.met.items l.closed.met.items;
   flags : AreEntered l.is_added (map (λ d. d.number) l.found.items);
-  below : (shut : List ℕ) → CountAsClosed l.initial.closed.numbers.now l.closed.met.items shut → AreAllBelow l.volume.image l.volume.layout shut (take l.start-index l.starts) l.found.items;
+  below : (shut : List ℕ) → CountAsClosed l.initial.closed.numbers.now l.closed.met.items shut → AreAllBelow l.disk.image.now l.disk.layout.now shut (take l.start-index l.starts) l.found.items;
 }

@@ -11,8 +11,8 @@ use Rattle.ods_shell.proofs.below.note_closed.Goals as goal
 
 pub loop-line-preserved : goal.loop-line-preserved
 loop-line-preserved c =
-    let I = c.args.volume.now.image in
-    let L = c.args.volume.now.layout in
+    let I = c.args.disk.now.image.now in
+    let L = c.args.disk.now.layout.now in
     let closed = c.args.closed.now.numbers.now in
     let inv = c.loop-line.invariant in
     let line : Placed = c.line-item.result in
@@ -31,7 +31,7 @@ loop-line-preserved c =
 
 pub returns-clause-none : goal.returns-clause-none
 returns-clause-none c = λ none l has.
-    let P = λ (x : Placed). NamesDirectory c.args.volume.now.image c.args.volume.now.layout x.entry → ¬ Contains c.args.closed.now.numbers.now x.entry.file.number in
+    let P = λ (x : Placed). NamesDirectory c.args.disk.now.image.now c.args.disk.now.layout.now x.entry → ¬ Contains c.args.closed.now.numbers.now x.entry.file.number in
     let items = c.lines-line-items.result.now in
     let past : length items ≤ c.loop-line.line-index = search rules in
     let all : take c.loop-line.line-index items ≡ c.args.walk.now.lines = take_all c.loop-line.line-index items past ∙ c.lines-line-items.ensures in

@@ -8,5 +8,5 @@ abbrev pub invariant-loop-line : goal.invariant-loop-line
 invariant-loop-line l = record {
   same : l.closed.numbers ≡ l.initial.closed.numbers;
   met : AreMet l.initial.closed.numbers.now l.initial.closed.met.items l.closed.met.items;
-  none : l.closed.met.items ≡ [] → All (λ x. NamesDirectory l.volume.image l.volume.layout x.entry → ¬ Contains l.initial.closed.numbers.now x.entry.file.number) (take l.line-index l.line-items);
+  none : l.closed.met.items ≡ [] → All (λ x. NamesDirectory l.disk.image.now l.disk.layout.now x.entry → ¬ Contains l.initial.closed.numbers.now x.entry.file.number) (take l.line-index l.line-items);
 }

@@ -6,5 +6,5 @@ use Rattle.ods_shell.specs.There.{AreFlags, IsAmong}
 use Rattle.ods_shell.proofs.find.note_all.Given as goal
 
 abbrev pub invariant-loop-entry : goal.invariant-loop-entry
-invariant-loop-entry l = (ids : List FileId) → AreFlags (IsAmong l.volume.image l.volume.layout ids) l.initial.is_named.items
-    → AreFlags (IsAmong l.volume.image l.volume.layout (ids ++ map (λ (e : Listed). e.file) (take l.entry-index l.entries))) l.is_named.items
+invariant-loop-entry l = (ids : List FileId) → AreFlags (IsAmong l.disk.image.now l.disk.layout.now ids) l.initial.is_named.items
+    → AreFlags (IsAmong l.disk.image.now l.disk.layout.now (ids ++ map (λ (e : Listed). e.file) (take l.entry-index l.entries))) l.is_named.items

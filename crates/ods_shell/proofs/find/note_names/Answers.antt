@@ -7,7 +7,7 @@ pub returns-else-is_directory_file : goal.returns-else-is_directory_file
 returns-else-is_directory_file c = λ ids are. (
   [],
   (
-    named_by_none c.args.volume.now.image c.args.volume.now.layout c.args.number (λ is. c.if-is_directory_file.ensures is),
-    subst (λ all. AreFlags (IsAmong c.args.volume.now.image c.args.volume.now.layout all) c.args.is_named.now.items) (sym (append-nil ids)) are,
+    named_by_none c.args.disk.now.image.now c.args.disk.now.layout.now c.args.number (λ is. c.if-is_directory_file.ensures is),
+    subst (λ all. AreFlags (IsAmong c.args.disk.now.image.now c.args.disk.now.layout.now all) c.args.is_named.now.items) (sym (append-nil ids)) are,
   ),
 )

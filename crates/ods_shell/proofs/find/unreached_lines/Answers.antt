@@ -13,18 +13,18 @@ use Rattle.ods_shell.proofs.find.unreached_lines.Goals as goal
 pub loop-line-init : goal.loop-line-init
 loop-line-init c =
     let clear : c.in_ok-is_reached.is_reached.items ≡ replicate 65536 false = c.in_ok-is_reached.ensures.items_if_clones_equal (λ y same. same) in
-    flags_none (IsAmong c.args.volume.now.image c.args.volume.now.layout []) c.in_ok-is_reached.is_reached.items 65536 clear refl (λ n among. none_of_none _ among.1)
+    flags_none (IsAmong c.args.disk.now.image.now c.args.disk.now.layout.now []) c.in_ok-is_reached.is_reached.items 65536 clear refl (λ n among. none_of_none _ among.1)
 
 pub loop-line-preserved : goal.loop-line-preserved
 loop-line-preserved c =
     let at = slice_get_read c.deref-line-items.result.now _ c.loop-line.line-index c.line-item.result refl c.loop-line-test.true c.line-item.is in
-    among_next c.args.volume.now.image c.args.volume.now.layout (λ (l : Line). l.entry.file) [] c.deref-line-items.result.now c.loop-line.line-index c.line-item.result
+    among_next c.args.disk.now.image.now c.args.disk.now.layout.now (λ (l : Line). l.entry.file) [] c.deref-line-items.result.now c.loop-line.line-index c.line-item.result
     c.loop-line.is_reached.items c.note.new.is_named.items at c.note.ensures c.loop-line.invariant
 
 pub returns : goal.returns
 returns c =
-    let I = c.args.volume.now.image in
-    let L = c.args.volume.now.layout in
+    let I = c.args.disk.now.image.now in
+    let L = c.args.disk.now.layout.now in
     let ids = ids_in c.args.found.now.lines.items in
     let past : length c.deref-line-items.result.now ≤ c.loop-line.line-index = search rules in
     let whole : take c.loop-line.line-index c.deref-line-items.result.now ≡ c.args.found.now.lines.items = take_all c.loop-line.line-index c.deref-line-items.result.now past ∙ c.deref-line-items.ensures.value in

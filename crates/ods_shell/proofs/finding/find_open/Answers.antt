@@ -21,9 +21,9 @@ loop-place-preserved c =
     let long : at ≡ length (take at all) = sym (length-take-le at all (omega arith)) in
     let size : at ≡ 0 + length (take at all) = omega arith in
     let added : c.add_lines.new.lines.items ≡ c.loop-place.lines.items ++ map (placed at) c.in_ok-entries.entries.items = c.in_ok-add_lines.ensures ∙ ap (λ e. c.loop-place.lines.items ++ map (placed at) e) c.deref.ensures.value in
-    let more = found_more c.args.volume.now.image c.args.volume.now.layout (said_files c.args.files.now) c.args.unsaid 0 at (take at all) d c.loop-place.lines.items c.in_ok-entries.entries.items size c.loop-place.invariant c.in_ok-entries.ensures in
-    subst (λ ds. AreFound c.args.volume.now.image c.args.volume.now.layout (said_files c.args.files.now) c.args.unsaid 0 ds c.add_lines.new.lines.items) (sym took)
-    (subst (λ (ls : List Line). AreFound c.args.volume.now.image c.args.volume.now.layout (said_files c.args.files.now) c.args.unsaid 0 (take at all ++ d ∷ []) ls) (sym added) more)
+    let more = found_more c.args.disk.now.image.now c.args.disk.now.layout.now (said_files c.args.files.now) c.args.unsaid 0 at (take at all) d c.loop-place.lines.items c.in_ok-entries.entries.items size c.loop-place.invariant c.in_ok-entries.ensures in
+    subst (λ ds. AreFound c.args.disk.now.image.now c.args.disk.now.layout.now (said_files c.args.files.now) c.args.unsaid 0 ds c.add_lines.new.lines.items) (sym took)
+    (subst (λ (ls : List Line). AreFound c.args.disk.now.image.now c.args.disk.now.layout.now (said_files c.args.files.now) c.args.unsaid 0 (take at all ++ d ∷ []) ls) (sym added) more)
 
 pub returns-clause-met : goal.returns-clause-met
 returns-clause-met c = subst (λ (ds : List Directory). AreMet c.args.closed.now ds c.directories.new.closed.met.items) c.new.ensures.items c.in_ok-found.ensures.met

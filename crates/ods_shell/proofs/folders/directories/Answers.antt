@@ -9,8 +9,8 @@ use Rattle.ods_shell.proofs.folders.directories.Goals as goal
 
 pub returns-then-folder-clause-found : goal.returns-then-folder-clause-found
 returns-then-folder-clause-found c =
-    let I = c.args.volume.now.image in
-    let L = c.args.volume.now.layout in
+    let I = c.args.disk.now.image.now in
+    let L = c.args.disk.now.layout.now in
     let closed = c.args.closed.now.numbers.now in
     let mid = c.find_starts.new.closed in
     let new = c.with_all_below.new.closed in
@@ -36,8 +36,8 @@ returns-then-folder-clause-met c =
 
 pub returns-clause-found : goal.returns-clause-found
 returns-clause-found c =
-    let I = c.args.volume.now.image in
-    let L = c.args.volume.now.layout in
+    let I = c.args.disk.now.image.now in
+    let L = c.args.disk.now.layout.now in
     let closed = c.args.closed.now.numbers.now in
     let mid = c.find_starts.new.closed in
     let new = c.open_ones.new.closed in

@@ -6,5 +6,5 @@ use Rattle.ods_shell.proofs.usage.uses.Given as goal
 
 abbrev pub invariant-loop-line : goal.invariant-loop-line
 invariant-loop-line l =
-    AreUses l.volume.image l.volume.layout [] (take l.line-index l.line-items) l.all.items
-    × AreFlags (IsCounted l.volume.image l.volume.layout (ids_in (take l.line-index l.line-items))) l.is_seen.items
+    AreUses l.disk.image.now l.disk.layout.now [] (take l.line-index l.line-items) l.all.items
+    × AreFlags (IsCounted l.disk.image.now l.disk.layout.now (ids_in (take l.line-index l.line-items))) l.is_seen.items

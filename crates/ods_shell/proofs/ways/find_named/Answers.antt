@@ -20,7 +20,7 @@ loop-step-preserved c =
     let closed : List ℕ = c.args.closed.now.numbers.now in
     let numbers : List ℕ = c.loop-step.closed.numbers.now in
     let same : numbers ≡ closed = ap (λ b. b.now) c.loop-step.invariant.1 in (
-      led_next c.args.volume.now.image c.args.volume.now.layout (map capitals (map (λ x. x.now) c.loop-step.yielded)) (capitals c.in-Some.step.now) (map capitals (map (λ x. x.now) (c.loop-step.yielded ++ c.in-Some.step ∷ []))) c.loop-step.found.items
+      led_next c.args.disk.now.image.now c.args.disk.now.layout.now (map capitals (map (λ x. x.now) c.loop-step.yielded)) (capitals c.in-Some.step.now) (map capitals (map (λ x. x.now) (c.loop-step.yielded ++ c.in-Some.step ∷ []))) c.loop-step.found.items
           c.deref.result.now c.in_ok-found.found.items closed numbers c.loop-step.closed.met.items c.follow_step.new.closed.met.items (texts_more c.loop-step.yielded c.in-Some.step) c.deref.ensures.value same c.in_ok-found.ensures.met c.loop-step.invariant.0
           c.in_ok-found.ensures.found,
       c.in_ok-found.ensures.same ∙ c.loop-step.invariant.1,
@@ -35,4 +35,4 @@ returns-clause-found c = λ shut counts.
     c.into_iter-step-iterator.ensures.into_iter_gives
     (YieldsList-from_slice_split _ (λ (b : ℕ). b == c.args.steps.now.separator) c.args.steps.now.text.now c.split-step-items.ensures.rest c.split-step-items.ensures.done c.split-step-items.ensures.closure (λ x b q k. search (rules, tests))))
     c.loop-step.yielded _ c.loop-step.yielded_by _ _ c.in-None.is c.next.ensures.steps in
-    subst (λ (ts : List (List ℕ)). AreFoundBy c.args.volume.now.image c.args.volume.now.layout shut (map capitals ts) c.loop-step.found.items) ends.0 (c.loop-step.invariant.0 shut counts)
+    subst (λ (ts : List (List ℕ)). AreFoundBy c.args.disk.now.image.now c.args.disk.now.layout.now shut (map capitals ts) c.loop-step.found.items) ends.0 (c.loop-step.invariant.0 shut counts)

@@ -10,7 +10,7 @@ loop-directory-preserved c =
     let numbers : List ℕ = c.loop-directory.closed.numbers.now in
     let same : numbers ≡ closed = ap (λ b. b.now) c.loop-directory.invariant.1 in
     let on = c.in_ok-add_steps.ensures.found in (
-      steps_next c.args.volume.now.image c.args.volume.now.layout (capitals c.args.step.now) c.args.from.now c.loop-directory.directory-index c.directory-item.result c.loop-directory.found.items on.0 c.add_steps.new.found.items closed numbers
+      steps_next c.args.disk.now.image.now c.args.disk.now.layout.now (capitals c.args.step.now) c.args.from.now c.loop-directory.directory-index c.directory-item.result c.loop-directory.found.items on.0 c.add_steps.new.found.items closed numbers
           c.loop-directory.closed.met.items c.add_steps.new.closed.met.items c.loop-directory-test.true c.directory-item.is same on.1 c.in_ok-add_steps.ensures.met c.loop-directory.invariant.0 on.2,
       c.in_ok-add_steps.ensures.same ∙ c.loop-directory.invariant.1,
       met_on closed numbers c.args.closed.now.met.items c.loop-directory.closed.met.items c.add_steps.new.closed.met.items same c.loop-directory.invariant.2 c.in_ok-add_steps.ensures.met,

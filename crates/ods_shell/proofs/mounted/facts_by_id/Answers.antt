@@ -1,0 +1,5 @@
+use Rattle.std.proofs.Common.{sym}
+use Rattle.ods_shell.proofs.mounted.facts_by_id.Goals as goal
+
+pub returns : goal.returns
+returns c = rw (sym c.disk-disk.ensures.image, sym c.disk-disk.ensures.layout) c.facts_by_id.ensures
