@@ -23,15 +23,22 @@ returns-clause-plain c = λ plain.
     let lines = c.args.found.now.lines.items in
     let all : take c.loop-line.line-index c.deref-line-items.result.now ≡ lines = take_all c.loop-line.line-index c.deref-line-items.result.now (omega (arith, c.loop-line-test.false)) ∙ c.deref-line-items.ensures.value in
     let files : c.len.result ≡ length lines = search rules in
-    let said = c.in_ok-push_total.ensures ∙ (λ i. c.in_ok-push_after.ensures.plain plain i ++ total_line (files i) c.loop-line.blocks) in
-    (string_bytes c.loop-line.text, c.loop-line.blocks,
-      subst (λ (ls : List Line). AreListed c.args.disk.now.image.now c.args.disk.now.layout.now c.args.columns ls (string_bytes c.loop-line.text) c.loop-line.blocks) all (c.loop-line.invariant.0 plain), said)
+    let said = c.in_ok-push_total.ensures ∙ (λ i. c.in_ok-push_after.ensures.plain plain i ++ total_line (files i) c.loop-line.blocks) in (
+      string_bytes c.loop-line.text,
+      c.loop-line.blocks,
+      subst (λ (ls : List Line). AreListed c.args.disk.now.image.now c.args.disk.now.layout.now c.args.columns ls (string_bytes c.loop-line.text) c.loop-line.blocks) all (c.loop-line.invariant.0 plain),
+      said,
+    )
 
 pub returns-clause-under : goal.returns-clause-under
 returns-clause-under c = λ under.
     let lines = c.args.found.now.lines.items in
     let all : take c.loop-line.line-index c.deref-line-items.result.now ≡ lines = take_all c.loop-line.line-index c.deref-line-items.result.now (omega (arith, c.loop-line-test.false)) ∙ c.deref-line-items.ensures.value in
     let files : c.len.result ≡ length lines = search rules in
-    let said = c.in_ok-push_total.ensures ∙ (λ i. c.in_ok-push_after.ensures.text under i ++ total_line (files i) c.loop-line.blocks) in
-    (string_bytes c.loop-line.text, c.loop-line.headed, c.loop-line.blocks,
-      subst (λ (ls : List Line). AreListedUnder c.args.disk.now.image.now c.args.disk.now.layout.now c.args.columns c.args.found.now.directories.items [] 0 ls (string_bytes c.loop-line.text) c.loop-line.headed c.loop-line.blocks) all (c.loop-line.invariant.1 under), said)
+    let said = c.in_ok-push_total.ensures ∙ (λ i. c.in_ok-push_after.ensures.text under i ++ total_line (files i) c.loop-line.blocks) in (
+      string_bytes c.loop-line.text,
+      c.loop-line.headed,
+      c.loop-line.blocks,
+      subst (λ (ls : List Line). AreListedUnder c.args.disk.now.image.now c.args.disk.now.layout.now c.args.columns c.args.found.now.directories.items [] 0 ls (string_bytes c.loop-line.text) c.loop-line.headed c.loop-line.blocks) all (c.loop-line.invariant.1 under),
+      said,
+    )
