@@ -1,4 +1,4 @@
-mod Bodies
+pub mod Bodies
 mod Bounds
 mod Digits
 mod Dots
@@ -14,7 +14,7 @@ mod OneName
 mod Places
 mod Runs
 mod RunTexts
-mod Reached
+pub mod Reached
 mod RowsFound
 mod SoughtFiles
 mod Unreached
