@@ -25,25 +25,26 @@ _f11fs_paths() {
 # Sets the options of a command, or of the program where COMMAND is empty, and what its words are: _f11fs_of COMMAND
 _f11fs_of() {
     case $1 in
-    '') options='-f --commands -o --backup --break-links -n --force --json --stamp -u -q --keep-going --blocks -h --help -V --version' takes='' ;;
-    ls) options='-l -R -i --json -u -q --blocks -h --help' takes='path' ;;
-    find) options='--lost --json -u -q --blocks -h --help' takes='path' ;;
-    stat) options='--json -u -q --blocks -h --help' takes='path' ;;
-    cat) options='-t -b --raw -u -q --blocks -h --help' takes='path' ;;
-    get) options='-t -b --raw -o -n --force --json -u -q --blocks -h --help' takes='path host' ;;
-    df) options='--json -q --blocks -h --help' takes='' ;;
-    du) options='--top --json -q --blocks -h --help' takes='' ;;
-    check) options='--all --json -q --blocks -h --help' takes='' ;;
-    rescue) options='--text -n --json -q --blocks -h --help' takes='folder' ;;
-    cmp) options='--all --json -u -q --blocks -h --help' takes='host' ;;
-    put) options='-t -b --form --like --replace --owner -o --backup --break-links -n --force --json --stamp -u -q --blocks -h --help' takes='host path' ;;
-    cp) options='-o --backup --break-links -n --force --json --stamp -u -q --blocks -h --help' takes='path' ;;
-    mv) options='-o --backup --break-links -n --force --json -u -q --blocks -h --help' takes='path' ;;
-    rm) options='--entry --newest -o --backup --break-links -n --force --json -u -q --blocks -h --help' takes='path' ;;
-    mkdir) options='--names --owner -o --backup --break-links -n --force --json --stamp -u -q --blocks -h --help' takes='path' ;;
-    rmdir) options='-o --backup --break-links -n --force --json -u -q --blocks -h --help' takes='path' ;;
-    truncate) options='-o --backup --break-links -n --force --json -u -q --blocks -h --help' takes='path' ;;
-    init) options='--files --label -n --json --stamp -u -h --help' takes='size' ;;
+    '') options='-f --commands -o --backup --break-links -n --force --json --stamp -u -q --keep-going --blocks --order -h --help -V --version' takes='' ;;
+    ls) options='-l -R -i --json -u -q --blocks --order -h --help' takes='path' ;;
+    find) options='--lost --deleted -l --json -u -q --blocks --order -h --help' takes='path' ;;
+    stat) options='--json -u -q --blocks --order -h --help' takes='path' ;;
+    cat) options='-t -b --raw -u -q --blocks --order -h --help' takes='path' ;;
+    get) options='-t -b --raw -o -n --force --json -u -q --blocks --order -h --help' takes='path host' ;;
+    df) options='--json -q --blocks --order -h --help' takes='' ;;
+    info) options='--json -q --blocks --order -h --help' takes='' ;;
+    du) options='--top --json -q --blocks --order -h --help' takes='' ;;
+    check) options='--all --json -q --blocks --order -h --help' takes='' ;;
+    rescue) options='--text --scan --partial -n --json -q --blocks --order -h --help' takes='folder' ;;
+    cmp) options='--all --json -u -q --blocks --order -h --help' takes='host' ;;
+    put) options='-t -b --form --like --replace --owner -o --backup --break-links -n --force --json --stamp -u -q --blocks --order -h --help' takes='host path' ;;
+    cp) options='-o --backup --break-links -n --force --json --stamp -u -q --blocks --order -h --help' takes='path' ;;
+    mv) options='-o --backup --break-links -n --force --json -u -q --blocks --order -h --help' takes='path' ;;
+    rm) options='--entry --newest -o --backup --break-links -n --force --json -u -q --blocks --order -h --help' takes='path' ;;
+    mkdir) options='--names --owner -o --backup --break-links -n --force --json --stamp -u -q --blocks --order -h --help' takes='path' ;;
+    rmdir) options='-o --backup --break-links -n --force --json -u -q --blocks --order -h --help' takes='path' ;;
+    truncate) options='-o --backup --break-links -n --force --json -u -q --blocks --order -h --help' takes='path' ;;
+    init) options='--files --label -n --json --stamp -u --order -h --help' takes='size' ;;
     *) options='' takes='' ;;
     esac
 }
@@ -52,7 +53,7 @@ _f11fs_of() {
 _f11fs_value() {
     case $1 in
     -f | --commands | -o) kind=host ;;
-    --stamp | -u | --blocks | --top | --form | --owner | --names | --files | --label) kind=none ;;
+    --stamp | -u | --blocks | --order | --top | --form | --owner | --names | --files | --label) kind=none ;;
     --like) kind=path ;;
     *) return 1 ;;
     esac
@@ -92,7 +93,7 @@ _f11fs() {
     elif [[ -z $image ]]; then
         takes=host
     elif [[ -z $command ]]; then
-        mapfile -t COMPREPLY < <(compgen -W 'ls find stat cat get df du check rescue cmp put cp mv rm mkdir rmdir truncate init' -- "$cur")
+        mapfile -t COMPREPLY < <(compgen -W 'ls find stat cat get df info du check rescue cmp put cp mv rm mkdir rmdir truncate init' -- "$cur")
         return
     fi
     for one in $takes; do

@@ -29,7 +29,7 @@ IsTold D facts E others None =
 IsTold D facts E others (Some word) =
     ((word ≡ codes "attributes differ") × (facts.attributes ≢ others.attributes))
     ⊎ (((word ≡ codes "bytes differ") × ((facts.attributes ≡ others.attributes) × HaveBytes D facts E others (λ x y. x ≢ y)))
-    ⊎ ((word ≡ codes "only one has bytes") × (facts.attributes ≡ others.attributes)))
+    ⊎ ((word ≡ codes "not both have bytes") × (facts.attributes ≡ others.attributes)))
 
 -- these are the facts of the file with this ID
 abbrev pub AreOf : Disk → FileId → Facts → Type 0

@@ -381,6 +381,6 @@ fn difference<'a>(
         Ok(true) => Ok(None),
         Ok(false) => Ok(Some("bytes differ")),
         Err(FormFault::NoMemory) => Err(Stop::NoMemory),
-        Err(_) => Ok(Some("only one has bytes")),
+        Err(_) => Ok(Some("not both have bytes")),
     }
 }

@@ -6,6 +6,7 @@ use ods_base::{Image, WriteFault};
 use ods_files::{CopyFault, FileBody, FileFault, Form};
 use ods_header::find_home;
 use ods_mount::mount;
+use ods_shell::{Wanted, contents_of_blocks};
 use ods_space::{ChainFault, Disk, Layout};
 use std::alloc::Global;
 use std::io;
@@ -208,5 +209,24 @@ fn of_a_refused_image(rt: HostRuntime) -> Result<(), Fail> {
         let none = FileBody::open(alloc, &disk, number).err();
         assert!(rt; none == Some(FileFault::NoSuchFile));
     }
+    Ok(())
+}
+
+/// Blocks that no header of the image names have the bytes that their attributes say, with zeros for one past the image.
+#[test]
+fn of_blocks_alone(rt: HostRuntime) -> Result<(), Fail> {
+    let alloc = rt.alloc();
+    let image = three_blocks(alloc, [0; 32], 7)?;
+    let mut lbns = Vec::new(alloc);
+    lbns.extend_from_slice(&[25, 40, 30])?;
+    let got = contents_of_blocks(alloc, &image, lbns, attributes(1, 3, 1), Wanted::Binary)
+        .ok()
+        .ok_or("contents")?;
+    let mut out = taking(alloc, 512, 10_000);
+    assert!(rt; got.contents.write_to(&mut out).is_ok() && got.remark.is_none());
+    let mut wanted = old_but(alloc, 512, &[(0, b'b'), (3, b'z')])?;
+    wanted.extend_from_slice(&[0; 512])?;
+    wanted.push(b'a')?;
+    assert!(rt; out.bytes == wanted);
     Ok(())
 }
