@@ -1,4 +1,4 @@
-use denote.Enum.Bare.{same_false}
+use denote.Enum.Bare.{same_false, same_true}
 use Rattle.std.proofs.Common.{◌≢◌, refl, sym, subst}
 use Rattle.std.specs.Prelude.{IfSome}
 use Rattle.ods_shell.specs.contracts.facts.Kind.{the_type}
@@ -18,3 +18,6 @@ returns-in_default c = (
     ],
   ),
 )
+
+pub returns-in-Some : goal.returns-in-Some
+returns-in-Some c = (c.whole.ensures, (c.in-Some.facts, c.in-Some.ensures.0, c.in-Some.ensures.1, same_true the_type tt _ _ (sym c.if-eq.ensures)))
