@@ -10,7 +10,6 @@ pub mod Volumes
 pub mod Written
 pub mod Named
 pub mod Paths
-pub mod Readable
 pub mod Host
 pub mod Folders
 pub mod Gets

@@ -1,8 +1,6 @@
-//! The commands that read a volume, sound or not, and leave it as it is; and `df`, which wants a sound one.
+//! The commands that read a sound volume and leave it as it is.
 ghost use Rattle.std.specs.Prelude.{string_bytes};
 ghost use Rattle.fs_reads.specs.Shown.{Extends};
-ghost use Rattle.ods_space.specs.Files.{IsLayoutOf};
-ghost use Rattle.ods_space.specs.Disks.{on};
 
 use crate::comparing::compare_all;
 use crate::deleted::push_deleted;
@@ -16,8 +14,7 @@ use crate::stop::{Stop, send, stop_at_own_output};
 use fs_words::{Action, Words};
 use ods_mount::Mounted;
 use ods_shell::{Columns, Status, space_lines, space_object, space_of};
-use ods_space::Disk;
-use std::alloc::Global;
+use std::alloc::{AllocError, Global};
 use std::fs::File;
 use std::rt::Files;
 use std::time::Clock;
@@ -26,20 +23,18 @@ use std::time::Clock;
 /// No clause covers what it prints and writes; `tests/fs` checks that on the built program.
 pub fn obey<'a, R: Files<File = File> + Clock + AllocGlobal + Print + Eprint>(
     rt: &R,
-    disk: &Disk<'_>,
+    volume: &Mounted,
     words: &Words<'a>,
     progress: &mut Progress,
-) -> Result<Status, Stop<'a>>
-    requires { on IsLayoutOf disk.now }
-{
+) -> Result<Status, Stop<'a>> {
     stop_at_own_output(rt, words.image)?;
     match words.action {
-        Action::Cat(wanted) => cat(rt, disk, words, wanted),
-        Action::Get { wanted, target } => get(rt, disk, words, target, wanted, progress),
-        Action::Cmp { all } => compare_all(rt, disk, words, all, progress),
+        Action::Cat(wanted) => cat(rt, volume, words, wanted),
+        Action::Get { wanted, target } => get(rt, volume, words, target, wanted, progress),
+        Action::Cmp { all } => compare_all(rt, volume, words, all, progress),
         _ => {
             let mut text = String::new(rt.alloc());
-            let done = push_shown(rt.alloc(), disk, words, &mut text);
+            let done = push_shown(rt.alloc(), volume, words, &mut text);
             send(rt, text.as_str())?;
             done?;
             Ok(Status::Done)
@@ -51,11 +46,10 @@ pub fn obey<'a, R: Files<File = File> + Clock + AllocGlobal + Print + Eprint>(
 #[tactic(auto, using(crate::proofs::Growing::extends_pushed, crate::proofs::Growing::extends_on, crate::proofs::Growing::extends_same))]
 fn push_shown<'a>(
     alloc: Global,
-    disk: &Disk<'_>,
+    volume: &Mounted,
     words: &Words<'a>,
     text: &mut String,
 ) -> Result<(), Stop<'a>>
-    requires { on IsLayoutOf disk.now }
     ensures { Extends (string_bytes text.old) (string_bytes text.new) }
 {
     match words.action {
@@ -66,23 +60,23 @@ fn push_shown<'a>(
                 headings: below,
                 empty: false,
             };
-            push_listings(alloc, disk, words, columns, below, text)
+            push_listings(alloc, volume, words, columns, below, text)
         }
         Action::Find {
             lost: _,
             deleted: true,
             long,
-        } => push_deleted(alloc, disk, words, long, text),
+        } => push_deleted(alloc, volume, words, long, text),
         Action::Find {
             lost,
             deleted: false,
             long: _,
-        } => push_paths(alloc, disk, words, lost, text),
-        Action::Stat => push_stats(alloc, disk, words, text),
-        Action::Du { top } => Ok(push_usage(alloc, disk, top, words.json, text)?),
-        // These write as they go on, want a sound volume, or have no volume that is there and stays.
+        } => push_paths(alloc, volume, words, lost, text),
+        Action::Stat => push_stats(alloc, volume, words, text),
+        Action::Df => Ok(push_space(alloc, volume, words.json, text)?),
+        Action::Du { top } => Ok(push_usage(alloc, volume, top, words.json, text)?),
+        // These write as they go on, or have no volume that is there and stays.
         Action::Cat(_)
-        | Action::Df
         | Action::Get { .. }
         | Action::Cmp { .. }
         | Action::Info
@@ -94,19 +88,21 @@ fn push_shown<'a>(
     }
 }
 
-/// `df`: how much of a sound volume is used.
-/// No clause covers what it prints; `tests/fs` checks that on the built program.
-pub fn show_space<'a, R: Files<File = File> + AllocGlobal + Print>(
-    rt: &R,
+/// Appends what `df` shows.
+#[tactic(auto, using(crate::proofs::Growing::extends_pushed, crate::proofs::Growing::extends_on, crate::proofs::Growing::extends_same))]
+fn push_space(
+    alloc: Global,
     volume: &Mounted,
-    words: &Words<'a>,
-) -> Result<Status, Stop<'a>> {
-    stop_at_own_output(rt, words.image)?;
+    json: bool,
+    text: &mut String,
+) -> Result<(), AllocError>
+    ensures { Extends (string_bytes text.old) (string_bytes text.new) }
+{
     let space = space_of(volume);
-    let lines = if words.json {
-        space_object(rt.alloc(), &space)?
+    let lines = if json {
+        space_object(alloc, &space)?
     } else {
-        space_lines(rt.alloc(), &space)?
+        space_lines(alloc, &space)?
     };
-    send(rt, lines.as_str())
+    text.push_str(lines.as_str())
 }
