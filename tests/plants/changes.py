@@ -61,7 +61,7 @@ faults("a read that ends at one byte", "disk cmp disk",
         """if [ -n "${SHORT-}" ] && [ "$FAIL" -gt 0 ]; then edited 's/^/x/' "$@"; echo other; else run "$@"; fi""",
         r"FAILED disk cmp disk: short \w+ \d+, call \d+: ")
 faults("calls that are not met", "disk cmp disk", """MY_PRELOAD= run "$@" """,
-        r"FAILED disk cmp disk: 0 0 calls were met, and 15 4 are expected")
+        r"FAILED disk cmp disk: 0 0 calls were met, and 19 4 are expected")
 faults("a byte that was turned and is not seen", "-o new disk mkdir NEW", """if [ -n "${TURN-}" ] && [ "$FAIL" -eq 1 ]; then
     run "$@" 2>/dev/null
     MY_PRELOAD= run "$@"
