@@ -1,8 +1,10 @@
-//! Tests that are run and not proved: of the formats, of text files as records, of mounted images and the program's engine, of requests
+//! Tests that are run and not proved: of the formats, of archives, of text files as records, of mounted images and the program's engine, of requests
 //! on a volume, and of sessions. What they share stands beside them: the volumes that they are made on, the users, files and names that
 //! they ask about, and a plain, slow reader.
 #![tactic(auto)]
 
+#[cfg(test)]
+mod archives;
 pub mod contiguous;
 pub mod dice;
 #[cfg(test)]

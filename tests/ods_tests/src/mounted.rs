@@ -1,5 +1,6 @@
 //! Mounts, looks and drafts of changes, and the engine of the program with its words, one idea a file.
 mod all_faults;
+mod amends;
 mod ample;
 mod bodies;
 mod broken;

@@ -1,0 +1,120 @@
+-- A file of a sound volume gets another owner or another protection: what the blocks are then, and what they show.
+use Rattle.std.proofs.Common.{◌≡◌, ◌≢◌, ℕ, ◌<◌, true, refl, ap, sym, ◌∙◌, subst, List, [], ◌∷◌, length, Option, Some, arith}
+use Rattle.std.specs.Prelude.{MatchOption, slice_set, unwrap_or}
+use Rattle.std.proofs.lemmas.List.{length-set, get_or-set_other}
+use Rattle.ods_base.specs.declared.file_id.FileId.{FileId}
+use Rattle.ods_base.specs.declared.file_id.Uic.{Uic}
+use Rattle.ods_header.specs.Header.{attributes_of, is_directory_header, sequence_of}
+use Rattle.ods_space.specs.Draft.{Changes, applied}
+use Rattle.ods_space.specs.Layout.{Disk, VolumeLayout, header_at, place_of, with_places}
+use Rattle.ods_space.specs.Files.{HasBlocks}
+use Rattle.ods_directory.specs.Mark.{mark_in}
+use Rattle.ods_directory.specs.Names.{IsDirectory}
+use Rattle.ods_mount.specs.Faults.{contents_of}
+use Rattle.ods_mount.specs.Sound.{IsSoundBy}
+use Rattle.ods_request.specs.declared.refusals.Refusal.{Refusal}
+use Rattle.ods_request.specs.declared.refusals.Refusal.TheVariants as refusal
+use Rattle.ods_request.specs.Catalogue.{Catalogue}
+use Rattle.ods_request.specs.Steps.{file_at, no_file}
+use Rattle.ods_state.specs.Contents.{file_of, IsFileIn, ShowsBy}
+use Rattle.ods_state.specs.Links.{SameLinks}
+use Rattle.ods_state.specs.Version.{PastIsSpent}
+use Rattle.ods_space.proofs.Drafts.{applied_set}
+use Rattle.ods_state.proofs.GrownMoves.{no_places}
+use Rattle.ods_state.proofs.HeaderChange as change
+use Rattle.ods_state.proofs.HeaderShown.{header_is_shown}
+use Rattle.ods_state.proofs.OneHeader.{header_here}
+use Rattle.ods_state.proofs.OtherFront.{links_turned}
+use Rattle.ods_look.proofs.FilesFound.{found_there}
+use Rattle.ods_amend.specs.Access.{Gives, IsGiven, IsNotGiven, IsWithAccess, MayBeGiven, put_access, with_access}
+use Rattle.ods_amend.proofs.OtherAccess.{attributes_kept, file_given, kind_kept, links_alike, stays_valid}
+
+module _ {I : List (List ℕ)} {L : VolumeLayout} (S : IsSoundBy I L) {who : Uic} {id : FileId} (m : MayBeGiven I L who id) {owner : Option Uic} {protection : Option ℕ}
+    (x : ℕ) (b : List ℕ) (place : place_of L id.number ≡ Some x) (w : IsWithAccess (header_at I L id.number) owner protection b) where
+  abbrev n : ℕ
+  n = id.number
+
+  abbrev old : List ℕ
+  old = header_at I L n
+
+  abbrev J : List (List ℕ)
+  J = slice_set I x b
+
+  to : SameLinks old b n
+  to = links_alike w n m.file.0.valid
+
+  back : SameLinks b old n
+  back = links_turned m.file.0.valid to
+
+  header_is : header_at J L n ≡ b
+  header_is = header_here I L S n x b place
+
+  whole : (blocks : List ℕ) × HasBlocks I L n blocks
+  whole = S.chains n m.file.0
+
+  not_index : n ≢ 1
+  not_index e = let high : 5 < n = m.number in absurd (omega arith)
+
+  -- a directory has the names that it had
+  still_directory : is_directory_header n b ≡ true → (blocks : List ℕ) → HasBlocks I L n blocks → IsDirectory (contents_of I blocks) (mark_in (attributes_of b) (length blocks))
+  still_directory says blocks held =
+      subst (λ a. IsDirectory (contents_of I blocks) (mark_in a (length blocks))) (sym (attributes_kept w n m.file.0.valid))
+      (S.directories n blocks (m.file.0, sym (kind_kept w n m.file.0.valid) ∙ says) held)
+
+  module _ (C : Catalogue) (shown : ShowsBy I L C) where
+    there : file_at C id ≡ file_of n old (contents_of I whole.0)
+    there = ap (λ f. unwrap_or f no_file) (found_there shown id m.file whole)
+
+    here : IsFileIn J L id (with_access (file_at C id) owner protection)
+    here = record {
+      blocks = whole.0;
+      held = change.has_blocks I L S n x b place to back n whole.0 whole.1;
+      sequence = ap sequence_of header_is ∙ to.sequence ∙ m.file.1;
+      shown = (λ i. file_of n (header_is i) (change.contents_stay I L S n x b place n whole.0 whole.1 not_index i))
+          ∙ file_given w n m.file.0.valid (contents_of I whole.0) ∙ ap (λ f. with_access f owner protection) (sym there);
+    }
+
+    given_shown : ShowsBy J L (put_access C id owner protection)
+    given_shown = header_is_shown I L S id x b place to back m.file.1 C (with_access (file_at C id) owner protection) shown here
+
+  still_spent : (C : Catalogue) → PastIsSpent I L C → PastIsSpent J L C
+  still_spent C spent q known = let s = spent q known in let t = change.sequences_stay I L S n x b place to back q.number in omega arith
+
+  pub is_given : IsGiven I L who id owner protection J
+  is_given = record {
+    allowed = m.allowed;
+    sound = change.header_is_sound I L S n x b place to back (stays_valid w n m.file.0.valid).format still_directory;
+    shown = given_shown;
+    past = still_spent;
+    moves = change.nothing_moves I L S n x b place to back;
+    long = length-set I x b;
+    header = subst (IsWithAccess old owner protection) (sym header_is) w;
+    elsewhere = λ y other. get_or-set_other I x y b [] (λ e. other (place ∙ ap Some (sym e)));
+  }
+
+-- the draft of that one block makes it
+pub draft_gives : {I : List (List ℕ)} {L : VolumeLayout} {who : Uic} {id : FileId} {owner : Option Uic} {protection : Option ℕ} {d : Changes} → IsSoundBy I L → MayBeGiven I L who id
+    → (x : ℕ) (b : List ℕ) → place_of L id.number ≡ Some x → IsWithAccess (header_at I L id.number) owner protection b → d ≡ (x, b) ∷ [] → IsGiven I L who id owner protection (applied I d)
+draft_gives {I = I} {L = L} {who = who} {id = id} {owner = owner} {protection = protection} S m x b place w is =
+    subst (IsGiven I L who id owner protection) (applied_set I x b ∙ ap (applied I) (sym is)) (is_given S m x b place w)
+
+-- and the volume that comes of it, whose blocks and layout were lent
+pub volume_gives : {I : List (List ℕ)} {L : VolumeLayout} {D E : Disk} {who : Uic} {id : FileId} {owner : Option Uic} {protection : Option ℕ} (d : Changes)
+    → record { image = I; layout = L } ≡ D → IsGiven I L who id owner protection (applied I d)
+    → E ≡ record { image = applied D.image d; layout = with_places D.layout [] } → Gives D who id owner protection E
+volume_gives {D = D} {who = who} {id = id} {owner = owner} {protection = protection} d lent g is =
+    let here : IsGiven D.image D.layout who id owner protection (applied D.image d) = subst (λ (F : Disk). IsGiven F.image F.layout who id owner protection (applied F.image d)) lent g in
+    (subst (IsGiven D.image D.layout who id owner protection) (sym (ap (λ (F : Disk). F.image) is)) here, ap (λ (F : Disk). F.layout) is ∙ no_places D.layout [] refl)
+
+-- the volume that comes of it is sound
+pub lent_sound : {I : List (List ℕ)} {L : VolumeLayout} {D : Disk} (d : Changes) → record { image = I; layout = L } ≡ D → IsSoundBy (applied I d) L → IsSoundBy (applied D.image d) (with_places D.layout [])
+lent_sound {D = D} d lent sound =
+    subst (IsSoundBy (applied D.image d)) (sym (no_places D.layout [] refl)) (subst (λ (F : Disk). IsSoundBy (applied F.image d) F.layout) lent sound)
+
+-- why it was refused
+pub lent_refuses : {I : List (List ℕ)} {L : VolumeLayout} {D : Disk} (who : Uic) (id : FileId) (f : Refusal) → record { image = I; layout = L } ≡ D → IsNotGiven I L who id f → IsNotGiven D.image D.layout who id f
+lent_refuses who id f lent why = subst (λ (F : Disk). IsNotGiven F.image F.layout who id f) lent why
+
+-- where there is no fault, want of memory is why it is refused
+pub memory_refuses : {I : List (List ℕ)} {L : VolumeLayout} {who : Uic} {id : FileId} → MayBeGiven I L who id → IsNotGiven I L who id refusal.NoMemory
+memory_refuses m = λ C shown. subst (λ o. MatchOption o (refusal.NoMemory ≡ refusal.NoMemory) (λ g. refusal.NoMemory ≡ g)) (sym (m.allowed C shown)) refl

@@ -1,0 +1,6 @@
+pub mod AccessSet
+pub mod AccessChecked
+pub mod OtherAccess
+pub mod GivenAccess
+pub mod LabelSet
+pub mod LabelSound

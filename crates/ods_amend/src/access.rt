@@ -1,0 +1,96 @@
+//! Another owner or another protection of a file of a sound volume.
+ghost use Rattle.std.specs.Prelude.{◌≡◌, Some, None, MatchResult};
+ghost use Rattle.ods_mount.specs.Sound.{IsSoundBy};
+ghost use Rattle.ods_space.specs.{Disks.on, Draft.applied};
+ghost use Rattle.ods_amend.specs.Access.{Gives, IsGiven, IsNotGiven};
+
+use crate::header::with_access;
+use crate::opening::open_to_give;
+use ods_base::{FileId, Uic};
+use ods_mount::Mounted;
+use ods_request::Refusal;
+use ods_space::{Disk, Draft};
+use std::alloc::Global;
+
+/// The draft that gives a file this owner and this protection, each where it is given; or why that is refused.
+fn draft_access(
+    alloc: Global,
+    disk: &Disk<'_>,
+    who: Uic,
+    file: FileId,
+    owner: Option<Uic>,
+    protection: Option<u16>,
+) -> Result<Draft, Refusal>
+    requires { on IsSoundBy disk.now }
+    ensures { MatchResult result
+        (λ draft. on IsGiven disk.now who file owner protection (applied disk.now.image.now draft))
+        (on IsNotGiven disk.now who file) }
+{
+    let first = match open_to_give(disk, who, file) {
+        Ok(first) => first,
+        Err(refusal) => return Err(refusal),
+    };
+    let header = with_access(first, owner, protection);
+    let lbn = disk.layout.place(file.number).unwrap();
+    let mut draft = Draft::new(alloc);
+    match draft.set(lbn, header) {
+        Ok(()) => Ok(draft),
+        Err(_) => Err(Refusal::NoMemory),
+    }
+}
+
+/// Gives a file this owner and this protection, each where it is given. Refused, it changes nothing.
+fn set_access(
+    volume: &mut Mounted,
+    alloc: Global,
+    who: Uic,
+    file: FileId,
+    owner: Option<Uic>,
+    protection: Option<u16>,
+) -> Result<(), Refusal>
+    ensures { MatchResult result
+        (λ _. Gives volume.old who file owner protection volume.new)
+        (λ f. IsNotGiven volume.old.image volume.old.layout who file f × (volume.new ≡ volume.old)) }
+{
+    match draft_access(alloc, &volume.disk(), who, file, owner, protection) {
+        Ok(draft) => {
+            volume.apply(draft, &[]);
+            Ok(())
+        }
+        Err(refusal) => Err(refusal),
+    }
+}
+
+/// Gives a file another protection word, H.FPRO of its first header: four bits for each class of users, where a set bit denies. Its sum is
+/// made anew; every other byte of the volume stays, those of extension headers too. A system user, whose group is at most 10
+/// octal, and the file's owner may. Refused in this order: NoSuchFile; Reserved for the files 1 to 5; Denied; and NoMemory. Refused, it
+/// changes nothing.
+pub fn set_protection(
+    volume: &mut Mounted,
+    alloc: Global,
+    who: Uic,
+    file: FileId,
+    protection: u16,
+) -> Result<(), Refusal>
+    ensures { MatchResult result
+        (λ _. Gives volume.old who file None (Some protection) volume.new)
+        (λ f. IsNotGiven volume.old.image volume.old.layout who file f × (volume.new ≡ volume.old)) }
+{
+    set_access(volume, alloc, who, file, None, Some(protection))
+}
+
+/// Gives a file to another owner, H.FOWN of its first header. Its sum is made anew; every other byte of the volume stays. Who may, and what
+/// is refused, is as of `set_protection`.
+pub fn set_owner(
+    volume: &mut Mounted,
+    alloc: Global,
+    who: Uic,
+    file: FileId,
+    owner: Uic,
+) -> Result<(), Refusal>
+    ensures { MatchResult result
+        (λ _. Gives volume.old who file (Some owner) None volume.new)
+        (λ f. IsNotGiven volume.old.image volume.old.layout who file f × (volume.new ≡ volume.old)) }
+{
+    set_access(volume, alloc, who, file, Some(owner), None)
+}

@@ -1,0 +1,40 @@
+//! Header blocks with another owner or another protection, and sums made anew.
+ghost use Rattle.std.specs.Prelude.{◌≡◌, ◌<◌, ◌/◌, ◌%◌, [], ◌∷◌};
+ghost use Rattle.ods_base.specs.Block.{IsBlock, sum_of, with_word};
+ghost use Rattle.ods_amend.specs.Access.{IsWithAccess};
+
+use ods_base::{Block, Uic, set_word, sum};
+use ods_header::{owner, protection};
+
+/// Makes word `place` the sum of the words before it. Every other byte stays.
+pub(crate) fn renew_sum(block: &mut Block, place: usize)
+    requires { place < 256 }
+    ensures changed { block.new ≡ with_word block.old place (sum_of block.old place) }
+    ensures stays { IsBlock block.new }
+{
+    let total = sum(block, place);
+    set_word(block, place, total);
+}
+
+/// Bytes 8 to 11 of a header, H.FOWN and H.FPRO.
+fn access_bytes(owner: Uic, protection: u16) -> [u8; 4]
+    ensures { result ≡ owner.member ∷ owner.group ∷ (protection % 256) ∷ (protection / 256) ∷ [] }
+{
+    let protection = protection.to_le_bytes();
+    [owner.member, owner.group, protection[0], protection[1]]
+}
+
+/// The block of a header with this owner, H.FOWN, and this protection word, H.FPRO, each where it is given, and with its
+/// sum made anew. Every other byte stays.
+pub(crate) fn with_access(block: &Block, user: Option<Uic>, word: Option<u16>) -> Block
+    ensures { IsWithAccess block.now user word result }
+{
+    let _ = block.bytes();
+    let new_owner = user.unwrap_or(owner(block));
+    let new_protection = word.unwrap_or(protection(block));
+    let bytes = access_bytes(new_owner, new_protection);
+    let mut changed = *block;
+    changed.set_bytes(8, &bytes);
+    renew_sum(&mut changed, 255);
+    changed
+}
