@@ -1,5 +1,5 @@
 -- Why mkdir makes no directory, and what it leaves then.
-use Rattle.std.proofs.Common.{◌≡◌, ◌≢◌, ◌<◌, ◌∙◌, refl, subst, inl, inr, ℕ, List, [], ◌∷◌, ◌++◌, Option, Some, None, arith}
+use Rattle.std.proofs.Common.{◌≡◌, ◌≢◌, ◌<◌, ◌↔◌, ◌∙◌, ap, codes, false, true, IsTrue, refl, subst, inl, inr, ℕ, List, [], ◌∷◌, ◌++◌, Option, Some, None, arith}
 use Rattle.std.specs.Borrow.{Bor}
 use Rattle.std.specs.List.{All, Contains}
 use Rattle.std.proofs.lemmas.List.Elements.{All-head}
@@ -10,6 +10,7 @@ use Rattle.ods_space.specs.Layout.{VolumeLayout}
 use Rattle.ods_request.specs.declared.answers.Answer.TheVariants.{Created}
 use Rattle.ods_request.specs.declared.requests.Request.TheVariants.{Create, Enter}
 use Rattle.ods_paths.specs.Paths.{Folder}
+use Rattle.ods_paths.specs.Patterns.{capitals}
 use Rattle.ods_paths.specs.declared.versions.Versions.TheVariants.{Every}
 use Rattle.ods_filing.specs.Filed.{Filed, for_another, IsDone}
 use Rattle.ods_shell.specs.declared.folders.Directory.{Directory}
@@ -22,7 +23,7 @@ use Rattle.ods_upkeep.specs.declared.failure.Failure.{Failure}
 use Rattle.ods_upkeep.specs.declared.failure.Why.{Why}
 use Rattle.ods_upkeep.specs.Made.{AreMade, IsNewPlace, IsOwner, blocks_for, directories_named}
 use Rattle.ods_upkeep.specs.Refused.{HasPath, IsNotDone, IsRefusedBy, for_fault, no_memory}
-use Rattle.ods_upkeep.specs.Unmade.{AreNotMade, IsNotMade, IsThere}
+use Rattle.ods_upkeep.specs.Unmade.{AreNotMade, IsMasters, IsNotMade, IsThere}
 
 -- no directories are met that are closed, where none is closed
 pub none_met : (met : List Directory) → AreMet [] [] met → met ≡ []
@@ -36,6 +37,10 @@ none_met met (more, same, closed) = same ∙ none more closed
 pub there : (I : List (List ℕ)) (L : VolumeLayout) (up : Folder) (name : List ℕ) (found : List Found) → found ≢ [] → AreNamed I L [] up (directories_named name Every) None found → IsThere I L up name
 there I L up name [] some are = absurd (some refl)
 there I L up name (one ∷ more) some are = (one, (more, are))
+
+-- the name is not that of the master directory in itself
+pub not_masters : (dir : FileId) (name read : List ℕ) → read ≡ name → IsTrue false ↔ ((dir.number ≡ 4) × (capitals read ≡ codes "000000")) → ¬ IsMasters dir (capitals name)
+not_masters dir name read is other = λ both. (let clash : false ≡ true = other.1 (both.0, ap capitals is ∙ both.1) in absurd (cc))
 
 -- but for nothing to be found, want of memory is the one reason
 pub other_fault : (I : List (List ℕ)) (L : VolumeLayout) (up : Folder) (name : List ℕ) (why : PathFault) → AreNotNamed I L up (directories_named name Every) None why → why ≢ fault.Nothing → for_fault why ≡ no_memory

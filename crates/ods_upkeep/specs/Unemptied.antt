@@ -1,7 +1,7 @@
 -- Why rmdir does not remove a directory, and what it leaves then.
-use Rattle.std.specs.Prelude.{◌≡◌, ◌≢◌, ◌⊎◌, ◌≤◌, ℕ, false, List, [], ◌∷◌, Some, None}
+use Rattle.std.specs.Prelude.{◌≡◌, ◌≢◌, ◌⊎◌, ◌<◌, ◌≤◌, ℕ, false, List, [], ◌∷◌, ◌++◌, Some, None}
 use Rattle.std.specs.Borrow.{Bor}
-use Rattle.std.specs.List.{All, Contains}
+use Rattle.std.specs.List.{All}
 use Rattle.std.specs.String.{string_bytes}
 use Rattle.ods_base.specs.declared.listed.Listed.{Listed}
 use Rattle.ods_space.specs.Layout.{VolumeLayout}
@@ -28,21 +28,28 @@ use Rattle.ods_upkeep.specs.Refused.{HasPath, no_memory}
 use Rattle.ods_upkeep.specs.Removed.{StopsGoing}
 use Rattle.ods_upkeep.specs.Unmeant.{MeansNone}
 
--- why a file is no empty directory that may go: it is no directory, it is one of the volume's own files, 1 to 5, it has entries, or it hides some; or there is no memory to see it
+-- why a directory above the volume's own files may not go: it has entries; it has none, and hides some; or there is no memory to see it
+abbrev pub HasSome : List (List ℕ) → VolumeLayout → ℕ → Why → Type 0
+HasSome I L n why =
+    ((why ≡ Request refusal.NotEmpty) × ((lines : List Listed) × AreLinesOf I L n lines × (lines ≢ [])))
+    ⊎ (((why ≡ Hidden) × AreLinesOf I L n [] × HidesEntries I L n) ⊎ (why ≡ no_memory))
+
+-- why a file is no empty directory that may go, the first of these that holds: it is no directory, it is one of the volume's own files, 1 to 5, or it has entries
 abbrev pub IsNoEmptyFile : List (List ℕ) → VolumeLayout → Facts → Why → Type 0
 IsNoEmptyFile I L facts why =
     ((why ≡ Request refusal.NotADirectory) × ((facts.kind ≢ Directory) ⊎ (¬ IsDirectoryFile I L facts.file.number)))
-    ⊎ (((why ≡ Request refusal.Reserved) × (facts.file.number ≤ 5))
-    ⊎ (((why ≡ Request refusal.NotEmpty) × ((lines : List Listed) × AreLinesOf I L facts.file.number lines × (lines ≢ [])))
-    ⊎ (((why ≡ Hidden) × HidesEntries I L facts.file.number) ⊎ (why ≡ no_memory))))
+    ⊎ ((facts.kind ≡ Directory) × IsDirectoryFile I L facts.file.number
+    × (((why ≡ Request refusal.Reserved) × (facts.file.number ≤ 5)) ⊎ ((5 < facts.file.number) × HasSome I L facts.file.number why)))
 
 -- why an entry names none: it names no file, or one that is none
 abbrev pub IsNotEmpty : List (List ℕ) → VolumeLayout → Found → Why → Type 0
 IsNotEmpty I L found why = ((found.facts ≡ None) × (why ≡ Path fault.NoSuchFile)) ⊎ ((facts : Facts) × (found.facts ≡ Some facts) × IsNoEmptyFile I L facts why)
 
--- one of these is no empty directory, of which the failure tells
+-- the first of these that is no empty directory, of which the failure tells
 abbrev pub IsOneNotEmpty : List (List ℕ) → VolumeLayout → List Found → Failure → Type 0
-IsOneNotEmpty I L all failure = (one : Found) × Contains all one × IsNotEmpty I L one failure.why × HasPath failure (string_bytes one.path)
+IsOneNotEmpty I L all failure =
+    (before : List Found) × (one : Found) × (rest : List Found) × (all ≡ before ++ one ∷ rest) × All (IsEmptyDirectory I L) before
+    × IsNotEmpty I L one failure.why × HasPath failure (string_bytes one.path)
 
 -- why a path means no directories that are there: it means none, they are not there, or there is no memory to find them
 abbrev pub IsNotSought : List (List ℕ) → VolumeLayout → List ℕ → Why → Type 0

@@ -1,5 +1,5 @@
 -- Why mkdir makes no directory, and what it leaves then.
-use Rattle.std.specs.Prelude.{◌≡◌, ◌⊎◌, ℕ, true, List, [], ◌∷◌, codes, Option, Some, None}
+use Rattle.std.specs.Prelude.{◌≡◌, ◌⊎◌, ℕ, false, true, List, [], ◌∷◌, codes, Option, Some, None}
 use Rattle.std.specs.Borrow.{Bor}
 use Rattle.ods_base.specs.Name.{RadName}
 use Rattle.ods_base.specs.declared.file_id.FileId.{FileId}
@@ -28,17 +28,23 @@ use Rattle.ods_upkeep.specs.Unmeant.{MeansNone}
 abbrev pub IsThere : List (List ℕ) → VolumeLayout → Folder → List ℕ → Type 0
 IsThere I L up name = (one : Found) × ((more : List Found) × AreNamed I L [] up (directories_named name Every) None (one ∷ more))
 
--- why a name in this directory is not new: it is the master directory's in itself, it is there, or entries of the directory are hidden; or there is no memory to see it
+-- the name is that of the master directory in itself
+abbrev pub IsMasters : FileId → List ℕ → Type 0
+IsMasters dir name = (dir.number ≡ 4) × (name ≡ codes "000000")
+
+-- why a name in this directory is not new, the first of these that holds: it is the master directory's in itself, it is there, or entries of the directory are hidden; or there is no memory to see it
 abbrev pub IsNotNew : List (List ℕ) → VolumeLayout → Folder → List ℕ → FileId → Why → Type 0
 IsNotNew I L up name dir why =
-    ((why ≡ Request refusal.Reserved) × (dir.number ≡ 4) × (name ≡ codes "000000"))
-    ⊎ (((why ≡ DirectoryThere) × IsThere I L up name) ⊎ (((why ≡ Hidden) × HidesEntries I L dir.number) ⊎ (why ≡ no_memory)))
+    ((why ≡ Request refusal.Reserved) × IsMasters dir name)
+    ⊎ ((¬ IsMasters dir name) × (((why ≡ DirectoryThere) × IsThere I L up name)
+    ⊎ (((why ≡ Hidden) × AreNamed I L [] up (directories_named name Every) None [] × HidesEntries I L dir.number) ⊎ (why ≡ no_memory))))
 
--- why a name, or pattern, in a folder is no new place: it is a pattern, the folder is not one directory, it is no name, or it is not new
+-- why a name, or pattern, in a folder is no new place, the first of these that holds: it is a pattern, the folder is not one directory, it is no name, or it is not new
 abbrev pub IsNoPlace : List (List ℕ) → VolumeLayout → Folder → List ℕ → Why → Type 0
 IsNoPlace I L up name why =
     ((why ≡ Several) × (has_wildcard name ≡ true))
-    ⊎ (IsNoDirectory I L up why ⊎ ((dir : FileId) × IsTheDirectory I L up dir × (IsNoName name (codes "DIR") why ⊎ IsNotNew I L up name dir why)))
+    ⊎ ((has_wildcard name ≡ false)
+    × (IsNoDirectory I L up why ⊎ ((dir : FileId) × IsTheDirectory I L up dir × (IsNoName name (codes "DIR") why ⊎ IsNotNew I L up name dir why))))
 
 -- why a path means no new place: it means no directory, or one that is no new place
 abbrev pub IsNoNewPlace : List (List ℕ) → VolumeLayout → List ℕ → Why → Type 0

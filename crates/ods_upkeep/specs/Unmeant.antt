@@ -1,5 +1,5 @@
 -- Why a path of mkdir or rmdir means no directory.
-use Rattle.std.specs.Prelude.{◌≡◌, ◌⊎◌, ℕ, true, List, [], Some, None}
+use Rattle.std.specs.Prelude.{◌≡◌, ◌≢◌, ◌⊎◌, ℕ, false, true, List, [], Some, None}
 use Rattle.ods_request.specs.declared.refusals.Refusal.TheVariants as refusal
 use Rattle.ods_paths.specs.Bad.{IsBad}
 use Rattle.ods_paths.specs.declared.bad.BadPath.{BadPath}
@@ -11,25 +11,27 @@ use Rattle.ods_upkeep.specs.Meant.{MayBeFirst, meant_text}
 use Rattle.ods_upkeep.specs.Refused.{no_memory}
 use Rattle.ods_upkeep.specs.Target.{MayBeDirectory}
 
--- why a place is not one name in another: it is the master directory, which stays; or `*` means several
+-- Why a place is not one name in another: it is the master directory, which stays, or `*` means several. Where it is one, there is no memory for the name.
 abbrev pub IsNoOnePlace : Place → Why → Type 0
 IsNoOnePlace Master why = why ≡ Request refusal.Reserved
 IsNoOnePlace (Numbered None member) why = why ≡ Several
 IsNoOnePlace (Numbered (Some group) None) why = why ≡ Several
-IsNoOnePlace (Numbered (Some group) (Some member)) why = ⊥
-IsNoOnePlace (Named steps) why = ⊥
+IsNoOnePlace (Numbered (Some group) (Some member)) why = why ≡ no_memory
+IsNoOnePlace (Named steps) why = why ≡ no_memory
 
--- why a folder by itself means no directory: all below it belong to it, its place is not one name in another, or there is no memory for the name
+-- why a folder by itself means no directory: all below it belong to it; and else its place is not one name in another
 abbrev pub IsNoOneFolder : Folder → Why → Type 0
-IsNoOneFolder folder why = ((folder.below ≡ true) × (why ≡ Several)) ⊎ (IsNoOnePlace folder.place why ⊎ (why ≡ no_memory))
+IsNoOneFolder folder why = ((folder.below ≡ true) × (why ≡ Several)) ⊎ ((folder.below ≡ false) × IsNoOnePlace folder.place why)
 
--- why files of any type name no directory: there is no name, another version is said than the first, or there is no memory for the name
+-- why files of any type name no directory, the first of these that holds: another version is said than the first, there is no name, there is no memory for the name
 abbrev pub AreUnfit : Files → Why → Type 0
-AreUnfit files why = ((why ≡ BadName) × (files.name ≡ [])) ⊎ (((why ≡ Several) × (¬ MayBeFirst files.versions)) ⊎ (why ≡ no_memory))
+AreUnfit files why =
+    ((why ≡ Several) × (¬ MayBeFirst files.versions))
+    ⊎ (MayBeFirst files.versions × (((why ≡ BadName) × (files.name ≡ [])) ⊎ ((why ≡ no_memory) × (files.name ≢ []))))
 
--- why files of a path name no directory: the type is another, or they are unfit
+-- why files of a path name no directory: the type is another; and else they are unfit
 abbrev pub AreNoDirectory : List ℕ → Files → Why → Type 0
-AreNoDirectory text files why = ((why ≡ BadName) × (¬ MayBeDirectory text files.kind)) ⊎ AreUnfit files why
+AreNoDirectory text files why = ((why ≡ BadName) × (¬ MayBeDirectory text files.kind)) ⊎ (MayBeDirectory text files.kind × AreUnfit files why)
 
 -- why what a path says means no directory; an ID means none
 abbrev pub IsUnmeant : List ℕ → Said → Why → Type 0

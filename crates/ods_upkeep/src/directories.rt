@@ -4,7 +4,7 @@ ghost use Rattle.std.specs.List.{All};
 ghost use Rattle.ods_filing.specs.{Filed.IsDone, Led.IsLed};
 ghost use Rattle.ods_paths.specs.{Paths.Master as said_master, Patterns.capitals, Views.folder as said_folder, Views.place as said_place};
 ghost use Rattle.ods_shell.specs.Named.{AreNamed, AreNotNamed};
-ghost use Rattle.ods_upkeep.specs.{Emptied.AreEmptied, Emptied.IsEmptied, Emptied.IsEmptyDirectory, Emptied.IsSought, Kinds.MakesDirectories, Kinds.Removes, Made.AreMade, Made.IsMade, Made.IsNewPlace, Made.blocks_for, Made.directories_named, Meant.IsBelowAnother, Refused.IsRefusedBy, Unemptied.AreNotEmptied, Unemptied.IsNotEmptied, Unemptied.IsNotEmpty, Unemptied.IsNotSought, Unemptied.IsOneNotEmpty, Unmade.AreNotMade, Unmade.IsNoNewPlace, Unmade.IsNotMade};
+ghost use Rattle.ods_upkeep.specs.{Emptied.AreEmptied, Emptied.IsEmptied, Emptied.IsEmptyDirectory, Emptied.IsSought, Kinds.MakesDirectories, Kinds.Removes, Made.AreMade, Made.IsMade, Made.IsNewPlace, Made.blocks_for, Made.directories_named, Meant.IsBelowAnother, Refused.IsRefusedBy, Unemptied.AreNotEmptied, Unemptied.IsNotEmptied, Unemptied.IsNotEmpty, Unemptied.IsNotSought, Unemptied.IsOneNotEmpty, Unmade.AreNotMade, Unmade.IsNoNewPlace, Unmade.IsNotMade, Unmeant.MeansNone};
 
 use crate::Removal;
 use crate::asking::{enter, make};
@@ -103,18 +103,13 @@ fn blocks_for(names: u32) -> u32
     blocks
 }
 
-/// Whether the path of a new directory lies below another directory than the master. RSX knows no such directories. It says no, too, where there is
-/// no memory to see it.
-pub fn is_below_another(alloc: Global, path: &str) -> bool
-    ensures { IsTrue result → IsBelowAnother path.now }
+/// Whether the path of a new directory lies below another directory than the master; or why it means no directory. RSX knows no such directories.
+pub fn is_below_another(alloc: Global, path: &str) -> Result<bool, Why>
+    ensures { MatchResult result (λ below. MatchBool below (IsBelowAnother path.now) (¬ IsBelowAnother path.now)) (MeansNone path.now) }
 {
-    let Ok(text) = path_text(alloc, path) else {
-        return false;
-    };
-    match read_meant(alloc, text.as_bytes()) {
-        Ok(meant) => !is_master_place(&meant.folder.place),
-        Err(_) => false,
-    }
+    let text = path_text(alloc, path)?;
+    let meant = read_meant(alloc, text.as_bytes())?;
+    Ok(!is_master_place(&meant.folder.place))
 }
 
 /// Whether the place is the master directory.

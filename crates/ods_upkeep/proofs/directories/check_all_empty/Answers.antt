@@ -1,6 +1,6 @@
-use Rattle.std.proofs.Common.{subst, sym}
+use Rattle.std.proofs.Common.{◌≡◌, ◌+◌, ◌∙◌, ◌∷◌, ◌++◌, ap, drop, subst, sym, take}
 use Rattle.std.specs.List.{All}
-use Rattle.std.proofs.lemmas.List.{take_all}
+use Rattle.std.proofs.lemmas.List.{drop_more, take-append-drop, take_all}
 use Rattle.std.proofs.lemmas.List.Elements.{All-nil}
 use Rattle.ods_upkeep.specs.Emptied.{IsEmptyDirectory}
 use Rattle.ods_upkeep.specs.Refused.{HasPath}
@@ -20,9 +20,16 @@ returns c = subst (All (IsEmptyDirectory c.args.volume.now.image c.args.volume.n
 
 pub returns-in-Err : goal.returns-in-Err
 returns-in-Err c =
-    let one = c.found-item.result in (
+    let k = c.loop-found.found-index in
+    let all = c.args.all.now in
+    let one = c.found-item.result in
+    let whole : all ≡ take k all ++ one ∷ drop (k + 1) all =
+    sym (take-append-drop k all) ∙ ap (λ l. take k all ++ l) (drop_more all k one c.loop-found-test.true ∙ ap (λ x. x ∷ drop (k + 1) all) (sym c.found-item.is)) in (
+      take k all,
       one,
-      (c.loop-found.found-index, c.loop-found-test.true, sym c.found-item.is),
+      drop (k + 1) all,
+      whole,
+      c.loop-found.invariant,
       subst (IsNotEmpty c.args.volume.now.image c.args.volume.now.layout one) (sym c.of_path.ensures.why) c.in-Err.ensures,
       subst (HasPath c.of_path.result) c.deref.ensures c.of_path.ensures.path,
     )
