@@ -30,7 +30,7 @@ _f11fs_of() {
     find) options='--lost --deleted -l --json -u -q --blocks --order -h --help' takes='path' ;;
     stat) options='--json -u -q --blocks --order -h --help' takes='path' ;;
     cat) options='-t -b --raw -u -q --blocks --order -h --help' takes='path' ;;
-    get) options='-t -b --raw -o -n --force --json -u -q --blocks --order -h --help' takes='path host' ;;
+    get) options='-t -b --raw --deleted --partial -o -n --force --json -u -q --blocks --order -h --help' takes='path host' ;;
     df) options='--json -q --blocks --order -h --help' takes='' ;;
     info) options='--json -q --blocks --order -h --help' takes='' ;;
     du) options='--top --json -q --blocks --order -h --help' takes='' ;;

@@ -143,6 +143,8 @@ complete -c f11fs -n '__f11fs_at get' -F
 complete -c f11fs -n '__f11fs_at get' -s t -d 'Write records as lines. Default if it is lossless'
 complete -c f11fs -n '__f11fs_at get' -s b -d 'Write the bytes up to the end of file'
 complete -c f11fs -n '__f11fs_at get' -l raw -d 'Write the bytes of all blocks'
+complete -c f11fs -n '__f11fs_at get' -l deleted -d 'Copy deleted files. Each PATH is an ID that find --deleted shows, such as \'#9,1\''
+complete -c f11fs -n '__f11fs_at get' -l partial -d 'With --deleted: copy what is left of a file that is not whole, with zeros for blocks that are used again or outside the volume'
 complete -c f11fs -n '__f11fs_at get' -s o -r -F -d 'Write to this host file or folder. - is standard output'
 complete -c f11fs -n '__f11fs_at get' -s n -d 'Write nothing. Print what the command would do'
 complete -c f11fs -n '__f11fs_at get' -l force -d 'Replace host files that exist'

@@ -1,10 +1,10 @@
-"""Deleted files whose headers are still there: whole, used again, cut, and with blocks of one another."""
+"""Deleted files whose headers are still there: whole, used again, cut, and with blocks of one another; listed, and got."""
 import json
 
-from fs_image import BLOCK, changed
+from fs_image import BLOCK, changed, variable
 from fs_room import STAMP, Room, equal
 from fs_rows import row
-from fs_volumes import plain_volume
+from fs_volumes import TASK, plain_volume
 
 NOTES = "1,2/NOTES.TXT;1"
 DATE = "24-NOV-85 09:30:00"
@@ -100,3 +100,128 @@ def file_of_two_headers(room: Room) -> None:
 def words_of_find_deleted(room: Room) -> None:
     for words in (("--deleted", "--lost"), ("-l",)):
         equal(room.run("disk", "find", *words)[:2], (2, b""), " ".join(words))
+
+
+def gets(room: Room, *words: str, status: int = 0, errors: str = "") -> bytes:
+    """get --deleted with these words ends so, and leaves the image as it is; returns what it prints."""
+    before = room.image.read_bytes()
+    found = room.run("disk", "get", "--deleted", *words)
+    equal((found[0], found[2].decode()), (status, errors), " ".join(words))
+    equal(room.image.read_bytes(), before, "the image")
+    return found[1]
+
+
+def long_image() -> bytes:
+    """A volume whose free blocks are 275 single ones, and pairs behind them: 525 blocks in the order of their numbers take 400 pointers."""
+    singles = {100 + 2 * run for run in range(275)}
+    pairs = {650 + 3 * run + second for run in range(130) for second in range(2)}
+    return plain_volume(blocks=1040).bytes(used=sorted(set(range(1040)) - singles - pairs))
+
+
+@row(name="files that are got back", image=long_image)
+def files_got_back(room: Room) -> None:
+    long = bytes(place * place % 253 for place in range(525 * BLOCK))
+    (room.folder / "long").write_bytes(long)
+    done(room, "put", "-b", "long", "1,2/LONG.DAT")
+    kept = {form: room.run("disk", "get", form, "1,2/NOTES.TXT", "-")[1] for form in ("-t", "-b", "--raw")}
+    equal((kept["-t"], kept["-b"]), (b"first\n", variable(b"first")), "NOTES.TXT")
+    for path in ("LONG.DAT;1", "NOTES.TXT;1", "OTHER.TXT;1", "TASK.TSK;3"):
+        done(room, "rm", f"1,2/{path}")
+    for form, contents in kept.items():
+        equal(gets(room, form, "#9,1", "-"), contents, form)
+    equal(gets(room, "@9,1", "-"), b"first\n", "no form")
+    gets(room, "-o", ".", "#7,1", "#9,1", "#10,1", "#12,1")
+    equal(room.names(), ["disk", "long", "long.dat", "notes.txt", "other.txt", "task.tsk"], "names")
+    equal([(room.folder / name).read_bytes() for name in ("long.dat", "notes.txt", "other.txt", "task.tsk")], [long, b"first\n", b"other\n", TASK], "files")
+    # The fourth header has number 13, and stands in block 15.
+    room.image.write_bytes(changed(room.image.read_bytes(), 2 + 13, 6, b"\0\0"))
+    gets(room, "#7,1", "-", status=5, errors="f11fs: #7,1: it is not whole, cut at header 4; --partial gets what is left\n")
+    front = gets(room, "--partial", "--raw", "#7,1", "-")
+    # Three headers have 306 pointers: those of the single blocks, and 31 of pairs.
+    equal((len(front), front), (337 * BLOCK, long[: 337 * BLOCK]), "the blocks up to the header that is missing")
+    equal(gets(room, "--partial", "-b", "#7,1", "-"), front, "its end lies past these")
+
+
+@row(name="blocks used again come as zeros", image=scattered_image)
+def zeros_in_place(room: Room) -> None:
+    old = b"".join(bytes([65 + place]) * BLOCK for place in range(4))
+    for name, contents in {"old": old, "new": b"x" * BLOCK}.items():
+        (room.folder / name).write_bytes(contents)
+    done(room, "put", "-b", "new", "1,2/FIRST.DAT")
+    done(room, "put", "-b", "old", "1,2/OLD.DAT")
+    done(room, "rm", "1,2/FIRST.DAT;1")
+    done(room, "rm", "1,2/OLD.DAT;1")
+    done(room, "put", "-b", "old", "1,2/NEXT.DAT")
+    gets(room, "#8,1", "-", status=5, errors="f11fs: #8,1: it is not whole, 3 of 4 blocks used again; --partial gets what is left\n")
+    equal(gets(room, "--partial", "-b", "#8,1", "-"), bytes(3 * BLOCK) + b"D" * BLOCK, "its last block, and zeros")
+    gets(room, "#8,1", "out", status=5, errors="f11fs: #8,1: it is not whole, 3 of 4 blocks used again; --partial gets what is left\n")
+    equal(room.names(), ["disk", "new", "old"], "names")
+
+
+@row
+def two_files_that_share_a_block(room: Room) -> None:
+    done(room, "rm", NOTES)
+    (room.folder / "x").write_bytes(b"x" * BLOCK)
+    done(room, "put", "-b", "x", "1,2/X.DAT")
+    done(room, "rm", "1,2/X.DAT;1")
+    lines = "".join(f"f11fs: {file}: it is not whole, shares blocks with {other}; --partial gets what is left\n" for file, other in (("#9,1", "#7,1"), ("#7,1", "#9,1")))
+    equal(gets(room, "-o", ".", "#9,1", "#7,1", status=5, errors=lines), b"", "both")
+    equal(gets(room, "--partial", "-b", "#7,1", "-"), b"x" * BLOCK, "the block is free")
+    equal(gets(room, "--partial", "--raw", "#9,1", "-"), b"x" * BLOCK, "the same block")
+
+
+@row
+def a_block_past_the_image(room: Room) -> None:
+    done(room, "rm", NOTES)
+    room.image.write_bytes(changed(room.image.read_bytes(), 2 + 9, 102, b"\1"))
+    gets(room, "#9,1", "-", status=5, errors="f11fs: #9,1: it is not whole, 1 of 1 blocks used again; --partial gets what is left\n")
+    equal(gets(room, "--partial", "--raw", "#9,1", "-"), bytes(BLOCK), "zeros")
+
+
+@row
+def ids_of_no_deleted_file(room: Room) -> None:
+    done(room, "rm", NOTES)
+    for number in ("#9,2", "#10,1", "#4,4", "#65535,1", "#40,1"):
+        gets(room, number, "-", status=5, errors=f"f11fs: {number}: no deleted file has this ID; find --deleted shows those that are left\n")
+    gets(room, "#9,2", "#9,1", "-o", ".", status=5, errors="f11fs: #9,2: no deleted file has this ID; find --deleted shows those that are left\n")
+    equal((room.folder / "notes.txt").read_bytes(), b"first\n", "the other one is got")
+
+
+@row
+def records_that_are_no_text(room: Room) -> None:
+    records = variable(b"\1\0\3\xff", b"\2\0")
+    (room.folder / "object").write_bytes(records)
+    done(room, "put", "-b", "--form", "variable,none,0", "object", "1,2/OBJECT.OBJ")
+    done(room, "rm", "1,2/OBJECT.OBJ;1")
+    said = "f11fs: #7,1: records that are no text, got as bytes; put -b --form variable,none,0 brings them back\n"
+    equal(gets(room, "#7,1", "-", errors=said), records, "the records")
+
+
+@row
+def words_of_get_deleted(room: Room) -> None:
+    done(room, "rm", NOTES)
+    for path in ("1,2/NOTES.TXT", "NOTES.TXT", "[1,2]*.*"):
+        gets(room, path, "out", status=2, errors=f"f11fs: {path}: a deleted file is in no directory: say its ID, which find --deleted shows\n")
+    gets(room, "#9,1", "NOTES.TXT", "-o", ".", status=2, errors="f11fs: NOTES.TXT: a deleted file is in no directory: say its ID, which find --deleted shows\n")
+    equal(room.names(), ["disk"], "nothing is written")
+    equal(room.run("disk", "get", "--partial", "1,2/OTHER.TXT", "out")[:2], (2, b""), "--partial alone")
+    equal(room.run("disk", "get", "--deleted", "-t", "-b", "#9,1", "out")[:2], (2, b""), "two forms")
+    equal(room.run("disk", "get", "--deleted")[:2], (2, b""), "no ID")
+
+
+@row
+def deleted_files_and_the_host(room: Room) -> None:
+    done(room, "rm", NOTES)
+    equal(gets(room, "-n", "#9,1"), b"get #9,1 to ./notes.txt\n", "-n")
+    equal(room.names(), ["disk"], "-n writes nothing")
+    gets(room, "#9,1")
+    gets(room, "#9,1", status=3, errors="f11fs: #9,1: ./notes.txt is there; --force replaces it\n")
+    gets(room, "--force", "-o", ".", "#9,1", "#9,1", status=3, errors="f11fs: #9,1: ./notes.txt has been written by this command\n")
+    gets(room, "#9,1", "disk", "--force", status=3, errors="f11fs: #9,1: disk is the image\n")
+
+
+@row(name="a deleted file that a user might not read", image=lambda: plain_volume(rights=0xFE80, owner=0o200 << 8 | 0o40).bytes())
+def denied(room: Room) -> None:
+    done(room, "rm", NOTES)
+    gets(room, "-u", "[300,1]", "#9,1", "-", status=5, errors="f11fs: #9,1: denied to [300,1]\n")
+    equal(gets(room, "-u", "[200,40]", "#9,1", "-"), b"first\n", "its owner")

@@ -81,7 +81,7 @@ def reads_as_plain(room: Room, order: str) -> None:
     equal(room.run("disk", "cmp", "plain"), (0, b"", b""), "cmp with the plain image")
     equal(room.run("plain", "cmp", "disk"), (0, b"", b""), "cmp of the plain image")
     equal(room.run("--order", order, "disk", "rescue", "out")[0], 0, "rescue")
-    equal((room.folder / "out" / "NOTES.TXT;1").read_bytes(), variable(b"first", b"second"), "a rescued file")
+    equal((room.folder / "out" / "1,2" / "NOTES.TXT;1").read_bytes(), variable(b"first", b"second"), "a rescued file")
     assert room.is_untouched(), "a read changed the image"
 
 

@@ -154,7 +154,7 @@ def rescue_keeps_the_folder(room: Room) -> None:
     equal(room.run("disk", "rescue", "out")[0], 0, "rescue")
     after = out.stat()
     equal((after.st_mode, after.st_ino, after.st_uid), (before.st_mode, before.st_ino, before.st_uid), "the folder")
-    equal(sorted(os.listdir(out)), sorted(RESCUED), "what is in it")
+    equal((os.listdir(out), sorted(os.listdir(out / "1,2"))), (["1,2"], sorted(RESCUED)), "what is in it")
 
 
 @row(name="rescue takes the working folder, and a link to an empty one")
@@ -167,7 +167,7 @@ def rescue_takes_folders(room: Room) -> None:
     equal((ran.returncode, ran.stderr), (0, b""), "rescue into .")
     equal(room.run("disk", "rescue", "link")[0], 0, "rescue into a link")
     for folder in ("here", "real"):
-        equal(sorted(os.listdir(room.folder / folder)), sorted(RESCUED), folder)
+        equal(sorted(os.listdir(room.folder / folder / "1,2")), sorted(RESCUED), folder)
 
 
 @row(name="rescue refuses what is no empty folder")
@@ -188,15 +188,16 @@ def rescue_refuses_folders(room: Room) -> None:
 def rescue_tells(room: Room) -> None:
     status, out, err = room.run("disk", "rescue", "--json", "out")
     equal((status, objects(out), err),
-            (7, [{"fault": "BadChain 9"}, {"left": "file 9,1", "why": "BadChain"}, {"rescued": "OTHER.TXT;1"}, {"rescued": "TASK.TSK;3"}], b""),
+            (7, [{"fault": "BadChain 9"}, {"left": "1,2/NOTES.TXT;1 #9,1", "why": "BadChain"}, {"rescued": "1,2/OTHER.TXT;1"}, {"rescued": "1,2/TASK.TSK;3"}], b""),
             "rescue --json")
     status, out, err = room.run("-n", "disk", "rescue", "new")
     equal((status, out, err),
-            (7, b"disk: BadChain 9\nleft: file 9,1: BadChain\nrescue #10,1 to new/OTHER.TXT;1\nrescue #12,1 to new/TASK.TSK;3\n", b""),
+            (7, b"disk: BadChain 9\nleft: 1,2/NOTES.TXT;1 #9,1: BadChain\nrescue #10,1 to new/1,2/OTHER.TXT;1\nrescue #12,1 to new/1,2/TASK.TSK;3\n",
+            b""),
             "-n rescue")
     status, out, err = room.run("-n", "--json", "disk", "rescue", "new")
     equal((status, objects(out)[2:], err),
-            (7, [{"rescue": "#10,1", "to": "new/OTHER.TXT;1"}, {"rescue": "#12,1", "to": "new/TASK.TSK;3"}], b""), "-n --json rescue")
+            (7, [{"rescue": "#10,1", "to": "new/1,2/OTHER.TXT;1"}, {"rescue": "#12,1", "to": "new/1,2/TASK.TSK;3"}], b""), "-n --json rescue")
     equal(room.names(), ["disk", "out"], "files of the host")
 
 

@@ -5,6 +5,7 @@ import re
 import shutil
 import subprocess
 
+from fs_reader import Reader
 from fs_room import Room, equal
 from fs_rows import row
 
@@ -62,3 +63,33 @@ def commands_for_keepers_run(room: Room) -> None:
         equal((ran.returncode, ran.stderr), (7 if "check" in line else 0, b""), line)
     equal((room.folder / "back.txt").read_bytes(), b"one\ntwo\n", "the text that came back")
     equal(room.run("new.dsk", "check"), (0, b"sound\n", b""), "the new volume")
+
+
+def with_free_block() -> bytes:
+    """The sample, whose storage bitmap says free of the first block of [1,2]NOTES.TXT."""
+    volume = Reader(SAMPLE.read_bytes())
+    notes = max(path for path in volume.paths if path.startswith("[1,2]NOTES.TXT;"))
+    place, image = volume.files[volume.paths[notes]].blocks[0], bytearray(volume.image)
+    image[volume.files[2].blocks[1] * 512 + place // 8] |= 1 << place % 8
+    return bytes(image)
+
+
+@row(image=no_image)
+def commands_for_refused_images_run(room: Room) -> None:
+    bad = with_free_block()
+    before = {"bad.dsk": bad, "worse.dsk": bytes(1024) + bad[1024:], "disk.dsk": SAMPLE.read_bytes()}
+    for name, image in before.items():
+        (room.folder / name).write_bytes(image)
+    (room.folder / "f11fs").symlink_to(room.program)
+    [lines] = [block for block in blocks() if "bad.dsk" in block[0]]
+    assert len(lines) == 8, f"{len(lines)} lines of README.md"
+    for line in (line.split(" # ")[0].strip() for line in lines):
+        shutil.rmtree(room.folder / "saved", ignore_errors=True)
+        ran = subprocess.run(["sh", "-c", line], cwd=room.folder, capture_output=True, timeout=300)
+        status = 7 if "check" in line else 1 if " ls " in line or " info" in line or " get 1,2" in line else 0
+        equal(ran.returncode, status, line)
+        assert (b"MarkedFree" in ran.stderr) == (status == 1), f"{line}: {ran.stderr!r}"
+        assert b"NOTES.TXT" in ran.stdout or " ls " not in line, f"{line}: {ran.stdout!r}"
+    sound = Room((room.program, room.f11), room.folder, None).run("disk.dsk", "cat", "1,2/NOTES.TXT")
+    equal((0, (room.folder / "notes.txt").read_bytes(), b""), sound, "what was got")
+    equal({name: (room.folder / name).read_bytes() for name in before}, before, "the images")

@@ -18,15 +18,16 @@ told_more Is [] x told more are is = (more, [], ap (λ t. t ++ more) are ∙ sym
 told_more Is (y ∷ ys) x told more are is = (are.0, are.1 ++ more, ap (λ t. t ++ more) are.2 ∙ append_assoc are.0 are.1 more, are.3, told_more Is ys x are.1 more are.4 is)
 
 -- what is told of the front of a list, and of the one behind it
-pub told_next : {A : Type 0} (Is : A → List ℕ → Type 0) (xs : List A) (i : ℕ) (x : A) (first mid last : Plan) → i < length xs → x ≡ get_or xs i x → mid.json ≡ first.json
-    → (told : List ℕ) × AreTold Is (take i xs) told × Tells first told mid
-    → (more : List ℕ) × Is x more × Tells mid more last
-    → (told : List ℕ) × AreTold Is (take (i + 1) xs) told × Tells first told last
-told_next Is xs i x first mid last low at same so more = (
-  so.0 ++ more.0,
-  subst (λ l. AreTold Is l (so.0 ++ more.0)) (sym (take_more xs i x low ∙ ap (λ y. take i xs ++ y ∷ []) (sym at))) (told_more Is (take i xs) x so.0 more.0 so.1 more.1),
-  λ lines. more.2 (same ∙ lines) ∙ ap (λ t. t ++ more.0) (so.2 lines) ∙ append_assoc (string_bytes first.text) so.0 more.0,
-)
+pub told_next : {A : Type 0} (Is : Bool → A → List ℕ → Type 0) (xs : List A) (i : ℕ) (x : A) (first mid last : Plan) → i < length xs → x ≡ get_or xs i x → mid.json ≡ first.json
+    → (told : List ℕ) × AreTold (Is first.json) (take i xs) told × Tells first told mid
+    → (more : List ℕ) × Is mid.json x more × Tells mid more last
+    → (told : List ℕ) × AreTold (Is first.json) (take (i + 1) xs) told × Tells first told last
+told_next Is xs i x first mid last low at same so more =
+    let is : Is first.json x more.0 = subst (λ (j : Bool). Is j x more.0) same more.1 in (
+      so.0 ++ more.0,
+      subst (λ l. AreTold (Is first.json) l (so.0 ++ more.0)) (sym (take_more xs i x low ∙ ap (λ y. take i xs ++ y ∷ []) (sym at))) (told_more (Is first.json) (take i xs) x so.0 more.0 so.1 is),
+      more.2 ∙ ap (λ t. t ++ more.0) so.2 ∙ append_assoc (string_bytes first.text) so.0 more.0,
+    )
 
 -- what is told of all of them
 pub told_all : {A : Type 0} (Is : A → List ℕ → Type 0) (xs : List A) (i : ℕ) (first last : Plan) → length xs ≤ i
@@ -38,18 +39,19 @@ range_more a zero = let is : a ≡ a + 0 = omega arith in ap (λ x. x ∷ []) is
 range_more a (suc n) = let is : a + 1 + n ≡ a + suc n = omega arith in ap (λ xs. a ∷ xs) (range_more (a + 1) n ∙ ap (λ k. range_with_len (a + 1) n ++ k ∷ []) is)
 
 -- what is told of the numbers up to one, and of the next one
-pub number_next : (Is : ℕ → List ℕ → Type 0) (past number : ℕ) (first mid last : Plan) → number ≡ past + 1 → mid.json ≡ first.json
-    → (told : List ℕ) × AreTold Is (range_with_len 1 past) told × Tells first told mid
-    → (more : List ℕ) × Is number more × Tells mid more last
-    → (told : List ℕ) × AreTold Is (range_with_len 1 (past + 1)) told × Tells first told last
+pub number_next : (Is : Bool → ℕ → List ℕ → Type 0) (past number : ℕ) (first mid last : Plan) → number ≡ past + 1 → mid.json ≡ first.json
+    → (told : List ℕ) × AreTold (Is first.json) (range_with_len 1 past) told × Tells first told mid
+    → (more : List ℕ) × Is mid.json number more × Tells mid more last
+    → (told : List ℕ) × AreTold (Is first.json) (range_with_len 1 (past + 1)) told × Tells first told last
 number_next Is past number first mid last next same so more =
-    let all : AreTold Is (range_with_len 1 past ++ number ∷ []) (so.0 ++ more.0) = told_more Is (range_with_len 1 past) number so.0 more.0 so.1 more.1 in
+    let here : Is first.json number more.0 = subst (λ (j : Bool). Is j number more.0) same more.1 in
+    let all : AreTold (Is first.json) (range_with_len 1 past ++ number ∷ []) (so.0 ++ more.0) = told_more (Is first.json) (range_with_len 1 past) number so.0 more.0 so.1 here in
     let step : past + 1 ≡ suc past = omega arith in
     let is : 1 + past ≡ number = omega (arith, next) in
     let at : range_with_len 1 (past + 1) ≡ range_with_len 1 past ++ number ∷ [] = ap (λ n. range_with_len 1 n) step ∙ (range_more 1 past ∙ ap (λ k. range_with_len 1 past ++ k ∷ []) is) in (
       so.0 ++ more.0,
-      subst (λ l. AreTold Is l (so.0 ++ more.0)) (sym at) all,
-      λ lines. more.2 (same ∙ lines) ∙ ap (λ t. t ++ more.0) (so.2 lines) ∙ append_assoc (string_bytes first.text) so.0 more.0,
+      subst (λ l. AreTold (Is first.json) l (so.0 ++ more.0)) (sym at) all,
+      more.2 ∙ ap (λ t. t ++ more.0) so.2 ∙ append_assoc (string_bytes first.text) so.0 more.0,
     )
 
 -- what is in a list with one more at its end
@@ -158,30 +160,30 @@ noted_both B A before after count first mid last clear size one two number low =
     back small less (inr has) = (two number less).1 (inr has)
 
 -- what is told of a number by its flag
-pub told_left : (B : Disk) (before : List Known) (A : Disk) (after : List Known) (number : ℕ) (told : List ℕ) (r : Bool) (flags : List Bool)
-    → IsTrue r ↔ (slice_get flags number ≡ Some true) → (slice_get flags number ≡ Some true) ↔ IsReached B before A after number → IsToldWhere r B A number told → IsToldOfLeft B before A after number told
-told_left B before A after number told true flags is noted so = (true, noted.0 (is.0 refl), so)
-told_left B before A after number told false flags is noted so = (false, λ reached. let wrong : false ≡ true = is.1 (noted.1 reached) in absurd (cc), so)
+pub told_left : (json : Bool) (B : Disk) (before : List Known) (A : Disk) (after : List Known) (number : ℕ) (told : List ℕ) (r : Bool) (flags : List Bool)
+    → IsTrue r ↔ (slice_get flags number ≡ Some true) → (slice_get flags number ≡ Some true) ↔ IsReached B before A after number → IsToldWhere json r B A number told → IsToldOfLeft json B before A after number told
+told_left json B before A after number told true flags is noted so = (true, noted.0 (is.0 refl), so)
+told_left json B before A after number told false flags is noted so = (false, λ reached. let wrong : false ≡ true = is.1 (noted.1 reached) in absurd (cc), so)
 
 -- a path that stays
-pub stays_told : (after : List Known) (one known : Known) (path : List ℕ) → path ≡ string_bytes one.path → Contains after known × has_path path known → IsToldOfOld after one []
-stays_told after one known path same has = inr (λ lacks. lacks known has.0 (has.1 ∙ same), refl)
+pub stays_told : (json : Bool) (after : List Known) (one known : Known) (path : List ℕ) → path ≡ string_bytes one.path → Contains after known × has_path path known → IsToldOfOld json after one []
+stays_told json after one known path same has = inr (λ lacks. lacks known has.0 (has.1 ∙ same), refl)
 
 -- a path that goes
-pub gone_told : {X E : Type 0} (after : List Known) (one : Known) (path : List ℕ) (Text : List ℕ → Type 0) (r : Result X E) → path ≡ string_bytes one.path → LacksPath path after
-    → OnOk r (Text (plan_line (codes "remove") path)) → OnOk r ((told : List ℕ) × IsToldOfOld after one told × Text told)
-gone_told after one path Text (Ok x) same lacks line =
-    (plan_line (codes "remove") path, inl (subst (λ p. LacksPath p after) same lacks, ap (λ p. plan_line (codes "remove") p) same), line)
-gone_told after one path Text (Err e) same lacks line = tt
+pub gone_told : {X E : Type 0} (json : Bool) (after : List Known) (one : Known) (path : List ℕ) (Text : List ℕ → Type 0) (r : Result X E) → path ≡ string_bytes one.path → LacksPath path after
+    → OnOk r (Text (plan_line json (codes "remove") path)) → OnOk r ((told : List ℕ) × IsToldOfOld json after one told × Text told)
+gone_told json after one path Text (Ok x) same lacks line =
+    (plan_line json (codes "remove") path, inl (subst (λ p. LacksPath p after) same lacks, ap (λ p. plan_line json (codes "remove") p) same), line)
+gone_told json after one path Text (Err e) same lacks line = tt
 
 -- a plan from its three parts
-pub planned : (json : Bool) (most : ℕ) (B A : Disk) (before after : List Known) (start : List ℕ) (p q r : Plan) → AreAllPaths B.image B.layout before → AreAllPaths A.image A.layout after
-    → start ≡ [] → p.json ≡ json → q.json ≡ p.json
-    → (told : List ℕ) × AreTold (IsToldOfOld after) before told × (json ≡ false → string_bytes p.text ≡ start ++ told)
-    → (told : List ℕ) × AreTold (IsToldOfNew (λ a b word. AreCompared B a A b word) before) after told × Tells p told q
-    → (told : List ℕ) × AreTold (IsToldOfLeft B before A after) (range_with_len 1 most) told × Tells q told r
-    → json ≡ false → IsPlan most B A (string_bytes r.text)
-planned json most B A before after start p q r all_before all_after none pj qj gone come left lines = record {
+pub planned : (json : Bool) (most : ℕ) (B A : Disk) (before after : List Known) (first p q r : Plan) → AreAllPaths B.image B.layout before → AreAllPaths A.image A.layout after
+    → string_bytes first.text ≡ [] → first.json ≡ json → p.json ≡ first.json → q.json ≡ p.json
+    → (told : List ℕ) × AreTold (IsToldOfOld first.json after) before told × Tells first told p
+    → (told : List ℕ) × AreTold (IsToldOfNew p.json (λ a b word. AreCompared B a A b word) before) after told × Tells p told q
+    → (told : List ℕ) × AreTold (IsToldOfLeft q.json B before A after) (range_with_len 1 most) told × Tells q told r
+    → IsPlan json most B A (string_bytes r.text)
+planned json most B A before after first p q r all_before all_after none fj pj qj gone come left = record {
   before = before;
   after = after;
   all_before = all_before;
@@ -189,8 +191,8 @@ planned json most B A before after start p q r all_before all_after none pj qj g
   gone = gone.0;
   come = come.0;
   left = left.0;
-  told_gone = gone.1;
-  told_come = come.1;
-  told_left = left.1;
-  whole = left.2 (qj ∙ (pj ∙ lines)) ∙ ap (λ t. t ++ left.0) (come.2 (pj ∙ lines) ∙ ap (λ t. t ++ come.0) (gone.2 lines ∙ ap (λ t. t ++ gone.0) none)) ∙ append_assoc gone.0 come.0 left.0;
+  told_gone = subst (λ (j : Bool). AreTold (IsToldOfOld j after) before gone.0) fj gone.1;
+  told_come = subst (λ (j : Bool). AreTold (IsToldOfNew j (λ a b word. AreCompared B a A b word) before) after come.0) (pj ∙ fj) come.1;
+  told_left = subst (λ (j : Bool). AreTold (IsToldOfLeft j B before A after) (range_with_len 1 most) left.0) (qj ∙ pj ∙ fj) left.1;
+  whole = left.2 ∙ ap (λ t. t ++ left.0) (come.2 ∙ ap (λ t. t ++ come.0) (gone.2 ∙ ap (λ t. t ++ gone.0) none)) ∙ append_assoc gone.0 come.0 left.0;
 }

@@ -5,23 +5,25 @@ use Rattle.std.specs.List.{Contains, range_with_len}
 use Rattle.ods_base.specs.declared.file_id.FileId.{FileId}
 use Rattle.fs_reads.specs.Paths.{Disk}
 use Rattle.ods_shell.specs.Facts.{AreFacts}
+use Rattle.ods_shell.specs.Json.{text_line}
 use Rattle.ods_shell.specs.declared.facts.Facts.{Facts}
 use Rattle.fs_reads.specs.Alike.{AreCompared, IsNamedBy, has_path}
 use Rattle.fs_reads.specs.Paths.{AreAllPaths, LacksPath}
 use Rattle.fs_reads.specs.declared.comparing.Known.{Known}
 use Rattle.f11fs.specs.declared.telling.Plan.{Plan}
 
--- a line says what is done, and to what
-abbrev pub plan_line : List ℕ → List ℕ → List ℕ
-plan_line done what = done ++ (codes " " ++ (what ++ 10 ∷ []))
+-- A line says what is done, and to what; as JSON it is an object, what is done being the name.
+abbrev pub plan_line : Bool → List ℕ → List ℕ → List ℕ
+plan_line false done what = done ++ (codes " " ++ (what ++ 10 ∷ []))
+plan_line true done what = text_line done what
 
 -- a file without a path is named by its ID
 abbrev pub id_text : FileId → List ℕ
 id_text file = codes "#" ++ (decimal file.number ++ (codes "," ++ decimal file.sequence))
 
--- a plan in lines gets this text more
+-- a plan gets this text more
 abbrev pub Tells : Plan → List ℕ → Plan → Type 0
-Tells old told new = old.json ≡ false → string_bytes new.text ≡ string_bytes old.text ++ told
+Tells old told new = string_bytes new.text ≡ string_bytes old.text ++ told
 
 -- this is the ID of a file, where there is one of which something is known
 abbrev pub IsIdOf : (Facts → Type 0) → Option FileId → Type 0
@@ -33,30 +35,30 @@ abbrev pub IsNumberOf : (FileId → Type 0) → ℕ → Known → Type 0
 IsNumberOf IsThere number known = (known.file.number ≡ number) × IsThere known.file
 
 -- what is told where the files differ in something, and nothing where they do not
-abbrev pub changed_line : List ℕ → Option (List ℕ) → List ℕ
-changed_line what None = []
-changed_line what (Some word) = plan_line (codes "change") what
+abbrev pub changed_line : Bool → List ℕ → Option (List ℕ) → List ℕ
+changed_line json what None = []
+changed_line json what (Some word) = plan_line json (codes "change") what
 
 -- what is told of a file that is there before and afterwards, where it is known what the two differ in
-abbrev pub IsToldOfFile : (FileId → FileId → Option (List ℕ) → Type 0) → FileId → FileId → List ℕ → List ℕ → Type 0
-IsToldOfFile DifferIn old new what told = (word : Option (List ℕ)) × DifferIn old new word × (told ≡ changed_line what word)
+abbrev pub IsToldOfFile : Bool → (FileId → FileId → Option (List ℕ) → Type 0) → FileId → FileId → List ℕ → List ℕ → Type 0
+IsToldOfFile json DifferIn old new what told = (word : Option (List ℕ)) × DifferIn old new word × (told ≡ changed_line json what word)
 
 -- What is told of a path that is there afterwards: it is new, its file is another one, or its file has changed. Nothing is told of files 1 and 2, which change with any file.
-abbrev pub IsToldOfPath : (FileId → FileId → Option (List ℕ) → Type 0) → Option Known → Known → List ℕ → Type 0
-IsToldOfPath DifferIn None one told = told ≡ plan_line (codes "make") (string_bytes one.path)
-IsToldOfPath DifferIn (Some known) one told =
+abbrev pub IsToldOfPath : Bool → (FileId → FileId → Option (List ℕ) → Type 0) → Option Known → Known → List ℕ → Type 0
+IsToldOfPath json DifferIn None one told = told ≡ plan_line json (codes "make") (string_bytes one.path)
+IsToldOfPath json DifferIn (Some known) one told =
     ((known.file.number ≤ 2) × (told ≡ []))
-    ⊎ ((2 < known.file.number) × (((known.file ≢ one.file) × (told ≡ plan_line (codes "replace") (string_bytes one.path)))
-    ⊎ ((known.file ≡ one.file) × IsToldOfFile DifferIn known.file one.file (string_bytes one.path) told)))
+    ⊎ ((2 < known.file.number) × (((known.file ≢ one.file) × (told ≡ plan_line json (codes "replace") (string_bytes one.path)))
+    ⊎ ((known.file ≡ one.file) × IsToldOfFile json DifferIn known.file one.file (string_bytes one.path) told)))
 
 -- what is told of a number to which no path leads: its file goes, comes, is another one, or has changed
-abbrev pub IsToldOfNumber : (FileId → FileId → Option (List ℕ) → Type 0) → Option FileId → Option FileId → List ℕ → Type 0
-IsToldOfNumber DifferIn None None told = told ≡ []
-IsToldOfNumber DifferIn (Some old) None told = told ≡ plan_line (codes "remove") (id_text old)
-IsToldOfNumber DifferIn None (Some new) told = told ≡ plan_line (codes "make") (id_text new)
-IsToldOfNumber DifferIn (Some old) (Some new) told =
-    ((old ≢ new) × (told ≡ plan_line (codes "remove") (id_text old) ++ plan_line (codes "make") (id_text new)))
-    ⊎ ((old ≡ new) × IsToldOfFile DifferIn old new (id_text new) told)
+abbrev pub IsToldOfNumber : Bool → (FileId → FileId → Option (List ℕ) → Type 0) → Option FileId → Option FileId → List ℕ → Type 0
+IsToldOfNumber json DifferIn None None told = told ≡ []
+IsToldOfNumber json DifferIn (Some old) None told = told ≡ plan_line json (codes "remove") (id_text old)
+IsToldOfNumber json DifferIn None (Some new) told = told ≡ plan_line json (codes "make") (id_text new)
+IsToldOfNumber json DifferIn (Some old) (Some new) told =
+    ((old ≢ new) × (told ≡ plan_line json (codes "remove") (id_text old) ++ plan_line json (codes "make") (id_text new)))
+    ⊎ ((old ≡ new) × IsToldOfFile json DifferIn old new (id_text new) told)
 
 -- what is told of each of these, one after another
 abbrev pub AreTold : {A : Type 0} → (A → List ℕ → Type 0) → List A → List ℕ → Type 0
@@ -64,9 +66,9 @@ AreTold IsToldOf [] told = told ≡ []
 AreTold IsToldOf (x ∷ xs) told = (first : List ℕ) × (rest : List ℕ) × (told ≡ first ++ rest) × IsToldOf x first × AreTold IsToldOf xs rest
 
 -- a path that was there before goes where none of those afterwards is the same
-abbrev pub IsToldOfOld : List Known → Known → List ℕ → Type 0
-IsToldOfOld after one told =
-    (LacksPath (string_bytes one.path) after × (told ≡ plan_line (codes "remove") (string_bytes one.path)))
+abbrev pub IsToldOfOld : Bool → List Known → Known → List ℕ → Type 0
+IsToldOfOld json after one told =
+    (LacksPath (string_bytes one.path) after × (told ≡ plan_line json (codes "remove") (string_bytes one.path)))
     ⊎ ((¬ LacksPath (string_bytes one.path) after) × (told ≡ []))
 
 -- one of these that has the path, or none where none has it
@@ -75,29 +77,29 @@ IsKnownAt all path None = LacksPath path all
 IsKnownAt all path (Some known) = Contains all known × has_path path known
 
 -- what is told of a path that is there afterwards, by what was known of it before
-abbrev pub IsToldOfNew : (FileId → FileId → Option (List ℕ) → Type 0) → List Known → Known → List ℕ → Type 0
-IsToldOfNew DifferIn before one told = (known : Option Known) × IsKnownAt before (string_bytes one.path) known × IsToldOfPath DifferIn known one told
+abbrev pub IsToldOfNew : Bool → (FileId → FileId → Option (List ℕ) → Type 0) → List Known → Known → List ℕ → Type 0
+IsToldOfNew json DifferIn before one told = (known : Option Known) × IsKnownAt before (string_bytes one.path) known × IsToldOfPath json DifferIn known one told
 
 -- one of these paths names a file that has the number
 abbrev pub IsNumbered : (FileId → Type 0) → List Known → ℕ → Type 0
 IsNumbered IsThere all number = (known : Known) × Contains all known × IsNumberOf IsThere number known
 
 -- what is told of the file with a number, where no path leads to it; nothing where one does
-abbrev pub IsToldWhere : Bool → Disk → Disk → ℕ → List ℕ → Type 0
-IsToldWhere true B A number told = told ≡ []
-IsToldWhere false B A number told = (old : Option FileId) × (new : Option FileId) × IsIdOf (AreFacts B.image B.layout number) old × IsIdOf (AreFacts A.image A.layout number) new
-    × IsToldOfNumber (λ a b word. AreCompared B a A b word) old new told
+abbrev pub IsToldWhere : Bool → Bool → Disk → Disk → ℕ → List ℕ → Type 0
+IsToldWhere json true B A number told = told ≡ []
+IsToldWhere json false B A number told = (old : Option FileId) × (new : Option FileId) × IsIdOf (AreFacts B.image B.layout number) old × IsIdOf (AreFacts A.image A.layout number) new
+    × IsToldOfNumber json (λ a b word. AreCompared B a A b word) old new told
 
 -- a path names a file that has the number, before or afterwards
 abbrev pub IsReached : Disk → List Known → Disk → List Known → ℕ → Type 0
 IsReached B before A after number = IsNumbered (IsNamedBy B) before number ⊎ IsNumbered (IsNamedBy A) after number
 
 -- what is told of a number: nothing where a path leads to it before or afterwards
-abbrev pub IsToldOfLeft : Disk → List Known → Disk → List Known → ℕ → List ℕ → Type 0
-IsToldOfLeft B before A after number told = (reached : Bool) × MatchBool reached (IsReached B before A after number) (¬ IsReached B before A after number) × IsToldWhere reached B A number told
+abbrev pub IsToldOfLeft : Bool → Disk → List Known → Disk → List Known → ℕ → List ℕ → Type 0
+IsToldOfLeft json B before A after number told = (reached : Bool) × MatchBool reached (IsReached B before A after number) (¬ IsReached B before A after number) × IsToldWhere json reached B A number told
 
--- The text of a plan, from one volume to another: what goes of the paths before, what is told of those afterwards, and of the numbers that no path leads to.
-pub record IsPlan (most : ℕ) (B A : Disk) (text : List ℕ) : Type 0 where
+-- The text of a plan, in lines or as JSON, from one volume to another: what goes of the paths before, what is told of those afterwards, and of the numbers that no path leads to.
+pub record IsPlan (json : Bool) (most : ℕ) (B A : Disk) (text : List ℕ) : Type 0 where
   pub before : List Known
   pub after : List Known
   pub all_before : AreAllPaths B.image B.layout before
@@ -105,7 +107,7 @@ pub record IsPlan (most : ℕ) (B A : Disk) (text : List ℕ) : Type 0 where
   pub gone : List ℕ
   pub come : List ℕ
   pub left : List ℕ
-  pub told_gone : AreTold (IsToldOfOld after) before gone
-  pub told_come : AreTold (IsToldOfNew (λ a b word. AreCompared B a A b word) before) after come
-  pub told_left : AreTold (IsToldOfLeft B before A after) (range_with_len 1 most) left
+  pub told_gone : AreTold (IsToldOfOld json after) before gone
+  pub told_come : AreTold (IsToldOfNew json (λ a b word. AreCompared B a A b word) before) after come
+  pub told_left : AreTold (IsToldOfLeft json B before A after) (range_with_len 1 most) left
   pub whole : text ≡ gone ++ (come ++ left)

@@ -289,7 +289,7 @@ fn say_nested<R: AllocGlobal + Eprint>(rt: &R, words: &Words<'_>) {
         return;
     }
     for path in &words.paths {
-        if is_below_another(rt.alloc(), *path) {
+        if let Ok(true) = is_below_another(rt.alloc(), *path) {
             let path = Shown(*path);
             let _ = eprintln!(rt;
                 "f11fs: {path}: RSX knows directories in the master directory alone"

@@ -11,7 +11,7 @@ use crate::early::{Early, read_bytes};
 use crate::host::Host;
 use crate::lines::{say_no_memory, say_wrong};
 use fs_host::{Collecting, HostFault, Noting};
-use fs_reads::{Progress, Stop, WordFault, check_image, info_image, obey, say_end};
+use fs_reads::{Progress, Stop, WordFault, check_image, info_image, obey, say_end, show_space};
 use fs_words::{Action, Change, LineFault, Words, WordsFault, line_words, parse_line};
 use ods_base::write_bytes;
 use ods_filing::Filing;
@@ -350,6 +350,7 @@ fn obey_action<R: Files<File = File> + Clock + Input + AllocGlobal + Print + Epr
             let done = info_image(rt, run.outer.image, image, run.behind, own.json);
             (say_end(rt, done), true)
         }
+        Action::Df => (say_end(rt, show_space(rt, filing.mounted(), own)), true),
         Action::Commands { .. } | Action::Init { .. } | Action::Rescue { .. } => {
             (
                 say_wrong(rt, "error: no command for a file of commands"),
@@ -357,7 +358,8 @@ fn obey_action<R: Files<File = File> + Clock + Input + AllocGlobal + Print + Epr
             )
         }
         _ => {
-            let done = obey(rt, filing.mounted(), own, &mut Progress::none());
+            let disk = filing.mounted().disk();
+            let done = obey(rt, &disk, own, &mut Progress::none());
             (say_end(rt, done), true)
         }
     }

@@ -7,7 +7,9 @@ use crate::command_files::obey_file;
 use crate::host::Host;
 use crate::making::init_image;
 use crate::orders::layers_of;
-use fs_reads::{Progress, Stop, check, info, obey, open_volume, rescue, say_end};
+use fs_reads::{
+    Progress, Stop, check, info, obey, open_readable, open_volume, rescue, say_end, show_space,
+};
 use fs_words::{Action, Words};
 use ods_shell::Status;
 use std::fs::File;
@@ -84,14 +86,24 @@ fn is_rescue(action: &Action<'_>) -> bool
     matches!(action, Action::Rescue { .. })
 }
 
-/// Does what the words ask for on a sound volume, which stays as it is.
+/// Does what the words ask for on a volume, which stays as it is. Where a mount refuses it, that is the status, whatever is shown.
 fn read_volume<'a, R: Files<File = File> + Clock + AllocGlobal + Print + Eprint>(
     rt: &R,
     words: &Words<'a>,
     progress: &mut Progress,
 ) -> Result<Status, Stop<'a>> {
-    let tells_behind = matches!(words.action, Action::Df) && !words.quiet;
     let layers = layers_of(words.order);
-    let volume = open_volume(rt, words.image, words.blocks, layers, tells_behind)?;
-    obey(rt, &volume, words, progress)
+    if let Action::Df = words.action {
+        let volume = open_volume(rt, words.image, words.blocks, layers, !words.quiet)?;
+        return show_space(rt, &volume, words);
+    }
+    let volume = open_readable(rt, words.image, words.blocks, layers, false)?;
+    let done = obey(rt, &volume.disk(), words, progress);
+    match volume.ends(Status::Done) {
+        Status::Done => done,
+        refused => {
+            let _ = say_end(rt, done);
+            Ok(refused)
+        }
+    }
 }

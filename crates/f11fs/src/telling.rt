@@ -25,7 +25,7 @@ struct Plan {
 impl Plan {
     /// Adds what is done to a path.
     fn add(&mut self, done: &str, path: &str) -> Result<(), AllocError>
-        ensures line { OnOk result (Tells self.old (plan_line done.now path.now) self.new) }
+        ensures line { OnOk result (Tells self.old (plan_line self.old.json done.now path.now) self.new) }
         ensures more { OnOk result (Extends (string_bytes self.old.text) (string_bytes self.new.text)) }
         ensures mode { self.new.json ≡ self.old.json }
     {
@@ -38,7 +38,7 @@ impl Plan {
 
     /// Adds what is done to a file without a path.
     fn add_file(&mut self, done: &str, file: FileId) -> Result<(), AllocError>
-        ensures line { OnOk result (Tells self.old (plan_line done.now (id_text file)) self.new) }
+        ensures line { OnOk result (Tells self.old (plan_line self.old.json done.now (id_text file)) self.new) }
         ensures more { OnOk result (Extends (string_bytes self.old.text) (string_bytes self.new.text)) }
         ensures mode { self.new.json ≡ self.old.json }
     {
@@ -63,7 +63,7 @@ pub fn plan_text<'a>(
     after: &Mounted,
     json: bool,
 ) -> Result<String, Stop<'a>>
-    ensures { IfOk result (λ text. json ≡ false → IsPlan 65535 before.now after.now (string_bytes text)) }
+    ensures { IfOk result (λ text. IsPlan json 65535 before.now after.now (string_bytes text)) }
 {
     plan_up_to(alloc, before, after, json, u16::MAX)
 }
@@ -76,7 +76,7 @@ fn plan_up_to<'a>(
     json: bool,
     most: u16,
 ) -> Result<String, Stop<'a>>
-    ensures { IfOk result (λ text. json ≡ false → IsPlan most before.now after.now (string_bytes text)) }
+    ensures { IfOk result (λ text. IsPlan json most before.now after.now (string_bytes text)) }
 {
     let old = all_known(alloc, before, None)?;
     let new = all_known(alloc, after, None)?;
@@ -94,7 +94,7 @@ fn plan_of<'a>(
     most: u16,
 ) -> Result<String, Stop<'a>>
     ensures { AreAllPaths before.now.image before.now.layout old.now → AreAllPaths after.now.image after.now.layout new.now
-        → IfOk result (λ text. json ≡ false → IsPlan most before.now after.now (string_bytes text)) }
+        → IfOk result (λ text. IsPlan json most before.now after.now (string_bytes text)) }
 {
     let mut plan = Plan {
         alloc,
@@ -109,7 +109,7 @@ fn plan_of<'a>(
 
 /// Adds the paths that are there before alone.
 fn add_gone(old: &[Known], new: &[Known], plan: &mut Plan) -> Result<(), AllocError>
-    ensures told { AreInOrder new.now → OnOk result ((told : List ℕ) × AreTold (IsToldOfOld new.now) old.now told × Tells plan.old told plan.new) }
+    ensures told { AreInOrder new.now → OnOk result ((told : List ℕ) × AreTold (IsToldOfOld plan.old.json new.now) old.now told × Tells plan.old told plan.new) }
     ensures mode { plan.new.json ≡ plan.old.json }
 {
     for one in old {
@@ -120,7 +120,7 @@ fn add_gone(old: &[Known], new: &[Known], plan: &mut Plan) -> Result<(), AllocEr
 
 /// Adds that a path goes, where it is none of those afterwards.
 fn add_old(one: &Known, new: &[Known], plan: &mut Plan) -> Result<(), AllocError>
-    ensures told { AreInOrder new.now → OnOk result ((told : List ℕ) × IsToldOfOld new.now one.now told × Tells plan.old told plan.new) }
+    ensures told { AreInOrder new.now → OnOk result ((told : List ℕ) × IsToldOfOld plan.old.json new.now one.now told × Tells plan.old told plan.new) }
     ensures mode { plan.new.json ≡ plan.old.json }
 {
     let path = one.path.as_str();
@@ -139,7 +139,7 @@ fn add_come<'a>(
     new: &[Known],
     plan: &mut Plan,
 ) -> Result<(), Stop<'a>>
-    ensures told { AreInOrder old.now → OnOk result ((told : List ℕ) × AreTold (IsToldOfNew (λ a b word. AreCompared before.now a after.now b word) old.now) new.now told × Tells plan.old told plan.new) }
+    ensures told { AreInOrder old.now → OnOk result ((told : List ℕ) × AreTold (IsToldOfNew plan.old.json (λ a b word. AreCompared before.now a after.now b word) old.now) new.now told × Tells plan.old told plan.new) }
     ensures mode { plan.new.json ≡ plan.old.json }
 {
     for one in new {
@@ -157,7 +157,7 @@ fn add_new<'a>(
     one: &Known,
     plan: &mut Plan,
 ) -> Result<(), Stop<'a>>
-    ensures told { AreInOrder old.now → OnOk result ((told : List ℕ) × IsToldOfNew (λ a b word. AreCompared before.now a after.now b word) old.now one.now told × Tells plan.old told plan.new) }
+    ensures told { AreInOrder old.now → OnOk result ((told : List ℕ) × IsToldOfNew plan.old.json (λ a b word. AreCompared before.now a after.now b word) old.now one.now told × Tells plan.old told plan.new) }
     ensures mode { plan.new.json ≡ plan.old.json }
 {
     let known = known_at(old, one.path.as_str());
@@ -174,7 +174,7 @@ fn add_left<'a>(
     most: u16,
     plan: &mut Plan,
 ) -> Result<(), Stop<'a>>
-    ensures told { OnOk result ((told : List ℕ) × AreTold (IsToldOfLeft before.now old.now after.now new.now) (range_with_len 1 most) told × Tells plan.old told plan.new) }
+    ensures told { OnOk result ((told : List ℕ) × AreTold (IsToldOfLeft plan.old.json before.now old.now after.now new.now) (range_with_len 1 most) told × Tells plan.old told plan.new) }
     ensures mode { plan.new.json ≡ plan.old.json }
 {
     let named = named_numbers(alloc, before, old, after, new, most as usize + 1)?;
@@ -195,7 +195,7 @@ fn add_unnamed<'a>(
     number: u16,
     plan: &mut Plan,
 ) -> Result<(), Stop<'a>>
-    ensures told { OnOk result ((told : List ℕ) × IsToldWhere is_named before.now after.now number told × Tells plan.old told plan.new) }
+    ensures told { OnOk result ((told : List ℕ) × IsToldWhere plan.old.json is_named before.now after.now number told × Tells plan.old told plan.new) }
     ensures mode { plan.new.json ≡ plan.old.json }
 {
     if is_named {
@@ -213,7 +213,7 @@ fn add_path<'a>(
     one: &Known,
     plan: &mut Plan,
 ) -> Result<(), Stop<'a>>
-    ensures told { OnOk result ((told : List ℕ) × IsToldOfPath (λ a b word. AreCompared before.now a after.now b word) (option_copied known.entry) one.now told × Tells plan.old told plan.new) }
+    ensures told { OnOk result ((told : List ℕ) × IsToldOfPath plan.old.json (λ a b word. AreCompared before.now a after.now b word) (option_copied known.entry) one.now told × Tells plan.old told plan.new) }
     ensures more { OnOk result (Extends (string_bytes plan.old.text) (string_bytes plan.new.text)) }
     ensures mode { plan.new.json ≡ plan.old.json }
 {
@@ -237,7 +237,7 @@ fn add_changed<'a>(
     what: &str,
     plan: &mut Plan,
 ) -> Result<(), Stop<'a>>
-    ensures told { OnOk result ((told : List ℕ) × IsToldOfFile (λ a b word. AreCompared before.now a after.now b word) old new what.now told × Tells plan.old told plan.new) }
+    ensures told { OnOk result ((told : List ℕ) × IsToldOfFile plan.old.json (λ a b word. AreCompared before.now a after.now b word) old new what.now told × Tells plan.old told plan.new) }
     ensures more { OnOk result (Extends (string_bytes plan.old.text) (string_bytes plan.new.text)) }
     ensures mode { plan.new.json ≡ plan.old.json }
 {
@@ -256,7 +256,7 @@ fn add_number<'a>(
     plan: &mut Plan,
 ) -> Result<(), Stop<'a>>
     ensures told { OnOk result ((old : Option Id) × ((new : Option Id) × ((told : List ℕ) × IsIdOf (AreFacts before.now.image before.now.layout number) old × IsIdOf (AreFacts after.now.image after.now.layout number) new
-        × IsToldOfNumber (λ a b word. AreCompared before.now a after.now b word) old new told × Tells plan.old told plan.new))) }
+        × IsToldOfNumber plan.old.json (λ a b word. AreCompared before.now a after.now b word) old new told × Tells plan.old told plan.new))) }
     ensures more { OnOk result (Extends (string_bytes plan.old.text) (string_bytes plan.new.text)) }
     ensures mode { plan.new.json ≡ plan.old.json }
 {
@@ -273,7 +273,7 @@ fn add_ids<'a>(
     new: Option<FileId>,
     plan: &mut Plan,
 ) -> Result<(), Stop<'a>>
-    ensures told { OnOk result ((told : List ℕ) × IsToldOfNumber (λ a b word. AreCompared before.now a after.now b word) old new told × Tells plan.old told plan.new) }
+    ensures told { OnOk result ((told : List ℕ) × IsToldOfNumber plan.old.json (λ a b word. AreCompared before.now a after.now b word) old new told × Tells plan.old told plan.new) }
     ensures more { OnOk result (Extends (string_bytes plan.old.text) (string_bytes plan.new.text)) }
     ensures mode { plan.new.json ≡ plan.old.json }
 {
@@ -294,7 +294,7 @@ fn add_both<'a>(
     new: FileId,
     plan: &mut Plan,
 ) -> Result<(), Stop<'a>>
-    ensures told { OnOk result ((told : List ℕ) × IsToldOfNumber (λ a b word. AreCompared before.now a after.now b word) (Some old) (Some new) told × Tells plan.old told plan.new) }
+    ensures told { OnOk result ((told : List ℕ) × IsToldOfNumber plan.old.json (λ a b word. AreCompared before.now a after.now b word) (Some old) (Some new) told × Tells plan.old told plan.new) }
     ensures more { OnOk result (Extends (string_bytes plan.old.text) (string_bytes plan.new.text)) }
     ensures mode { plan.new.json ≡ plan.old.json }
 {

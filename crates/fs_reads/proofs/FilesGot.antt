@@ -15,6 +15,8 @@ use Rattle.ods_shell.specs.declared.status.Status.{Status}
 use Rattle.ods_shell.specs.declared.status.Status.TheVariants as status
 use Rattle.ods_space.specs.Layout.{VolumeLayout}
 use Rattle.fs_reads.proofs.Statuses.{path_fault}
+use Rattle.fs_reads.specs.declared.reading.Unread.{Unread}
+use Rattle.fs_reads.specs.declared.reading.Unread.TheVariants as unread
 use Rattle.fs_reads.specs.Denied.{IsClosedStatus, IsUnread, MayRead}
 use Rattle.fs_reads.specs.Ends.{may_name}
 use Rattle.fs_reads.specs.Gets.{EndsFile, EndsGet, IsAmong, IsGettable, IsPathGot, IsRefused}
@@ -67,6 +69,16 @@ module _ (user : Option Uic) (Gives : ℕ → List ℕ → Option Remark → Typ
   pub kept_ends : {E : Type 0} (r : Result Status E) → IsGettable user Gives found → IfOk r (λ s. (s ≡ status.Done) ⊎ (s ≡ status.Host)) → IfOk r (EndsGet user Gives Lacks found)
   kept_ends (Ok s) got h = elim h [ inl done ↦ inl (inl (done, got)) | inr host ↦ inr host ]
   kept_ends (Err why) got h = tt
+
+  -- nothing is got out of it: there is no file, or for a reason that holds
+  refused_for : (why : Unread) (known : Option Facts) → found.facts ≡ known → why ≢ unread.Form NoMemory → IfSome known (λ facts. IsUnread user facts (Lacks facts.file.number) why) → IsRefused user Lacks found
+  refused_for why None e other so = inl e
+  refused_for why (Some facts) e other so = inr (facts, e, (why, other, so))
+
+  pub unread_ends : {E : Type 0} (r : Result Status E) (why : Unread) (known : Option Facts) → found.facts ≡ known → IfSome known (λ facts. IsUnread user facts (Lacks facts.file.number) why)
+      → IfOk r (λ s. (s ≡ status.Refused) × (why ≢ unread.Form NoMemory)) → IfOk r (EndsFile user Gives Lacks found)
+  unread_ends (Ok s) why known e so said = inr (said.0, refused_for why known e said.1 so)
+  unread_ends (Err stop) why known e so said = tt
 
 module _ (I : List (List ℕ)) (L : VolumeLayout) (user : Option Uic) (closed : List ℕ) where
   -- what is added with nothing wrong is all that the path names

@@ -6,6 +6,8 @@ mod InfoEnds
 mod Likeness
 mod Lines
 mod Mounting
+mod Opening
 mod PathsKnown
 mod Saying
 mod Statuses
+mod Undeleting

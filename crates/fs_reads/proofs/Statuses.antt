@@ -1,5 +1,5 @@
 -- The statuses of paths.
-use Rattle.std.proofs.Common.{◌≡◌, true, List, [], ◌∷◌, Option, Some, None, ap}
+use Rattle.std.proofs.Common.{◌≡◌, inr, sym, subst, Bool, true, false, List, [], ◌∷◌, Option, Some, None, ap}
 use Rattle.ods_base.specs.declared.file_id.Uic.{Uic}
 use Rattle.ods_shell.specs.Found.{HasPathStatus}
 use Rattle.ods_shell.specs.declared.folders.Directory.{Directory as Met}
@@ -8,7 +8,8 @@ use Rattle.ods_shell.specs.declared.path_fault.PathFault.TheVariants as fault
 use Rattle.ods_shell.specs.declared.status.Status.{Status}
 use Rattle.ods_shell.specs.declared.status.Status.TheVariants as status
 use Rattle.fs_reads.specs.Denied.{IsClosedStatus}
-use Rattle.fs_reads.specs.Ends.{may_name}
+use Rattle.fs_reads.specs.Ends.{EndsCompare, may_name}
+use Rattle.fs_reads.specs.Readable.{end_of}
 
 -- the status of closed directories and of a path may come of names
 pub closed_may : (user : Option Uic) (met : List Met) (s : Status) → IsClosedStatus user met s → may_name s ≡ true
@@ -34,3 +35,8 @@ path_fault fault.IsId s e d = cc
 path_fault fault.Nothing s e d = cc
 path_fault fault.NoSuchFile s e d = cc
 path_fault fault.NoMemory s e d = cc
+
+-- a comparison with an image that may be refused ends as one
+pub ends_compare : (sound : Bool) (done s : Status) → s ≡ end_of sound done → EndsCompare done → EndsCompare s
+ends_compare true done s e ends = subst EndsCompare (sym e) ends
+ends_compare false done s e ends = inr (inr (inr e))

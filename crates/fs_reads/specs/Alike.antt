@@ -2,11 +2,16 @@
 use Rattle.std.specs.Prelude.{◌≡◌, ◌≢◌, ℕ, List, Option, Some, None, ◌⊎◌, codes, string_bytes}
 use Rattle.ods_base.specs.declared.file_id.FileId.{FileId}
 use Rattle.ods_space.specs.Layout.{Disk}
+use Rattle.ods_space.specs.declared.disk.Disk.{Disk as Lent}
 use Rattle.ods_shell.specs.Compared.{HasCompared}
 use Rattle.ods_shell.specs.Facts.{AreFacts}
 use Rattle.ods_shell.specs.declared.facts.Facts.{Facts}
 use Rattle.ods_shell.specs.declared.facts.Kind.TheVariants.{Directory}
 use Rattle.fs_reads.specs.declared.comparing.Known.{Known}
+
+-- blocks that are lent with their layout
+abbrev pub held : Lent → Disk
+held D = record { image = D.image.now; layout = D.layout.now }
 
 -- the path is this one
 abbrev pub has_path : List ℕ → Known → Type 0

@@ -60,9 +60,9 @@ SaysLine line other = Unit {0}
 abbrev pub EndsCheck : Type 0 → Status → Type 0
 EndsCheck Holds s = ((s ≡ status.Done) × Holds) ⊎ (s ≡ status.Found)
 
--- the status of a comparison: the images are alike, or they differ, or no image was said
+-- the status of a comparison: the images are alike, or they differ, or no image was said, or the other one is refused
 abbrev pub EndsCompare : Status → Type 0
-EndsCompare s = (s ≡ status.Done) ⊎ ((s ≡ status.Found) ⊎ (s ≡ status.Words))
+EndsCompare s = (s ≡ status.Done) ⊎ ((s ≡ status.Found) ⊎ ((s ≡ status.Words) ⊎ (s ≡ status.Image)))
 
 -- the status of files that paths name: the image is not refused, and nothing is looked for
 abbrev pub may_name : Status → Bool

@@ -10,7 +10,10 @@ pub mod Volumes
 pub mod Written
 pub mod Named
 pub mod Paths
+pub mod Readable
 pub mod Host
 pub mod Folders
 pub mod Gets
+pub mod Undeleted
 pub mod Scans
+pub mod Trees

@@ -5,54 +5,57 @@ ghost use Rattle.fs_reads.specs.Ends.{SaysLine, StopsWith};
 ghost use Rattle.ods_shell.specs.Texts.{shown_directory};
 ghost use Rattle.fs_reads.specs.declared.stop.Stop.{Stop as End};
 ghost use Rattle.ods_shell.specs.declared.status.Status.{Status as Code};
+ghost use Rattle.ods_space.specs.Files.{IsLayoutOf};
+ghost use Rattle.ods_space.specs.Disks.{on};
 
 use crate::stop::{Stop, say_lines};
 use ods_base::Uic;
-use ods_mount::Mounted;
 use ods_request::{Right, permits};
-use ods_shell::mounted::facts_of;
-use ods_shell::{Directory, Kind, Status, push_directory};
-use ods_space::last_number;
+use ods_shell::{Directory, Kind, Status, facts_of, push_directory};
+use ods_space::{Disk, last_number};
 use std::alloc::{AllocError, Global};
 
 /// The directories whose names this user may not read; none where no user is said.
 pub(crate) fn closed_to(
     alloc: Global,
-    volume: &Mounted,
+    disk: &Disk<'_>,
     user: Option<Uic>,
 ) -> Result<Vec<u16>, AllocError>
-    ensures { IfOk result (λ closed. AreClosedTo volume.now.image volume.now.layout user closed.items) }
+    requires { on IsLayoutOf disk.now }
+    ensures { IfOk result (λ closed. on AreClosedTo disk.now user closed.items) }
 {
     let mut closed = Vec::new(alloc);
     let Some(user) = user else {
         return Ok(closed);
     };
-    for before in 0..last_number(volume.layout()) {
-        push_closed(volume, before + 1, user, &mut closed)?;
+    for before in 0..last_number(disk.layout) {
+        push_closed(disk, before + 1, user, &mut closed)?;
     }
     Ok(closed)
 }
 
 /// Adds the number, where it is that of a directory that this user may not read.
 fn push_closed(
-    volume: &Mounted,
+    disk: &Disk<'_>,
     number: u16,
     user: Uic,
     closed: &mut Vec<u16>,
 ) -> Result<(), AllocError>
-    ensures { OnOk result (AddsClosed volume.now.image volume.now.layout user number closed.old.items closed.new.items) }
+    requires { on IsLayoutOf disk.now }
+    ensures { OnOk result (on AddsClosed disk.now user number closed.old.items closed.new.items) }
 {
-    if is_closed(volume, number, user) {
+    if is_closed(disk, number, user) {
         closed.push(number)?;
     }
     Ok(())
 }
 
 /// Whether the number is that of a directory that this user may not read.
-fn is_closed(volume: &Mounted, number: u16, user: Uic) -> bool
-    ensures { MatchBool result (IsClosedTo volume.now.image volume.now.layout user number) (¬ IsClosedTo volume.now.image volume.now.layout user number) }
+fn is_closed(disk: &Disk<'_>, number: u16, user: Uic) -> bool
+    requires { on IsLayoutOf disk.now }
+    ensures { MatchBool result (on IsClosedTo disk.now user number) (¬ on IsClosedTo disk.now user number) }
 {
-    match facts_of(volume, number) {
+    match facts_of(disk, number) {
         Some(facts) => {
             facts.kind == Kind::Directory
                 && !permits(&user, &facts.owner, facts.protection, Right::Read)

@@ -4,24 +4,29 @@ ghost use Rattle.std.specs.List.{HoldsAt};
 ghost use Rattle.std.specs.Ordering.{nat_cmp};
 ghost use Rattle.std.specs.Cmp.Lexicographic.{slice_cmp};
 ghost use Rattle.std.specs.Option.{option_copied};
-ghost use Rattle.fs_reads.specs.{Alike.AreCompared, Alike.IsTold, Alike.has_path, Ends.EndsCompare, Ends.StopsWith, Shown.Extends};
+ghost use Rattle.fs_reads.specs.{Alike.AreCompared, Alike.IsTold, Alike.has_path, Alike.held, Ends.EndsCompare, Ends.StopsWith, Shown.Extends};
 ghost use Rattle.fs_reads.specs.Paths.{AreAllPaths, AreInOrder, LacksPath, path_and_file, paths_found};
 ghost use Rattle.ods_shell.specs.{Texts.shown_path, There.path_in};
 ghost use Rattle.fs_reads.specs.declared.stop.Stop.{Stop as End};
 ghost use Rattle.ods_shell.specs.declared.status.Status.{Status as Code};
+ghost use Rattle.ods_space.specs.Files.{IsLayoutOf};
+ghost use Rattle.ods_space.specs.Disks.{on};
 
 use crate::closed::{closed_to, stop_at_closed};
 use crate::finding::find_all;
 use crate::progress::Progress;
+use crate::readable::{Readable, open_readable};
 use crate::reading::check_right;
 use crate::stop::{Stop, send, stop_about};
-use crate::volume::open_volume;
 use fs_host::Layers;
 use fs_words::Words;
 use ods_base::{FileId, Listed, Uic};
 use ods_mount::Mounted;
-use ods_shell::mounted::{facts_by_id, have_same_bytes};
-use ods_shell::{Directory, Facts, FormFault, FoundLines, Kind, Status, pair_object, push_path};
+use ods_shell::{
+    Directory, Facts, FormFault, FoundLines, Kind, Status, facts_by_id, have_same_bytes,
+    pair_object, push_path,
+};
+use ods_space::Disk;
 use std::alloc::{AllocError, Global};
 use std::cmp::Ordering;
 use std::fs::File;
@@ -38,20 +43,22 @@ pub struct Known {
 /// `cmp` with the image at the first path.
 pub(crate) fn compare_all<'a, R: Files<File = File> + Clock + AllocGlobal + Print + Eprint>(
     rt: &R,
-    volume: &Mounted,
+    disk: &Disk<'_>,
     words: &Words<'a>,
     all: bool,
     progress: &mut Progress,
 ) -> Result<Status, Stop<'a>>
+    requires { on IsLayoutOf disk.now }
     ensures { IfOk result EndsCompare }
 {
     let Some(path) = words.paths.first() else {
         return Ok(Status::Words);
     };
-    let other = open_volume(rt, *path, None, Layers::Found, false)?;
+    let opened = open_readable(rt, *path, None, Layers::Found, false)?;
+    let other = opened.disk();
     let alloc = rt.alloc();
-    let ours = all_known(alloc, volume, words.user)?;
-    let theirs = all_known(alloc, &other, words.user)?;
+    let ours = all_paths(alloc, disk, words.user)?;
+    let theirs = all_paths(alloc, &other, words.user)?;
     let mut text = String::new(alloc);
     for (done, one) in ours.iter().enumerate() {
         progress.show(rt, done as u64, ours.len() as u64);
@@ -59,7 +66,7 @@ pub(crate) fn compare_all<'a, R: Files<File = File> + Clock + AllocGlobal + Prin
             Some(place) => {
                 if let Some(found) = theirs.get(place) {
                     push_difference(
-                        alloc, volume, one, &other, found.file, words.user, all, &mut text,
+                        alloc, disk, one, &other, found.file, words.user, all, &mut text,
                     )?;
                 }
             }
@@ -72,13 +79,25 @@ pub(crate) fn compare_all<'a, R: Files<File = File> + Clock + AllocGlobal + Prin
         }
     }
     if text.is_empty() {
-        return Ok(Status::Done);
+        return Ok(end_comparison(&opened, true));
     }
     if words.json {
         text = objects(alloc, text.as_str())?;
     }
     send(rt, text.as_str())?;
-    Ok(Status::Found)
+    Ok(end_comparison(&opened, false))
+}
+
+/// The status of a comparison with this image, by whether the two are alike.
+#[tactic(auto, using(crate::proofs::Statuses::ends_compare))]
+fn end_comparison(other: &Readable, are_alike: bool) -> Status
+    ensures { EndsCompare result }
+{
+    if are_alike {
+        other.ends(Status::Done)
+    } else {
+        other.ends(Status::Found)
+    }
 }
 
 /// The lines as objects: the path, and what differs.
@@ -92,7 +111,7 @@ fn objects(alloc: Global, text: &str) -> Result<String, AllocError> {
     Ok(objects)
 }
 
-/// All paths of a volume, in the order of their bytes.
+/// All paths of a sound volume, in the order of their bytes.
 pub fn all_known<'a>(
     alloc: Global,
     volume: &Mounted,
@@ -101,8 +120,18 @@ pub fn all_known<'a>(
     ensures all { IfOk result (λ all. AreAllPaths volume.now.image volume.now.layout all.items) }
     ensures err { IfErr result (λ stop. StopsWith stop Code.Refused ⊎ (stop ≡ End.NoMemory)) }
 {
-    let closed = closed_to(alloc, volume, user)?;
-    let found = find_all(alloc, volume, &closed)?;
+    let disk = volume.disk();
+    all_paths(alloc, &disk, user)
+}
+
+/// All paths of a volume, in the order of their bytes.
+fn all_paths<'a>(alloc: Global, disk: &Disk<'_>, user: Option<Uic>) -> Result<Vec<Known>, Stop<'a>>
+    requires { on IsLayoutOf disk.now }
+    ensures all { IfOk result (λ all. on AreAllPaths disk.now all.items) }
+    ensures err { IfErr result (λ stop. StopsWith stop Code.Refused ⊎ (stop ≡ End.NoMemory)) }
+{
+    let closed = closed_to(alloc, disk, user)?;
+    let found = find_all(alloc, disk, &closed)?;
     stop_at_closed(alloc, &found.closed, user)?;
     match paths_of(alloc, &found) {
         Ok(all) => Ok(all),
@@ -189,41 +218,44 @@ pub fn place_of(all: &[Known], path: &str) -> Option<usize>
 #[tactic(auto, using(crate::proofs::Growing::extends_pushed, crate::proofs::Growing::extends_on, crate::proofs::Growing::extends_same))]
 fn push_difference<'a>(
     alloc: Global,
-    volume: &Mounted,
+    disk: &Disk<'_>,
     one: &Known,
-    other: &Mounted,
+    other: &Disk<'_>,
     file: FileId,
     user: Option<Uic>,
     all: bool,
     text: &mut String,
 ) -> Result<(), Stop<'a>>
+    requires one { on IsLayoutOf disk.now }
+    requires other { on IsLayoutOf other.now }
     ensures { OnOk result (Extends (string_bytes text.old) (string_bytes text.new)) }
 {
     if one.file.number <= 2 && file.number <= 2 {
         return Ok(());
     }
-    check_rights(alloc, volume, one, other, file, user)?;
-    push_word(alloc, volume, one, other, file, text)?;
+    check_rights(alloc, disk, one, other, file, user)?;
+    push_word(alloc, disk, one, other, file, text)?;
     if !all {
         return Ok(());
     }
-    push_facts(volume, one, other, file, text)?;
+    push_facts(disk, one, other, file, text)?;
     Ok(())
 }
 
 /// Ends a comparison of two files of which this user may not read one.
 fn check_rights<'a>(
     alloc: Global,
-    volume: &Mounted,
+    disk: &Disk<'_>,
     one: &Known,
-    other: &Mounted,
+    other: &Disk<'_>,
     file: FileId,
     user: Option<Uic>,
 ) -> Result<(), Stop<'a>>
+    requires one { on IsLayoutOf disk.now }
+    requires other { on IsLayoutOf other.now }
     ensures { IfErr result (λ stop. StopsWith stop Code.Refused ⊎ (stop ≡ End.NoMemory)) }
 {
-    let (Some(facts), Some(others)) = (facts_by_id(volume, one.file), facts_by_id(other, file))
-    else {
+    let (Some(facts), Some(others)) = (facts_by_id(disk, one.file), facts_by_id(other, file)) else {
         return Ok(());
     };
     match check_right(&facts, user).and(check_right(&others, user)) {
@@ -236,15 +268,17 @@ fn check_rights<'a>(
 #[tactic(auto, using(crate::proofs::Growing::extends_same))]
 fn push_word<'a>(
     alloc: Global,
-    volume: &Mounted,
+    disk: &Disk<'_>,
     one: &Known,
-    other: &Mounted,
+    other: &Disk<'_>,
     file: FileId,
     text: &mut String,
 ) -> Result<(), Stop<'a>>
+    requires one { on IsLayoutOf disk.now }
+    requires other { on IsLayoutOf other.now }
     ensures { OnOk result (Extends (string_bytes text.old) (string_bytes text.new)) }
 {
-    match difference_by_id(alloc, volume, one.file, other, file)? {
+    match difference_of(alloc, disk, one.file, other, file)? {
         Some(word) => {
             push_if(text, one.path.as_str(), true, word)?;
             Ok(())
@@ -256,15 +290,17 @@ fn push_word<'a>(
 /// Appends a line for each of the other facts in which two files differ.
 #[tactic(auto, using(crate::proofs::Growing::extends_same))]
 fn push_facts(
-    volume: &Mounted,
+    disk: &Disk<'_>,
     one: &Known,
-    other: &Mounted,
+    other: &Disk<'_>,
     file: FileId,
     text: &mut String,
 ) -> Result<(), AllocError>
+    requires one { on IsLayoutOf disk.now }
+    requires other { on IsLayoutOf other.now }
     ensures { OnOk result (Extends (string_bytes text.old) (string_bytes text.new)) }
 {
-    match (facts_by_id(volume, one.file), facts_by_id(other, file)) {
+    match (facts_by_id(disk, one.file), facts_by_id(other, file)) {
         (Some(facts), Some(others)) => push_others(one.path.as_str(), &facts, &others, text),
         _ => Ok(()),
     }
@@ -300,7 +336,7 @@ fn push_if(text: &mut String, path: &str, differs: bool, what: &str) -> Result<(
     Ok(())
 }
 
-/// What differs between the files with these IDs.
+/// What differs between the files with these IDs of two sound volumes.
 pub fn difference_by_id<'a>(
     alloc: Global,
     volume: &Mounted,
@@ -310,9 +346,26 @@ pub fn difference_by_id<'a>(
 ) -> Result<Option<&'static str>, Stop<'a>>
     ensures { IfOk result (λ word. AreCompared volume.now one other.now file (option_copied word)) }
 {
-    match (facts_by_id(volume, one), facts_by_id(other, file)) {
+    let disk = volume.disk();
+    let other_disk = other.disk();
+    difference_of(alloc, &disk, one, &other_disk, file)
+}
+
+/// What differs between the files with these IDs.
+fn difference_of<'a>(
+    alloc: Global,
+    disk: &Disk<'_>,
+    one: FileId,
+    other: &Disk<'_>,
+    file: FileId,
+) -> Result<Option<&'static str>, Stop<'a>>
+    requires one { on IsLayoutOf disk.now }
+    requires other { on IsLayoutOf other.now }
+    ensures { IfOk result (λ word. AreCompared (held disk.now) one (held other.now) file (option_copied word)) }
+{
+    match (facts_by_id(disk, one), facts_by_id(other, file)) {
         (None, None) => Ok(None),
-        (Some(facts), Some(others)) => difference(alloc, volume, &facts, other, &others),
+        (Some(facts), Some(others)) => difference(alloc, disk, &facts, other, &others),
         _ => Ok(Some("only one names a file")),
     }
 }
@@ -320,12 +373,14 @@ pub fn difference_by_id<'a>(
 /// What differs between two files.
 fn difference<'a>(
     alloc: Global,
-    volume: &Mounted,
+    disk: &Disk<'_>,
     facts: &Facts,
-    other: &Mounted,
+    other: &Disk<'_>,
     others: &Facts,
 ) -> Result<Option<&'static str>, Stop<'a>>
-    ensures { IfOk result (λ word. IsTold volume.now facts.now other.now others.now (option_copied word)) }
+    requires one { on IsLayoutOf disk.now }
+    requires other { on IsLayoutOf other.now }
+    ensures { IfOk result (λ word. IsTold (held disk.now) facts.now (held other.now) others.now (option_copied word)) }
 {
     if facts.kind == Kind::Directory && others.kind == Kind::Directory {
         return Ok(None);
@@ -333,7 +388,7 @@ fn difference<'a>(
     if facts.attributes != others.attributes {
         return Ok(Some("attributes differ"));
     }
-    match have_same_bytes(alloc, volume, facts.file.number, other, others.file.number) {
+    match have_same_bytes(alloc, disk, facts.file.number, other, others.file.number) {
         Ok(true) => Ok(None),
         Ok(false) => Ok(Some("bytes differ")),
         Err(FormFault::NoMemory) => Err(Stop::NoMemory),

@@ -7,43 +7,43 @@ ghost use Rattle.fs_reads.specs.Shown.{Extends};
 use crate::finding::names_no_directory;
 use crate::stop::{Stop, stop_about};
 use fs_words::Words;
-use ods_mount::Mounted;
 use ods_paths::{Files, Path, Versions, parse_path};
 use ods_shell::{Deletion, PathFault, Status, deletion_lines, deletion_objects, known_deletions};
+use ods_space::Disk;
 use std::alloc::{AllocError, Global};
 
 /// Appends what `find --deleted` shows. The texts of the paths before one that is refused stay.
 pub(crate) fn push_deleted<'a>(
     alloc: Global,
-    volume: &Mounted,
+    disk: &Disk<'_>,
     words: &Words<'a>,
     long: bool,
     text: &mut String,
 ) -> Result<(), Stop<'a>>
-    ensures ok { OnOk result ((more : List ℕ) × ShowsAsked volume.now.image volume.now.layout words.now.json long words.now.paths.items more × (string_bytes text.new ≡ string_bytes text.old ++ more)) }
+    ensures ok { OnOk result ((more : List ℕ) × ShowsAsked disk.now.image.now disk.now.layout.now words.now.json long words.now.paths.items more × (string_bytes text.new ≡ string_bytes text.old ++ more)) }
     ensures extends { Extends (string_bytes text.old) (string_bytes text.new) }
 {
-    push_asked(alloc, volume, &words.paths, words.json, long, text)
+    push_asked(alloc, disk, &words.paths, words.json, long, text)
 }
 
 /// Appends the deleted files that these paths look for, or all where there are no paths.
 #[tactic(auto, using(crate::proofs::DeletedShown::shown_all, crate::proofs::DeletedShown::shown_asked))]
 fn push_asked<'a>(
     alloc: Global,
-    volume: &Mounted,
+    disk: &Disk<'_>,
     paths: &[&'a str],
     json: bool,
     long: bool,
     text: &mut String,
 ) -> Result<(), Stop<'a>>
-    ensures ok { OnOk result ((more : List ℕ) × ShowsAsked volume.now.image volume.now.layout json long paths.now more × (string_bytes text.new ≡ string_bytes text.old ++ more)) }
+    ensures ok { OnOk result ((more : List ℕ) × ShowsAsked disk.now.image.now disk.now.layout.now json long paths.now more × (string_bytes text.new ≡ string_bytes text.old ++ more)) }
     ensures extends { Extends (string_bytes text.old) (string_bytes text.new) }
 {
     if 0 < paths.len() {
-        push_each(alloc, volume, paths, json, long, text)?;
+        push_each(alloc, disk, paths, json, long, text)?;
         Ok(())
     } else {
-        Ok(push_all(alloc, volume, json, long, text)?)
+        Ok(push_all(alloc, disk, json, long, text)?)
     }
 }
 
@@ -51,17 +51,17 @@ fn push_asked<'a>(
 #[tactic(auto, using(crate::proofs::Growing::extends_pushed, crate::proofs::Growing::extends_on, crate::proofs::Growing::extends_same))]
 fn push_each<'a>(
     alloc: Global,
-    volume: &Mounted,
+    disk: &Disk<'_>,
     paths: &[&'a str],
     json: bool,
     long: bool,
     text: &mut String,
 ) -> Result<(), Stop<'a>>
-    ensures ok { OnOk result ((more : List ℕ) × ShowsPaths volume.now.image volume.now.layout json long paths.now more × (string_bytes text.new ≡ string_bytes text.old ++ more)) }
+    ensures ok { OnOk result ((more : List ℕ) × ShowsPaths disk.now.image.now disk.now.layout.now json long paths.now more × (string_bytes text.new ≡ string_bytes text.old ++ more)) }
     ensures extends { Extends (string_bytes text.old) (string_bytes text.new) }
 {
     for path in paths {
-        push_path(alloc, volume, *path, json, long, text)?;
+        push_path(alloc, disk, *path, json, long, text)?;
     }
     Ok(())
 }
@@ -70,15 +70,15 @@ fn push_each<'a>(
 #[tactic(auto, using(crate::proofs::Growing::extends_pushed, crate::proofs::Growing::extends_on, crate::proofs::Growing::extends_same))]
 fn push_all(
     alloc: Global,
-    volume: &Mounted,
+    disk: &Disk<'_>,
     json: bool,
     long: bool,
     text: &mut String,
 ) -> Result<(), AllocError>
-    ensures ok { OnOk result ((more : List ℕ) × ShowsDeleted volume.now.image volume.now.layout json long None more × (string_bytes text.new ≡ string_bytes text.old ++ more)) }
+    ensures ok { OnOk result ((more : List ℕ) × ShowsDeleted disk.now.image.now disk.now.layout.now json long None more × (string_bytes text.new ≡ string_bytes text.old ++ more)) }
     ensures extends { Extends (string_bytes text.old) (string_bytes text.new) }
 {
-    let all = known_deletions(alloc, &volume.disk(), &None)?;
+    let all = known_deletions(alloc, disk, &None)?;
     push_deletions(alloc, &all, json, long, text)?;
     Ok(())
 }
@@ -87,18 +87,18 @@ fn push_all(
 #[tactic(auto, using(crate::proofs::Growing::extends_pushed, crate::proofs::Growing::extends_on, crate::proofs::Growing::extends_same))]
 fn push_path<'a>(
     alloc: Global,
-    volume: &Mounted,
+    disk: &Disk<'_>,
     path: &'a str,
     json: bool,
     long: bool,
     text: &mut String,
 ) -> Result<(), Stop<'a>>
-    ensures ok { OnOk result ((more : List ℕ) × ShowsPath volume.now.image volume.now.layout json long path.entry.now more × (string_bytes text.new ≡ string_bytes text.old ++ more)) }
-    ensures err { IfErr result (EndsDeleted volume.now.image volume.now.layout path.entry) }
+    ensures ok { OnOk result ((more : List ℕ) × ShowsPath disk.now.image.now disk.now.layout.now json long path.entry.now more × (string_bytes text.new ≡ string_bytes text.old ++ more)) }
+    ensures err { IfErr result (EndsDeleted disk.now.image.now disk.now.layout.now path.entry) }
     ensures extends { Extends (string_bytes text.old) (string_bytes text.new) }
 {
     let files = files_alone(alloc, path)?;
-    let all = known_deletions(alloc, &volume.disk(), &Some(files))?;
+    let all = known_deletions(alloc, disk, &Some(files))?;
     if 0 < all.len() {
         Ok(push_deletions(alloc, &all, json, long, text)?)
     } else {

@@ -3,48 +3,51 @@ ghost use Rattle.std.specs.Prelude.{◌≡◌, ℕ, List, None, IfErr, IfOk, str
 ghost use Rattle.ods_paths.specs.Views.{folder as said_folder};
 ghost use Rattle.ods_shell.specs.{Found.AreFound, Ways.AreMeant, Ways.CountAsClosed};
 ghost use Rattle.fs_reads.specs.{Ends.EndsPath, Named.AreFoundBy, Named.everywhere as all_directories, Named.names_no_directory, Named.searched, Shown.Extends};
+ghost use Rattle.ods_space.specs.Files.{IsLayoutOf};
+ghost use Rattle.ods_space.specs.Disks.{on};
 
 use crate::closed::{closed_to, stop_at_closed, stop_at_numbers};
 use crate::listing::is_nothing;
 use crate::stop::Stop;
 use fs_words::Words;
-use ods_mount::Mounted;
 use ods_paths::{Folder, Path, Place, Versions, parse_path};
-use ods_shell::mounted::{
-    find_open, largest_lines, lost_lines, ls_objects, unreached_lines, usage_lines,
+use ods_shell::{
+    FoundLines, PathFault, find_lines, find_open, largest_lines, lost_lines, ls_objects,
+    unreached_lines, usage_lines,
 };
-use ods_shell::{FoundLines, PathFault, find_lines};
+use ods_space::Disk;
 use std::alloc::{AllocError, Global};
 
 /// Appends what `find` shows.
 #[tactic(auto, using(crate::proofs::Growing::extends_pushed, crate::proofs::Growing::extends_on, crate::proofs::Growing::extends_same))]
 pub(crate) fn push_paths<'a>(
     alloc: Global,
-    volume: &Mounted,
+    disk: &Disk<'_>,
     words: &Words<'a>,
     lost: bool,
     text: &mut String,
 ) -> Result<(), Stop<'a>>
+    requires { on IsLayoutOf disk.now }
     ensures { Extends (string_bytes text.old) (string_bytes text.new) }
 {
-    let closed = closed_to(alloc, volume, words.user)?;
+    let closed = closed_to(alloc, disk, words.user)?;
     if lost {
         stop_at_numbers(&closed, words.user)?;
-        let lines = lost_lines(alloc, volume, words.json)?;
+        let lines = lost_lines(alloc, disk, words.json)?;
         text.push_str(lines.as_str())?;
         return Ok(());
     }
     if words.paths.is_empty() {
-        let all = find_all(alloc, volume, &closed)?;
-        push_found(alloc, volume, &all, words.json, text)?;
+        let all = find_all(alloc, disk, &closed)?;
+        push_found(alloc, disk, &all, words.json, text)?;
         stop_at_closed(alloc, &all.closed, words.user)?;
-        let lines = unreached_lines(alloc, volume, &all, words.json)?;
+        let lines = unreached_lines(alloc, disk, &all, words.json)?;
         text.push_str(lines.as_str())?;
         return Ok(());
     }
     for path in &words.paths {
-        let found = found_by(alloc, volume, *path, &closed)?;
-        push_found(alloc, volume, &found, words.json, text)?;
+        let found = found_by(alloc, disk, *path, &closed)?;
+        push_found(alloc, disk, &found, words.json, text)?;
         stop_at_closed(alloc, &found.closed, words.user)?;
     }
     Ok(())
@@ -54,15 +57,16 @@ pub(crate) fn push_paths<'a>(
 #[tactic(auto, using(crate::proofs::Growing::extends_pushed, crate::proofs::Growing::extends_on, crate::proofs::Growing::extends_same))]
 fn push_found(
     alloc: Global,
-    volume: &Mounted,
+    disk: &Disk<'_>,
     found: &FoundLines,
     json: bool,
     text: &mut String,
 ) -> Result<(), AllocError>
+    requires { on IsLayoutOf disk.now }
     ensures { Extends (string_bytes text.old) (string_bytes text.new) }
 {
     let lines = if json {
-        ls_objects(alloc, volume, found)?
+        ls_objects(alloc, disk, found)?
     } else {
         find_lines(alloc, found)?
     };
@@ -72,35 +76,35 @@ fn push_found(
 /// All that a walk from the master directory reaches, but for what stands in these directories.
 pub(crate) fn find_all(
     alloc: Global,
-    volume: &Mounted,
+    disk: &Disk<'_>,
     closed: &[u16],
 ) -> Result<FoundLines, AllocError>
     ensures directories { IfOk result (λ found. (shut : List ℕ) → CountAsClosed closed.now found.closed.items shut
-        → AreMeant volume.now.image volume.now.layout shut all_directories found.directories.items) }
-    ensures lines { IfOk result (λ found. AreFound volume.now.image volume.now.layout None Versions.Every 0 found.directories.items found.lines.items) }
+        → on AreMeant disk.now shut all_directories found.directories.items) }
+    ensures lines { IfOk result (λ found. on AreFound disk.now None Versions.Every 0 found.directories.items found.lines.items) }
 {
     let everywhere = Folder {
         place: Place::Master,
         below: true,
     };
-    find_open(alloc, volume, &everywhere, &None, Versions::Every, closed)
+    find_open(alloc, disk, &everywhere, &None, Versions::Every, closed)
 }
 
 /// What a path finds, with all versions where it says none; a name or a pattern alone is looked for in all directories.
 fn found_by<'a>(
     alloc: Global,
-    volume: &Mounted,
+    disk: &Disk<'_>,
     path: &'a str,
     closed: &[u16],
 ) -> Result<FoundLines, Stop<'a>>
     ensures ok { IfOk result (λ found. (shut : List ℕ) → CountAsClosed closed.now found.closed.items shut
-        → AreFoundBy volume.now.image volume.now.layout shut path.entry.now found) }
+        → on AreFoundBy disk.now shut path.entry.now found) }
     ensures err { IfErr result (EndsPath path.entry) }
 {
     match parse_path(path.as_bytes()) {
         Ok(Path::Within(folder, files)) => {
             let folder = to_search(path, folder);
-            let found = find_open(alloc, volume, &folder, &files, Versions::Every, closed)?;
+            let found = find_open(alloc, disk, &folder, &files, Versions::Every, closed)?;
             if is_nothing(&found, files.is_some()) {
                 return Err(Stop::Path(path, PathFault::Nothing));
             }
@@ -133,17 +137,18 @@ pub(crate) fn names_no_directory(path: &str) -> bool
 #[tactic(auto, using(crate::proofs::Growing::extends_pushed, crate::proofs::Growing::extends_on, crate::proofs::Growing::extends_same))]
 pub(crate) fn push_usage(
     alloc: Global,
-    volume: &Mounted,
+    disk: &Disk<'_>,
     top: Option<u32>,
     json: bool,
     text: &mut String,
 ) -> Result<(), AllocError>
+    requires { on IsLayoutOf disk.now }
     ensures { Extends (string_bytes text.old) (string_bytes text.new) }
 {
-    let all = find_all(alloc, volume, &[])?;
+    let all = find_all(alloc, disk, &[])?;
     let lines = match top {
-        Some(most) => largest_lines(alloc, volume, &all, most as usize, json)?,
-        None => usage_lines(alloc, volume, &all, json)?,
+        Some(most) => largest_lines(alloc, disk, &all, most as usize, json)?,
+        None => usage_lines(alloc, disk, &all, json)?,
     };
     text.push_str(lines.as_str())
 }

@@ -10,6 +10,8 @@ ghost use Rattle.fs_reads.specs.Written.{status_written};
 ghost use Rattle.fs_reads.specs.declared.stop.Stop.{Stop as End};
 ghost use Rattle.ods_shell.specs.Contents.{IsGot, IsNotGot};
 ghost use Rattle.ods_shell.specs.declared.status.Status.{Status as Code};
+ghost use Rattle.ods_space.specs.Files.{IsLayoutOf};
+ghost use Rattle.ods_space.specs.Disks.{on};
 
 use crate::closed::closed_to;
 use crate::host_files::{Written, could_write, write_host};
@@ -20,8 +22,8 @@ use crate::stop::{Stop, WordFault, send};
 use fs_host::{HostFault, Shown};
 use fs_words::Words;
 use ods_base::Uic;
-use ods_mount::Mounted;
 use ods_shell::{Contents, Found, Status, Versioned, Wanted, pair_object};
+use ods_space::Disk;
 use std::alloc::{AllocError, Global};
 use std::collections::BTreeSet;
 use std::fs::{File, Metadata};
@@ -32,7 +34,7 @@ use std::{fs, io};
 
 /// Where files are written to.
 #[derive(Clone, Copy, PartialEq, Eq)]
-enum Destination<'a> {
+pub(crate) enum Destination<'a> {
     /// Standard output.
     Output,
     /// A folder of the host.
@@ -43,38 +45,39 @@ enum Destination<'a> {
 
 /// How files are written.
 #[derive(Clone, Copy)]
-struct How<'a> {
+pub(crate) struct How<'a> {
     /// The path of the image, which no file is written onto.
-    image: &'a str,
-    wanted: Wanted,
+    pub image: &'a str,
+    pub wanted: Wanted,
     /// Whether their names have their versions.
-    with_versions: bool,
+    pub with_versions: bool,
     /// Whether files of the host may be replaced.
-    force: bool,
+    pub force: bool,
     /// Whether nothing is written, and it is told what would be.
-    only_tells: bool,
-    json: bool,
-    reader: Reader,
+    pub only_tells: bool,
+    pub json: bool,
+    pub reader: Reader,
 }
 
 /// `get`: the files that the paths name, to a destination; where none is said the last word is it, of two or more.
 pub(crate) fn get<'a, R: Files<File = File> + Clock + AllocGlobal + Print + Eprint>(
     rt: &R,
-    volume: &Mounted,
+    disk: &Disk<'_>,
     words: &Words<'a>,
     said: Option<&'a str>,
     wanted: Wanted,
     progress: &mut Progress,
 ) -> Result<Status, Stop<'a>>
+    requires { on IsLayoutOf disk.now }
     ensures status { IfOk result (λ s. may_name s ≡ true) }
     ensures done { IfOk result (λ s. s ≡ Code.Done → (paths : List (Bor (List ℕ))) × ((target : Option (Bor (List ℕ))) × AreSaid words.now.paths.items said.entry paths target
-        × AreGot volume.now.image volume.now.layout words.now.user (λ n. IsGot volume.now.image volume.now.layout n wanted) paths)) }
+        × on AreGot disk.now words.now.user (λ n. on IsGot disk.now n wanted) paths)) }
 {
     let (paths, target) = split_words(&words.paths, said);
     let to = choose_destination(rt, target, paths.len())?;
-    let closed = closed_to(rt.alloc(), volume, words.user)?;
+    let closed = closed_to(rt.alloc(), disk, words.user)?;
     let mut all = Vec::new(rt.alloc());
-    let named = add_paths(rt, volume, paths, &closed, words.user, &mut all)?;
+    let named = add_paths(rt, disk, paths, &closed, words.user, &mut all)?;
     let how = How {
         image: words.image,
         wanted,
@@ -84,11 +87,11 @@ pub(crate) fn get<'a, R: Files<File = File> + Clock + AllocGlobal + Print + Epri
         json: words.json,
         reader: Reader::of(words),
     };
-    Ok(named.or(get_all(rt, volume, &all, to, how, progress)?))
+    Ok(named.or(get_all(rt, disk, &all, to, how, progress)?))
 }
 
 /// The words that are paths, and where files go to: to what is said, or where nothing is to the last word of two or more.
-fn split_words<'a, 'b>(
+pub(crate) fn split_words<'a, 'b>(
     words: &'b [&'a str],
     said: Option<&'a str>,
 ) -> (&'b [&'a str], Option<&'a str>)
@@ -101,7 +104,7 @@ fn split_words<'a, 'b>(
 }
 
 /// Where the files of so many paths go.
-fn choose_destination<'a, R: Files>(
+pub(crate) fn choose_destination<'a, R: Files>(
     rt: &R,
     target: Option<&'a str>,
     paths: usize,
@@ -134,18 +137,19 @@ fn choose_at<'a>(host: &'a str, is_folder: bool, paths: usize) -> Result<Destina
 /// Adds the files that these paths name; a path that names none and a closed directory are said, and no fault of the command.
 fn add_paths<'a, R: AllocGlobal + Eprint>(
     rt: &R,
-    volume: &Mounted,
+    disk: &Disk<'_>,
     paths: &[&str],
     closed: &[u16],
     user: Option<Uic>,
     all: &mut Vec<Found>,
 ) -> Result<Status, Stop<'a>>
+    requires { on IsLayoutOf disk.now }
     ensures status { IfOk result (λ s. may_name s ≡ true) }
-    ensures done { IfOk result (λ s. s ≡ Code.Done → All (λ path. IsAmong volume.now.image volume.now.layout user closed.now all.new.items path.now) paths.now) }
+    ensures done { IfOk result (λ s. s ≡ Code.Done → All (λ path. on IsAmong disk.now user closed.now all.new.items path.now) paths.now) }
 {
     let mut status = Status::Done;
     for path in paths {
-        status = status.or(add_named(rt, volume, *path, closed, user, all)?);
+        status = status.or(add_named(rt, disk, *path, closed, user, all)?);
     }
     Ok(status)
 }
@@ -195,14 +199,15 @@ fn is_folder(found: io::Result<Metadata>) -> bool
 /// Gets these files.
 fn get_all<'a, R: Files<File = File> + Clock + AllocGlobal + Print + Eprint>(
     rt: &R,
-    volume: &Mounted,
+    disk: &Disk<'_>,
     files: &[Found],
     to: Destination<'a>,
     how: How<'_>,
     progress: &mut Progress,
 ) -> Result<Status, Stop<'a>>
+    requires { on IsLayoutOf disk.now }
     ensures status { IfOk result (λ s. may_name s ≡ true) }
-    ensures done { IfOk result (λ s. s ≡ Code.Done → All (IsGettable how.entry.reader.user (λ n. IsGot volume.now.image volume.now.layout n how.entry.wanted)) files.now) }
+    ensures done { IfOk result (λ s. s ≡ Code.Done → All (IsGettable how.entry.reader.user (λ n. on IsGot disk.now n how.entry.wanted)) files.now) }
 {
     if let Destination::File(host) = to {
         if files.len() > 1 {
@@ -214,7 +219,7 @@ fn get_all<'a, R: Files<File = File> + Clock + AllocGlobal + Print + Eprint>(
     let mut status = Status::Done;
     let mut before = 0u64;
     for found in files {
-        let done = get_one(rt, volume, found, to, how, &versions, &mut written)?;
+        let done = get_one(rt, disk, found, to, how, &versions, &mut written)?;
         status = status.or(done);
         if to != Destination::Output {
             progress.show(rt, before, files.len() as u64);
@@ -227,23 +232,24 @@ fn get_all<'a, R: Files<File = File> + Clock + AllocGlobal + Print + Eprint>(
 /// Gets one file to its destination.
 fn get_one<'a, R: Files<File = File> + AllocGlobal + Print + Eprint>(
     rt: &R,
-    volume: &Mounted,
+    disk: &Disk<'_>,
     found: &Found,
     to: Destination<'_>,
     how: How<'_>,
     versions: &Versioned,
     written: &mut BTreeSet<String>,
 ) -> Result<Status, Stop<'a>>
-    ensures { IfOk result (EndsGet how.entry.reader.user (λ n. IsGot volume.now.image volume.now.layout n how.entry.wanted) (λ n. IsNotGot volume.now.image volume.now.layout n how.entry.wanted) found.now) }
+    requires { on IsLayoutOf disk.now }
+    ensures { IfOk result (EndsGet how.entry.reader.user (λ n. on IsGot disk.now n how.entry.wanted) (λ n. on IsNotGot disk.now n how.entry.wanted) found.now) }
 {
     match to {
-        Destination::Output if how.only_tells => get_file(rt, volume, found, "-", how),
-        Destination::Output => Ok(cat_file(rt, volume, found, how.wanted, how.reader)?),
-        Destination::File(path) => get_file(rt, volume, found, path, how),
+        Destination::Output if how.only_tells => get_file(rt, disk, found, "-", how),
+        Destination::Output => Ok(cat_file(rt, disk, found, how.wanted, how.reader)?),
+        Destination::File(path) => get_file(rt, disk, found, path, how),
         Destination::Folder(folder) => {
             let with_version = how.with_versions || versions.has_other(found);
             let name = found.host_name(rt.alloc(), with_version)?;
-            get_into(rt, volume, found, folder, name, how, written)
+            get_into(rt, disk, found, folder, name, how, written)
         }
     }
 }
@@ -251,14 +257,15 @@ fn get_one<'a, R: Files<File = File> + AllocGlobal + Print + Eprint>(
 /// Gets one file into a folder, under a name that is none of those that were written.
 fn get_into<'a, R: Files<File = File> + AllocGlobal + Print + Eprint>(
     rt: &R,
-    volume: &Mounted,
+    disk: &Disk<'_>,
     found: &Found,
     folder: &str,
     name: String,
     how: How<'_>,
     written: &mut BTreeSet<String>,
 ) -> Result<Status, Stop<'a>>
-    ensures { IfOk result (EndsGet how.entry.reader.user (λ n. IsGot volume.now.image volume.now.layout n how.entry.wanted) (λ n. IsNotGot volume.now.image volume.now.layout n how.entry.wanted) found.now) }
+    requires { on IsLayoutOf disk.now }
+    ensures { IfOk result (EndsGet how.entry.reader.user (λ n. on IsGot disk.now n how.entry.wanted) (λ n. on IsNotGot disk.now n how.entry.wanted) found.now) }
 {
     let path = path_within(rt.alloc(), folder, name.as_str())?;
     if written.contains(&name) && (how.force || how.only_tells) {
@@ -266,7 +273,7 @@ fn get_into<'a, R: Files<File = File> + AllocGlobal + Print + Eprint>(
         let _ = eprintln!(rt; "f11fs: {from}: {path} has been written by this command");
         return Ok(Status::Host);
     }
-    let done = get_file(rt, volume, found, path.as_str(), how)?;
+    let done = get_file(rt, disk, found, path.as_str(), how)?;
     if done == Status::Done && written.insert(name).is_err() {
         return Err(Stop::NoMemory);
     }
@@ -274,7 +281,7 @@ fn get_into<'a, R: Files<File = File> + AllocGlobal + Print + Eprint>(
 }
 
 /// The path of a file of this name in a folder of the host.
-fn path_within(alloc: Global, folder: &str, name: &str) -> Result<String, AllocError>
+pub(crate) fn path_within(alloc: Global, folder: &str, name: &str) -> Result<String, AllocError>
     ensures { IfOk result (λ path. string_bytes path ≡ path_within folder.now name.now) }
 {
     format!(in alloc; "{folder}/{name}")
@@ -283,15 +290,16 @@ fn path_within(alloc: Global, folder: &str, name: &str) -> Result<String, AllocE
 /// Gets one file into a file of the host. A file that is refused, and a file of the host that is there, are said, and no fault of the command.
 fn get_file<'a, R: Files<File = File> + AllocGlobal + Print + Eprint>(
     rt: &R,
-    volume: &Mounted,
+    disk: &Disk<'_>,
     found: &Found,
     host: &str,
     how: How<'_>,
 ) -> Result<Status, Stop<'a>>
-    ensures { IfOk result (EndsGet how.entry.reader.user (λ n. IsGot volume.now.image volume.now.layout n how.entry.wanted) (λ n. IsNotGot volume.now.image volume.now.layout n how.entry.wanted) found.now) }
+    requires { on IsLayoutOf disk.now }
+    ensures { IfOk result (EndsGet how.entry.reader.user (λ n. on IsGot disk.now n how.entry.wanted) (λ n. on IsNotGot disk.now n how.entry.wanted) found.now) }
 {
     let path = found.path.as_str();
-    match open_found(rt.alloc(), volume, found, how.wanted, how.reader.user) {
+    match open_found(rt.alloc(), disk, found, how.wanted, how.reader.user) {
         Ok(got) => {
             say_remark(rt, path, &got.remark, how.reader.quiet);
             keep(rt, path, &got.contents, host, how)
@@ -301,7 +309,7 @@ fn get_file<'a, R: Files<File = File> + AllocGlobal + Print + Eprint>(
 }
 
 /// Writes what is got out of a file into one of the host, or tells it; how it ended is said.
-fn keep<'a, R: Files<File = File> + AllocGlobal + Print + Eprint>(
+pub(crate) fn keep<'a, R: Files<File = File> + AllocGlobal + Print + Eprint>(
     rt: &R,
     path: &str,
     contents: &Contents<'_>,

@@ -1,33 +1,35 @@
 //! `ls`: the names in directories.
 ghost use Rattle.std.specs.Prelude.{◌≡◌, ◌&&◌, ◌||◌, ◌==◌, string_bytes, vec_len};
 ghost use Rattle.fs_reads.specs.Shown.{Extends};
+ghost use Rattle.ods_space.specs.Files.{IsLayoutOf};
+ghost use Rattle.ods_space.specs.Disks.{on};
 
 use crate::closed::{closed_to, stop_at_closed};
 use crate::stop::Stop;
 use fs_words::Words;
-use ods_mount::Mounted;
 use ods_paths::{Path, Versions, parse_path};
-use ods_shell::mounted::{find_open, ls_lines, ls_objects};
-use ods_shell::{Columns, FoundLines, PathFault};
+use ods_shell::{Columns, FoundLines, PathFault, find_open, ls_lines, ls_objects};
+use ods_space::Disk;
 use std::alloc::{AllocError, Global};
 
 /// Appends what `ls` shows.
 #[tactic(auto, using(crate::proofs::Growing::extends_pushed, crate::proofs::Growing::extends_on, crate::proofs::Growing::extends_same))]
 pub(crate) fn push_listings<'a>(
     alloc: Global,
-    volume: &Mounted,
+    disk: &Disk<'_>,
     words: &Words<'a>,
     columns: Columns,
     below: bool,
     text: &mut String,
 ) -> Result<(), Stop<'a>>
+    requires { on IsLayoutOf disk.now }
     ensures { Extends (string_bytes text.old) (string_bytes text.new) }
 {
     if words.paths.is_empty() {
-        return push_listing(alloc, volume, "/", columns, below, words, text);
+        return push_listing(alloc, disk, "/", columns, below, words, text);
     }
     for path in &words.paths {
-        push_listing(alloc, volume, *path, columns, below, words, text)?;
+        push_listing(alloc, disk, *path, columns, below, words, text)?;
     }
     Ok(())
 }
@@ -36,28 +38,29 @@ pub(crate) fn push_listings<'a>(
 #[tactic(auto, using(crate::proofs::Growing::extends_pushed, crate::proofs::Growing::extends_on, crate::proofs::Growing::extends_same))]
 fn push_listing<'a>(
     alloc: Global,
-    volume: &Mounted,
+    disk: &Disk<'_>,
     path: &'a str,
     columns: Columns,
     below: bool,
     words: &Words<'_>,
     text: &mut String,
 ) -> Result<(), Stop<'a>>
+    requires { on IsLayoutOf disk.now }
     ensures { Extends (string_bytes text.old) (string_bytes text.new) }
 {
     match parse_path(path.as_bytes()) {
         Ok(Path::Within(folder, files)) => {
             let mut folder = folder;
             folder.below = folder.below || below;
-            let closed = closed_to(alloc, volume, words.user)?;
-            let found = find_open(alloc, volume, &folder, &files, Versions::Every, &closed)?;
+            let closed = closed_to(alloc, disk, words.user)?;
+            let found = find_open(alloc, disk, &folder, &files, Versions::Every, &closed)?;
             if is_nothing(&found, files.is_some()) {
                 return Err(Stop::Path(path, PathFault::Nothing));
             }
             let mut columns = columns;
             columns.headings = columns.headings || found.directories.len() > 1;
             columns.empty = files.is_none();
-            push_lines(alloc, volume, &found, columns, words.json, text)?;
+            push_lines(alloc, disk, &found, columns, words.json, text)?;
             stop_at_closed(alloc, &found.closed, words.user)
         }
         Ok(Path::File(_)) => Err(Stop::Path(path, PathFault::IsId)),
@@ -69,21 +72,22 @@ fn push_listing<'a>(
 #[tactic(auto, using(crate::proofs::Growing::extends_pushed, crate::proofs::Growing::extends_on, crate::proofs::Growing::extends_same))]
 fn push_lines(
     alloc: Global,
-    volume: &Mounted,
+    disk: &Disk<'_>,
     found: &FoundLines,
     columns: Columns,
     json: bool,
     text: &mut String,
 ) -> Result<(), AllocError>
+    requires { on IsLayoutOf disk.now }
     ensures { Extends (string_bytes text.old) (string_bytes text.new) }
 {
     if found.directories.is_empty() {
         return Ok(());
     }
     let lines = if json {
-        ls_objects(alloc, volume, found)?
+        ls_objects(alloc, disk, found)?
     } else {
-        ls_lines(alloc, volume, found, columns)?
+        ls_lines(alloc, disk, found, columns)?
     };
     text.push_str(lines.as_str())
 }

@@ -1,11 +1,14 @@
-//! The commands that read a sound volume and leave it as it is.
+//! The commands that read a volume, sound or not, and leave it as it is; and `df`, which wants a sound one.
 ghost use Rattle.std.specs.Prelude.{string_bytes};
 ghost use Rattle.fs_reads.specs.Shown.{Extends};
+ghost use Rattle.ods_space.specs.Files.{IsLayoutOf};
+ghost use Rattle.ods_space.specs.Disks.{on};
 
 use crate::comparing::compare_all;
 use crate::deleted::push_deleted;
 use crate::finding::{push_paths, push_usage};
 use crate::getting::get;
+use crate::getting_deleted::get_deleted;
 use crate::listing::push_listings;
 use crate::printing::cat;
 use crate::progress::Progress;
@@ -14,7 +17,8 @@ use crate::stop::{Stop, send, stop_at_own_output};
 use fs_words::{Action, Words};
 use ods_mount::Mounted;
 use ods_shell::{Columns, Status, space_lines, space_object, space_of};
-use std::alloc::{AllocError, Global};
+use ods_space::Disk;
+use std::alloc::Global;
 use std::fs::File;
 use std::rt::Files;
 use std::time::Clock;
@@ -23,18 +27,31 @@ use std::time::Clock;
 /// No clause covers what it prints and writes; `tests/fs` checks that on the built program.
 pub fn obey<'a, R: Files<File = File> + Clock + AllocGlobal + Print + Eprint>(
     rt: &R,
-    volume: &Mounted,
+    disk: &Disk<'_>,
     words: &Words<'a>,
     progress: &mut Progress,
-) -> Result<Status, Stop<'a>> {
+) -> Result<Status, Stop<'a>>
+    requires { on IsLayoutOf disk.now }
+{
     stop_at_own_output(rt, words.image)?;
     match words.action {
-        Action::Cat(wanted) => cat(rt, volume, words, wanted),
-        Action::Get { wanted, target } => get(rt, volume, words, target, wanted, progress),
-        Action::Cmp { all } => compare_all(rt, volume, words, all, progress),
+        Action::Cat(wanted) => cat(rt, disk, words, wanted),
+        Action::Get {
+            wanted,
+            target,
+            deleted: false,
+            partial: _,
+        } => get(rt, disk, words, target, wanted, progress),
+        Action::Get {
+            wanted,
+            target,
+            deleted: true,
+            partial,
+        } => get_deleted(rt, disk, words, target, wanted, partial, progress),
+        Action::Cmp { all } => compare_all(rt, disk, words, all, progress),
         _ => {
             let mut text = String::new(rt.alloc());
-            let done = push_shown(rt.alloc(), volume, words, &mut text);
+            let done = push_shown(rt.alloc(), disk, words, &mut text);
             send(rt, text.as_str())?;
             done?;
             Ok(Status::Done)
@@ -46,10 +63,11 @@ pub fn obey<'a, R: Files<File = File> + Clock + AllocGlobal + Print + Eprint>(
 #[tactic(auto, using(crate::proofs::Growing::extends_pushed, crate::proofs::Growing::extends_on, crate::proofs::Growing::extends_same))]
 fn push_shown<'a>(
     alloc: Global,
-    volume: &Mounted,
+    disk: &Disk<'_>,
     words: &Words<'a>,
     text: &mut String,
 ) -> Result<(), Stop<'a>>
+    requires { on IsLayoutOf disk.now }
     ensures { Extends (string_bytes text.old) (string_bytes text.new) }
 {
     match words.action {
@@ -60,23 +78,23 @@ fn push_shown<'a>(
                 headings: below,
                 empty: false,
             };
-            push_listings(alloc, volume, words, columns, below, text)
+            push_listings(alloc, disk, words, columns, below, text)
         }
         Action::Find {
             lost: _,
             deleted: true,
             long,
-        } => push_deleted(alloc, volume, words, long, text),
+        } => push_deleted(alloc, disk, words, long, text),
         Action::Find {
             lost,
             deleted: false,
             long: _,
-        } => push_paths(alloc, volume, words, lost, text),
-        Action::Stat => push_stats(alloc, volume, words, text),
-        Action::Df => Ok(push_space(alloc, volume, words.json, text)?),
-        Action::Du { top } => Ok(push_usage(alloc, volume, top, words.json, text)?),
-        // These write as they go on, or have no volume that is there and stays.
+        } => push_paths(alloc, disk, words, lost, text),
+        Action::Stat => push_stats(alloc, disk, words, text),
+        Action::Du { top } => Ok(push_usage(alloc, disk, top, words.json, text)?),
+        // These write as they go on, want a sound volume, or have no volume that is there and stays.
         Action::Cat(_)
+        | Action::Df
         | Action::Get { .. }
         | Action::Cmp { .. }
         | Action::Info
@@ -88,21 +106,19 @@ fn push_shown<'a>(
     }
 }
 
-/// Appends what `df` shows.
-#[tactic(auto, using(crate::proofs::Growing::extends_pushed, crate::proofs::Growing::extends_on, crate::proofs::Growing::extends_same))]
-fn push_space(
-    alloc: Global,
+/// `df`: how much of a sound volume is used.
+/// No clause covers what it prints; `tests/fs` checks that on the built program.
+pub fn show_space<'a, R: Files<File = File> + AllocGlobal + Print>(
+    rt: &R,
     volume: &Mounted,
-    json: bool,
-    text: &mut String,
-) -> Result<(), AllocError>
-    ensures { Extends (string_bytes text.old) (string_bytes text.new) }
-{
+    words: &Words<'a>,
+) -> Result<Status, Stop<'a>> {
+    stop_at_own_output(rt, words.image)?;
     let space = space_of(volume);
-    let lines = if json {
-        space_object(alloc, &space)?
+    let lines = if words.json {
+        space_object(rt.alloc(), &space)?
     } else {
-        space_lines(alloc, &space)?
+        space_lines(rt.alloc(), &space)?
     };
-    text.push_str(lines.as_str())
+    send(rt, lines.as_str())
 }

@@ -5,6 +5,8 @@ ghost use Rattle.fs_reads.specs.{Ends.EndsPrinting, Ends.may_name, Gets.AreGot, 
 ghost use Rattle.ods_shell.specs.{Contents.IsGot, Contents.IsNotGot};
 ghost use Rattle.fs_reads.specs.declared.stop.Stop.{Stop as End};
 ghost use Rattle.ods_shell.specs.declared.status.Status.{Status as Code};
+ghost use Rattle.ods_space.specs.Files.{IsLayoutOf};
+ghost use Rattle.ods_space.specs.Disks.{on};
 
 use crate::closed::{closed_to, say_closed};
 use crate::pouring::pour;
@@ -12,10 +14,9 @@ use crate::reading::{Unread, open_found};
 use crate::stop::{Stop, say_about};
 use fs_words::Words;
 use ods_base::Uic;
-use ods_mount::Mounted;
 use ods_paths::Versions;
-use ods_shell::mounted::find_path;
-use ods_shell::{FormFault, Found, PathFault, Remark, Status, Wanted};
+use ods_shell::{FormFault, Found, PathFault, Remark, Status, Wanted, find_path};
+use ods_space::Disk;
 use std::io;
 
 /// Who reads, and whether remarks that are no faults are left out.
@@ -40,18 +41,19 @@ impl Reader {
 /// `cat`.
 pub(crate) fn cat<'a, R: AllocGlobal + Print + Eprint>(
     rt: &R,
-    volume: &Mounted,
+    disk: &Disk<'_>,
     words: &Words<'a>,
     wanted: Wanted,
 ) -> Result<Status, Stop<'a>>
+    requires { on IsLayoutOf disk.now }
     ensures status { IfOk result (λ s. may_name s ≡ true) }
-    ensures done { IfOk result (λ s. s ≡ Code.Done → AreGot volume.now.image volume.now.layout words.now.user (λ n. IsGot volume.now.image volume.now.layout n wanted) words.now.paths.items) }
+    ensures done { IfOk result (λ s. s ≡ Code.Done → on AreGot disk.now words.now.user (λ n. on IsGot disk.now n wanted) words.now.paths.items) }
     ensures err { IfErr result EndsPrinting }
 {
-    let closed = closed_to(rt.alloc(), volume, words.user)?;
+    let closed = closed_to(rt.alloc(), disk, words.user)?;
     let mut status = Status::Done;
     for path in &words.paths {
-        status = status.or(cat_path(rt, volume, *path, &closed, wanted, Reader::of(words))?);
+        status = status.or(cat_path(rt, disk, *path, &closed, wanted, Reader::of(words))?);
     }
     Ok(status)
 }
@@ -59,37 +61,39 @@ pub(crate) fn cat<'a, R: AllocGlobal + Print + Eprint>(
 /// Writes the files that a path names to standard output, and says of those that are refused.
 fn cat_path<'a, R: AllocGlobal + Print + Eprint>(
     rt: &R,
-    volume: &Mounted,
+    disk: &Disk<'_>,
     path: &str,
     closed: &[u16],
     wanted: Wanted,
     reader: Reader,
 ) -> Result<Status, Stop<'a>>
+    requires { on IsLayoutOf disk.now }
     ensures status { IfOk result (λ s. may_name s ≡ true) }
-    ensures done { IfOk result (λ s. s ≡ Code.Done → IsPathGot volume.now.image volume.now.layout reader.user (λ n. IsGot volume.now.image volume.now.layout n wanted) closed.now path.now) }
+    ensures done { IfOk result (λ s. s ≡ Code.Done → on IsPathGot disk.now reader.user (λ n. on IsGot disk.now n wanted) closed.now path.now) }
     ensures err { IfErr result EndsPrinting }
 {
     let mut files = Vec::new(rt.alloc());
-    let named = add_named(rt, volume, path, closed, reader.user, &mut files)?;
-    let written = cat_files(rt, volume, &files, wanted, reader)?;
+    let named = add_named(rt, disk, path, closed, reader.user, &mut files)?;
+    let written = cat_files(rt, disk, &files, wanted, reader)?;
     Ok(named.or(written))
 }
 
 /// Writes these files to standard output, and says of those that are refused.
 fn cat_files<'a, R: AllocGlobal + Print + Eprint>(
     rt: &R,
-    volume: &Mounted,
+    disk: &Disk<'_>,
     files: &[Found],
     wanted: Wanted,
     reader: Reader,
 ) -> Result<Status, Stop<'a>>
+    requires { on IsLayoutOf disk.now }
     ensures status { IfOk result (λ s. may_name s ≡ true) }
-    ensures done { IfOk result (λ s. s ≡ Code.Done → All (IsGettable reader.user (λ n. IsGot volume.now.image volume.now.layout n wanted)) files.now) }
+    ensures done { IfOk result (λ s. s ≡ Code.Done → All (IsGettable reader.user (λ n. on IsGot disk.now n wanted)) files.now) }
     ensures err { IfErr result EndsPrinting }
 {
     let mut status = Status::Done;
     for found in files {
-        status = status.or(cat_file(rt, volume, found, wanted, reader)?);
+        status = status.or(cat_file(rt, disk, found, wanted, reader)?);
     }
     Ok(status)
 }
@@ -98,17 +102,18 @@ fn cat_files<'a, R: AllocGlobal + Print + Eprint>(
 #[tactic(auto, using(crate::proofs::Statuses::closed_may, crate::proofs::Statuses::path_may, crate::proofs::Statuses::path_fault))]
 pub(crate) fn add_named<'a, R: AllocGlobal + Eprint>(
     rt: &R,
-    volume: &Mounted,
+    disk: &Disk<'_>,
     path: &str,
     closed: &[u16],
     user: Option<Uic>,
     all: &mut Vec<Found>,
 ) -> Result<Status, Stop<'a>>
-    ensures named { IfOk result (AddsNamed volume.now.image volume.now.layout user closed.now path.now all.old.items all.new.items) }
+    requires { on IsLayoutOf disk.now }
+    ensures named { IfOk result (on AddsNamed disk.now user closed.now path.now all.old.items all.new.items) }
     ensures status { IfOk result (λ s. may_name s ≡ true) }
     ensures err { IfErr result (λ stop. stop ≡ End.NoMemory) }
 {
-    match find_path(rt.alloc(), volume, path, Some(Versions::Highest), closed) {
+    match find_path(rt.alloc(), disk, path, Some(Versions::Highest), closed) {
         Ok((found, met)) => {
             let mut found = found;
             all.append(&mut found)?;
@@ -125,16 +130,17 @@ pub(crate) fn add_named<'a, R: AllocGlobal + Eprint>(
 /// Writes one file to standard output; a file that is refused is said, and no fault of the command.
 pub(crate) fn cat_file<'a, R: AllocGlobal + Print + Eprint>(
     rt: &R,
-    volume: &Mounted,
+    disk: &Disk<'_>,
     found: &Found,
     wanted: Wanted,
     reader: Reader,
 ) -> Result<Status, Stop<'a>>
-    ensures ok { IfOk result (EndsFile reader.user (λ n. IsGot volume.now.image volume.now.layout n wanted) (λ n. IsNotGot volume.now.image volume.now.layout n wanted) found.now) }
+    requires { on IsLayoutOf disk.now }
+    ensures ok { IfOk result (EndsFile reader.user (λ n. on IsGot disk.now n wanted) (λ n. on IsNotGot disk.now n wanted) found.now) }
     ensures err { IfErr result EndsPrinting }
 {
     let path = found.path.as_str();
-    match open_found(rt.alloc(), volume, found, wanted, reader.user) {
+    match open_found(rt.alloc(), disk, found, wanted, reader.user) {
         Ok(got) => {
             say_remark(rt, path, &got.remark, reader.quiet);
             match pour(&got.contents, &mut io::writer(rt)) {

@@ -2,12 +2,13 @@
 ghost use Rattle.std.specs.Prelude.{ℕ, List, IfErr, IfOk, IfSome, IsSome, OnOk};
 ghost use Rattle.ods_shell.specs.{Contents.IsGot, Contents.IsNotGot, Shown.ContentsAre};
 ghost use Rattle.fs_reads.specs.Denied.{IsDenied, IsUnread, MayRead};
+ghost use Rattle.ods_space.specs.Files.{IsLayoutOf};
+ghost use Rattle.ods_space.specs.Disks.{on};
 
 use ods_base::Uic;
-use ods_mount::Mounted;
 use ods_request::{Right, permits};
-use ods_shell::mounted::open_contents;
-use ods_shell::{Facts, FormFault, Found, Got, Wanted};
+use ods_shell::{Facts, FormFault, Found, Got, Wanted, open_contents};
+use ods_space::Disk;
 use std::alloc::Global;
 use thiserror::Error;
 
@@ -39,20 +40,21 @@ pub(crate) fn check_right(facts: &Facts, user: Option<Uic>) -> Result<(), Unread
 /// What is got out of a file that this user may read.
 pub(crate) fn open_found<'a>(
     alloc: Global,
-    volume: &'a Mounted,
+    disk: &Disk<'a>,
     found: &Found,
     wanted: Wanted,
     user: Option<Uic>,
 ) -> Result<Got<'a>, Unread>
-    ensures ok { IfOk result (λ got. IfSome found.now.facts (λ facts. MayRead user facts × ((bytes : List ℕ) × ContentsAre got.contents bytes × IsGot volume.now.image volume.now.layout facts.file.number wanted bytes got.remark))) }
+    requires { on IsLayoutOf disk.now }
+    ensures ok { IfOk result (λ got. IfSome found.now.facts (λ facts. MayRead user facts × ((bytes : List ℕ) × ContentsAre got.contents bytes × on IsGot disk.now facts.file.number wanted bytes got.remark))) }
     ensures some { OnOk result (IsSome found.now.facts) }
-    ensures err { IfErr result (λ fault. IfSome found.now.facts (λ facts. IsUnread user facts (IsNotGot volume.now.image volume.now.layout facts.file.number wanted) fault)) }
+    ensures err { IfErr result (λ fault. IfSome found.now.facts (λ facts. IsUnread user facts (on IsNotGot disk.now facts.file.number wanted) fault)) }
 {
     let Some(facts) = &found.facts else {
         return Err(Unread::Form(FormFault::NoSuchFile));
     };
     check_right(facts, user)?;
-    match open_contents(alloc, volume, facts.file.number, wanted) {
+    match open_contents(alloc, disk, facts.file.number, wanted) {
         Ok(got) => Ok(got),
         Err(fault) => Err(Unread::Form(fault)),
     }

@@ -5,18 +5,21 @@ ghost use Rattle.ods_shell.specs.declared.status.Status.{Status as Code};
 ghost use Rattle.ods_space.specs.Files.{IsLayoutOf};
 ghost use Rattle.ods_space.specs.Disks.{on};
 
+use crate::finding::find_all;
 use crate::host_files::{Written, write_host};
 use crate::progress::Progress;
 use crate::rescue_folder::take_folder;
 use crate::rescue_image::read_whole_blocks;
+use crate::rescue_way::{Kept, Way};
 use crate::scanning::rescue_scanned;
 use crate::stop::{Stop, send, stop_about, stop_at_own_output};
 use fs_host::{HostFault, Layers, SaveFault, Shown};
 use fs_words::Words;
-use ods_base::FileId;
+use ods_base::{FileId, Listed, print_name};
 use ods_check::{Finding, bad_headers, check_first};
 use ods_shell::{
-    Contents, Rescued, Status, open_rescued, open_rescued_part, pair_object, text_object,
+    Contents, Directory, Rescued, Status, facts_by_id, open_rescued, open_rescued_part,
+    pair_object, text_object,
 };
 use ods_space::{Disk, last_number};
 use std::alloc::Global;
@@ -27,6 +30,9 @@ use std::time::Clock;
 
 /// The number from which on files are no reserved ones.
 const FIRST: u16 = 6;
+
+/// How many numbers files have, with 0.
+const NUMBERS: usize = 65536;
 
 /// How files are copied.
 #[derive(Clone, Copy)]
@@ -88,7 +94,8 @@ pub fn rescue<'a, R: Files<File = File> + Clock + AllocGlobal + Print + Eprint>(
     Ok(status.or(rescue_scanned(rt, path, &image, how, progress)?))
 }
 
-/// Copies each file, and says of which numbers there is no header.
+/// Copies each file, and says of which numbers there is no header: first those that a walk reaches, each under the first path that names it,
+/// and then the others.
 fn rescue_all<'a, R: Files<File = File> + Clock + AllocGlobal + Print + Eprint>(
     rt: &R,
     disk: &Disk<'_>,
@@ -96,24 +103,146 @@ fn rescue_all<'a, R: Files<File = File> + Clock + AllocGlobal + Print + Eprint>(
     progress: &mut Progress,
 ) -> Result<Status, Stop<'a>>
     requires { on IsLayoutOf disk.now }
+    ensures { IfOk result (λ s. (s ≡ Code.Done) ⊎ (s ≡ Code.Found)) }
 {
-    let mut taken = BTreeSet::new(rt.alloc());
+    let mut kept = Kept {
+        names: BTreeSet::new(rt.alloc()),
+        folders: BTreeSet::new(rt.alloc()),
+        numbers: vec![in rt.alloc(); false; NUMBERS]?,
+    };
+    let named = rescue_named(rt, disk, how, &mut kept, progress)?;
+    let lost = rescue_lost(rt, disk, how, &mut kept, progress)?;
+    Ok(named.or(lost).or(say_bad_headers(rt, disk, how)?))
+}
+
+/// Copies each file that a walk reaches.
+fn rescue_named<'a, R: Files<File = File> + Clock + AllocGlobal + Print + Eprint>(
+    rt: &R,
+    disk: &Disk<'_>,
+    how: How<'_>,
+    kept: &mut Kept,
+    progress: &mut Progress,
+) -> Result<Status, Stop<'a>>
+    requires { on IsLayoutOf disk.now }
+    ensures { IfOk result (λ s. (s ≡ Code.Done) ⊎ (s ≡ Code.Found)) }
+{
+    let found = find_all(rt.alloc(), disk, &[])?;
+    let all = found.lines.len();
     let mut status = Status::Done;
-    let last = last_number(disk.layout);
-    for number in FIRST..=last {
-        status = status.or(rescue_file(rt, disk, number, how, &mut taken)?);
-        progress.show(rt, u64::from(number), u64::from(last));
-    }
-    for finding in bad_headers(rt.alloc(), disk, u32::MAX)?.kept_lines() {
-        if let Finding::BadHeader(number, why) = finding {
-            let file = format!(in rt.alloc(); "file number {number}")?;
-            let why = format!(in rt.alloc(); "is marked as used and has no header: {why}")?;
-            let line = format!(in rt.alloc(); "left: {finding}\n")?;
-            say_left(rt, file.as_str(), why.as_str(), line.as_str(), how.json)?;
-            status = status.or(Status::Found);
-        }
+    for at in 0..all {
+        let line = &found.lines[at];
+        let (place, entry) = (line.directory, &line.entry);
+        status = status.or(rescue_line(rt, disk, &found.directories, place, entry, how, kept)?);
+        progress.show(rt, at as u64, all as u64);
     }
     Ok(status)
+}
+
+/// Copies the file that an entry of the directory at this place names, where that is not done: under its name, below the folders of the
+/// directories on the way.
+fn rescue_line<'a, R: Files<File = File> + AllocGlobal + Print + Eprint>(
+    rt: &R,
+    disk: &Disk<'_>,
+    directories: &[Directory],
+    place: usize,
+    entry: &Listed,
+    how: How<'_>,
+    kept: &mut Kept,
+) -> Result<Status, Stop<'a>>
+    requires { on IsLayoutOf disk.now }
+    ensures { IfOk result (λ s. (s ≡ Code.Done) ⊎ (s ≡ Code.Found)) }
+{
+    if entry.file.number < FIRST || facts_by_id(disk, entry.file).is_none() {
+        return Ok(Status::Done);
+    }
+    let Some(directory) = directories.get(place) else {
+        return Ok(Status::Done);
+    };
+    if !kept.takes(entry.file.number) {
+        return Ok(Status::Done);
+    }
+    let name = print_name(&entry.name, entry.version);
+    rescue_file(
+        rt,
+        disk,
+        entry.file.number,
+        how,
+        Way::To(&directory.names, name.as_str()),
+        kept,
+    )
+}
+
+/// Copies each file that no walk reaches, under the name in its header, to the folder of the lost ones.
+fn rescue_lost<'a, R: Files<File = File> + Clock + AllocGlobal + Print + Eprint>(
+    rt: &R,
+    disk: &Disk<'_>,
+    how: How<'_>,
+    kept: &mut Kept,
+    progress: &mut Progress,
+) -> Result<Status, Stop<'a>>
+    requires { on IsLayoutOf disk.now }
+    ensures { IfOk result (λ s. (s ≡ Code.Done) ⊎ (s ≡ Code.Found)) }
+{
+    let mut status = Status::Done;
+    let last = last_number(disk.layout);
+    for past in FIRST - 1..last {
+        status = status.or(rescue_number(rt, disk, past + 1, how, kept)?);
+        progress.show(rt, u64::from(past), u64::from(last));
+    }
+    Ok(status)
+}
+
+/// Copies the file with this number, where that is not done, to the folder of the lost ones.
+fn rescue_number<'a, R: Files<File = File> + AllocGlobal + Print + Eprint>(
+    rt: &R,
+    disk: &Disk<'_>,
+    number: u16,
+    how: How<'_>,
+    kept: &mut Kept,
+) -> Result<Status, Stop<'a>>
+    requires { on IsLayoutOf disk.now }
+    ensures { IfOk result (λ s. (s ≡ Code.Done) ⊎ (s ≡ Code.Found)) }
+{
+    if !kept.takes(number) {
+        return Ok(Status::Done);
+    }
+    rescue_file(rt, disk, number, how, Way::Lost, kept)
+}
+
+/// A line for each number that is marked as used and has no header.
+fn say_bad_headers<'a, R: AllocGlobal + Print>(
+    rt: &R,
+    disk: &Disk<'_>,
+    how: How<'_>,
+) -> Result<Status, Stop<'a>>
+    requires { on IsLayoutOf disk.now }
+    ensures { IfOk result (λ s. (s ≡ Code.Done) ⊎ (s ≡ Code.Found)) }
+{
+    let mut status = Status::Done;
+    for finding in bad_headers(rt.alloc(), disk, u32::MAX)?.kept_lines() {
+        status = status.or(say_bad_header(rt, finding, how.json)?);
+    }
+    Ok(status)
+}
+
+/// A line for a number that is marked as used and has no header.
+fn say_bad_header<'a, R: AllocGlobal + Print>(
+    rt: &R,
+    finding: &Finding,
+    json: bool,
+) -> Result<Status, Stop<'a>>
+    ensures { IfOk result (λ s. (s ≡ Code.Done) ⊎ (s ≡ Code.Found)) }
+{
+    let Finding::BadHeader(number, why) = finding else {
+        return Ok(Status::Done);
+    };
+    let file = format!(in rt.alloc(); "file number {number}")?;
+    let why = format!(in rt.alloc(); "is marked as used and has no header: {why}")?;
+    let line = format!(in rt.alloc(); "left: {finding}\n")?;
+    match say_left(rt, file.as_str(), why.as_str(), line.as_str(), json) {
+        Ok(_) => Ok(Status::Found),
+        Err(stop) => Err(stop),
+    }
 }
 
 /// A line of bytes that are no whole block.
@@ -197,7 +326,8 @@ fn rescue_file<'a, R: Files<File = File> + AllocGlobal + Print + Eprint>(
     disk: &Disk<'_>,
     number: u16,
     how: How<'_>,
-    taken: &mut BTreeSet<String>,
+    way: Way<'_>,
+    kept: &mut Kept,
 ) -> Result<Status, Stop<'a>>
     requires { on IsLayoutOf disk.now }
     ensures { IfOk result (λ s. (s ≡ Code.Done) ⊎ (s ≡ Code.Found)) }
@@ -205,7 +335,7 @@ fn rescue_file<'a, R: Files<File = File> + AllocGlobal + Print + Eprint>(
     match open_rescued(rt.alloc(), disk, number, how.text)? {
         Rescued::Nothing => Ok(Status::Done),
         Rescued::Broken(file, fault) => {
-            let what = format!(in rt.alloc(); "file {},{}", file.number, file.sequence)?;
+            let what = way.told(rt.alloc(), file)?;
             let why = format!(in rt.alloc(); "{fault}")?;
             if how.partial {
                 return keep_part(
@@ -216,14 +346,17 @@ fn rescue_file<'a, R: Files<File = File> + AllocGlobal + Print + Eprint>(
                     file,
                     what.as_str(),
                     why.as_str(),
-                    taken,
+                    way,
+                    kept,
                 );
             }
             let line = format!(in rt.alloc(); "left: {}: {fault}\n", what.as_str())?;
             say_left(rt, what.as_str(), why.as_str(), line.as_str(), how.json)?;
             Ok(Status::Found)
         }
-        Rescued::Whole(file, name, contents) => keep(rt, how, file, name, &contents, taken),
+        Rescued::Whole(file, name, contents) => keep_below(
+            rt, how, file, name, &contents, way, kept,
+        ),
     }
 }
 
@@ -236,7 +369,8 @@ fn keep_part<'a, R: Files<File = File> + AllocGlobal + Print + Eprint>(
     file: FileId,
     what: &str,
     why: &str,
-    taken: &mut BTreeSet<String>,
+    way: Way<'_>,
+    kept: &mut Kept,
 ) -> Result<Status, Stop<'a>>
     ensures { IfOk result (λ s. s ≡ Code.Found) }
 {
@@ -244,8 +378,27 @@ fn keep_part<'a, R: Files<File = File> + AllocGlobal + Print + Eprint>(
         return Ok(Status::Found);
     };
     say_part(rt, what, why, how.json)?;
-    keep(rt, how, file, part.name, &part.contents, taken)?;
+    keep_below(rt, how, file, part.name, &part.contents, way, kept)?;
     Ok(Status::Found)
+}
+
+/// Writes what is got out of a file to where its way leads. `name` is the name in its header.
+fn keep_below<'a, R: Files<File = File> + AllocGlobal + Print + Eprint>(
+    rt: &R,
+    how: How<'_>,
+    file: FileId,
+    name: String,
+    contents: &Contents<'_>,
+    way: Way<'_>,
+    kept: &mut Kept,
+) -> Result<Status, Stop<'a>>
+    ensures { IfOk result (λ s. s ≡ Code.Done) }
+{
+    if !how.only_tells {
+        way.make(rt, how.folder, &mut kept.folders)?;
+    }
+    let name = way.name(rt.alloc(), name.as_str())?;
+    keep(rt, how, file, name, contents, &mut kept.names)
 }
 
 /// Writes what is got out of a file into a new file of the folder, under its name, or with its ID behind that where the name is taken.

@@ -2,32 +2,35 @@
 ghost use Rattle.std.specs.Prelude.{ℕ, List, IfErr, IfOk, string_bytes};
 ghost use Rattle.ods_shell.specs.Ways.{CountAsClosed};
 ghost use Rattle.fs_reads.specs.{Ends.EndsPath, Named.AreOfPath, Shown.Extends};
+ghost use Rattle.ods_space.specs.Files.{IsLayoutOf};
+ghost use Rattle.ods_space.specs.Disks.{on};
 
 use crate::closed::{closed_to, stop_at_closed};
 use crate::stop::{Stop, stop_about};
 use fs_words::Words;
-use ods_mount::Mounted;
 use ods_paths::Versions;
-use ods_shell::mounted::find_path;
-use ods_shell::{Directory, FormFault, Found, PathFault, Status, stat_lines, stat_object};
-use ods_space::chain;
+use ods_shell::{
+    Directory, FormFault, Found, PathFault, Status, find_path, stat_lines, stat_object,
+};
+use ods_space::{Disk, reach_blocks};
 use std::alloc::Global;
 
 /// Appends what `stat` shows.
 #[tactic(auto, using(crate::proofs::Growing::extends_pushed, crate::proofs::Growing::extends_on, crate::proofs::Growing::extends_same))]
 pub(crate) fn push_stats<'a>(
     alloc: Global,
-    volume: &Mounted,
+    disk: &Disk<'_>,
     words: &Words<'a>,
     text: &mut String,
 ) -> Result<(), Stop<'a>>
+    requires { on IsLayoutOf disk.now }
     ensures { Extends (string_bytes text.old) (string_bytes text.new) }
 {
-    let closed = closed_to(alloc, volume, words.user)?;
+    let closed = closed_to(alloc, disk, words.user)?;
     for path in &words.paths {
-        let (all, met) = found_at(alloc, volume, *path, &closed)?;
+        let (all, met) = found_at(alloc, disk, *path, &closed)?;
         for found in &all {
-            push_stat(alloc, volume, found, words.json, text)?;
+            push_stat(alloc, disk, found, words.json, text)?;
         }
         stop_at_closed(alloc, &met, words.user)?;
     }
@@ -37,15 +40,16 @@ pub(crate) fn push_stats<'a>(
 /// What a path names, and the closed directories on the way; the highest version where the path says none.
 fn found_at<'a>(
     alloc: Global,
-    volume: &Mounted,
+    disk: &Disk<'_>,
     path: &'a str,
     closed: &[u16],
 ) -> Result<(Vec<Found>, Vec<Directory>), Stop<'a>>
+    requires { on IsLayoutOf disk.now }
     ensures ok { IfOk result (λ r. (shut : List ℕ) → CountAsClosed closed.now r.1.items shut
-        → AreOfPath volume.now.image volume.now.layout shut path.entry.now r.0.items) }
+        → on AreOfPath disk.now shut path.entry.now r.0.items) }
     ensures err { IfErr result (EndsPath path.entry) }
 {
-    match find_path(alloc, volume, path, Some(Versions::Highest), closed) {
+    match find_path(alloc, disk, path, Some(Versions::Highest), closed) {
         Ok(found) => Ok(found),
         Err(PathFault::NoMemory) => Err(Stop::NoMemory),
         Err(fault) => Err(Stop::Path(path, fault)),
@@ -56,11 +60,12 @@ fn found_at<'a>(
 #[tactic(auto, using(crate::proofs::Growing::extends_pushed, crate::proofs::Growing::extends_on, crate::proofs::Growing::extends_same))]
 fn push_stat<'a>(
     alloc: Global,
-    volume: &Mounted,
+    disk: &Disk<'_>,
     found: &Found,
     json: bool,
     text: &mut String,
 ) -> Result<(), Stop<'a>>
+    requires { on IsLayoutOf disk.now }
     ensures { Extends (string_bytes text.old) (string_bytes text.new) }
 {
     let path = found.path.as_str();
@@ -72,10 +77,10 @@ fn push_stat<'a>(
         text.push_str(object.as_str())?;
         return Ok(());
     }
-    let Ok(lbns) = chain(alloc, &volume.disk(), facts.file.number) else {
-        return Err(Stop::NoMemory);
+    let Some(reached) = reach_blocks(alloc, disk, facts.file.number)? else {
+        return Err(stop_about(alloc, path, FormFault::NoSuchFile, Status::Refused));
     };
-    let lines = stat_lines(alloc, path, facts, &lbns)?;
+    let lines = stat_lines(alloc, path, facts, &reached.blocks)?;
     text.push_str(lines.as_str())?;
     Ok(())
 }

@@ -47,8 +47,10 @@ IsWanted m ByKind = IsSet m (codes "-t") false × IsSet m (codes "-b") false × 
 abbrev pub IsCat : ArgMatches → Action → Type 0
 IsCat m a = (wanted : Wanted) × IsWanted m wanted × (a ≡ action.Cat wanted)
 
+-- --partial does nothing without --deleted
 abbrev pub IsGet : ArgMatches → Option (Bor (List ℕ)) → Action → Type 0
-IsGet m out a = (wanted : Wanted) × IsWanted m wanted × (a ≡ action.Get wanted out)
+IsGet m out a = (wanted : Wanted) × (deleted partial : Bool) × IsWanted m wanted × IsSet m (codes "--deleted") deleted × IsSet m (codes "--partial") partial
+    × (partial ≡ true → deleted ≡ true) × (a ≡ action.Get wanted out deleted partial)
 
 abbrev pub IsDu : ArgMatches → Action → Type 0
 IsDu m a = (top : Option ℕ) × IsValue IsNumber (text_of m (codes "--top")) top × (a ≡ action.Du top)

@@ -67,6 +67,7 @@ pub data IsBeside (s : Said) (v : Verb) : Type 0 where
 -- What is wrong with the own words of each command, of which a parse found these.
 abbrev pub IsUnasked : Verb → ArgMatches → Type 0
 IsUnasked verb.Find m = IsSet m (codes "-l") true × IsSet m (codes "--deleted") false
+IsUnasked verb.Get m = IsSet m (codes "--partial") true × IsSet m (codes "--deleted") false
 IsUnasked verb.Du m = IsNoValue IsNumber (text_of m (codes "--top"))
 IsUnasked verb.Put m = IsNoValue IsForm (text_of m (codes "--form")) ⊎ IsNoValue IsSaid (text_of m (codes "--owner"))
 IsUnasked verb.Mkdir m = IsNoValue IsNumber (text_of m (codes "--names")) ⊎ IsNoValue IsSaid (text_of m (codes "--owner"))

@@ -22,10 +22,13 @@ pub enum Action<'a> {
     Stat,
     /// Writes files to standard output.
     Cat(Wanted),
-    /// Writes files to the host: to this target, or where there is none into the working folder or to the last word.
+    /// Writes files to the host: to this target, or where there is none into the working folder or to the last word. Where `deleted`, deleted files by
+    /// their IDs; where `partial`, what is left of those that are not whole too.
     Get {
         wanted: Wanted,
         target: Option<&'a str>,
+        deleted: bool,
+        partial: bool,
     },
     /// Shows how much of the volume is used.
     Df,

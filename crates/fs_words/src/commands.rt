@@ -85,7 +85,7 @@ pub(crate) fn action_of<'a>(
         Verb::Find => find::action(alloc, own),
         Verb::Stat => Ok(Action::Stat),
         Verb::Cat => Ok(Action::Cat(wanted_form(own))),
-        Verb::Get => Ok(get::action(own, out)),
+        Verb::Get => get::action(alloc, own, out),
         Verb::Df => Ok(Action::Df),
         Verb::Info => Ok(Action::Info),
         Verb::Du => du::action(alloc, own),

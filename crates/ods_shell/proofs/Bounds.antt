@@ -1,12 +1,20 @@
 -- A chain of headers that are still there names at most as many blocks as a chain may: segments rise and are bytes.
-use Rattle.std.proofs.Common.{◌≡◌, ℕ, ◌+◌, ◌*◌, ◌<◌, ◌≤◌, Bool, List, [], ◌∷◌, ◌++◌, length, ◌∙◌, ap, arith, length-append}
+use Rattle.std.proofs.Common.{◌≡◌, ℕ, ◌+◌, ◌*◌, ◌/◌, ◌%◌, ◌<◌, ◌≤◌, Bool, List, [], ◌∷◌, ◌++◌, length, inl, inr, ◌∙◌, ap, arith, length-append}
+use Rattle.std.specs.Prelude.{slice_set}
+use Rattle.std.proofs.lemmas.Bool.{cases_lt, cases_eq}
+use Rattle.std.proofs.lemmas.List.{get_or-set_same, get_or-set_other, set_past}
+use Rattle.ods_base.specs.Block.{byte, with_word, sum_of}
 use Rattle.ods_base.specs.Image.{IsImage, block_at}
-use Rattle.ods_header.specs.Header.{segment_of, blocks_of}
+use Rattle.ods_header.specs.Header.{segment_of, map_word, blocks_of}
 use Rattle.ods_space.specs.Chain.{header_blocks, chain_blocks}
+use Rattle.ods_space.specs.Layout.{VolumeLayout, header_at, last_number, place_of}
+use Rattle.ods_space.proofs.Chains.{small_of}
 use Rattle.ods_space.proofs.Sizes.{blocks_few}
 use Rattle.ods_remains.specs.Candidates.{HasCandidate, GoesOn, IsNext}
 use Rattle.ods_remains.specs.Chains.{GoesAlong, named_at}
+use Rattle.ods_remains.specs.Deleted.{IsDeleted, IsFormerFile, LeadsOn, former}
 use Rattle.ods_remains.specs.Scanned.{IsScanned}
+use Rattle.ods_remains.specs.declared.former.DeletedFile.{DeletedFile}
 use Rattle.ods_remains.specs.declared.scanned.Scanned.{Scanned}
 use Rattle.ods_remains.proofs.Going.{segment_small}
 use Rattle.ods_remains.proofs.Keyed.{within}
@@ -45,3 +53,42 @@ scanned_few I first file image found =
     let few = chain_few (block_at I) (GoesOn I) (IsNext I) first found.others file.is_cut
     (λ a c next. (next.named.named.segment, candidate_rises I c image next.named.there)) (candidate_rises I first image found.primary.0) found.chain in
     omega (arith, few, ap length named)
+
+-- a list of bytes with one more byte, or one more word, set has bytes
+byte_set : (b : List ℕ) (i x j : ℕ) → x < 256 → byte b j < 256 → byte (slice_set b i x) j < 256
+byte_set b i x j small old = elim (cases_eq j i) [
+  | inl same ↦ elim (cases_lt i (length b)) [
+    | inl inside ↦ rw (same, get_or-set_same b i x 0 inside) small
+    | inr past ↦ rw (set_past b i x past) old
+  ]
+  | inr other ↦ rw (get_or-set_other b i j x 0 other) old
+]
+
+word_set : (b : List ℕ) (k w j : ℕ) → w < 65536 → byte b j < 256 → byte (with_word b k w) j < 256
+word_set b k w j small old = byte_set (slice_set b (2 * k) (w % 256)) (2 * k + 1) (w / 256) j (omega (arith, small)) (byte_set b (2 * k) (w % 256) j (omega arith) old)
+
+sum_small : (b : List ℕ) (n : ℕ) → sum_of b n < 65536
+unfolding sum_of
+sum_small b n = omega arith
+
+module _ (I : List (List ℕ)) (L : VolumeLayout) (image : IsImage I) (words : last_number L < 65536) where
+  former_byte : (n : ℕ) → IsDeleted I L n → (j : ℕ) → byte (former I L n) j < 256
+  former_byte n deleted j =
+      let low = deleted.high in
+      let numbered : byte (with_word (header_at I L n) 1 n) j < 256 = word_set (header_at I L n) 1 n j (omega (arith, low, words)) (small_of I (place_of L n) j image) in
+      word_set (with_word (header_at I L n) 1 n) 255 (sum_of (with_word (header_at I L n) 1 n) 255) j (sum_small (with_word (header_at I L n) 1 n) 255) numbered
+
+  -- a deleted header is one that rises
+  deleted_rises : (n : ℕ) → IsDeleted I L n → IsRising (former I L) n
+  deleted_rises n deleted = record {
+    byte = former_byte n deleted (2 * map_word (former I L n));
+    few = blocks_few (former I L n) deleted.left.valid.header.layout (former_byte n deleted);
+  }
+
+  -- a deleted file
+  pub former_few : (n : ℕ) (file : DeletedFile) → IsFormerFile I L n file → length file.blocks.items ≤ chain_blocks
+  former_few n file follows =
+      let named : file.blocks.items ≡ named_at (former I L) (n ∷ follows.others) = follows.blocks ∙ ap (named_at (former I L)) follows.headers in
+      let few = chain_few (former I L) (LeadsOn I L) (LeadsOn I L) n follows.others file.is_cut
+      (λ a c next. (next.named.segment, deleted_rises c next.there)) (deleted_rises n follows.deleted.0) follows.chain in
+      omega (arith, few, ap length named)

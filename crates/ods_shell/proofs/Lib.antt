@@ -5,6 +5,8 @@ mod Dots
 mod Flags
 mod FoundMore
 mod Headings
+mod Joining
+mod LeftBlocks
 mod GotContents
 mod Listed
 mod Named

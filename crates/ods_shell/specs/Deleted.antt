@@ -47,9 +47,8 @@ deletion_by n header file used sharer whole = record {
   whole = whole;
 }
 
--- this is known of the deleted file n
-pub record IsDeletion (I : List (List ℕ)) (L : VolumeLayout) (n : ℕ) (d : Deletion) : Type 0 where
-  pub chain : DeletedFile
+-- this is known of the deleted file n, which has this chain
+pub record IsDeletionBy (I : List (List ℕ)) (L : VolumeLayout) (n : ℕ) (chain : DeletedFile) (d : Deletion) : Type 0 where
   pub follows : IsFormerFile I L n chain
   pub id : d.file ≡ deleted_id I L n
   pub named : d.ident ≡ ident_of (former I L n)
@@ -59,6 +58,10 @@ pub record IsDeletion (I : List (List ℕ)) (L : VolumeLayout) (n : ℕ) (d : De
   pub cut : d.missing ≡ missing_header chain
   pub shared : SharesWith I L n chain.blocks.items d.sharer
   pub complete : MatchBool d.whole (IsWhole I L n chain.blocks.items chain.is_cut) (¬ IsWhole I L n chain.blocks.items chain.is_cut)
+
+-- this is known of the deleted file n
+abbrev pub IsDeletion : List (List ℕ) → VolumeLayout → ℕ → Deletion → Type 0
+IsDeletion I L n d = (chain : DeletedFile) × IsDeletionBy I L n chain d
 
 -- the name in an ident area
 abbrev pub name_in : List ℕ → RadName

@@ -1,5 +1,5 @@
 -- The names that files get on a host.
-use Rattle.std.specs.Prelude.{◌≡◌, ◌≢◌, ℕ, ◌&&◌, ◌==◌, ◌⊎◌, Bool, if◌then◌else◌, List, [], ◌∷◌, ◌++◌, length, slice_index, encode_utf8, Option, Some, None}
+use Rattle.std.specs.Prelude.{◌≡◌, ◌≢◌, ℕ, ◌==◌, ◌⊎◌, Bool, if◌then◌else◌, List, [], ◌∷◌, ◌++◌, length, encode_utf8, Option, Some, None}
 use Rattle.std.specs.Char.{to_ascii_lowercase}
 use Rattle.std.specs.Fmt.{decimal}
 use Rattle.std.specs.List.{before_first, flat_map}
@@ -16,17 +16,6 @@ small_letter c = encode_utf8 (to_ascii_lowercase c)
 -- a text in small letters
 abbrev pub small_text : List ℕ → List ℕ
 small_text text = flat_map small_letter (chars text)
-
--- the three words of a name, its type and its version; zeros where a file is named by its ID
-abbrev pub key_at : Option EntryPlace → List ℕ
-key_at None = 0 ∷ 0 ∷ 0 ∷ 0 ∷ 0 ∷ []
-key_at (Some place) =
-    slice_index place.entry.name.words 0 ∷ slice_index place.entry.name.words 1 ∷ slice_index place.entry.name.words 2 ∷ place.entry.name.ext ∷ place.entry.version ∷ []
-
--- two keys have one name and one type
-abbrev pub is_one_name : List ℕ → List ℕ → Bool
-is_one_name a b =
-    (slice_index a 0 == slice_index b 0) && (slice_index a 1 == slice_index b 1) && (slice_index a 2 == slice_index b 2) && (slice_index a 3 == slice_index b 3)
 
 -- what stands before the `;` of a text, or all
 abbrev pub before_version : List ℕ → List ℕ

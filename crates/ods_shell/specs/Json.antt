@@ -23,6 +23,10 @@ with_number name n ms = put name (number (unsigned n)) ms
 unfoldable pub object_line : Members → List ℕ
 object_line ms = compact_text (object ms) ++ 10 ∷ []
 
+-- an object with one text, and a line feed
+abbrev pub text_line : List ℕ → List ℕ → List ℕ
+text_line name text = object_line (with_text name text no_members)
+
 -- the members, and how much of a file is there, where that is not all
 abbrev pub with_condition : Condition → Members → Members
 with_condition Whole ms = ms

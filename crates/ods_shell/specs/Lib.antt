@@ -4,6 +4,7 @@ pub mod Contents
 pub mod Deleted
 pub mod Deletions
 pub mod Facts
+pub mod Former
 pub mod Found
 pub mod HostNames
 pub mod Info
@@ -23,3 +24,4 @@ pub mod Texts
 pub mod There
 pub mod Ways
 pub mod Usage
+pub mod Versioned

@@ -7,7 +7,7 @@ ghost use Rattle.ods_paths.specs.Views.{files as said, said_files};
 ghost use Rattle.ods_remains.specs.Deleted.{IsDeleted, IsDeletedFile, IsFormerFile, used_again as used_again_of};
 ghost use Rattle.ods_space.specs.Disks.{on, seen};
 ghost use Rattle.ods_shell.specs.Choosing.{IsMatched};
-ghost use Rattle.ods_shell.specs.Deleted.{AreDeletions, HasVersion, IsDeletion, IsSought, IsSoughtFile, SharesWith, counted as counted_of, deleted_id as id_of_deleted, deletion_by, missing_header as missing_in, name_in as name_of};
+ghost use Rattle.ods_shell.specs.Deleted.{AreDeletions, HasVersion, IsDeletion, IsDeletionBy, IsSought, IsSoughtFile, SharesWith, counted as counted_of, deleted_id as id_of_deleted, deletion_by, missing_header as missing_in, name_in as name_of};
 ghost use Rattle.ods_shell.specs.declared.deleted.Deletion.{Deletion as Known};
 
 use crate::choosing::is_matched;
@@ -96,7 +96,7 @@ pub fn known_deletion(
 }
 
 /// What is known of the deleted file with this number.
-fn known(
+pub(crate) fn known(
     alloc: Global,
     disk: &Disk<'_>,
     shares: &Shares<'_>,
@@ -106,7 +106,7 @@ fn known(
     requires image { shares.now.image ≡ disk.now.image.now }
     requires layout { shares.now.layout ≡ disk.now.layout.now }
     requires file { on IsFormerFile disk.now number file.now }
-    ensures { IfOk result (on IsDeletion disk.now number) }
+    ensures { IfOk result (on IsDeletionBy disk.now number file.now) }
 {
     let Some(header) = deleted_header(disk, number) else {
         unreachable!()
@@ -200,7 +200,7 @@ fn sharer_of(
 }
 
 /// The ID of the deleted header with this number.
-fn deleted_id(disk: &Disk<'_>, number: u16) -> FileId
+pub(crate) fn deleted_id(disk: &Disk<'_>, number: u16) -> FileId
     requires { on IsDeleted disk.now number }
     ensures { result ≡ seen id_of_deleted disk.now number }
 {

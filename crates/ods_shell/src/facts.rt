@@ -125,7 +125,7 @@ pub fn facts_by_id(disk: &Disk<'_>, file: FileId) -> Option<Facts>
 }
 
 /// What a first header says of the file with this number, of which so many blocks are there.
-fn facts_in(number: u16, header: &Block, blocks: u32, condition: Condition) -> Facts
+pub(crate) fn facts_in(number: u16, header: &Block, blocks: u32, condition: Condition) -> Facts
     requires { IsLaidOut header.now }
     ensures { result ≡ facts_shown number header.now blocks condition }
 {

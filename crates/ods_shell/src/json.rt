@@ -4,7 +4,7 @@ ghost use Rattle.std.specs.String.{string_bytes};
 ghost use Rattle.serde_json.specs.Data.{no_members, object, put};
 ghost use Rattle.serde_json.specs.View.{members_view, view};
 ghost use Rattle.serde_json.specs.Written.{compact_text, members_have_float};
-ghost use Rattle.ods_shell.specs.Json.{entry_members, object_line, space_members, stat_members, with_block_counts, with_condition, with_facts, with_file_numbers, with_known, with_number, with_text};
+ghost use Rattle.ods_shell.specs.Json.{entry_members, object_line, space_members, stat_members, text_line, with_block_counts, with_condition, with_facts, with_file_numbers, with_known, with_number, with_text};
 ghost use Rattle.ods_shell.specs.Listed.{AreObjects};
 ghost use Rattle.ods_shell.specs.Named.{IsKnown};
 ghost use Rattle.ods_shell.specs.There.{line_path};
@@ -106,7 +106,7 @@ pub(crate) fn push_object(
 
 /// An object with one text: `{"fault":".."}`.
 pub fn text_object(alloc: Global, name: &str, text: &str) -> Result<String, AllocError>
-    ensures { IfOk result (λ line. string_bytes line ≡ object_line (with_text name.now text.now no_members)) }
+    ensures { IfOk result (λ line. string_bytes line ≡ text_line name.now text.now) }
 {
     let mut members = no_fields(alloc);
     add_text(alloc, &mut members, name, text)?;

@@ -1,9 +1,8 @@
 //! The names that files get on a host.
-ghost use Rattle.std.specs.Prelude.{◌≡◌, ◌∷◌, ◌++◌, [], if◌then◌else◌, false, map, MatchOption, IfOk, IsPermutation, OnOk};
+ghost use Rattle.std.specs.Prelude.{◌≡◌, ◌∷◌, ◌++◌, [], if◌then◌else◌, IfOk, OnOk};
 ghost use Rattle.std.specs.Fmt.{decimal};
 ghost use Rattle.std.specs.String.{string_bytes};
-ghost use Rattle.ods_shell.specs.HostNames.{IsHostName, IsWithoutDot, before_version as name_before, is_one_name, key_at, placed_name, small_text, small_type};
-ghost use Rattle.ods_shell.specs.declared.found.Found.{Found as OneFound};
+ghost use Rattle.ods_shell.specs.HostNames.{IsHostName, IsWithoutDot, before_version as name_before, placed_name, small_text, small_type};
 
 use crate::found::{EntryPlace, Found};
 use ods_base::{print_title, print_type};
@@ -26,25 +25,6 @@ impl Found {
             (None, None) => {}
         }
         Ok(text)
-    }
-
-    /// The words of its name, its type and its version; zeros where it is named by its ID.
-    fn key(&self) -> [u16; 5]
-        ensures { result ≡ key_at self.now.place }
-    {
-        match &self.place {
-            Some(place) => {
-                let words = place.entry.name.words();
-                [
-                    words[0],
-                    words[1],
-                    words[2],
-                    place.entry.name.ext(),
-                    place.entry.version,
-                ]
-            }
-            None => [0; 5],
-        }
     }
 }
 
@@ -115,45 +95,4 @@ fn push_small(text: &mut String, part: &str) -> Result<(), AllocError>
         text.push(character.to_ascii_lowercase())?;
     }
     Ok(())
-}
-
-/// The names and versions of some files, in order.
-#[derive(Drop)]
-pub struct Versioned {
-    keys: Vec<[u16; 5]>,
-}
-
-impl Versioned {
-    /// Those of these files.
-    pub fn of(alloc: Global, files: &[Found]) -> Result<Versioned, AllocError>
-        ensures { IfOk result (λ versioned. IsPermutation (map (λ (f : OneFound). key_at f.place) files.now) versioned.keys.items) }
-    {
-        let mut keys = Vec::new(alloc);
-        for file in files {
-            keys.push(file.key())?;
-        }
-        keys.sort_unstable();
-        Ok(Versioned { keys })
-    }
-
-    /// Whether the name of this file stands there with another version too.
-    pub fn has_other(&self, file: &Found) -> bool {
-        let key = file.key();
-        let from = self.keys.partition_point(|other| *other < key);
-        let same = self.keys.partition_point(|other| *other <= key);
-        let before = from > 0 && is_same_name(self.keys.get(from.saturating_sub(1)), &key);
-        before || is_same_name(self.keys.get(same), &key)
-    }
-}
-
-/// Whether there is a key, and it has the name and the type of this one.
-fn is_same_name(one: Option<&[u16; 5]>, key: &[u16; 5]) -> bool
-    ensures { MatchOption one.entry (result ≡ false) (λ other. result ≡ is_one_name other.now key.now) }
-{
-    match one {
-        Some(one) => {
-            one[0] == key[0] && one[1] == key[1] && one[2] == key[2] && one[3] == key[3]
-        }
-        None => false,
-    }
 }

@@ -31,16 +31,16 @@ fn push_inner(text: &mut String, names: &[Name]) -> Result<(), AllocError>
         return text.push_str("0,0");
     };
     if rest.is_empty() {
-        push_one(text, first)
+        push_directory_name(text, first)
     } else {
         text.push_str(print_title(first).as_str())?;
         push_names(text, rest)
     }
 }
 
-/// Appends the name of a directory in the master directory.
+/// Appends the name of a directory as a path in the master directory has it: `1,2` for one of a group and a member, else the name.
 #[tactic(auto, using(crate::proofs::Numbered::shown_by_numbers, crate::proofs::Numbered::shown_by_name))]
-fn push_one(text: &mut String, name: &Name) -> Result<(), AllocError>
+pub fn push_directory_name(text: &mut String, name: &Name) -> Result<(), AllocError>
     ensures { OnOk result (string_bytes text.new ≡ string_bytes text.old ++ shown_one (title_of name.now)) }
 {
     let title = print_title(name);

@@ -1,25 +1,56 @@
 //! `get`: copies files to the host.
-ghost use Rattle.fs_words.specs.Asked.{IsGet};
+ghost use Rattle.std.specs.Prelude.{IfErr, IfOk};
+ghost use Rattle.fs_words.specs.{Asked.IsGet, Refused.HasReason, Refused.IsUnasked};
 
 use crate::actions::Action;
 use crate::arguments::{Argument, Row};
 use crate::forms::{BINARY, FORMS_APART, RAW, TEXT, wanted_form};
+use crate::verbs::Verb;
 use clap::ArgMatches;
+use ods_words::{WordsFault, say_wrong};
+use std::alloc::Global;
 
 /// How `get` is written.
 pub(crate) const ROW: Row<'static> = Row {
-    usage: "f11fs IMAGE get [OPTIONS] [-t|-b|--raw] PATH.. [TARGET]",
+    usage: "f11fs IMAGE get [OPTIONS] [-t|-b|--raw] [--deleted [--partial]] PATH.. [TARGET]",
     about: "Copy files to the host",
-    arguments: &[TEXT, BINARY, RAW, Argument::SomePaths],
+    arguments: &[
+        TEXT,
+        BINARY,
+        RAW,
+        Argument::Flag(
+            "--deleted",
+            "Copy deleted files. Each PATH is an ID that find --deleted shows, such as '#9,1'",
+        ),
+        Argument::Flag(
+            "--partial",
+            "With --deleted: copy what is left of a file that is not whole, with zeros for blocks that are used again or outside the volume",
+        ),
+        Argument::SomePaths,
+    ],
     conflicts: &FORMS_APART,
 };
 
-/// What its words ask for; `out` is what `-o` says.
-pub(crate) fn action<'a>(own: &ArgMatches<'a>, out: Option<&'a str>) -> Action<'a>
-    ensures { IsGet own.now out.entry result }
+/// What its words ask for; `out` is what `-o` says. `--partial` does nothing alone.
+pub(crate) fn action<'a>(
+    alloc: Global,
+    own: &ArgMatches<'a>,
+    out: Option<&'a str>,
+) -> Result<Action<'a>, WordsFault>
+    ensures asked { IfOk result (IsGet own.now out.entry) }
+    ensures refused { IfErr result (HasReason (IsUnasked Verb.Get own.now)) }
 {
-    Action::Get {
-        wanted: wanted_form(own),
-        target: out,
+    let wanted = wanted_form(own);
+    let deleted = own.get_flag("--deleted");
+    let partial = own.get_flag("--partial");
+    if partial && !deleted {
+        let text = "error: --partial does nothing for get without --deleted";
+        return Err(say_wrong(alloc, text)?);
     }
+    Ok(Action::Get {
+        wanted,
+        target: out,
+        deleted,
+        partial,
+    })
 }

@@ -8,7 +8,7 @@ use Rattle.f11fs.proofs.telling.add_both.Goals as goal
 
 pub returns-then-eq-clause-told : goal.returns-then-eq-clause-told
 returns-then-eq-clause-told c =
-    told_same (λ a b word. AreCompared c.args.before.now a c.args.after.now b word) c.args.old c.args.new c.as_str.result.now (λ told. Tells c.args.plan.now told c.add_changed.new.plan)
+    told_same c.args.plan.now.json (λ a b word. AreCompared c.args.before.now a c.args.after.now b word) c.args.old c.args.new c.as_str.result.now (λ told. Tells c.args.plan.now told c.add_changed.new.plan)
     c.add_changed.result (equal_by same_id tells_id c.args.old c.args.new (sym c.if-eq.ensures)) (c.as_str.ensures.value ∙ c.in_ok-id.ensures) c.add_changed.ensures.told
 
 pub returns-clause-told : goal.returns-clause-told

@@ -16,4 +16,4 @@ returns-in-None-clause-told c =
     told_changed (λ a b word. AreCompared c.args.before.now a c.args.after.now b word) c.args.old c.args.new c.args.what.now None c.args.plan.now.json
     (string_bytes c.args.plan.now.text) (string_bytes c.args.plan.now.text)
     (subst (λ (o : Option (Bor (List ℕ))). AreCompared c.args.before.now c.args.old c.args.after.now c.args.new (option_copied o)) c.in-None.is c.in_ok-difference_by_id.ensures)
-    (λ _. sym (append-nil (string_bytes c.args.plan.now.text)))
+    (sym (append-nil (string_bytes c.args.plan.now.text)))

@@ -5,4 +5,4 @@ use Rattle.f11fs.specs.Plans.{AreTold, IsToldOfNew, Tells}
 use Rattle.f11fs.proofs.telling.add_come.Given as goal
 
 abbrev pub invariant-loop-one : goal.invariant-loop-one
-invariant-loop-one l = (l.plan.json ≡ l.initial.plan.json) × (AreInOrder l.old → (told : List ℕ) × AreTold (IsToldOfNew (λ a b word. AreCompared l.before a l.after b word) l.old) (take l.one-index l.new) told × Tells l.initial.plan told l.plan)
+invariant-loop-one l = (l.plan.json ≡ l.initial.plan.json) × (AreInOrder l.old → (told : List ℕ) × AreTold (IsToldOfNew l.initial.plan.json (λ a b word. AreCompared l.before a l.after b word) l.old) (take l.one-index l.new) told × Tells l.initial.plan told l.plan)

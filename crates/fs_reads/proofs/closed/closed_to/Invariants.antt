@@ -3,4 +3,4 @@ use Rattle.fs_reads.proofs.Closing.{AreThoseUpTo}
 use Rattle.fs_reads.proofs.closed.closed_to.Given as goal
 
 abbrev pub invariant-loop-before : goal.invariant-loop-before
-invariant-loop-before l = AreThoseUpTo (IsClosedTo l.volume.image l.volume.layout l.user) l.before l.closed.items
+invariant-loop-before l = AreThoseUpTo (IsClosedTo l.disk.image.now l.disk.layout.now l.user) l.before l.closed.items

@@ -1,10 +1,8 @@
-use Rattle.std.proofs.Common.{◌≡◌, inl, refl}
 use Rattle.std.specs.Option.{option_copied}
-use Rattle.fs_reads.proofs.Likeness.{none_named, told_compared}
+use Rattle.fs_reads.proofs.Likeness.{compared_seen}
 use Rattle.fs_reads.proofs.comparing.difference_by_id.Goals as goal
 
-pub returns-in-None-None : goal.returns-in-None-None
-returns-in-None-None c = inl (refl, none_named c.args.volume.now c.args.one c.facts_by_id.result c.facts_by_id.ensures c.in-None-None.is-0, none_named c.args.other.now c.args.file c.facts_by_id-2.result c.facts_by_id-2.ensures c.in-None-None.is-1)
-
-pub returns-in-Some-Some : goal.returns-in-Some-Some
-returns-in-Some-Some c = told_compared c.args.volume.now c.args.one c.args.other.now c.args.file c.in-Some-Some.facts c.in-Some-Some.others (λ word. option_copied word) c.difference.result c.in-Some-Some.ensures c.in-Some-Some.ensures' c.difference.ensures
+pub returns : goal.returns
+returns c =
+    compared_seen c.args.volume.now c.args.one c.args.other.now c.args.file c.disk-disk.result c.disk-other_disk.result option_copied c.difference_of.result
+    c.disk-disk.ensures.image c.disk-disk.ensures.layout c.disk-other_disk.ensures.image c.disk-other_disk.ensures.layout c.difference_of.ensures

@@ -7,7 +7,7 @@ use Rattle.fs_reads.proofs.deleted.push_each.Goals as goal
 
 pub loop-path-init : goal.loop-path-init
 loop-path-init c = (
-  shown_none c.args.volume.now.image c.args.volume.now.layout c.args.json c.args.long c.args.paths.now (string_bytes c.args.text.now),
+  shown_none c.args.disk.now.image.now c.args.disk.now.layout.now c.args.json c.args.long c.args.paths.now (string_bytes c.args.text.now),
   extends_same (string_bytes c.args.text.now),
 )
 
@@ -17,15 +17,15 @@ loop-path-preserved c =
     let start = string_bytes c.args.text.now in
     let old = string_bytes c.loop-path.text in
     let new = string_bytes c.push_path.new.text in (
-      shown_next c.args.volume.now.image c.args.volume.now.layout c.args.json c.args.long paths c.loop-path.path-index _ start old new c.loop-path-test.true c.in_ok-push_path.ensures.ok
+      shown_next c.args.disk.now.image.now c.args.disk.now.layout.now c.args.json c.args.long paths c.loop-path.path-index _ start old new c.loop-path-test.true c.in_ok-push_path.ensures.ok
           c.loop-path.invariant.0,
       extends_on start old new c.loop-path.invariant.1 c.push_path.ensures.extends,
     )
 
 pub returns-clause-ok : goal.returns-clause-ok
 returns-clause-ok c =
-    let I = c.args.volume.now.image in
-    let L = c.args.volume.now.layout in
+    let I = c.args.disk.now.image.now in
+    let L = c.args.disk.now.layout.now in
     let start = string_bytes c.args.text.now in
     let now = string_bytes c.loop-path.text in
     let past : length c.args.paths.now ≤ c.loop-path.path-index = search rules in

@@ -12,6 +12,6 @@ returns-else-is_nothing-clause-ok c = λ shut counts.
       said_files arm.files,
       subst (λ (text : List ℕ). Says text (Within (said_folder arm.folder) (said_files arm.files))) c.as_bytes.ensures.value
           (subst (λ p. Says c.as_bytes.result.now (said p)) arm.field-0-is arm.ensures),
-      subst (λ (f : Folder). AreMeant c.args.volume.now.image c.args.volume.now.layout shut f found.found.directories.items) c.to_search-folder.ensures (found.ensures.directories shut counts),
+      subst (λ (f : Folder). AreMeant c.args.disk.now.image.now c.args.disk.now.layout.now shut f found.found.directories.items) c.to_search-folder.ensures (found.ensures.directories shut counts),
       found.ensures.lines,
     )

@@ -8,8 +8,8 @@ use Rattle.fs_reads.proofs.getting.add_paths.Goals as goal
 
 pub loop-path-preserved : goal.loop-path-preserved
 loop-path-preserved g c =
-    let I = c.args.volume.now.image in
-    let L = c.args.volume.now.layout in
+    let I = c.args.disk.now.image.now in
+    let L = c.args.disk.now.layout.now in
     let paths = c.args.paths.now in
     let old = c.loop-path.status in
     let s = c.in_ok-add_named.field-0 in
@@ -25,5 +25,5 @@ loop-path-preserved g c =
 pub returns-clause-done : goal.returns-clause-done
 returns-clause-done g c = λ e.
     let past : length c.args.paths.now ≤ c.loop-path.path-index = search rules in
-    subst (All (λ p. IsAmong c.args.volume.now.image c.args.volume.now.layout c.args.user c.args.closed.now c.loop-path.all.items p.now))
+    subst (All (λ p. IsAmong c.args.disk.now.image.now c.args.disk.now.layout.now c.args.user c.args.closed.now c.loop-path.all.items p.now))
     (take_all c.loop-path.path-index c.args.paths.now past) (c.loop-path.invariant.done e)

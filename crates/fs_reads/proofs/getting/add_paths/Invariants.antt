@@ -9,5 +9,5 @@ use Rattle.fs_reads.proofs.getting.add_paths.Given as goal
 abbrev pub invariant-loop-path : goal.invariant-loop-path
 invariant-loop-path g l = record {
   may : may_name l.status ≡ true;
-  done : l.status ≡ status.Done → All (λ path. IsAmong l.volume.image l.volume.layout l.user l.closed l.all.items path.now) (take l.path-index l.paths);
+  done : l.status ≡ status.Done → All (λ path. IsAmong l.disk.image.now l.disk.layout.now l.user l.closed l.all.items path.now) (take l.path-index l.paths);
 }

@@ -8,8 +8,8 @@ use Rattle.fs_reads.proofs.getting.get.Goals as goal
 
 pub returns-clause-done : goal.returns-clause-done
 returns-clause-done g c = λ e.
-    let I = c.args.volume.now.image in
-    let L = c.args.volume.now.layout in
+    let I = c.args.disk.now.image.now in
+    let L = c.args.disk.now.layout.now in
     let user = c.args.words.now.user in
     let Gives : ℕ → List ℕ → Option Remark → Type 0 = λ n. IsGot I L n c.args.wanted in
     let both = both_done c.in_ok-named.named c.in_ok-get_all.field-0 c.or.result c.or.ensures.done c.or.ensures.fault e in

@@ -14,8 +14,8 @@ use Rattle.fs_reads.proofs.getting.get_all.Goals as goal
 pub loop-found-preserved : goal.loop-found-preserved
 loop-found-preserved g c =
     let user = c.args.how.reader.user in
-    let Gives : ℕ → List ℕ → Option Remark → Type 0 = λ n. IsGot c.args.volume.now.image c.args.volume.now.layout n c.args.how.wanted in
-    let Lacks : ℕ → FormFault → Type 0 = λ n. IsNotGot c.args.volume.now.image c.args.volume.now.layout n c.args.how.wanted in
+    let Gives : ℕ → List ℕ → Option Remark → Type 0 = λ n. IsGot c.args.disk.now.image.now c.args.disk.now.layout.now n c.args.how.wanted in
+    let Lacks : ℕ → FormFault → Type 0 = λ n. IsNotGot c.args.disk.now.image.now c.args.disk.now.layout.now n c.args.how.wanted in
     let found : Found = c.found-item.result in
     let at : slice_get c.args.files.now c.loop-found.found-index ≡ Some found = slice_get_read c.args.files.now _ c.loop-found.found-index found refl c.loop-found-test.true c.found-item.is in
     let old = c.loop-found.status in
@@ -30,6 +30,6 @@ loop-found-preserved g c =
 
 pub returns-clause-done : goal.returns-clause-done
 returns-clause-done g c = λ e.
-    let Gives : ℕ → List ℕ → Option Remark → Type 0 = λ n. IsGot c.args.volume.now.image c.args.volume.now.layout n c.args.how.wanted in
+    let Gives : ℕ → List ℕ → Option Remark → Type 0 = λ n. IsGot c.args.disk.now.image.now c.args.disk.now.layout.now n c.args.how.wanted in
     let past : length c.args.files.now ≤ c.loop-found.found-index = search rules in
     subst (All (IsGettable c.args.how.reader.user Gives)) (take_all c.loop-found.found-index c.args.files.now past) (c.loop-found.invariant.done e)

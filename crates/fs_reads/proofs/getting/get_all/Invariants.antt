@@ -10,5 +10,5 @@ use Rattle.fs_reads.proofs.getting.get_all.Given as goal
 abbrev pub invariant-loop-found : goal.invariant-loop-found
 invariant-loop-found g l = record {
   may : may_name l.status ≡ true;
-  done : l.status ≡ status.Done → All (IsGettable l.how.reader.user (λ n. IsGot l.volume.image l.volume.layout n l.how.wanted)) (take l.found-index l.files);
+  done : l.status ≡ status.Done → All (IsGettable l.how.reader.user (λ n. IsGot l.disk.image.now l.disk.layout.now n l.how.wanted)) (take l.found-index l.files);
 }

@@ -8,8 +8,8 @@ use Rattle.fs_reads.proofs.getting.get_file.Goals as goal
 
 pub returns-in-Ok : goal.returns-in-Ok
 returns-in-Ok g c =
-    let I = c.args.volume.now.image in
-    let L = c.args.volume.now.layout in
+    let I = c.args.disk.now.image.now in
+    let L = c.args.disk.now.layout.now in
     let Gives : ℕ → List ℕ → Option Remark → Type 0 = λ n. IsGot I L n c.args.how.wanted in
     let Lacks : ℕ → FormFault → Type 0 = λ n. IsNotGot I L n c.args.how.wanted in
     let got = opened c.args.how.reader.user Gives Lacks c.args.found.now (ContentsAre c.in-Ok.got.contents) c.in-Ok.got.remark c.args.found.now.facts refl c.in-Ok.ensures.some c.in-Ok.ensures.ok in

@@ -12,8 +12,8 @@ use Rattle.fs_reads.proofs.printing.cat.Goals as goal
 
 pub loop-path-preserved : goal.loop-path-preserved
 loop-path-preserved g c =
-    let I = c.args.volume.now.image in
-    let L = c.args.volume.now.layout in
+    let I = c.args.disk.now.image.now in
+    let L = c.args.disk.now.layout.now in
     let Gives : ℕ → List ℕ → Option Remark → Type 0 = λ n. IsGot I L n c.args.wanted in
     let Got : Bor (List ℕ) → Type 0 = λ p. IsPathGot I L c.args.words.now.user Gives c.in_ok-closed.closed.items p.now in
     let items = c.deref-path-items.result.now in
@@ -30,8 +30,8 @@ loop-path-preserved g c =
 
 pub returns-clause-done : goal.returns-clause-done
 returns-clause-done g c = λ e.
-    let I = c.args.volume.now.image in
-    let L = c.args.volume.now.layout in
+    let I = c.args.disk.now.image.now in
+    let L = c.args.disk.now.layout.now in
     let Gives : ℕ → List ℕ → Option Remark → Type 0 = λ n. IsGot I L n c.args.wanted in
     let Got : Bor (List ℕ) → Type 0 = λ p. IsPathGot I L c.args.words.now.user Gives c.in_ok-closed.closed.items p.now in
     let items = c.deref-path-items.result.now in

@@ -10,5 +10,5 @@ use Rattle.fs_reads.proofs.printing.cat.Given as goal
 abbrev pub invariant-loop-path : goal.invariant-loop-path
 invariant-loop-path g l = record {
   may : may_name l.status ≡ true;
-  done : l.status ≡ status.Done → All (λ path. IsPathGot l.volume.image l.volume.layout l.words.user (λ n. IsGot l.volume.image l.volume.layout n l.wanted) l.closed.items path.now) (take l.path-index l.path-items);
+  done : l.status ≡ status.Done → All (λ path. IsPathGot l.disk.image.now l.disk.layout.now l.words.user (λ n. IsGot l.disk.image.now l.disk.layout.now n l.wanted) l.closed.items path.now) (take l.path-index l.path-items);
 }

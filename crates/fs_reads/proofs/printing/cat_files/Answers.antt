@@ -15,8 +15,8 @@ use Rattle.fs_reads.proofs.printing.cat_files.Goals as goal
 pub loop-found-preserved : goal.loop-found-preserved
 loop-found-preserved g c =
     let user = c.args.reader.user in
-    let Gives : ℕ → List ℕ → Option Remark → Type 0 = λ n. IsGot c.args.volume.now.image c.args.volume.now.layout n c.args.wanted in
-    let Lacks : ℕ → FormFault → Type 0 = λ n. IsNotGot c.args.volume.now.image c.args.volume.now.layout n c.args.wanted in
+    let Gives : ℕ → List ℕ → Option Remark → Type 0 = λ n. IsGot c.args.disk.now.image.now c.args.disk.now.layout.now n c.args.wanted in
+    let Lacks : ℕ → FormFault → Type 0 = λ n. IsNotGot c.args.disk.now.image.now c.args.disk.now.layout.now n c.args.wanted in
     let found : Found = c.found-item.result in
     let old = c.loop-found.status in
     let s = c.in_ok-cat_file.field-0 in
@@ -32,6 +32,6 @@ loop-found-preserved g c =
 
 pub returns-clause-done : goal.returns-clause-done
 returns-clause-done g c = λ e.
-    let Gives : ℕ → List ℕ → Option Remark → Type 0 = λ n. IsGot c.args.volume.now.image c.args.volume.now.layout n c.args.wanted in
+    let Gives : ℕ → List ℕ → Option Remark → Type 0 = λ n. IsGot c.args.disk.now.image.now c.args.disk.now.layout.now n c.args.wanted in
     let past : length c.args.files.now ≤ c.loop-found.found-index = search rules in
     subst (All (IsGettable c.args.reader.user Gives)) (take_all c.loop-found.found-index c.args.files.now past) (c.loop-found.invariant.done e)

@@ -24,7 +24,6 @@ returns c =
     let there = subst (λ I. MatchBool whole (IsWhole I S.layout n blocks file.is_cut) (¬ IsWhole I S.layout n blocks file.is_cut)) c.requires.image c.in_ok-whole.ensures in
     let here = subst (λ L. MatchBool whole (IsWhole D.image.now L n blocks file.is_cut) (¬ IsWhole D.image.now L n blocks file.is_cut)) c.requires.layout there in
     record {
-      chain = file;
       follows = c.requires.file;
       id = ap (λ (d : Deletion). d.file) is;
       named = ap (λ (d : Deletion). d.ident) is;

@@ -1,0 +1,7 @@
+-- Nothing was wrong so far, or something was found.
+use Rattle.std.proofs.Common.{◌≡◌, ◌⊎◌}
+use Rattle.ods_shell.specs.declared.status.Status.TheVariants.{Done, Found}
+use Rattle.fs_reads.proofs.rescuing.rescue_named.Given as goal
+
+abbrev pub invariant-loop-at : goal.invariant-loop-at
+invariant-loop-at g l = (l.status ≡ Done) ⊎ (l.status ≡ Found)

@@ -1,0 +1,28 @@
+-- A volume that is read, sound or not.
+use Rattle.std.specs.Prelude.{◌≡◌, ◌⊎◌, ℕ, Bool, List, MatchBool, if◌then◌else◌}
+use Rattle.ods_mount.specs.Faults.{FaultIsTrue, IsSound}
+use Rattle.ods_mount.specs.declared.fault.MountFault.{MountFault}
+use Rattle.ods_space.specs.Files.{IsLayoutOf}
+use Rattle.ods_space.specs.Layout.{VolumeLayout}
+use Rattle.ods_shell.specs.declared.status.Status.{Status}
+use Rattle.ods_shell.specs.declared.status.Status.TheVariants as status
+use Rattle.fs_reads.specs.declared.stop.Stop.{Stop}
+use Rattle.fs_reads.specs.declared.stop.Stop.TheVariants as stop
+
+-- an image with its layout, and whether a mount takes it
+pub record Opened : Type 0 where
+  pub image : List (List ℕ)
+  pub layout : VolumeLayout
+  pub sound : Bool
+
+-- the status of a command that showed all that it could: that an image is refused comes first
+abbrev pub end_of : Bool → Status → Status
+end_of sound done = if sound then done else status.Image
+
+-- it is this image, and sound, or one of its faults is known
+abbrev pub IsJudged : List (List ℕ) → Opened → Type 0
+IsJudged I r = (r.image ≡ I) × MatchBool r.sound (IsSound I) ((fault : MountFault) × FaultIsTrue I fault)
+
+-- why a command does not go on: memory is wanting, or the image has no layout
+abbrev pub LacksLayout : List (List ℕ) → Stop → Type 0
+LacksLayout I s = (s ≡ stop.NoMemory) ⊎ ((L : VolumeLayout) → ¬ IsLayoutOf I L)

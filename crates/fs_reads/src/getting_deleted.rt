@@ -1,0 +1,242 @@
+//! `get --deleted`: deleted files whose headers are still there, written to files of the host.
+ghost use Rattle.std.specs.Prelude.{◌≡◌, ◌⊎◌, ℕ, List, Option, true, IfErr, IfOk, OnOk};
+ghost use Rattle.std.specs.Borrow.{Bor};
+ghost use Rattle.std.specs.List.{All};
+ghost use Rattle.ods_paths.specs.Paths.{File as OfId, Says};
+ghost use Rattle.ods_shell.specs.Former.{IsFormer, IsUndeleted};
+ghost use Rattle.ods_shell.specs.declared.status.Status.{Status as Code};
+ghost use Rattle.ods_space.specs.Disks.{on};
+ghost use Rattle.fs_reads.specs.Deleted.{EndsWords};
+ghost use Rattle.fs_reads.specs.Ends.{may_name};
+ghost use Rattle.fs_reads.specs.Gets.{AreSaid};
+ghost use Rattle.fs_reads.specs.Undeleted.{AreIdsGot, EndsBy, IsFormerGot, IsIdGot, SaysId};
+
+use crate::getting::{Destination, How, choose_destination, keep, path_within, split_words};
+use crate::pouring::pour;
+use crate::printing::{Reader, say_remark, say_unread};
+use crate::progress::Progress;
+use crate::reading::{Unread, check_right};
+use crate::stop::{Stop, say_about, stop_about};
+use fs_host::Shown;
+use fs_words::Words;
+use ods_base::FileId;
+use ods_paths::{Path, parse_path};
+use ods_remains::Shares;
+use ods_shell::{
+    Contents, FormFault, Former, FormerFault, Got, PathFault, Status, Wanted, find_former,
+    open_former,
+};
+use ods_space::Disk;
+use std::alloc::Global;
+use std::collections::BTreeSet;
+use std::fs::File;
+use std::io;
+use std::rt::Files;
+use std::time::Clock;
+
+/// `get --deleted`: the deleted files that the IDs name, to a destination; where none is said the last word is it, of two or more. Where
+/// `partial`, what is left of those that are not whole too. No file is written where a path is no ID.
+pub(crate) fn get_deleted<'a, R: Files<File = File> + Clock + AllocGlobal + Print + Eprint>(
+    rt: &R,
+    disk: &Disk<'_>,
+    words: &Words<'a>,
+    said: Option<&'a str>,
+    wanted: Wanted,
+    partial: bool,
+    progress: &mut Progress,
+) -> Result<Status, Stop<'a>>
+    ensures status { IfOk result (λ s. may_name s ≡ true) }
+    ensures done { IfOk result (λ s. s ≡ Code.Done → (paths : List (Bor (List ℕ))) × ((target : Option (Bor (List ℕ))) × AreSaid words.now.paths.items said.entry paths target
+        × on AreIdsGot disk.now words.now.user (λ id. on IsUndeleted disk.now id wanted partial) paths)) }
+{
+    let (paths, target) = split_words(&words.paths, said);
+    check_ids(rt.alloc(), paths)?;
+    let to = choose_destination(rt, target, paths.len())?;
+    let shares = Shares::of(rt.alloc(), disk)?;
+    let how = How {
+        image: words.image,
+        wanted,
+        with_versions: false,
+        force: words.force,
+        only_tells: words.saving.only_tells,
+        json: words.json,
+        reader: Reader::of(words),
+    };
+    get_all(rt, disk, &shares, paths, to, how, partial, progress)
+}
+
+/// Ends the command where one of these paths is no ID.
+fn check_ids<'a>(alloc: Global, paths: &[&'a str]) -> Result<(), Stop<'a>>
+    ensures ok { OnOk result (All (λ path. SaysId path.now) paths.now) }
+    ensures err { IfErr result EndsWords }
+{
+    for path in paths {
+        let _ = id_in(alloc, *path)?;
+    }
+    Ok(())
+}
+
+/// The ID that a path is, for a deleted file is in no directory.
+fn id_in<'a>(alloc: Global, path: &'a str) -> Result<FileId, Stop<'a>>
+    ensures ok { IfOk result (λ id. Says path.entry.now (OfId id)) }
+    ensures err { IfErr result EndsWords }
+{
+    match parse_path(path.as_bytes()) {
+        Ok(Path::File(id)) => Ok(id),
+        Ok(Path::Within(_, _)) => {
+            let why = "a deleted file is in no directory: say its ID, which find --deleted shows";
+            Err(stop_about(alloc, path, why, Status::Words))
+        }
+        Err(bad) => Err(Stop::Path(path, PathFault::Bad(bad))),
+    }
+}
+
+/// Gets the deleted file of each of these IDs.
+fn get_all<'a, R: Files<File = File> + Clock + AllocGlobal + Print + Eprint>(
+    rt: &R,
+    disk: &Disk<'_>,
+    shares: &Shares<'_>,
+    paths: &[&'a str],
+    to: Destination<'_>,
+    how: How<'_>,
+    partial: bool,
+    progress: &mut Progress,
+) -> Result<Status, Stop<'a>>
+    requires image { shares.now.image ≡ disk.now.image.now }
+    requires layout { shares.now.layout ≡ disk.now.layout.now }
+    ensures status { IfOk result (λ s. may_name s ≡ true) }
+    ensures done { IfOk result (λ s. s ≡ Code.Done → on AreIdsGot disk.now how.entry.reader.user (λ id. on IsUndeleted disk.now id how.entry.wanted partial) paths.now) }
+{
+    let mut written = BTreeSet::new(rt.alloc());
+    let mut status = Status::Done;
+    let mut before = 0u64;
+    for path in paths {
+        let done = get_id(rt, disk, shares, *path, to, how, partial, &mut written)?;
+        status = status.or(done);
+        if to != Destination::Output {
+            progress.show(rt, before, paths.len() as u64);
+        }
+        before = before.saturating_add(1);
+    }
+    Ok(status)
+}
+
+/// Gets the deleted file with the ID that a path is. An ID of no deleted file, and a file that is refused, are said, and no fault of the command.
+fn get_id<'a, R: Files<File = File> + AllocGlobal + Print + Eprint>(
+    rt: &R,
+    disk: &Disk<'_>,
+    shares: &Shares<'_>,
+    path: &'a str,
+    to: Destination<'_>,
+    how: How<'_>,
+    partial: bool,
+    written: &mut BTreeSet<String>,
+) -> Result<Status, Stop<'a>>
+    requires image { shares.now.image ≡ disk.now.image.now }
+    requires layout { shares.now.layout ≡ disk.now.layout.now }
+    ensures { IfOk result (EndsBy (on IsIdGot disk.now how.entry.reader.user (λ id. on IsUndeleted disk.now id how.entry.wanted partial) path.entry.now)) }
+{
+    let id = id_in(rt.alloc(), path)?;
+    match find_former(rt.alloc(), disk, shares, id)? {
+        Some(former) => get_former(rt, disk, &former, to, how, partial, written),
+        None => {
+            say_about(
+                rt,
+                path,
+                "no deleted file has this ID; find --deleted shows those that are left",
+            );
+            Ok(Status::Refused)
+        }
+    }
+}
+
+/// Gets a deleted file that this user might read.
+fn get_former<'a, R: Files<File = File> + AllocGlobal + Print + Eprint>(
+    rt: &R,
+    disk: &Disk<'_>,
+    former: &Former,
+    to: Destination<'_>,
+    how: How<'_>,
+    partial: bool,
+    written: &mut BTreeSet<String>,
+) -> Result<Status, Stop<'a>>
+    requires { on IsFormer disk.now former.now }
+    ensures { IfOk result (EndsBy (IsFormerGot how.entry.reader.user (λ id. on IsUndeleted disk.now id how.entry.wanted partial) former.now)) }
+{
+    let path = former.found.path.as_str();
+    let Some(facts) = &former.found.facts else {
+        return say_unread(rt, path, Unread::Form(FormFault::NoSuchFile));
+    };
+    if let Err(fault) = check_right(facts, how.reader.user) {
+        return say_unread(rt, path, fault);
+    }
+    match open_former(rt.alloc(), disk, former, how.wanted, partial) {
+        Ok(got) => put_got(rt, former, &got, to, how, written),
+        Err(fault) => say_ungot(rt, path, fault),
+    }
+}
+
+/// Says why nothing is got out of a deleted file, and gives the status for that. Where memory is refused the command ends.
+fn say_ungot<'a, R: Eprint>(rt: &R, path: &str, fault: FormerFault) -> Result<Status, Stop<'a>>
+    ensures { IfOk result (λ s. s ≡ Code.Refused) }
+{
+    match fault {
+        FormerFault::Form(fault) => say_unread(rt, path, Unread::Form(fault)),
+        FormerFault::NotWhole(_) => {
+            say_about(rt, path, fault);
+            Ok(Status::Refused)
+        }
+    }
+}
+
+/// Writes what is got out of a deleted file to its destination.
+fn put_got<'a, R: Files<File = File> + AllocGlobal + Print + Eprint>(
+    rt: &R,
+    former: &Former,
+    got: &Got<'_>,
+    to: Destination<'_>,
+    how: How<'_>,
+    written: &mut BTreeSet<String>,
+) -> Result<Status, Stop<'a>>
+    ensures { IfOk result (λ s. (s ≡ Code.Done) ⊎ (s ≡ Code.Host)) }
+{
+    let path = former.found.path.as_str();
+    say_remark(rt, path, &got.remark, how.reader.quiet);
+    match to {
+        Destination::Output if how.only_tells => keep(rt, path, &got.contents, "-", how),
+        Destination::Output => match pour(&got.contents, &mut io::writer(rt)) {
+            Ok(()) => Ok(Status::Done),
+            Err(why) => Err(Stop::Unwritten(why)),
+        },
+        Destination::File(host) => keep(rt, path, &got.contents, host, how),
+        Destination::Folder(folder) => {
+            let name = former.found.host_name(rt.alloc(), false)?;
+            put_into(rt, path, &got.contents, folder, name, how, written)
+        }
+    }
+}
+
+/// Writes what is got into a folder, under a name that is none of those that were written.
+fn put_into<'a, R: Files<File = File> + AllocGlobal + Print + Eprint>(
+    rt: &R,
+    from: &str,
+    contents: &Contents<'_>,
+    folder: &str,
+    name: String,
+    how: How<'_>,
+    written: &mut BTreeSet<String>,
+) -> Result<Status, Stop<'a>>
+    ensures { IfOk result (λ s. (s ≡ Code.Done) ⊎ (s ≡ Code.Host)) }
+{
+    let path = path_within(rt.alloc(), folder, name.as_str())?;
+    if written.contains(&name) && (how.force || how.only_tells) {
+        let path = Shown(path.as_str());
+        let _ = eprintln!(rt; "f11fs: {from}: {path} has been written by this command");
+        return Ok(Status::Host);
+    }
+    let done = keep(rt, from, contents, path.as_str(), how)?;
+    if done == Status::Done && written.insert(name).is_err() {
+        return Err(Stop::NoMemory);
+    }
+    Ok(done)
+}

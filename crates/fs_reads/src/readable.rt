@@ -1,0 +1,179 @@
+//! The volume of an image that is read, sound or not: a command goes on where there is a layout, by the home block and a whole INDEXF.SYS.
+ghost use Rattle.std.specs.Prelude.{◌≡◌, ◌≢◌, IfErr, IfOk, MatchOption};
+ghost use Rattle.ods_mount.specs.Faults.{FaultIsTrue};
+ghost use Rattle.ods_space.specs.{Files.IsLayoutOf, Layout.VolumeLayout};
+ghost use Rattle.fs_reads.specs.{Readable.IsJudged, Readable.LacksLayout, Readable.Opened, Volumes.IsNoVolume};
+ghost use Rattle.fs_reads.specs.declared.volume.VolumeFault.{VolumeFault as Fault};
+
+use crate::stop::{Stop, say_end};
+use crate::volume::{VolumeFault, no_volume, not_mounted, open_image, say_extent};
+use fs_host::Layers;
+use ods_base::Image;
+use ods_mount::{MountFault, Mounted, mount, read_layout};
+use ods_shell::Status;
+use ods_space::{Disk, Layout};
+use std::alloc::{AllocError, Global};
+use std::fs::File;
+use std::marker::Model;
+use std::rt::Files;
+
+/// An image with its layout, and whether a mount takes it.
+#[derive(Drop)]
+pub struct Readable {
+    image: Image,
+    layout: Layout,
+    is_sound: bool,
+}
+
+impl Model for Readable {
+    ghost use Rattle.ods_space.specs.Files.{IsLayoutOf};
+    ghost use Rattle.fs_reads.specs.Readable.{Opened};
+
+    ghost Value = { Opened };
+
+    ghost view = { λ r. record { image = r.image; layout = r.layout; sound = r.is_sound } };
+
+    ghost invariant = { λ r. IsLayoutOf r.image r.layout };
+}
+
+impl Readable {
+    ghost use Rattle.std.specs.Prelude.{true};
+    ghost use Rattle.ods_space.specs.Files.{IsLayoutOf};
+    ghost use Rattle.ods_space.specs.Disks.{on};
+    ghost use Rattle.fs_reads.specs.Readable.{end_of};
+
+    /// The volume that was mounted.
+    fn of_sound(volume: Mounted) -> Readable
+        ensures { (result.image ≡ volume.image) × (result.layout ≡ volume.layout) × (result.sound ≡ true) }
+    {
+        let (image, layout) = volume.into_parts();
+        Readable {
+            image,
+            layout,
+            is_sound: true,
+        }
+    }
+
+    /// The image with its layout.
+    pub fn disk(&self) -> Disk<'_>
+        ensures image { result.image.now ≡ self.now.image }
+        ensures layout { result.layout.now ≡ self.now.layout }
+        ensures laid_out { on IsLayoutOf result }
+    {
+        Disk {
+            image: &self.image,
+            layout: &self.layout,
+        }
+    }
+
+    /// The status of a command that showed all that it could, and ended with this one.
+    pub fn ends(&self, done: Status) -> Status
+        ensures { result ≡ end_of self.now.sound done }
+    {
+        if self.is_sound { done } else { Status::Image }
+    }
+}
+
+/// The volume of the image at this path, of so many blocks where a number is given. Why a mount refuses it is said first, and where there is a
+/// layout the command goes on.
+pub fn open_readable<'a, R: Files<File = File> + AllocGlobal + Eprint>(
+    rt: &R,
+    path: &'a str,
+    given: Option<u32>,
+    layers: Layers,
+    tells_behind: bool,
+) -> Result<Readable, Stop<'a>>
+    ensures { IfErr result (λ stop. (fault : Fault) × IsNoVolume path.entry fault stop) }
+{
+    match open_image(rt, path, given, layers) {
+        Ok((image, extent)) => {
+            say_extent(rt, path, extent, tells_behind);
+            make_readable(rt, path, image)
+        }
+        Err(fault) => Err(no_volume(path, fault)),
+    }
+}
+
+/// The volume of an image that was read from this path.
+#[tactic(auto, using(crate::proofs::Opening::judged_sound))]
+fn make_readable<'a, R: Files<File = File> + AllocGlobal + Eprint>(
+    rt: &R,
+    path: &'a str,
+    image: Image,
+) -> Result<Readable, Stop<'a>>
+    ensures ok { IfOk result (IsJudged image) }
+    ensures err { IfErr result (λ stop. (fault : Fault) × IsNoVolume path.entry fault stop) }
+    ensures none { IfErr result (LacksLayout image) }
+{
+    match mount(rt.alloc(), image) {
+        Ok(volume) => Ok(Readable::of_sound(volume)),
+        Err((image, fault)) => refused(rt, path, image, fault),
+    }
+}
+
+/// The volume of an image that a mount refuses, or for which it wants memory.
+fn refused<'a, R: Files<File = File> + AllocGlobal + Eprint>(
+    rt: &R,
+    path: &'a str,
+    image: Image,
+    fault: MountFault,
+) -> Result<Readable, Stop<'a>>
+    requires { fault ≢ MountFault.NoMemory → FaultIsTrue image fault }
+    ensures ok { IfOk result (IsJudged image) }
+    ensures err { IfErr result (λ stop. (why : Fault) × IsNoVolume path.entry why stop) }
+    ensures none { IfErr result (LacksLayout image) }
+{
+    match fault {
+        MountFault::NoMemory => Err(no_volume(path, VolumeFault::NoMemory)),
+        _ => laid_out(rt, path, image, fault),
+    }
+}
+
+/// The volume of an image that a mount refuses, which is said; there is none where there is no layout.
+#[tactic(auto, using(crate::proofs::Opening::judged_refused))]
+fn laid_out<'a, R: Files<File = File> + AllocGlobal + Eprint>(
+    rt: &R,
+    path: &'a str,
+    image: Image,
+    fault: MountFault,
+) -> Result<Readable, Stop<'a>>
+    requires { FaultIsTrue image fault }
+    ensures ok { IfOk result (IsJudged image) }
+    ensures err { IfErr result (λ stop. (why : Fault) × IsNoVolume path.entry why stop) }
+    ensures none { IfErr result (LacksLayout image) }
+{
+    match layout_of(rt.alloc(), &image) {
+        Ok(Some(layout)) => {
+            let _ = say_end(rt, Err(not_taken(rt, path, fault)));
+            Ok(Readable {
+                image,
+                layout,
+                is_sound: false,
+            })
+        }
+        Ok(None) => Err(not_taken(rt, path, fault)),
+        Err(_) => Err(no_volume(path, VolumeFault::NoMemory)),
+    }
+}
+
+/// Why the image at this path is not mounted.
+fn not_taken<'a, R: Files<File = File> + AllocGlobal>(
+    rt: &R,
+    path: &'a str,
+    fault: MountFault,
+) -> Stop<'a>
+    ensures { (why : Fault) × IsNoVolume path.entry why result }
+{
+    no_volume(path, not_mounted(rt, path, fault))
+}
+
+/// The layout of an image; `None` where it has none.
+fn layout_of(alloc: Global, image: &Image) -> Result<Option<Layout>, AllocError>
+    ensures { IfOk result (λ found. MatchOption found ((L : VolumeLayout) → ¬ IsLayoutOf image.now L) (IsLayoutOf image.now)) }
+{
+    match read_layout(alloc, image) {
+        Ok((_, layout)) => Ok(Some(layout)),
+        Err(MountFault::NoMemory) => Err(AllocError),
+        Err(_) => Ok(None),
+    }
+}

@@ -1,0 +1,109 @@
+//! Of which files the name is there in another version too, so that each gets a name of its own on a host.
+ghost use Rattle.std.specs.Prelude.{◌≡◌, List, IfOk, MatchBool, OnOk};
+ghost use Rattle.ods_shell.specs.Versioned.{AreKnownOf, HasOther, IsJoined, is_other, joined, known_of, name_key, version_at};
+ghost use Rattle.ods_shell.specs.declared.found.Found.{Found as One};
+
+use crate::found::{EntryPlace, Found};
+use std::alloc::{AllocError, Global};
+use std::collections::BTreeMap;
+use std::marker::Model;
+
+/// A name: the word of its type, and its three words.
+type Key = [u16; 4];
+
+/// The names of some files, each with its one version, or with none where it has several.
+#[derive(Drop)]
+pub struct Versioned {
+    versions: BTreeMap<Key, Option<u16>>,
+}
+
+impl Model for Versioned {
+    ghost use Rattle.ods_shell.specs.Versioned.{Known};
+
+    ghost Value = { Known };
+
+    ghost view = { λ v. v.versions.entries };
+}
+
+impl Versioned {
+    /// Those of these files.
+    pub fn of(alloc: Global, files: &[Found]) -> Result<Versioned, AllocError>
+        ensures { IfOk result (AreKnownOf files.now) }
+    {
+        let mut all = Versioned {
+            versions: BTreeMap::new(alloc),
+        };
+        for file in files {
+            all.note(&file.place)?;
+        }
+        Ok(all)
+    }
+
+    /// Whether the name of this file stands there with another version too.
+    pub fn has_other(&self, file: &Found) -> bool
+        ensures { (files : List One) → AreKnownOf files self.now → MatchBool result (HasOther files file.now.place) (¬ HasOther files file.now.place) }
+    {
+        is_other(self.known(&file.place), version_of(&file.place))
+    }
+
+    /// What is known of the name of an entry.
+    fn known(&self, place: &Option<EntryPlace>) -> Option<Option<u16>>
+        ensures { result ≡ known_of self.now (name_key place.now) }
+    {
+        self.versions.get(&key(place)).copied()
+    }
+
+    /// An entry is there too.
+    fn note(&mut self, place: &Option<EntryPlace>) -> Result<(), AllocError>
+        ensures { OnOk result (IsJoined self.old (name_key place.now) (version_at place.now) self.new) }
+    {
+        let now = joined(self.known(place), version_of(place));
+        self.versions.insert(key(place), now)?;
+        Ok(())
+    }
+}
+
+/// The words of the name of an entry; zeros where a file is named by its ID.
+fn key(place: &Option<EntryPlace>) -> Key
+    ensures { result ≡ name_key place.now }
+{
+    match place {
+        Some(place) => {
+            let words = place.entry.name.words();
+            [place.entry.name.ext(), words[0], words[1], words[2]]
+        }
+        None => [0; 4],
+    }
+}
+
+/// The version of an entry; 0 where a file is named by its ID.
+fn version_of(place: &Option<EntryPlace>) -> u16
+    ensures { result ≡ version_at place.now }
+{
+    match place {
+        Some(place) => place.entry.version,
+        None => 0,
+    }
+}
+
+/// What is known of a name of which there is this version too.
+fn joined(known: Option<Option<u16>>, version: u16) -> Option<u16>
+    ensures { result ≡ joined known version }
+{
+    match known {
+        None => Some(version),
+        Some(Some(one)) if one == version => Some(one),
+        Some(_) => None,
+    }
+}
+
+/// Whether another version than this one is there, by what is known of the name.
+fn is_other(known: Option<Option<u16>>, version: u16) -> bool
+    ensures { result ≡ is_other known version }
+{
+    match known {
+        Some(Some(one)) => one != version,
+        Some(None) => true,
+        None => false,
+    }
+}
