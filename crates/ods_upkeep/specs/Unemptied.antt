@@ -34,7 +34,7 @@ HasSome I L n why =
     ((why ≡ Request refusal.NotEmpty) × ((lines : List Listed) × AreLinesOf I L n lines × (lines ≢ [])))
     ⊎ (((why ≡ Hidden) × AreLinesOf I L n [] × HidesEntries I L n) ⊎ (why ≡ no_memory))
 
--- why a file is no empty directory that may go, the first of these that holds: it is no directory, it is one of the volume's own files, 1 to 5, or it has entries
+-- Why a file is no empty directory that may go. The first of these that holds is said: it is no directory, it is one of the volume's own files, 1 to 5, it has entries.
 abbrev pub IsNoEmptyFile : List (List ℕ) → VolumeLayout → Facts → Why → Type 0
 IsNoEmptyFile I L facts why =
     ((why ≡ Request refusal.NotADirectory) × ((facts.kind ≢ Directory) ⊎ (¬ IsDirectoryFile I L facts.file.number)))

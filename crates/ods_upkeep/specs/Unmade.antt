@@ -32,14 +32,14 @@ IsThere I L up name = (one : Found) × ((more : List Found) × AreNamed I L [] u
 abbrev pub IsMasters : FileId → List ℕ → Type 0
 IsMasters dir name = (dir.number ≡ 4) × (name ≡ codes "000000")
 
--- why a name in this directory is not new, the first of these that holds: it is the master directory's in itself, it is there, or entries of the directory are hidden; or there is no memory to see it
+-- Why a name in this directory is not new. The first of these that holds is said: it is the master directory's own, it is there, entries of the directory are hidden. Or there is no memory to see it.
 abbrev pub IsNotNew : List (List ℕ) → VolumeLayout → Folder → List ℕ → FileId → Why → Type 0
 IsNotNew I L up name dir why =
     ((why ≡ Request refusal.Reserved) × IsMasters dir name)
     ⊎ ((¬ IsMasters dir name) × (((why ≡ DirectoryThere) × IsThere I L up name)
     ⊎ (((why ≡ Hidden) × AreNamed I L [] up (directories_named name Every) None [] × HidesEntries I L dir.number) ⊎ (why ≡ no_memory))))
 
--- why a name, or pattern, in a folder is no new place, the first of these that holds: it is a pattern, the folder is not one directory, it is no name, or it is not new
+-- Why a name, or pattern, in a folder is no new place. The first of these that holds is said: it is a pattern, the folder is not one directory, it is no name, it is not new.
 abbrev pub IsNoPlace : List (List ℕ) → VolumeLayout → Folder → List ℕ → Why → Type 0
 IsNoPlace I L up name why =
     ((why ≡ Several) × (has_wildcard name ≡ true))

@@ -23,7 +23,7 @@ IsNoOnePlace (Named steps) why = why ≡ no_memory
 abbrev pub IsNoOneFolder : Folder → Why → Type 0
 IsNoOneFolder folder why = ((folder.below ≡ true) × (why ≡ Several)) ⊎ ((folder.below ≡ false) × IsNoOnePlace folder.place why)
 
--- why files of any type name no directory, the first of these that holds: another version is said than the first, there is no name, there is no memory for the name
+-- Why files of any type name no directory. The first of these that holds is said: another version is meant than the first, there is no name, there is no memory for the name.
 abbrev pub AreUnfit : Files → Why → Type 0
 AreUnfit files why =
     ((why ≡ Several) × (¬ MayBeFirst files.versions))
