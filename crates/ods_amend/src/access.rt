@@ -12,8 +12,9 @@ use ods_request::Refusal;
 use ods_space::{Disk, Draft};
 use std::alloc::Global;
 
-/// The draft that gives a file this owner and this protection, each where it is given; or why that is refused.
-fn draft_access(
+/// The draft that gives a file this owner, H.FOWN, and this protection, H.FPRO, each where it is given: its first header, with the sum made anew. The volume
+/// stays as it is. Refused as `set_protection` is.
+pub fn draft_access(
     alloc: Global,
     disk: &Disk<'_>,
     who: Uic,

@@ -48,8 +48,8 @@ fn with_label(home: &Block, label: &Label) -> Block
     changed
 }
 
-/// The draft that gives a volume this label.
-fn draft_label(alloc: Global, disk: &Disk<'_>, label: &Label) -> Result<Draft, AllocError>
+/// The draft that gives a volume this label: the home block, with both sums made anew. The volume stays as it is. It fails for want of memory alone.
+pub fn draft_label(alloc: Global, disk: &Disk<'_>, label: &Label) -> Result<Draft, AllocError>
     requires { on IsSoundBy disk.now }
     ensures { IfOk result (λ draft. on IsLabelled disk.now label.now (applied disk.now.image.now draft)) }
 {

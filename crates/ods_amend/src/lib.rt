@@ -6,5 +6,5 @@ mod header;
 mod label;
 mod opening;
 
-pub use access::{set_owner, set_protection};
-pub use label::set_label;
+pub use access::{draft_access, set_owner, set_protection};
+pub use label::{draft_label, set_label};

@@ -1,5 +1,5 @@
 -- A request on a volume, by the catalogues that its blocks show.
-use Rattle.std.proofs.Common.{◌≡◌, ℕ, refl, ap, sym, ◌∙◌, subst, List, is_some}
+use Rattle.std.proofs.Common.{◌≡◌, ℕ, refl, ap, sym, ◌∙◌, subst, List, is_some, Option}
 use Rattle.std.specs.Prelude.{Result, Ok, Err, IfOk, OnOk, OnErr}
 use Rattle.std.specs.FinSet as set
 use Rattle.std.specs.FinMap as map
@@ -16,6 +16,10 @@ use Rattle.ods_volume.specs.Changing.{HasMoreHeaders, IsStep}
 use Rattle.ods_volume.proofs.OtherPast.{with_past, other_past}
 use Rattle.ods_volume.proofs.Stepped.{stepped}
 use Rattle.ods_mount.specs.Sound.{IsSoundBy}
+use Rattle.ods_base.specs.declared.file_id.FileId.{FileId}
+use Rattle.ods_amend.specs.Access.{Gives}
+use Rattle.ods_amend.specs.Label.{Relabels}
+use Rattle.ods_filing.specs.Amended.{HasGiven, HasGotLabel}
 use Rattle.ods_filing.specs.Filed.{Filed, HasGrown, IsDone}
 
 -- blocks that show a catalogue show each one with the same files and the same protection
@@ -54,7 +58,7 @@ are_done D E sound who r (Ok a) made = is_done D E sound who r a made
 are_done D E sound who r (Err f) made = tt
 
 -- a volume that stayed is that of its user
-pub stays_filed : {A : Type 0} (D E : Disk) (who : Uic) (result : Result A Refusal) → OnErr result (E ≡ D) → OnErr result (filed E who ≡ filed D who)
+pub stays_filed : {A X : Type 0} (D E : Disk) (who : Uic) (result : Result A X) → OnErr result (E ≡ D) → OnErr result (filed E who ≡ filed D who)
 stays_filed D E who (Ok a) same = tt
 stays_filed D E who (Err f) same = ap (λ d. filed d who) same
 
@@ -62,3 +66,13 @@ stays_filed D E who (Err f) same = ap (λ d. filed d who) same
 pub has_grown : {A : Type 0} (D E : Disk) (who : Uic) (count : ℕ) (result : Result A Refusal) → OnOk result (HasMoreHeaders D count E) → OnOk result (HasGrown (filed D who) count (filed E who))
 has_grown D E who count (Ok a) more = record { headers = more; user = refl }
 has_grown D E who count (Err f) more = tt
+
+-- a user has given a file another owner or another protection
+pub has_given : (D E : Disk) (who : Uic) (id : FileId) (owner : Option Uic) (protection : Option ℕ) {A : Type 0} (result : Result A Refusal) → OnOk result (Gives D who id owner protection E) → OnOk result (HasGiven (filed D who) id owner protection (filed E who))
+has_given D E who id owner protection (Ok a) gives = record { given = gives; user = refl }
+has_given D E who id owner protection (Err f) gives = tt
+
+-- a user's volume has got another label
+pub has_got_label : (D E : Disk) (who : Uic) (label : List ℕ) {A X : Type 0} (result : Result A X) → OnOk result (Relabels D label E) → OnOk result (HasGotLabel (filed D who) label (filed E who))
+has_got_label D E who label (Ok a) got = record { labelled = got; user = refl }
+has_got_label D E who label (Err f) got = tt

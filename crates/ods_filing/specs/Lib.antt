@@ -1,3 +1,4 @@
+pub mod Amended
 pub mod Filed
 pub mod Led
 pub mod Put

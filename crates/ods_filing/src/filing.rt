@@ -3,9 +3,11 @@ ghost use Rattle.std.specs.Prelude.{◌≡◌, length, IfOk, IfErr, OnOk, OnErr}
 ghost use Rattle.ods_space.specs.{Disks.on, Free.free_blocks};
 ghost use Rattle.ods_mount.specs.Sound.{IsSoundBy};
 ghost use Rattle.ods_state.specs.{Outcome.CanBeAsked, Served.IsRefusalOf};
+ghost use Rattle.ods_filing.specs.Amended.{HasGiven, HasGotLabel, IsWhyNotGiven};
 ghost use Rattle.ods_filing.specs.Filed.{for_another, HasGrown, IsDone, IsWhyNotGrown, lacking};
 
-use ods_base::Uic;
+use ods_base::{FileId, Uic};
+use ods_init::Label;
 use ods_mount::Mounted;
 use ods_request::{Answer, Refusal, Request};
 use ods_space::Disk;
@@ -21,6 +23,7 @@ pub struct Filing {
 }
 
 impl Model for Filing {
+    ghost use Rattle.ods_filing.specs.Amended.{HasGiven, HasGotLabel, IsWhyNotGiven};
     ghost use Rattle.ods_filing.specs.Filed.{Filed};
 
     ghost Value = { Filed };
@@ -63,6 +66,29 @@ impl Filing {
     {
         let lacking = files.saturating_sub(self.sound.number_count());
         self.sound.grow_index(lacking)
+    }
+
+    /// The user gives a file this owner and this protection word, each where it is given. Refused, it changes nothing.
+    pub fn set_access(
+        &mut self,
+        file: FileId,
+        owner: Option<Uic>,
+        protection: Option<u16>,
+    ) -> Result<(), Refusal>
+        ensures given { OnOk result (HasGiven self.old file owner protection self.new) }
+        // By each catalogue that the blocks show, its first fault is the reason, or there is none and no memory.
+        ensures refused { IfErr result (IsWhyNotGiven self.old file) }
+        ensures unchanged { OnErr result (self.new ≡ self.old) }
+    {
+        self.sound.set_access(self.user, file, owner, protection)
+    }
+
+    /// The volume gets another label. It fails for want of memory alone, and then changes nothing.
+    pub fn set_label(&mut self, label: &Label) -> Result<(), AllocError>
+        ensures given { OnOk result (HasGotLabel self.old label.now self.new) }
+        ensures unchanged { OnErr result (self.new ≡ self.old) }
+    {
+        self.sound.set_label(label)
     }
 
     /// From now on requests are those of another user.

@@ -36,3 +36,4 @@ pub mod Beginning
 pub mod Storing
 pub mod Making
 pub mod Noting
+pub mod Gets

@@ -1,5 +1,6 @@
 pub mod Counted
 pub mod Cut
+pub mod Given
 pub mod Hidden
 pub mod Kinds
 pub mod Laws

@@ -1,3 +1,4 @@
+pub mod Amended
 pub mod Looks
 pub mod OtherPast
 pub mod Stepped

@@ -1,3 +1,4 @@
+pub mod Amended
 pub mod Changing
 pub mod Entries
 pub mod Kept

@@ -1,4 +1,5 @@
-//! A volume: a mounted image that changes by requests, and the list of those that were accepted.
+//! A volume: a mounted image that changes by requests, and the list of those that were accepted. Without a list it gets another label too, and its files another
+//! owner or protection.
 #![tactic(auto)]
 
 mod change;

@@ -1,21 +1,25 @@
 //! A sound volume that changes by requests, and keeps no list of them.
-ghost use Rattle.std.specs.Prelude.{◌≡◌, length, unwrap_or, MatchResult, IfOk, IfErr, OnOk, OnErr};
+ghost use Rattle.std.specs.Prelude.{◌≡◌, length, unwrap_or, Some, None, MatchResult, IfOk, IfErr, OnOk, OnErr};
 ghost use Rattle.ods_alloc.specs.Counts.{free_counts};
 ghost use Rattle.ods_mount.specs.Sound.{IsSoundBy};
 ghost use Rattle.ods_space.specs.{Disks.on, Free.free_blocks, Free.free_numbers};
 ghost use Rattle.ods_state.specs.{Outcome.CanBeAsked, Served.IsRefusalOf};
 ghost use Rattle.ods_change.specs.IndexGrown.{IsWhyNoHeaders};
+ghost use Rattle.ods_amend.specs.{Access.Gives, Label.Relabels};
+ghost use Rattle.ods_volume.specs.Amended.{IsChangeOfAccess, IsChangeOfLabel, IsWhyNotGiven};
 ghost use Rattle.ods_volume.specs.Changing.{HasMoreHeaders, IsChangeFor, IsChangeOfHeaders, IsLawfulChange, IsStep, changed};
 
 use crate::prepare::{carry_out, counts_after};
 use ods_alloc::FreeCounts;
-use ods_base::{NoMemory, Uic};
+use ods_amend::{draft_access, draft_label};
+use ods_base::{FileId, NoMemory, Uic};
 use ods_change::grow_headers;
+use ods_init::Label;
 use ods_mount::Mounted;
 use ods_request::{Answer, Refusal, Request};
 use ods_space::{Disk, Draft};
 use ods_state::KnownEnd;
-use std::alloc::Global;
+use std::alloc::{AllocError, Global};
 use std::marker::Model;
 
 /// A sound image with its layout, which changes by requests. What is free is counted for each block of the bitmaps, so that a request
@@ -235,5 +239,98 @@ impl Sound {
             }
             Err(lack) => Err(lack),
         }
+    }
+
+    /// What changes where a user gives a file another owner or another protection, with all the memory that this takes. The volume stays as it is.
+    fn prepare_access(
+        &self,
+        who: Uic,
+        file: FileId,
+        owner: Option<Uic>,
+        protection: Option<u16>,
+    ) -> Result<Change, Refusal>
+        ensures { MatchResult result (IsChangeOfAccess self.now who file owner protection) (IsWhyNotGiven self.now who file) }
+    {
+        let disk = self.mounted.disk();
+        let draft = draft_access(self.alloc, &disk, who, file, owner, protection)?;
+        let Ok(counts) = self.counts.after(&disk, &draft) else {
+            return Err(Refusal::NoMemory);
+        };
+        // Nothing is noted then of where a file's chain ends.
+        let end = None;
+        let places = Vec::new(self.alloc);
+        let given = Change {
+            draft,
+            places,
+            counts,
+            end,
+        };
+        Ok(given)
+    }
+
+    /// Gives a file this owner, H.FOWN of its first header, and this protection word, H.FPRO, each where it is given, for a user. A system user, whose group is at most 10
+    /// octal, and the file's owner may. Refused in this order: NoSuchFile; Reserved for the files 1 to 5; Denied; and NoMemory. Refused, it changes nothing.
+    pub fn set_access(
+        &mut self,
+        who: Uic,
+        file: FileId,
+        owner: Option<Uic>,
+        protection: Option<u16>,
+    ) -> Result<(), Refusal>
+        ensures given { OnOk result (Gives self.old who file owner protection self.new) }
+        ensures refused { IfErr result (IsWhyNotGiven self.old who file) }
+        ensures unchanged { OnErr result (self.new ≡ self.old) }
+    {
+        let change = self.prepare_access(who, file, owner, protection)?;
+        self.apply(change);
+        Ok(())
+    }
+
+    /// Gives a file another owner, for a user. Who may, and what is refused, is as of `set_access`.
+    pub fn set_owner(&mut self, who: Uic, file: FileId, owner: Uic) -> Result<(), Refusal>
+        ensures given { OnOk result (Gives self.old who file (Some owner) None self.new) }
+        ensures refused { IfErr result (IsWhyNotGiven self.old who file) }
+        ensures unchanged { OnErr result (self.new ≡ self.old) }
+    {
+        self.set_access(who, file, Some(owner), None)
+    }
+
+    /// Gives a file another protection word, for a user: four bits for each class of users, where a set bit denies. Who may, and what is refused, is as of
+    /// `set_access`.
+    pub fn set_protection(&mut self, who: Uic, file: FileId, protection: u16) -> Result<(), Refusal>
+        ensures given { OnOk result (Gives self.old who file None (Some protection) self.new) }
+        ensures refused { IfErr result (IsWhyNotGiven self.old who file) }
+        ensures unchanged { OnErr result (self.new ≡ self.old) }
+    {
+        self.set_access(who, file, None, Some(protection))
+    }
+
+    /// What changes where the volume gets another label, with all the memory that this takes. The volume stays as it is.
+    fn prepare_label(&self, label: &Label) -> Result<Change, AllocError>
+        ensures { IfOk result (IsChangeOfLabel self.now label.now) }
+    {
+        let disk = self.mounted.disk();
+        let draft = draft_label(self.alloc, &disk, label)?;
+        let counts = self.counts.after(&disk, &draft)?;
+        // Nothing is noted then of where a file's chain ends.
+        let end = None;
+        let places = Vec::new(self.alloc);
+        let labelled = Change {
+            draft,
+            places,
+            counts,
+            end,
+        };
+        Ok(labelled)
+    }
+
+    /// Gives the volume another label: H.VNAM of the home block, and its copy at byte 472. It fails for want of memory alone, and then changes nothing.
+    pub fn set_label(&mut self, label: &Label) -> Result<(), AllocError>
+        ensures given { OnOk result (Relabels self.old label.now self.new) }
+        ensures unchanged { OnErr result (self.new ≡ self.old) }
+    {
+        let change = self.prepare_label(label)?;
+        self.apply(change);
+        Ok(())
     }
 }

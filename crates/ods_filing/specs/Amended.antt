@@ -1,0 +1,23 @@
+-- What changes that no request asks for do to a mounted volume: another owner or protection of a file, another label.
+use Rattle.std.specs.Prelude.{◌≡◌, ℕ, List, Option}
+use Rattle.ods_base.specs.declared.file_id.FileId.{FileId}
+use Rattle.ods_base.specs.declared.file_id.Uic.{Uic}
+use Rattle.ods_request.specs.declared.refusals.Refusal.{Refusal}
+use Rattle.ods_amend.specs.Access.{Gives}
+use Rattle.ods_amend.specs.Label.{Relabels}
+use Rattle.ods_volume.specs.Amended.{IsWhyNotGiven as MayNotGive}
+use Rattle.ods_filing.specs.Filed.{Filed, disk_at}
+
+-- the user has given the file this owner and this protection, each where it is given, and nothing else was done
+pub record HasGiven (old : Filed) (id : FileId) (owner : Option Uic) (protection : Option ℕ) (new : Filed) : Type 0 where
+  pub given : Gives (disk_at old) old.user id owner protection (disk_at new)
+  pub user : new.user ≡ old.user
+
+-- why the user may not, or cannot
+abbrev pub IsWhyNotGiven : Filed → FileId → Refusal → Type 0
+IsWhyNotGiven f id reason = MayNotGive (disk_at f) f.user id reason
+
+-- the volume has got this label, and nothing else was done
+pub record HasGotLabel (old : Filed) (label : List ℕ) (new : Filed) : Type 0 where
+  pub labelled : Relabels (disk_at old) label (disk_at new)
+  pub user : new.user ≡ old.user

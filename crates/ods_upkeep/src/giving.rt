@@ -1,0 +1,96 @@
+//! `chmod` and `chown` give files another protection word, or another owner.
+ghost use Rattle.std.specs.Prelude.{◌≡◌, Some, None, IfErr, OnErr, OnOk};
+ghost use Rattle.ods_upkeep.specs.Given.{AreGiven, AreNotGiven, GetAccess, GetsAccess, GetsNone, StopsGiving};
+
+use crate::failure::{Failure, Why, of_path};
+use crate::sources::sources;
+use ods_base::Uic;
+use ods_filing::Filing;
+use ods_paths::Versions;
+use ods_shell::{Found, PathFault};
+use std::alloc::Global;
+
+/// Gives each file that the paths name another protection word, where a set bit denies. Where a path says no version, the highest is meant. The user of the requests
+/// has to be the file's owner, or of a group at most 10 octal.
+pub fn give_protection(
+    alloc: Global,
+    filing: &mut Filing,
+    paths: &[&str],
+    protection: u16,
+) -> Result<(), Failure>
+    // Done, each file that is named has that protection, and nothing else was done.
+    ensures done { OnOk result (AreGiven None (Some protection) paths.now filing.old filing.new) }
+    // Refused, it is so for a reason that holds, and of the path that the failure says.
+    ensures refused { IfErr result (AreNotGiven None (Some protection) paths.now filing.old filing.new) }
+{
+    give(alloc, filing, paths, None, Some(protection))
+}
+
+/// Gives each file that the paths name to another owner. Which files are meant, and who may, is as of `give_protection`.
+pub fn give_owner(
+    alloc: Global,
+    filing: &mut Filing,
+    paths: &[&str],
+    owner: Uic,
+) -> Result<(), Failure>
+    // Done, each file that is named has that owner, and nothing else was done.
+    ensures done { OnOk result (AreGiven (Some owner) None paths.now filing.old filing.new) }
+    // Refused, it is so for a reason that holds, and of the path that the failure says.
+    ensures refused { IfErr result (AreNotGiven (Some owner) None paths.now filing.old filing.new) }
+{
+    give(alloc, filing, paths, Some(owner), None)
+}
+
+/// Gives each file that the paths name this owner and this protection, each where it is given.
+fn give(
+    alloc: Global,
+    filing: &mut Filing,
+    paths: &[&str],
+    owner: Option<Uic>,
+    protection: Option<u16>,
+) -> Result<(), Failure>
+    ensures done { OnOk result (AreGiven owner protection paths.now filing.old filing.new) }
+    ensures refused { IfErr result (AreNotGiven owner protection paths.now filing.old filing.new) }
+{
+    let all = sources(alloc, filing.mounted(), paths, Some(Versions::Highest))?;
+    give_all(alloc, filing, &all, owner, protection)
+}
+
+/// Gives these, one after another.
+fn give_all(
+    alloc: Global,
+    filing: &mut Filing,
+    all: &[Found],
+    owner: Option<Uic>,
+    protection: Option<u16>,
+) -> Result<(), Failure>
+    ensures done { OnOk result (GetAccess owner protection all.now filing.old filing.new) }
+    ensures refused { IfErr result (StopsGiving owner protection all.now filing.old filing.new) }
+{
+    for found in all {
+        if let Err(why) = give_one(filing, found, owner, protection) {
+            return Err(of_path(alloc, &found.path, why));
+        }
+    }
+    Ok(())
+}
+
+/// Gives the file of what was found.
+fn give_one(
+    filing: &mut Filing,
+    found: &Found,
+    owner: Option<Uic>,
+    protection: Option<u16>,
+) -> Result<(), Why>
+    ensures done { OnOk result (GetsAccess owner protection found.now.facts filing.old filing.new) }
+    ensures refused { IfErr result (GetsNone found.now.facts filing.old) }
+    ensures unchanged { OnErr result (filing.new ≡ filing.old) }
+{
+    let Some(facts) = found.facts() else {
+        return Err(Why::Path(PathFault::NoSuchFile));
+    };
+    match filing.set_access(facts.file, owner, protection) {
+        Ok(()) => Ok(()),
+        Err(refusal) => Err(Why::Request(refusal)),
+    }
+}
