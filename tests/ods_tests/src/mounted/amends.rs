@@ -12,9 +12,11 @@ use crate::volumes::{
 };
 use ods_amend::{set_label, set_owner, set_protection};
 use ods_base::{FileId, Image, Name, Uic, sum, word};
+use ods_filing::Filing;
 use ods_init::Label;
 use ods_mount::Mounted;
 use ods_request::Refusal;
+use ods_volume::Sound;
 use std::alloc::Global;
 use std::process::Abort;
 use std::test::Fail;
@@ -111,6 +113,31 @@ fn owned(alloc: Global) -> Result<Image, Fail> {
     set_owner(&mut it, alloc, USER, FIRST, OWNER)?;
     let (image, _) = it.into_parts();
     Ok(image)
+}
+
+/// A volume without a list has the blocks that a mounted one has behind the same changes.
+#[test]
+fn sound_volume_changes_as_a_mounted_one(rt: HostRuntime) -> Result<(), Fail> {
+    let alloc = rt.alloc();
+    let label = Label::parse("NEW.LABEL").ok_or("label")?;
+    let mut it = mounted(alloc, contiguous_file(alloc, PROTECTION)?)?;
+    set_owner(&mut it, alloc, SYSTEM, FIRST, OWNER)?;
+    set_protection(&mut it, alloc, SYSTEM, FIRST, 0o123456)?;
+    set_label(&mut it, alloc, &label)?;
+    let Ok(mut sound) = Sound::new(alloc, mounted(alloc, contiguous_file(alloc, PROTECTION)?)?)
+    else {
+        return Err("sound".into());
+    };
+    sound.set_owner(SYSTEM, FIRST, OWNER)?;
+    sound.set_protection(SYSTEM, FIRST, 0o123456)?;
+    sound.set_label(&label)?;
+    assert!(&rt; same_image(sound.mounted().image(), it.image()), "sound");
+    let volume = mounted(alloc, contiguous_file(alloc, PROTECTION)?)?;
+    let mut filing = Filing::new(alloc, volume, SYSTEM)?;
+    filing.set_access(FIRST, Some(OWNER), Some(0o123456))?;
+    filing.set_label(&label)?;
+    assert!(&rt; same_image(filing.mounted().image(), it.image()), "filing");
+    Ok(())
 }
 
 #[test]
