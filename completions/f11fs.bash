@@ -44,6 +44,9 @@ _f11fs_of() {
     mkdir) options='--names --owner -o --backup --break-links -n --force --json --stamp -u -q --blocks --order -h --help' takes='path' ;;
     rmdir) options='-o --backup --break-links -n --force --json -u -q --blocks --order -h --help' takes='path' ;;
     truncate) options='-o --backup --break-links -n --force --json -u -q --blocks --order -h --help' takes='path' ;;
+    chmod) options='-o --backup --break-links -n --force --json -u -q --blocks --order -h --help' takes='path' ;;
+    chown) options='-o --backup --break-links -n --force --json -u -q --blocks --order -h --help' takes='path' ;;
+    label) options='-o --backup --break-links -n --force --json -q --blocks --order -h --help' takes='' ;;
     init) options='--files --label -n --json --stamp -u --order -h --help' takes='size' ;;
     *) options='' takes='' ;;
     esac
@@ -93,7 +96,7 @@ _f11fs() {
     elif [[ -z $image ]]; then
         takes=host
     elif [[ -z $command ]]; then
-        mapfile -t COMPREPLY < <(compgen -W 'ls find stat cat get df info du check rescue cmp put cp mv rm mkdir rmdir truncate init' -- "$cur")
+        mapfile -t COMPREPLY < <(compgen -W 'ls find stat cat get df info du check rescue cmp put cp mv rm mkdir rmdir truncate chmod chown label init' -- "$cur")
         return
     fi
     for one in $takes; do

@@ -138,6 +138,13 @@ def a_locked_file_is_told(room: Room) -> None:
     told(room, "file 9,1 is locked")
 
 
+@row(image=lambda: changed(plain_volume().bytes(), 2, 510, b"\x01\x80", has_sum=False))
+def numbers_that_no_file_can_have_are_told_in_one_line(room: Room) -> None:
+    told(room, "file numbers past the last header are marked as used: 2, from 4081 on")
+    status, output, _ = room.run("disk", "rescue", "out")
+    equal((status, output.decode().splitlines()[-1]), (7, "left: file numbers past the last header are marked as used: 2, from 4081 on"), "rescue")
+
+
 @row(image=lambda: plain_volume(flags=0x7FBF).bytes())
 def other_characteristics_are_no_finding(room: Room) -> None:
     equal(room.run("disk", "check", "--all")[:2], (0, b"sound\n"), "check --all")

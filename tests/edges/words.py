@@ -170,9 +170,13 @@ IDLE = {
     "mkdir": "--keep-going",
     "rmdir": "--keep-going --stamp",
     "truncate": "--keep-going --stamp",
+    "chmod": "--keep-going --stamp",
+    "chown": "--keep-going --stamp",
+    "label": "--keep-going --stamp -u",
 }
 VALUES = {"-o": ["x.out"], "--stamp": [STAMP], "-u": ["1,2"]}
-WORDS = {"ls": [], "find": [], "df": [], "info": [], "du": [], "check": [], "cp": ["A", "B"], "mv": ["A", "B"], "truncate": ["A", "0"]}
+WORDS = {"ls": [], "find": [], "df": [], "info": [], "du": [], "check": [], "cp": ["A", "B"], "mv": ["A", "B"], "truncate": ["A", "0"], "chmod": ["000000", "A"],
+         "chown": ["1,2", "A"]}
 ALL = "-o --backup --break-links -n --force --stamp --json -u -q --keep-going --blocks --order".split()
 
 
@@ -189,7 +193,7 @@ def options_that_do_nothing(room: Room) -> None:
 
 @row
 def json_without_a_plan(room: Room) -> None:
-    for command in ("put", "cp", "mv", "rm", "mkdir", "rmdir", "truncate", "get"):
+    for command in ("put", "cp", "mv", "rm", "mkdir", "rmdir", "truncate", "chmod", "chown", "label", "get"):
         refused(room, f"error: --json does nothing for {command} without -n\n", "--json", "disk", command, *WORDS.get(command, ["A"]))
 
 

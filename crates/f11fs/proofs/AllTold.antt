@@ -7,10 +7,10 @@ use Rattle.std.proofs.lemmas.Option.{unwrap_or-slice_get}
 use Rattle.ods_base.specs.declared.file_id.FileId.{FileId}
 use Rattle.fs_reads.specs.declared.comparing.Known.{Known}
 use Rattle.f11fs.specs.declared.telling.Plan.{Plan}
-use Rattle.fs_reads.specs.Alike.{AreCompared, IsNamedBy, has_path}
+use Rattle.fs_reads.specs.Alike.{IsNamedBy, has_path}
 use Rattle.fs_reads.specs.Paths.{AreAllPaths, LacksPath}
 use Rattle.fs_reads.specs.Paths.{Disk}
-use Rattle.f11fs.specs.Plans.{AreTold, IsNumberOf, IsNumbered, IsPlan, IsReached, IsToldOfLeft, IsToldOfNew, IsToldOfOld, IsToldWhere, Tells, plan_line}
+use Rattle.f11fs.specs.Plans.{AreTold, DifferBy, IsNumberOf, IsNumbered, IsPlan, IsReached, IsToldOfLabel, IsToldOfLeft, IsToldOfNew, IsToldOfOld, IsToldWhere, Tells, plan_line}
 
 -- one more is told
 told_more : {A : Type 0} (Is : A → List ℕ → Type 0) (xs : List A) (x : A) (told more : List ℕ) → AreTold Is xs told → Is x more → AreTold Is (xs ++ x ∷ []) (told ++ more)
@@ -176,14 +176,15 @@ gone_told json after one path Text (Ok x) same lacks line =
     (plan_line json (codes "remove") path, inl (subst (λ p. LacksPath p after) same lacks, ap (λ p. plan_line json (codes "remove") p) same), line)
 gone_told json after one path Text (Err e) same lacks line = tt
 
--- a plan from its three parts
-pub planned : (json : Bool) (most : ℕ) (B A : Disk) (before after : List Known) (first p q r : Plan) → AreAllPaths B.image B.layout before → AreAllPaths A.image A.layout after
-    → string_bytes first.text ≡ [] → first.json ≡ json → p.json ≡ first.json → q.json ≡ p.json
+-- a plan from its four parts
+pub planned : (json : Bool) (most : ℕ) (B A : Disk) (before after : List Known) (first p q r last : Plan) → AreAllPaths B.image B.layout before → AreAllPaths A.image A.layout after
+    → string_bytes first.text ≡ [] → first.json ≡ json → p.json ≡ first.json → q.json ≡ p.json → r.json ≡ q.json
     → (told : List ℕ) × AreTold (IsToldOfOld first.json after) before told × Tells first told p
-    → (told : List ℕ) × AreTold (IsToldOfNew p.json (λ a b word. AreCompared B a A b word) before) after told × Tells p told q
+    → (told : List ℕ) × AreTold (IsToldOfNew p.json (λ a b d. DifferBy B a A b d) before) after told × Tells p told q
     → (told : List ℕ) × AreTold (IsToldOfLeft q.json B before A after) (range_with_len 1 most) told × Tells q told r
-    → IsPlan json most B A (string_bytes r.text)
-planned json most B A before after first p q r all_before all_after none fj pj qj gone come left = record {
+    → (told : List ℕ) × IsToldOfLabel r.json B A told × Tells r told last
+    → IsPlan json most B A (string_bytes last.text)
+planned json most B A before after first p q r last all_before all_after none fj pj qj rj gone come left label = record {
   before = before;
   after = after;
   all_before = all_before;
@@ -191,8 +192,11 @@ planned json most B A before after first p q r all_before all_after none fj pj q
   gone = gone.0;
   come = come.0;
   left = left.0;
+  label = label.0;
   told_gone = subst (λ (j : Bool). AreTold (IsToldOfOld j after) before gone.0) fj gone.1;
-  told_come = subst (λ (j : Bool). AreTold (IsToldOfNew j (λ a b word. AreCompared B a A b word) before) after come.0) (pj ∙ fj) come.1;
+  told_come = subst (λ (j : Bool). AreTold (IsToldOfNew j (λ a b d. DifferBy B a A b d) before) after come.0) (pj ∙ fj) come.1;
   told_left = subst (λ (j : Bool). AreTold (IsToldOfLeft j B before A after) (range_with_len 1 most) left.0) (qj ∙ pj ∙ fj) left.1;
-  whole = left.2 ∙ ap (λ t. t ++ left.0) (come.2 ∙ ap (λ t. t ++ come.0) (gone.2 ∙ ap (λ t. t ++ gone.0) none)) ∙ append_assoc gone.0 come.0 left.0;
+  told_label = subst (λ (j : Bool). IsToldOfLabel j B A label.0) (rj ∙ qj ∙ pj ∙ fj) label.1;
+  whole = label.2 ∙ ap (λ t. t ++ label.0) (left.2 ∙ ap (λ t. t ++ left.0) (come.2 ∙ ap (λ t. t ++ come.0) (gone.2 ∙ ap (λ t. t ++ gone.0) none)))
+      ∙ append_assoc (gone.0 ++ come.0) left.0 label.0 ∙ append_assoc gone.0 come.0 (left.0 ++ label.0);
 }

@@ -8,3 +8,6 @@ mod PutAll
 mod Refusals
 mod Slashed
 mod Told
+pub mod Other
+pub mod Giving
+pub mod ShownRights

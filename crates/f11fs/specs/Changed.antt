@@ -1,7 +1,9 @@
 -- What commands that change a volume leave of it.
-use Rattle.std.specs.Prelude.{◌≡◌, ◌⊎◌, ◌-◌, ℕ, zero, suc, min, nat_lt, if◌then◌else◌, List, [], ◌∷◌, ◌++◌, length, take, slice_get, Bool, true, false, Option, Some, None, unwrap_or}
+use Rattle.std.specs.Prelude.{◌≡◌, ◌⊎◌, ◌-◌, ℕ, zero, suc, min, nat_lt, if◌then◌else◌, List, [], ◌∷◌, ◌++◌, length, take, slice_get, Bool, true, false, IsTrue, Option, Some, None, unwrap_or}
 use Rattle.std.specs.Borrow.{Bor}
+use Rattle.ods_base.specs.declared.file_id.FileId.{FileId}
 use Rattle.ods_base.specs.declared.file_id.Uic.{Uic}
+use Rattle.ods_init.specs.Label.{is_label_text, label_of}
 use Rattle.ods_shell.specs.declared.status.Status.{Status}
 use Rattle.ods_shell.specs.declared.status.Status.TheVariants as status
 use Rattle.fs_words.specs.declared.actions.Action.{Action}
@@ -14,6 +16,7 @@ use Rattle.fs_words.specs.Lines.{words_in}
 use Rattle.fs_words.specs.Parts.{IsLineOf}
 use Rattle.fs_reads.specs.declared.stop.Stop.{Stop}
 use Rattle.fs_reads.specs.declared.stop.Stop.TheVariants as stop
+use Rattle.ods_filing.specs.Amended.{HasGiven, HasGotLabel}
 use Rattle.ods_filing.specs.Filed.{Filed, HasGrown, for_another, lacking}
 use Rattle.ods_filing.specs.Led.{IsLed}
 use Rattle.ods_upkeep.specs.Begun.{IsBegun}
@@ -21,6 +24,7 @@ use Rattle.ods_upkeep.specs.Kinds.{Cuts, Removes, Renames}
 use Rattle.ods_upkeep.specs.Copied.{IsCopiedTo}
 use Rattle.ods_upkeep.specs.Cut.{IsTruncated}
 use Rattle.ods_upkeep.specs.Emptied.{AreEmptied}
+use Rattle.ods_upkeep.specs.Given.{AreGiven}
 use Rattle.ods_upkeep.specs.Made.{AreMade}
 use Rattle.ods_upkeep.specs.Moved.{IsMoved}
 use Rattle.ods_upkeep.specs.Removed.{IsRemoved}
@@ -75,6 +79,14 @@ CopiesToLast words stamp old new = (from : List (Bor (List ℕ))) × ((to : Bor 
 abbrev pub CutsFirst : List (Bor (List ℕ)) → ℕ → Filed → Filed → Type 0
 CutsFirst words bytes old new = (path : Bor (List ℕ)) × ((others : List (Bor (List ℕ))) × (words ≡ path ∷ others) × IsTruncated path.now bytes old new)
 
+-- the text is a label, and the volume has got it
+abbrev pub IsLabelled : List ℕ → Filed → Filed → Type 0
+IsLabelled text old new = IsTrue (is_label_text text) × HasGotLabel old (label_of text) new
+
+-- the text is no label
+abbrev pub IsNoLabel : List ℕ → Type 0
+IsNoLabel text = ¬ IsTrue (is_label_text text)
+
 -- What a change leaves that is made whole, by the words behind its name, and by the time that new files get.
 abbrev pub IsChanged : Change → List (Bor (List ℕ)) → List ℕ → Filed → Filed → Type 0
 IsChanged (change.Put how) words stamp old new = ArePut how words stamp old new
@@ -84,8 +96,20 @@ IsChanged (change.Rm entry_alone newest) words stamp old new = IsRemoved entry_a
 IsChanged (change.Mkdir names owner) words stamp old new = AreMade owner (unwrap_or names 0) stamp words old new
 IsChanged change.Rmdir words stamp old new = AreEmptied words old new
 IsChanged (change.Truncate bytes) words stamp old new = CutsFirst words bytes old new
+IsChanged (change.Chmod protection) words stamp old new = AreGiven None (Some protection) words old new
+IsChanged (change.Chown owner) words stamp old new = AreGiven (Some owner) None words old new
+IsChanged (change.Label text) words stamp old new = IsLabelled text.now old new
 
--- what some changes leave, refused or not: nothing but what requests of theirs leave
+-- files have got this owner and this protection, each where it is given, one after another
+abbrev pub HaveGot : Option Uic → Option ℕ → List FileId → Filed → Filed → Type 0
+HaveGot owner protection [] old new = new ≡ old
+HaveGot owner protection (file ∷ files) old new = (mid : Filed) × HasGiven old file owner protection mid × HaveGot owner protection files mid new
+
+-- some files have got these, and nothing else was done
+abbrev pub SomeGot : Option Uic → Option ℕ → Filed → Filed → Type 0
+SomeGot owner protection old new = (files : List FileId) × HaveGot owner protection files old new
+
+-- what some changes leave, refused or not: nothing but what requests of theirs leave, or some of what they give
 abbrev pub KeepsTo : Change → Filed → Filed → Type 0
 KeepsTo (change.Put how) old new = Unit {0}
 KeepsTo change.Cp old new = Unit {0}
@@ -94,6 +118,9 @@ KeepsTo (change.Rm entry_alone newest) old new = IsLed (Removes entry_alone) old
 KeepsTo (change.Mkdir names owner) old new = Unit {0}
 KeepsTo change.Rmdir old new = IsLed (Removes false) old new
 KeepsTo (change.Truncate bytes) old new = IsLed Cuts old new
+KeepsTo (change.Chmod protection) old new = SomeGot None (Some protection) old new
+KeepsTo (change.Chown owner) old new = SomeGot (Some owner) None old new
+KeepsTo (change.Label text) old new = (new ≡ old) ⊎ IsLabelled text.now old new
 
 -- the volume is the same, whoever asks
 abbrev pub HasSameVolume : Filed → Filed → Type 0

@@ -1,5 +1,6 @@
 pub mod Changed
 pub mod Forms
+pub mod Laws
 pub mod Orders
 pub mod Plans
 pub mod Readings

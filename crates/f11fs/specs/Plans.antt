@@ -1,15 +1,19 @@
 -- What is told of a change that is not made: the lines of a plan.
-use Rattle.std.specs.Prelude.{◌≡◌, ◌≢◌, ◌⊎◌, ℕ, ◌<◌, ◌≤◌, List, ◌∷◌, ◌++◌, [], Bool, true, false, Option, Some, None, MatchBool, codes, string_bytes}
+use Rattle.std.specs.Prelude.{◌≡◌, ◌≢◌, ◌⊎◌, ℕ, ◌<◌, ◌≤◌, List, ◌∷◌, ◌++◌, [], Bool, true, false, Option, Some, None, MatchBool, codes, is_some, if◌then◌else◌, string_bytes}
 use Rattle.std.specs.Fmt.{decimal}
 use Rattle.std.specs.List.{Contains, range_with_len}
+use Rattle.std.specs.Str.{bytes_eq}
 use Rattle.ods_base.specs.declared.file_id.FileId.{FileId}
 use Rattle.fs_reads.specs.Paths.{Disk}
 use Rattle.ods_shell.specs.Facts.{AreFacts}
+use Rattle.ods_shell.specs.Info.{IsInfoOf, shown_label}
 use Rattle.ods_shell.specs.Json.{text_line}
 use Rattle.ods_shell.specs.declared.facts.Facts.{Facts}
-use Rattle.fs_reads.specs.Alike.{AreCompared, IsNamedBy, has_path}
+use Rattle.ods_shell.specs.declared.info.Info.{Info}
+use Rattle.fs_reads.specs.Alike.{AreCompared, AreOf, IsNamedBy, has_path}
 use Rattle.fs_reads.specs.Paths.{AreAllPaths, LacksPath}
 use Rattle.fs_reads.specs.declared.comparing.Known.{Known}
+use Rattle.f11fs.specs.declared.telling.Differs.{Differs}
 use Rattle.f11fs.specs.declared.telling.Plan.{Plan}
 
 -- A line says what is done, and to what; as JSON it is an object, what is done being the name.
@@ -34,31 +38,47 @@ IsIdOf Are (Some file) = (facts : Facts) × Are facts × (facts.file ≡ file)
 abbrev pub IsNumberOf : (FileId → Type 0) → ℕ → Known → Type 0
 IsNumberOf IsThere number known = (known.file.number ≡ number) × IsThere known.file
 
--- what is told where the files differ in something, and nothing where they do not
-abbrev pub changed_line : Bool → List ℕ → Option (List ℕ) → List ℕ
-changed_line json what None = []
-changed_line json what (Some word) = plan_line json (codes "change") what
+-- both IDs are those of files, of which the facts differ in this
+abbrev pub HaveOther : {X : Type 0} → (Facts → X) → Disk → FileId → Disk → FileId → Type 0
+HaveOther see B one E other = (f : Facts) × (g : Facts) × AreOf B one f × AreOf E other g × (see f ≢ see g)
 
--- what is told of a file that is there before and afterwards, where it is known what the two differ in
-abbrev pub IsToldOfFile : Bool → (FileId → FileId → Option (List ℕ) → Type 0) → FileId → FileId → List ℕ → List ℕ → Type 0
-IsToldOfFile json DifferIn old new what told = (word : Option (List ℕ)) × DifferIn old new word × (told ≡ changed_line json what word)
+-- In what a file differs afterwards: in its attributes or bytes, as a comparison tells; in its protection; in its owner.
+pub record DifferBy (B : Disk) (one : FileId) (E : Disk) (other : FileId) (d : Differs) : Type 0 where
+  pub word : Option (List ℕ)
+  pub compared : AreCompared B one E other word
+  pub contents : d.contents ≡ is_some word
+  pub protection : MatchBool d.protection (HaveOther (λ f. f.protection) B one E other) (¬ HaveOther (λ f. f.protection) B one E other)
+  pub owner : MatchBool d.owner (HaveOther (λ f. f.owner) B one E other) (¬ HaveOther (λ f. f.owner) B one E other)
+
+-- a line, where it is to be told
+abbrev pub line_where : Bool → Bool → List ℕ → List ℕ → List ℕ
+line_where json true done what = plan_line json done what
+line_where json false done what = []
+
+-- what is told of a file that differs in these
+abbrev pub done_lines : Bool → List ℕ → Differs → List ℕ
+done_lines json what d = line_where json d.contents (codes "change") what ++ (line_where json d.protection (codes "chmod") what ++ line_where json d.owner (codes "chown") what)
+
+-- what is told of a file that is there before and afterwards, where it is known in what it differs
+abbrev pub IsToldOfFile : Bool → (FileId → FileId → Differs → Type 0) → FileId → FileId → List ℕ → List ℕ → Type 0
+IsToldOfFile json IsDifferent old new what told = (d : Differs) × IsDifferent old new d × (told ≡ done_lines json what d)
 
 -- What is told of a path that is there afterwards: it is new, its file is another one, or its file has changed. Nothing is told of files 1 and 2, which change with any file.
-abbrev pub IsToldOfPath : Bool → (FileId → FileId → Option (List ℕ) → Type 0) → Option Known → Known → List ℕ → Type 0
-IsToldOfPath json DifferIn None one told = told ≡ plan_line json (codes "make") (string_bytes one.path)
-IsToldOfPath json DifferIn (Some known) one told =
+abbrev pub IsToldOfPath : Bool → (FileId → FileId → Differs → Type 0) → Option Known → Known → List ℕ → Type 0
+IsToldOfPath json IsDifferent None one told = told ≡ plan_line json (codes "make") (string_bytes one.path)
+IsToldOfPath json IsDifferent (Some known) one told =
     ((known.file.number ≤ 2) × (told ≡ []))
     ⊎ ((2 < known.file.number) × (((known.file ≢ one.file) × (told ≡ plan_line json (codes "replace") (string_bytes one.path)))
-    ⊎ ((known.file ≡ one.file) × IsToldOfFile json DifferIn known.file one.file (string_bytes one.path) told)))
+    ⊎ ((known.file ≡ one.file) × IsToldOfFile json IsDifferent known.file one.file (string_bytes one.path) told)))
 
 -- what is told of a number to which no path leads: its file goes, comes, is another one, or has changed
-abbrev pub IsToldOfNumber : Bool → (FileId → FileId → Option (List ℕ) → Type 0) → Option FileId → Option FileId → List ℕ → Type 0
-IsToldOfNumber json DifferIn None None told = told ≡ []
-IsToldOfNumber json DifferIn (Some old) None told = told ≡ plan_line json (codes "remove") (id_text old)
-IsToldOfNumber json DifferIn None (Some new) told = told ≡ plan_line json (codes "make") (id_text new)
-IsToldOfNumber json DifferIn (Some old) (Some new) told =
+abbrev pub IsToldOfNumber : Bool → (FileId → FileId → Differs → Type 0) → Option FileId → Option FileId → List ℕ → Type 0
+IsToldOfNumber json IsDifferent None None told = told ≡ []
+IsToldOfNumber json IsDifferent (Some old) None told = told ≡ plan_line json (codes "remove") (id_text old)
+IsToldOfNumber json IsDifferent None (Some new) told = told ≡ plan_line json (codes "make") (id_text new)
+IsToldOfNumber json IsDifferent (Some old) (Some new) told =
     ((old ≢ new) × (told ≡ plan_line json (codes "remove") (id_text old) ++ plan_line json (codes "make") (id_text new)))
-    ⊎ ((old ≡ new) × IsToldOfFile json DifferIn old new (id_text new) told)
+    ⊎ ((old ≡ new) × IsToldOfFile json IsDifferent old new (id_text new) told)
 
 -- what is told of each of these, one after another
 abbrev pub AreTold : {A : Type 0} → (A → List ℕ → Type 0) → List A → List ℕ → Type 0
@@ -77,8 +97,8 @@ IsKnownAt all path None = LacksPath path all
 IsKnownAt all path (Some known) = Contains all known × has_path path known
 
 -- what is told of a path that is there afterwards, by what was known of it before
-abbrev pub IsToldOfNew : Bool → (FileId → FileId → Option (List ℕ) → Type 0) → List Known → Known → List ℕ → Type 0
-IsToldOfNew json DifferIn before one told = (known : Option Known) × IsKnownAt before (string_bytes one.path) known × IsToldOfPath json DifferIn known one told
+abbrev pub IsToldOfNew : Bool → (FileId → FileId → Differs → Type 0) → List Known → Known → List ℕ → Type 0
+IsToldOfNew json IsDifferent before one told = (known : Option Known) × IsKnownAt before (string_bytes one.path) known × IsToldOfPath json IsDifferent known one told
 
 -- one of these paths names a file that has the number
 abbrev pub IsNumbered : (FileId → Type 0) → List Known → ℕ → Type 0
@@ -88,7 +108,7 @@ IsNumbered IsThere all number = (known : Known) × Contains all known × IsNumbe
 abbrev pub IsToldWhere : Bool → Bool → Disk → Disk → ℕ → List ℕ → Type 0
 IsToldWhere json true B A number told = told ≡ []
 IsToldWhere json false B A number told = (old : Option FileId) × (new : Option FileId) × IsIdOf (AreFacts B.image B.layout number) old × IsIdOf (AreFacts A.image A.layout number) new
-    × IsToldOfNumber json (λ a b word. AreCompared B a A b word) old new told
+    × IsToldOfNumber json (λ a b d. DifferBy B a A b d) old new told
 
 -- a path names a file that has the number, before or afterwards
 abbrev pub IsReached : Disk → List Known → Disk → List Known → ℕ → Type 0
@@ -98,7 +118,16 @@ IsReached B before A after number = IsNumbered (IsNamedBy B) before number ⊎ I
 abbrev pub IsToldOfLeft : Bool → Disk → List Known → Disk → List Known → ℕ → List ℕ → Type 0
 IsToldOfLeft json B before A after number told = (reached : Bool) × MatchBool reached (IsReached B before A after number) (¬ IsReached B before A after number) × IsToldWhere json reached B A number told
 
--- The text of a plan, in lines or as JSON, from one volume to another: what goes of the paths before, what is told of those afterwards, and of the numbers that no path leads to.
+-- what is told of the label: the new one, where it is another
+abbrev pub label_told : Bool → List ℕ → List ℕ → List ℕ
+label_told json old new = if bytes_eq old new then [] else plan_line json (codes "label") (shown_label new)
+
+-- what is told of the labels of two volumes
+abbrev pub IsToldOfLabel : Bool → Disk → Disk → List ℕ → Type 0
+IsToldOfLabel json B A told = (was : Info) × (is : Info) × IsInfoOf B.image B.layout was × IsInfoOf A.image A.layout is × (told ≡ label_told json was.label is.label)
+
+-- The text of a plan, in lines or as JSON, from one volume to another: what goes of the paths before, what is told of those afterwards, of the numbers that no path leads to,
+-- and of the label.
 pub record IsPlan (json : Bool) (most : ℕ) (B A : Disk) (text : List ℕ) : Type 0 where
   pub before : List Known
   pub after : List Known
@@ -107,7 +136,9 @@ pub record IsPlan (json : Bool) (most : ℕ) (B A : Disk) (text : List ℕ) : Ty
   pub gone : List ℕ
   pub come : List ℕ
   pub left : List ℕ
+  pub label : List ℕ
   pub told_gone : AreTold (IsToldOfOld json after) before gone
-  pub told_come : AreTold (IsToldOfNew json (λ a b word. AreCompared B a A b word) before) after come
+  pub told_come : AreTold (IsToldOfNew json (λ a b d. DifferBy B a A b d) before) after come
   pub told_left : AreTold (IsToldOfLeft json B before A after) (range_with_len 1 most) left
-  pub whole : text ≡ gone ++ (come ++ left)
+  pub told_label : IsToldOfLabel json B A label
+  pub whole : text ≡ gone ++ (come ++ (left ++ label))

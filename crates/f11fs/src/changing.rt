@@ -1,11 +1,12 @@
-//! The commands that change a volume: put, cp, mv, rm, mkdir, rmdir and truncate.
-ghost use Rattle.std.specs.Prelude.{◌≡◌, ◌⊎◌, ◌&&◌, true, false, None, IfErr, IfOk, IfSome, IsOk, IsSomeAnd, MatchOption, OnOk, is_some, length, not, unwrap_or};
+//! The commands that change a volume: put, cp, mv, rm, mkdir, rmdir, truncate, chmod, chown and label.
+ghost use Rattle.std.specs.Prelude.{◌≡◌, ◌⊎◌, ◌&&◌, true, false, None, IfErr, IfOk, IfSome, IsOk, IsSomeAnd, MatchOption, OnErr, OnOk, is_some, length, not, unwrap_or};
 ghost use Rattle.fs_host.specs.{Found.SaysShort, Kept.force_kept, Kept.is_floppy, Kept.remark_kept, Times.IsStampOfLocal};
 ghost use Rattle.ods_shell.specs.declared.status.Status.{Status as Code};
 ghost use Rattle.ods_upkeep.specs.Pieces.{HasStatus};
 ghost use Rattle.fs_reads.specs.Ends.{StopsWith};
 ghost use Rattle.fs_reads.specs.declared.stop.Stop.{Stop as End};
-ghost use Rattle.f11fs.specs.{Changed.IsChanged, Changed.IsRefusal, Changed.KeepsTo, Saved.EndsSaved, Saved.IsNotLocked, Saved.IsNotSaved, Saved.IsSavedStatus, Saved.IsWrittenTo};
+ghost use Rattle.fs_reads.specs.declared.stop.WordFault.{WordFault as AWordFault};
+ghost use Rattle.f11fs.specs.{Changed.IsChanged, Changed.IsLabelled, Changed.IsNoLabel, Changed.IsRefusal, Changed.KeepsTo, Saved.EndsSaved, Saved.IsNotLocked, Saved.IsNotSaved, Saved.IsSavedStatus, Saved.IsWrittenTo};
 
 use crate::early::Early;
 use crate::host::Host;
@@ -17,12 +18,13 @@ use fs_reads::{Stop, WordFault, say_extent, send, stop_about, volume_of};
 use fs_words::{Change, Saving, Words};
 use ods_base::Uic;
 use ods_filing::Filing;
+use ods_init::Label;
 use ods_mount::Mounted;
 use ods_request::Stamp;
 use ods_shell::Status;
 use ods_upkeep::{
-    Failure, Removal, copy_files, is_below_another, make_directories, move_names,
-    remove_directories, remove_files, truncate_file,
+    Failure, Removal, copy_files, give_owner, give_protection, is_below_another, make_directories,
+    move_names, remove_directories, remove_files, truncate_file,
 };
 use std::alloc::{AllocError, Global};
 use std::fs::File;
@@ -220,7 +222,7 @@ pub fn say_unfinished<R: Eprint>(rt: &R, path: &str, wanting: Option<Unfinished>
 }
 
 /// Makes the change that the words ask for. Refused, it may be made in part.
-#[tactic(auto, using(crate::proofs::Leading::through, crate::proofs::Leading::unmoved))]
+#[tactic(auto, using(crate::proofs::Giving::done_or_same, crate::proofs::Giving::some_got, crate::proofs::Leading::through, crate::proofs::Leading::unmoved))]
 pub fn change_volume<'a, R: Files<File = File> + AllocGlobal + Eprint>(
     rt: &R,
     filing: &mut Filing,
@@ -269,6 +271,26 @@ pub fn change_volume<'a, R: Files<File = File> + AllocGlobal + Eprint>(
             Some(path) => end_change(alloc, truncate_file(alloc, filing, *path, bytes)),
             None => Err(Stop::Lines(String::new(alloc), Status::Words)),
         },
+        Change::Chmod { protection } => {
+            end_change(alloc, give_protection(alloc, filing, paths, protection))
+        }
+        Change::Chown { owner } => end_change(alloc, give_owner(alloc, filing, paths, owner)),
+        Change::Label { text } => label_volume(filing, text),
+    }
+}
+
+/// Gives the volume the label that a text says.
+fn label_volume<'a>(filing: &mut Filing, text: &'a str) -> Result<(), Stop<'a>>
+    ensures done { OnOk result (IsLabelled text.entry.now filing.old filing.new) }
+    ensures refused { IfErr result (λ stop. (stop ≡ End.NoMemory) ⊎ ((stop ≡ End.Word text.entry AWordFault.NoLabel) × IsNoLabel text.entry.now)) }
+    ensures kept { OnErr result (filing.new ≡ filing.old) }
+{
+    let Some(label) = Label::parse(text) else {
+        return Err(Stop::Word(text, WordFault::NoLabel));
+    };
+    match filing.set_label(&label) {
+        Ok(()) => Ok(()),
+        Err(_) => Err(Stop::NoMemory),
     }
 }
 

@@ -10,6 +10,7 @@ mod command_files;
 mod commands;
 mod early;
 mod host;
+mod laws;
 mod lines;
 mod making;
 mod orders;

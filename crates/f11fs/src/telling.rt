@@ -1,17 +1,18 @@
 //! What a change makes of a volume: a line for each path that comes, goes or changes, and for each file without a path.
-ghost use Rattle.std.specs.Prelude.{◌≡◌, ◌↔◌, ◌⊎◌, ◌<◌, ℕ, List, Option, false, true, IsTrue, IfOk, IfSome, OnOk, Some, length, replicate, set, slice_get, slice_index_or, string_bytes};
+ghost use Rattle.std.specs.Prelude.{◌≡◌, ◌≢◌, ◌↔◌, ◌⊎◌, ◌<◌, ℕ, List, Option, false, true, IsTrue, IfOk, IfSome, OnOk, Some, length, replicate, set, slice_get, slice_index_or, string_bytes};
 ghost use Rattle.std.specs.List.{range_with_len};
 ghost use Rattle.std.specs.Option.{option_copied};
 ghost use Rattle.ods_base.specs.declared.file_id.FileId.{FileId as Id};
-ghost use Rattle.fs_reads.specs.{Alike.AreCompared, Alike.IsNamedBy, Alike.has_path, Paths.AreAllPaths, Paths.AreInOrder, Shown.Extends};
-ghost use Rattle.f11fs.specs.Plans.{AreTold, IsIdOf, IsKnownAt, IsNumberOf, IsNumbered, IsPlan, IsReached, IsToldOfFile, IsToldOfLeft, IsToldOfNew, IsToldOfNumber, IsToldOfOld, IsToldOfPath, IsToldWhere, Tells, id_text, plan_line};
+ghost use Rattle.fs_reads.specs.{Alike.IsNamedBy, Alike.has_path, Paths.AreAllPaths, Paths.AreInOrder, Shown.Extends};
+ghost use Rattle.f11fs.specs.Plans.{AreTold, DifferBy, IsIdOf, IsKnownAt, IsNumberOf, IsNumbered, IsPlan, IsReached, IsToldOfFile, IsToldOfLabel, IsToldOfLeft, IsToldOfNew, IsToldOfNumber, IsToldOfOld, IsToldOfPath, IsToldWhere, Tells, id_text, label_told, line_where, plan_line};
 ghost use Rattle.ods_shell.specs.Facts.{AreFacts};
+ghost use Rattle.ods_shell.specs.declared.facts.Facts.{Facts as AFacts};
 
 use fs_reads::{Known, Stop, all_known, difference_by_id, place_of};
 use ods_base::FileId;
 use ods_mount::Mounted;
 use ods_shell::mounted::{facts_by_id, facts_of};
-use ods_shell::text_object;
+use ods_shell::{Facts, label_text, text_object, volume_info};
 use std::alloc::{AllocError, Global};
 
 /// The lines of a plan, or its objects.
@@ -20,6 +21,15 @@ struct Plan {
     alloc: Global,
     json: bool,
     text: String,
+}
+
+/// In what a file that is there before and afterwards differs.
+#[derive(Clone, Copy)]
+struct Differs {
+    /// In its attributes or bytes.
+    contents: bool,
+    protection: bool,
+    owner: bool,
 }
 
 impl Plan {
@@ -56,7 +66,7 @@ fn text_of_id(alloc: Global, file: FileId) -> Result<String, AllocError>
 }
 
 /// The text of a plan: a line, or an object, for each path of the volumes that is in one alone, or whose file differs; and for each file
-/// without a path.
+/// without a path. The last is of the label, where that differs.
 pub fn plan_text<'a>(
     alloc: Global,
     before: &Mounted,
@@ -104,6 +114,7 @@ fn plan_of<'a>(
     add_gone(old, new, &mut plan)?;
     add_come(alloc, before, old, after, new, &mut plan)?;
     add_left(alloc, before, old, after, new, most, &mut plan)?;
+    add_label(before, after, &mut plan)?;
     Ok(plan.text)
 }
 
@@ -139,7 +150,7 @@ fn add_come<'a>(
     new: &[Known],
     plan: &mut Plan,
 ) -> Result<(), Stop<'a>>
-    ensures told { AreInOrder old.now → OnOk result ((told : List ℕ) × AreTold (IsToldOfNew plan.old.json (λ a b word. AreCompared before.now a after.now b word) old.now) new.now told × Tells plan.old told plan.new) }
+    ensures told { AreInOrder old.now → OnOk result ((told : List ℕ) × AreTold (IsToldOfNew plan.old.json (λ a b d. DifferBy before.now a after.now b d) old.now) new.now told × Tells plan.old told plan.new) }
     ensures mode { plan.new.json ≡ plan.old.json }
 {
     for one in new {
@@ -157,7 +168,7 @@ fn add_new<'a>(
     one: &Known,
     plan: &mut Plan,
 ) -> Result<(), Stop<'a>>
-    ensures told { AreInOrder old.now → OnOk result ((told : List ℕ) × IsToldOfNew plan.old.json (λ a b word. AreCompared before.now a after.now b word) old.now one.now told × Tells plan.old told plan.new) }
+    ensures told { AreInOrder old.now → OnOk result ((told : List ℕ) × IsToldOfNew plan.old.json (λ a b d. DifferBy before.now a after.now b d) old.now one.now told × Tells plan.old told plan.new) }
     ensures mode { plan.new.json ≡ plan.old.json }
 {
     let known = known_at(old, one.path.as_str());
@@ -213,7 +224,7 @@ fn add_path<'a>(
     one: &Known,
     plan: &mut Plan,
 ) -> Result<(), Stop<'a>>
-    ensures told { OnOk result ((told : List ℕ) × IsToldOfPath plan.old.json (λ a b word. AreCompared before.now a after.now b word) (option_copied known.entry) one.now told × Tells plan.old told plan.new) }
+    ensures told { OnOk result ((told : List ℕ) × IsToldOfPath plan.old.json (λ a b d. DifferBy before.now a after.now b d) (option_copied known.entry) one.now told × Tells plan.old told plan.new) }
     ensures more { OnOk result (Extends (string_bytes plan.old.text) (string_bytes plan.new.text)) }
     ensures mode { plan.new.json ≡ plan.old.json }
 {
@@ -237,14 +248,87 @@ fn add_changed<'a>(
     what: &str,
     plan: &mut Plan,
 ) -> Result<(), Stop<'a>>
-    ensures told { OnOk result ((told : List ℕ) × IsToldOfFile plan.old.json (λ a b word. AreCompared before.now a after.now b word) old new what.now told × Tells plan.old told plan.new) }
+    ensures told { OnOk result ((told : List ℕ) × IsToldOfFile plan.old.json (λ a b d. DifferBy before.now a after.now b d) old new what.now told × Tells plan.old told plan.new) }
     ensures more { OnOk result (Extends (string_bytes plan.old.text) (string_bytes plan.new.text)) }
     ensures mode { plan.new.json ≡ plan.old.json }
 {
-    match difference_by_id(alloc, before, old, after, new)? {
-        Some(_) => Ok(plan.add("change", what)?),
-        None => Ok(()),
+    let differs = differences(alloc, before, old, after, new)?;
+    add_where(plan, differs.contents, "change", what)?;
+    add_where(plan, differs.protection, "chmod", what)?;
+    add_where(plan, differs.owner, "chown", what)?;
+    Ok(())
+}
+
+/// Adds what is done to a path, where it is done.
+fn add_where(plan: &mut Plan, is_done: bool, done: &str, what: &str) -> Result<(), AllocError>
+    ensures line { OnOk result (Tells plan.old (line_where plan.old.json is_done done.now what.now) plan.new) }
+    ensures more { OnOk result (Extends (string_bytes plan.old.text) (string_bytes plan.new.text)) }
+    ensures mode { plan.new.json ≡ plan.old.json }
+{
+    match is_done {
+        true => plan.add(done, what),
+        false => Ok(()),
     }
+}
+
+/// In what the file with these IDs, before and afterwards, differs.
+fn differences<'a>(
+    alloc: Global,
+    before: &Mounted,
+    old: FileId,
+    after: &Mounted,
+    new: FileId,
+) -> Result<Differs, Stop<'a>>
+    ensures { IfOk result (DifferBy before.now old after.now new) }
+{
+    let difference = difference_by_id(alloc, before, old, after, new)?;
+    let (was, is) = (facts_by_id(before, old), facts_by_id(after, new));
+    Ok(Differs {
+        contents: difference.is_some(),
+        protection: has_other_protection(&was, &is),
+        owner: has_other_owner(&was, &is),
+    })
+}
+
+/// Whether a file has another protection.
+fn has_other_protection(was: &Option<Facts>, is: &Option<Facts>) -> bool
+    ensures { IsTrue result ↔ (a : AFacts) × (b : AFacts) × (was.now ≡ Some a) × (is.now ≡ Some b) × (a.protection ≢ b.protection) }
+{
+    match (was, is) {
+        (Some(was), Some(is)) => was.protection != is.protection,
+        _ => false,
+    }
+}
+
+/// Whether a file has another owner.
+fn has_other_owner(was: &Option<Facts>, is: &Option<Facts>) -> bool
+    ensures { IsTrue result ↔ (a : AFacts) × (b : AFacts) × (was.now ≡ Some a) × (is.now ≡ Some b) × (a.owner ≢ b.owner) }
+{
+    match (was, is) {
+        (Some(was), Some(is)) => was.owner != is.owner,
+        _ => false,
+    }
+}
+
+/// Adds the label, where it is another.
+fn add_label(before: &Mounted, after: &Mounted, plan: &mut Plan) -> Result<(), AllocError>
+    ensures told { OnOk result ((told : List ℕ) × IsToldOfLabel plan.old.json before.now after.now told × Tells plan.old told plan.new) }
+    ensures mode { plan.new.json ≡ plan.old.json }
+{
+    let was = volume_info(&before.disk());
+    let is = volume_info(&after.disk());
+    add_other_label(&was.label, &is.label, plan)
+}
+
+/// Adds the second label, where it is not the first.
+fn add_other_label(was: &[u8; 12], is: &[u8; 12], plan: &mut Plan) -> Result<(), AllocError>
+    ensures line { OnOk result (Tells plan.old (label_told plan.old.json was.now is.now) plan.new) }
+    ensures mode { plan.new.json ≡ plan.old.json }
+{
+    if was == is {
+        return Ok(());
+    }
+    plan.add("label", label_text(is).as_str())
 }
 
 /// Adds what is done to the file with this number, which has no path, neither before nor afterwards.
@@ -256,7 +340,7 @@ fn add_number<'a>(
     plan: &mut Plan,
 ) -> Result<(), Stop<'a>>
     ensures told { OnOk result ((old : Option Id) × ((new : Option Id) × ((told : List ℕ) × IsIdOf (AreFacts before.now.image before.now.layout number) old × IsIdOf (AreFacts after.now.image after.now.layout number) new
-        × IsToldOfNumber plan.old.json (λ a b word. AreCompared before.now a after.now b word) old new told × Tells plan.old told plan.new))) }
+        × IsToldOfNumber plan.old.json (λ a b d. DifferBy before.now a after.now b d) old new told × Tells plan.old told plan.new))) }
     ensures more { OnOk result (Extends (string_bytes plan.old.text) (string_bytes plan.new.text)) }
     ensures mode { plan.new.json ≡ plan.old.json }
 {
@@ -273,7 +357,7 @@ fn add_ids<'a>(
     new: Option<FileId>,
     plan: &mut Plan,
 ) -> Result<(), Stop<'a>>
-    ensures told { OnOk result ((told : List ℕ) × IsToldOfNumber plan.old.json (λ a b word. AreCompared before.now a after.now b word) old new told × Tells plan.old told plan.new) }
+    ensures told { OnOk result ((told : List ℕ) × IsToldOfNumber plan.old.json (λ a b d. DifferBy before.now a after.now b d) old new told × Tells plan.old told plan.new) }
     ensures more { OnOk result (Extends (string_bytes plan.old.text) (string_bytes plan.new.text)) }
     ensures mode { plan.new.json ≡ plan.old.json }
 {
@@ -294,7 +378,7 @@ fn add_both<'a>(
     new: FileId,
     plan: &mut Plan,
 ) -> Result<(), Stop<'a>>
-    ensures told { OnOk result ((told : List ℕ) × IsToldOfNumber plan.old.json (λ a b word. AreCompared before.now a after.now b word) (Some old) (Some new) told × Tells plan.old told plan.new) }
+    ensures told { OnOk result ((told : List ℕ) × IsToldOfNumber plan.old.json (λ a b d. DifferBy before.now a after.now b d) (Some old) (Some new) told × Tells plan.old told plan.new) }
     ensures more { OnOk result (Extends (string_bytes plan.old.text) (string_bytes plan.new.text)) }
     ensures mode { plan.new.json ≡ plan.old.json }
 {

@@ -1,12 +1,14 @@
 -- What the paths of a command name.
-use Rattle.std.specs.Prelude.{◌≡◌, ◌≢◌, ◌⊎◌, ◌==◌, ◌&&◌, ◌||◌, ℕ, Bool, true, not, List, ◌++◌, Option, Some}
+use Rattle.std.specs.Prelude.{◌≡◌, ◌≢◌, ◌⊎◌, ◌==◌, ◌&&◌, ◌||◌, ℕ, Bool, true, not, is_some, List, [], ◌++◌, Option, Some}
 use Rattle.std.specs.List.{list_any}
 use Rattle.ods_base.specs.declared.file_id.Uic.{Uic}
-use Rattle.ods_paths.specs.Paths.{Files, Folder, Master, Said, Says, Within}
+use Rattle.ods_paths.specs.Paths.{Files, Folder, Said, Says, Within}
 use Rattle.ods_paths.specs.declared.versions.Versions.TheVariants as versions
 use Rattle.ods_shell.specs.Found.{AreFound, HasPathStatus}
-use Rattle.ods_shell.specs.Named.{AreNamedBy, IsPathFault}
+use Rattle.ods_shell.specs.Named.{AreNamedBy, IsPathFault, highest}
 use Rattle.ods_shell.specs.Ways.{AreMeant, CountAsClosed}
+use Rattle.ods_shell.specs.declared.alone.Alone.{Alone}
+use Rattle.ods_shell.specs.declared.alone.Alone.TheVariants as alone
 use Rattle.ods_shell.specs.declared.finding.FoundLines.{FoundLines}
 use Rattle.ods_shell.specs.declared.folders.Directory.{Directory as Met}
 use Rattle.ods_shell.specs.declared.found.Found.{Found}
@@ -16,34 +18,34 @@ use Rattle.ods_shell.specs.declared.status.Status.{Status}
 use Rattle.ods_space.specs.Layout.{VolumeLayout}
 use Rattle.fs_reads.specs.Denied.{IsClosedStatus}
 
--- these files are named by this path, past these closed directories; where it says no version, the highest counts
-abbrev pub AreOfPath : List (List ℕ) → VolumeLayout → List ℕ → List ℕ → List Found → Type 0
-AreOfPath I L closed path found = (says : Said) × Says path says × AreNamedBy I L closed says (Some versions.Highest) found
+-- these files are named by this path, past these closed directories; where it says no version, the highest counts, and a folder alone means this
+abbrev pub AreOfPath : List (List ℕ) → VolumeLayout → Alone → List ℕ → List ℕ → List Found → Type 0
+AreOfPath I L meaning closed path found = (says : Said) × Says path says × AreNamedBy I L closed says (highest meaning) found
 
 -- no part of the path names a directory: it has no `[` and no `/`
 abbrev pub names_no_directory : List ℕ → Bool
 names_no_directory path = not (list_any (λ byte. byte == 91) path) && not (list_any (λ byte. byte == 47) path)
 
--- a path that names no directory is looked for in all
-abbrev pub searched : List ℕ → Folder → Folder
-searched path folder = record { place = folder.place; below = folder.below || names_no_directory path }
+-- files of a path that names no directory are looked for in all
+abbrev pub searched : List ℕ → Folder → Bool → Folder
+searched path folder says_files = record { steps = folder.steps; below = folder.below || (says_files && names_no_directory path) }
 
 -- these lines are found by this path, which names no file by its ID, past these closed directories; all versions where it says none
 abbrev pub AreFoundBy : List (List ℕ) → VolumeLayout → List ℕ → List ℕ → FoundLines → Type 0
 AreFoundBy I L closed path found = (folder : Folder) × (files : Option Files) × Says path (Within folder files)
-    × AreMeant I L closed (searched path folder) found.directories.items × AreFound I L files versions.Every 0 found.directories.items found.lines.items
+    × AreMeant I L closed (searched path folder (is_some files)) found.directories.items × AreFound I L files versions.Every 0 found.directories.items found.lines.items
 
 -- the master directory and all below it
 abbrev pub everywhere : Folder
-everywhere = record { place = Master; below = true }
+everywhere = record { steps = []; below = true }
 
--- the files that a path names come behind the others, past the closed directories that are met
+-- the files that a path names, or those in a folder alone, come behind the others, past the closed directories that are met
 abbrev pub AddsFiles : List (List ℕ) → VolumeLayout → List ℕ → List ℕ → List Met → List Found → List Found → Type 0
 AddsFiles I L closed path met old new =
-    (found : List Found) × (new ≡ old ++ found) × ((shut : List ℕ) → CountAsClosed closed met shut → AreOfPath I L shut path found)
+    (found : List Found) × (new ≡ old ++ found) × ((shut : List ℕ) → CountAsClosed closed met shut → AreOfPath I L alone.Files shut path found)
 
 -- The files that a path names come behind the others, and the status says whether a closed directory was met; or the path names none, and the status says why.
 abbrev pub AddsNamed : List (List ℕ) → VolumeLayout → Option Uic → List ℕ → List ℕ → List Found → List Found → Status → Type 0
 AddsNamed I L user closed path old new s =
     ((met : List Met) × AddsFiles I L closed path met old new × IsClosedStatus user met s)
-    ⊎ ((new ≡ old) × ((why : PathFault) × (why ≢ NoMemory) × IsPathFault I L path (Some versions.Highest) why × HasPathStatus why s))
+    ⊎ ((new ≡ old) × ((why : PathFault) × (why ≢ NoMemory) × IsPathFault I L path (highest alone.Files) why × HasPathStatus why s))

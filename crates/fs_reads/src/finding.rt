@@ -10,7 +10,7 @@ use crate::closed::{closed_to, stop_at_closed, stop_at_numbers};
 use crate::listing::is_nothing;
 use crate::stop::Stop;
 use fs_words::Words;
-use ods_paths::{Folder, Path, Place, Versions, parse_path};
+use ods_paths::{Folder, Path, Versions, no_steps, parse_path};
 use ods_shell::{
     FoundLines, PathFault, find_lines, find_open, largest_lines, lost_lines, ls_objects,
     unreached_lines, usage_lines,
@@ -84,7 +84,7 @@ pub(crate) fn find_all(
     ensures lines { IfOk result (λ found. on AreFound disk.now None Versions.Every 0 found.directories.items found.lines.items) }
 {
     let everywhere = Folder {
-        place: Place::Master,
+        steps: no_steps(),
         below: true,
     };
     find_open(alloc, disk, &everywhere, &None, Versions::Every, closed)
@@ -103,7 +103,7 @@ fn found_by<'a>(
 {
     match parse_path(path.as_bytes()) {
         Ok(Path::Within(folder, files)) => {
-            let folder = to_search(path, folder);
+            let folder = to_search(path, folder, files.is_some());
             let found = find_open(alloc, disk, &folder, &files, Versions::Every, closed)?;
             if is_nothing(&found, files.is_some()) {
                 return Err(Stop::Path(path, PathFault::Nothing));
@@ -115,13 +115,13 @@ fn found_by<'a>(
     }
 }
 
-/// The directories in which a path is looked for: all, where it names none.
-fn to_search<'a>(path: &str, folder: Folder<'a>) -> Folder<'a>
-    ensures { said_folder result ≡ searched path.now (said_folder folder.entry) }
+/// The directories in which a path is looked for: all, where it says files and names no directory.
+fn to_search<'a>(path: &str, folder: Folder<'a>, says_files: bool) -> Folder<'a>
+    ensures { said_folder result ≡ searched path.now (said_folder folder.entry) says_files }
 {
     Folder {
-        place: folder.place,
-        below: folder.below | names_no_directory(path),
+        steps: folder.steps,
+        below: folder.below | (says_files & names_no_directory(path)),
     }
 }
 

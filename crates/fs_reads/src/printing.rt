@@ -14,8 +14,7 @@ use crate::reading::{Unread, open_found};
 use crate::stop::{Stop, say_about};
 use fs_words::Words;
 use ods_base::Uic;
-use ods_paths::Versions;
-use ods_shell::{FormFault, Found, PathFault, Remark, Status, Wanted, find_path};
+use ods_shell::{Alone, FormFault, Found, PathFault, Remark, Status, Unsaid, Wanted, find_path};
 use ods_space::Disk;
 use std::io;
 
@@ -113,7 +112,13 @@ pub(crate) fn add_named<'a, R: AllocGlobal + Eprint>(
     ensures status { IfOk result (λ s. may_name s ≡ true) }
     ensures err { IfErr result (λ stop. stop ≡ End.NoMemory) }
 {
-    match find_path(rt.alloc(), disk, path, Some(Versions::Highest), closed) {
+    match find_path(
+        rt.alloc(),
+        disk,
+        path,
+        Unsaid::highest(Alone::Files),
+        closed,
+    ) {
         Ok((found, met)) => {
             let mut found = found;
             all.append(&mut found)?;

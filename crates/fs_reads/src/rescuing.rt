@@ -225,7 +225,7 @@ fn say_bad_headers<'a, R: AllocGlobal + Print>(
     Ok(status)
 }
 
-/// A line for a number that is marked as used and has no header.
+/// A line for a number that is marked as used and has no header, or for those that can have none.
 fn say_bad_header<'a, R: AllocGlobal + Print>(
     rt: &R,
     finding: &Finding,
@@ -233,11 +233,17 @@ fn say_bad_header<'a, R: AllocGlobal + Print>(
 ) -> Result<Status, Stop<'a>>
     ensures { IfOk result (λ s. (s ≡ Code.Done) ⊎ (s ≡ Code.Found)) }
 {
-    let Finding::BadHeader(number, why) = finding else {
-        return Ok(Status::Done);
+    let (file, why) = match finding {
+        Finding::BadHeader(number, why) => (
+            format!(in rt.alloc(); "file number {number}")?,
+            format!(in rt.alloc(); "is marked as used and has no header: {why}")?,
+        ),
+        Finding::StrayNumbers(count, first) => (
+            format!(in rt.alloc(); "file numbers past the last header")?,
+            format!(in rt.alloc(); "are marked as used: {count}, from {first} on")?,
+        ),
+        _ => return Ok(Status::Done),
     };
-    let file = format!(in rt.alloc(); "file number {number}")?;
-    let why = format!(in rt.alloc(); "is marked as used and has no header: {why}")?;
     let line = format!(in rt.alloc(); "left: {finding}\n")?;
     match say_left(rt, file.as_str(), why.as_str(), line.as_str(), json) {
         Ok(_) => Ok(Status::Found),

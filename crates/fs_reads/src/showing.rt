@@ -8,9 +8,9 @@ ghost use Rattle.ods_space.specs.Disks.{on};
 use crate::closed::{closed_to, stop_at_closed};
 use crate::stop::{Stop, stop_about};
 use fs_words::Words;
-use ods_paths::Versions;
 use ods_shell::{
-    Directory, FormFault, Found, PathFault, Status, find_path, stat_lines, stat_object,
+    Alone, Directory, FormFault, Found, PathFault, Status, Unsaid, find_path, stat_lines,
+    stat_object,
 };
 use ods_space::{Disk, reach_blocks};
 use std::alloc::Global;
@@ -37,7 +37,7 @@ pub(crate) fn push_stats<'a>(
     Ok(())
 }
 
-/// What a path names, and the closed directories on the way; the highest version where the path says none.
+/// What a path names, and the closed directories on the way; the highest version where the path says none, and directories alone themselves.
 fn found_at<'a>(
     alloc: Global,
     disk: &Disk<'_>,
@@ -46,10 +46,16 @@ fn found_at<'a>(
 ) -> Result<(Vec<Found>, Vec<Directory>), Stop<'a>>
     requires { on IsLayoutOf disk.now }
     ensures ok { IfOk result (λ r. (shut : List ℕ) → CountAsClosed closed.now r.1.items shut
-        → on AreOfPath disk.now shut path.entry.now r.0.items) }
+        → on AreOfPath disk.now Alone.Themselves shut path.entry.now r.0.items) }
     ensures err { IfErr result (EndsPath path.entry) }
 {
-    match find_path(alloc, disk, path, Some(Versions::Highest), closed) {
+    match find_path(
+        alloc,
+        disk,
+        path,
+        Unsaid::highest(Alone::Themselves),
+        closed,
+    ) {
         Ok(found) => Ok(found),
         Err(PathFault::NoMemory) => Err(Stop::NoMemory),
         Err(fault) => Err(Stop::Path(path, fault)),

@@ -37,6 +37,9 @@ whole_simple verb.Rm = refl
 whole_simple verb.Mkdir = refl
 whole_simple verb.Rmdir = refl
 whole_simple verb.Truncate = refl
+whole_simple verb.Chmod = refl
+whole_simple verb.Chown = refl
+whole_simple verb.Label = refl
 whole_simple verb.Init = refl
 whole_simple verb.File = refl
 

@@ -5,3 +5,4 @@ pub mod AllSimple
 pub mod LeftWords
 pub mod Unknown
 pub mod Refusing
+pub mod OneProtection

@@ -20,9 +20,10 @@ use Rattle.fs_words.specs.Asked.{text_of}
 use Rattle.fs_words.specs.Names.{verb_named}
 use Rattle.fs_words.specs.Parses.{IsKindAt, IsParseOf}
 use Rattle.fs_words.specs.Parts.{words_left}
-use Rattle.fs_words.specs.Refused.{AreNoWords, HasReason, IsNoCommand, IsNoFile, IsNoLine, IsNoName, IsRefusedBy, line_without, no_word, two_parts, unknown, words_without, wrong_beside_file, wrong_command}
+use Rattle.fs_words.specs.Refused.{AreNoWords, HasReason, IsNoCommand, IsNoFile, IsNoLine, IsNoName, IsRefusedBy, SpellsNone, line_without, no_word, two_parts, unknown, words_without, wrong_beside_file, wrong_command}
 use Rattle.fs_words.specs.Rules.{program_app}
 use Rattle.fs_words.specs.Saying.{rest_among}
+use Rattle.fs_words.specs.Values.{IsValue}
 use Rattle.fs_words.proofs.LeftWords.{left_first, left_none}
 
 -- a reason of a part is one of the whole
@@ -60,6 +61,10 @@ clap_refuses rules words e fault told passes kinds =
 -- a list with a first element is not empty
 not_empty : {X : Type 0} (xs : List X) (x : X) (rest : List X) → xs ≡ x ∷ rest → xs ≢ []
 not_empty xs x rest e none = cc
+
+-- the text of a word spells no such thing
+pub unspelled : {A : Type 0} (P : List ℕ → A → Type 0) (said : Option (List ℕ)) (text : List ℕ) → said ≡ Some text → SpellsNone P text → (x : A) → IsValue P said (Some x) → ⊥
+unspelled P said text e none x value = none x (subst (λ (t : Option (List ℕ)). IsValue P t (Some x)) e value)
 
 module _ {A : Type 0} (f : A → List ℕ) where
   -- the first of the words that are left names a command, whose words are refused

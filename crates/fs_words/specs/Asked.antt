@@ -16,6 +16,7 @@ use Rattle.fs_words.specs.declared.actions.PutWords.{PutWords}
 use Rattle.fs_words.specs.declared.verbs.Verb.{Verb}
 use Rattle.fs_words.specs.declared.verbs.Verb.TheVariants as verb
 use Rattle.fs_words.specs.Devices.{device_size}
+use Rattle.fs_words.specs.Protections.{IsProtection}
 use Rattle.fs_words.specs.Users.{IsSaid}
 use Rattle.fs_words.specs.Values.{IsValue, value_of}
 
@@ -84,6 +85,15 @@ IsMkdir m a = (names : Option ℕ) × (owner : Option Uic) × IsValue IsNumber (
 abbrev pub IsTruncate : ArgMatches → Action → Type 0
 IsTruncate m a = (bytes : ℕ) × IsValue IsLargeNumber (text_of m (codes "bytes")) (Some bytes) × (a ≡ action.Change (change.Truncate bytes))
 
+abbrev pub IsChmod : ArgMatches → Action → Type 0
+IsChmod m a = (protection : ℕ) × IsValue IsProtection (text_of m (codes "protection")) (Some protection) × (a ≡ action.Change (change.Chmod protection))
+
+abbrev pub IsChown : ArgMatches → Action → Type 0
+IsChown m a = (owner : Uic) × IsValue IsSaid (text_of m (codes "owner")) (Some owner) × (a ≡ action.Change (change.Chown owner))
+
+abbrev pub IsLabel : ArgMatches → Action → Type 0
+IsLabel m a = (text : Bor (List ℕ)) × (text_of m (codes "label") ≡ Some text.now) × (a ≡ action.Change (change.Label text))
+
 -- the size of a volume: that of a device, or where there is none of that name the number
 abbrev pub IsSize : List ℕ → ℕ → Type 0
 IsSize text blocks = MatchOption (device_size text) (IsNumber text blocks) (λ size. blocks ≡ size)
@@ -112,5 +122,8 @@ Asks verb.Rm m out a = IsRm m a
 Asks verb.Mkdir m out a = IsMkdir m a
 Asks verb.Rmdir m out a = a ≡ action.Change change.Rmdir
 Asks verb.Truncate m out a = IsTruncate m a
+Asks verb.Chmod m out a = IsChmod m a
+Asks verb.Chown m out a = IsChown m a
+Asks verb.Label m out a = IsLabel m a
 Asks verb.Init m out a = IsInit m a
 Asks verb.File m out a = ⊥

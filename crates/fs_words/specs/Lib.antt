@@ -3,6 +3,7 @@ pub mod Options
 pub mod Days
 pub mod Users
 pub mod Values
+pub mod Protections
 pub mod Names
 pub mod Layerings
 pub mod Saying

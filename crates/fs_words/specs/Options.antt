@@ -14,6 +14,9 @@ verb_changes verb.Rm = true
 verb_changes verb.Mkdir = true
 verb_changes verb.Rmdir = true
 verb_changes verb.Truncate = true
+verb_changes verb.Chmod = true
+verb_changes verb.Chown = true
+verb_changes verb.Label = true
 verb_changes v = false
 
 -- a file of commands may hold any of those that change a volume
@@ -53,6 +56,7 @@ asks_rights verb.Info = false
 asks_rights verb.Du = false
 asks_rights verb.Check = false
 asks_rights verb.Rescue = false
+asks_rights verb.Label = false
 asks_rights v = true
 
 -- what reads a volume that is there

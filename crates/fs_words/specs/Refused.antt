@@ -6,6 +6,7 @@ use Rattle.clap.specs.declared.parser.matches.ArgMatches.{ArgMatches}
 use Rattle.clap.specs.Faults.{fault_of, is_simple_and_free}
 use Rattle.clap.specs.Simple.{App}
 use Rattle.clap.specs.Takes.{takes}
+use Rattle.ods_base.specs.declared.file_id.Uic.{Uic}
 use Rattle.ods_records.specs.Forms.{IsForm}
 use Rattle.ods_text.specs.Numbers.{IsNumber, IsLargeNumber}
 use Rattle.ods_words.specs.declared.fault.WordsFault.{WordsFault}
@@ -21,6 +22,7 @@ use Rattle.fs_words.specs.Names.{verb_named}
 use Rattle.fs_words.specs.Options.{has_value, option_serves, option_text, options, prints_plans}
 use Rattle.fs_words.specs.Parses.{IsParseOf}
 use Rattle.fs_words.specs.Parts.{words_left}
+use Rattle.fs_words.specs.Protections.{IsProtection}
 use Rattle.fs_words.specs.Rules.{program_app, whole_app}
 use Rattle.fs_words.specs.Saying.{IsFlag, text_said}
 use Rattle.fs_words.specs.Users.{IsSaid}
@@ -72,6 +74,9 @@ IsUnasked verb.Du m = IsNoValue IsNumber (text_of m (codes "--top"))
 IsUnasked verb.Put m = IsNoValue IsForm (text_of m (codes "--form")) ⊎ IsNoValue IsSaid (text_of m (codes "--owner"))
 IsUnasked verb.Mkdir m = IsNoValue IsNumber (text_of m (codes "--names")) ⊎ IsNoValue IsSaid (text_of m (codes "--owner"))
 IsUnasked verb.Truncate m = (bytes : ℕ) → IsValue IsLargeNumber (text_of m (codes "bytes")) (Some bytes) → ⊥
+IsUnasked verb.Chmod m = (protection : ℕ) → IsValue IsProtection (text_of m (codes "protection")) (Some protection) → ⊥
+IsUnasked verb.Chown m = (owner : Uic) → IsValue IsSaid (text_of m (codes "owner")) (Some owner) → ⊥
+IsUnasked verb.Label m = text_of m (codes "label") ≡ None
 IsUnasked verb.Init m = SpellsNone IsSize (unwrap_or (text_of m (codes "size")) []) ⊎ IsNoValue IsNumber (text_of m (codes "--files"))
 IsUnasked verb.File m = Unit {0}
 IsUnasked v m = ⊥

@@ -93,6 +93,18 @@ pub enum Change<'a> {
     Truncate {
         bytes: u64,
     },
+    /// Gives files this protection word.
+    Chmod {
+        protection: u16,
+    },
+    /// Gives files this owner.
+    Chown {
+        owner: Uic,
+    },
+    /// Gives the volume the label that this text says.
+    Label {
+        text: &'a str,
+    },
 }
 
 /// How files are put.

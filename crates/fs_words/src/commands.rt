@@ -5,6 +5,8 @@ ghost use Rattle.fs_words.specs.{Asked.Asks, Refused.HasReason, Refused.IsUnaske
 
 mod cat;
 mod check;
+mod chmod;
+mod chown;
 mod cmp;
 mod cp;
 mod df;
@@ -13,6 +15,7 @@ mod find;
 mod get;
 mod info;
 mod init;
+mod label;
 mod ls;
 mod mkdir;
 mod mv;
@@ -56,6 +59,9 @@ pub(crate) fn command_of<'a>(alloc: Global, verb: Verb) -> Result<Command<'a>, A
         Verb::Mkdir => row_command(alloc, verb, &mkdir::ROW),
         Verb::Rmdir => row_command(alloc, verb, &rmdir::ROW),
         Verb::Truncate => row_command(alloc, verb, &truncate::ROW),
+        Verb::Chmod => row_command(alloc, verb, &chmod::ROW),
+        Verb::Chown => row_command(alloc, verb, &chown::ROW),
+        Verb::Label => row_command(alloc, verb, &label::ROW),
         Verb::Init => row_command(alloc, verb, &init::ROW),
         Verb::File => Ok(Command::new(alloc, verb.name())),
     }
@@ -99,6 +105,9 @@ pub(crate) fn action_of<'a>(
         Verb::Mkdir => mkdir::action(alloc, own),
         Verb::Rmdir => Ok(Action::Change(Change::Rmdir)),
         Verb::Truncate => truncate::action(alloc, own),
+        Verb::Chmod => chmod::action(alloc, own),
+        Verb::Chown => chown::action(alloc, own),
+        Verb::Label => label::action(alloc, own),
         Verb::Init => init::action(alloc, own),
         // No name of a command gives it.
         Verb::File => Err(wanting(alloc, false)?),

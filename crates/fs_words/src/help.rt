@@ -11,12 +11,14 @@ pub(crate) const VERSION: &str = "1.0";
 pub(crate) const AFTER_HELP: &str =
     "A path names files on the volume, such as [1,2]NOTES.TXT;3 or 1,2/NOTES.TXT.
 In a shell, put quotes around '[1,2]' and ';*'. The form 1,2/NOTES.TXT needs none. A path has these parts:
-  [1,2]   the directory of group 1, member 2, both in octal
-  [NAME]  a directory in the master directory
-  [A.B]   directory B in directory A
+  [1,2]   the directory of group 1, member 2, both in octal; also 1,2
+  [NAME]  a directory in the master directory; also NAME
+  [A.B]   directory B in directory A; also A/B
   [0,0]   the master directory. Default: this one
   [...]   all directories
-  *, ?    any characters; exactly one character
+  NAME.   a file with no type. A name without a dot is a directory
+  *, ?    any characters; exactly one character. A pattern without a dot stands for all types
+  DK0:    a device in front of a path, which f11fs passes over
   ;3      version 3. Default: the highest version. For ls and find: all versions
   ;-1     the lowest version
   ;*      all versions

@@ -16,6 +16,7 @@ mod line;
 mod numbers;
 mod options;
 mod parse;
+mod protections;
 mod said;
 mod users;
 mod verbs;

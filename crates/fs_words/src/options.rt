@@ -78,7 +78,7 @@ pub fn serves(choice: Choice, verb: Verb) -> bool
         Choice::User => {
             !matches!(
                 verb,
-                Verb::Df | Verb::Info | Verb::Du | Verb::Check | Verb::Rescue
+                Verb::Df | Verb::Info | Verb::Du | Verb::Check | Verb::Rescue | Verb::Label
             )
         }
         Choice::Quiet | Choice::Blocks => !matches!(verb, Verb::Init),

@@ -2,7 +2,7 @@
 ghost use Rattle.std.specs.Prelude.{IfErr, IfOk, codes};
 ghost use Rattle.clap.specs.Words.{first_value, found_of};
 ghost use Rattle.ods_text.specs.One.{IsTheOne};
-ghost use Rattle.fs_words.specs.{Refused.HasReason, Refused.IsNoValue, Users.IsSaid, Values.IsValue, Values.value_of};
+ghost use Rattle.fs_words.specs.{Refused.HasReason, Refused.IsNoValue, Refused.SpellsNone, Users.IsSaid, Values.IsValue, Values.value_of};
 
 use crate::said::wrong;
 use clap::ArgMatches;
@@ -10,6 +10,9 @@ use ods_base::Uic;
 use ods_text::{read_user, read_user_in_brackets};
 use ods_words::WordsFault;
 use std::alloc::Global;
+
+/// What is said of a text that is no owner.
+const NO_OWNER: &str = "is no owner, as [1,2]";
 
 /// The user that a text says, as `[1,2]` or `1,2`, in octal.
 pub(crate) fn user_of(text: &str) -> Option<Uic>
@@ -42,10 +45,21 @@ pub(crate) fn said_user(
     }
 }
 
+/// The owner that a word says; of another text why it is none.
+pub(crate) fn new_owner_of(alloc: Global, text: &str) -> Result<Uic, WordsFault>
+    ensures value { IfOk result (IsSaid text.now) }
+    ensures refused { IfErr result (HasReason (SpellsNone IsSaid text.now)) }
+{
+    match user_of(text) {
+        Some(user) => Ok(user),
+        None => Err(wrong(alloc, text, NO_OWNER)?),
+    }
+}
+
 /// The owner that `--owner` says.
 pub(crate) fn owner_of(alloc: Global, own: &ArgMatches<'_>) -> Result<Option<Uic>, WordsFault>
     ensures value { IfOk result (IsValue IsSaid (first_value (found_of own.now) (codes "--owner"))) }
     ensures refused { IfErr result (HasReason (IsNoValue IsSaid (first_value (found_of own.now) (codes "--owner")))) }
 {
-    said_user(alloc, own.get_str("--owner"), "is no owner, as [1,2]")
+    said_user(alloc, own.get_str("--owner"), NO_OWNER)
 }

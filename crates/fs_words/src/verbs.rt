@@ -45,6 +45,12 @@ pub enum Verb {
     Rmdir,
     /// `truncate`: cuts a file.
     Truncate,
+    /// `chmod`: gives files another protection.
+    Chmod,
+    /// `chown`: gives files another owner.
+    Chown,
+    /// `label`: gives the volume another label.
+    Label,
     /// `init`: makes an image of a new volume.
     Init,
     /// `-f`: obeys the commands in a file.
@@ -52,7 +58,7 @@ pub enum Verb {
 }
 
 /// The commands, in the order of the help.
-pub(crate) const VERBS: [Verb; 19] = [
+pub(crate) const VERBS: [Verb; 22] = [
     Verb::Ls,
     Verb::Find,
     Verb::Stat,
@@ -71,6 +77,9 @@ pub(crate) const VERBS: [Verb; 19] = [
     Verb::Mkdir,
     Verb::Rmdir,
     Verb::Truncate,
+    Verb::Chmod,
+    Verb::Chown,
+    Verb::Label,
     Verb::Init,
 ];
 
@@ -98,6 +107,9 @@ impl Verb {
             Verb::Mkdir => "mkdir",
             Verb::Rmdir => "rmdir",
             Verb::Truncate => "truncate",
+            Verb::Chmod => "chmod",
+            Verb::Chown => "chown",
+            Verb::Label => "label",
             Verb::Init => "init",
             Verb::File => "-f",
         }
@@ -116,7 +128,16 @@ impl Verb {
     {
         matches!(
             self,
-            Verb::Put | Verb::Cp | Verb::Mv | Verb::Rm | Verb::Mkdir | Verb::Rmdir | Verb::Truncate
+            Verb::Put
+                | Verb::Cp
+                | Verb::Mv
+                | Verb::Rm
+                | Verb::Mkdir
+                | Verb::Rmdir
+                | Verb::Truncate
+                | Verb::Chmod
+                | Verb::Chown
+                | Verb::Label
         )
     }
 }

@@ -12,6 +12,7 @@ pub mod Others
 pub mod Lines
 pub mod SharedHeaders
 pub mod Counted
+pub mod CountingStrays
 pub mod Repeating
 pub mod HeldPlaces
 pub mod Walks

@@ -4,13 +4,16 @@ use Rattle.std.specs.List.{Contains}
 use Rattle.ods_base.specs.declared.listed.Listed.{Listed}
 use Rattle.ods_space.specs.Layout.{VolumeLayout}
 use Rattle.ods_check.specs.declared.finding.Finding.{Finding}
-use Rattle.ods_check.specs.declared.finding.Finding.TheVariants.{BadHeader, NamesNone}
+use Rattle.ods_check.specs.declared.finding.Finding.TheVariants.{BadHeader, StrayNumbers, NamesNone}
 use Rattle.ods_check.specs.Lists.{Adds}
-use Rattle.ods_check.specs.Findings.{IsOtherFound, TellsHeader, IsNamingNone, IsIdOfFile}
+use Rattle.ods_check.specs.Findings.{IsOtherFound, TellsHeader, TellsStrays, IsNamingNone, IsIdOfFile}
 use Rattle.ods_check.proofs.Adding.{told_still}
 
 pub told_header_still : (P : Finding → Type 0) (I : List (List ℕ)) (L : VolumeLayout) (n : ℕ) (old new : List Finding × ℕ) → Adds P old new → TellsHeader I L n old.0 → TellsHeader I L n new.0
-told_header_still P I L n old new a t used bad = let was = t used bad in (was.0, told_still P old new (BadHeader n was.0) a was.1)
+told_header_still P I L n old new a t used bad low = let was = t used bad low in (was.0, told_still P old new (BadHeader n was.0) a was.1)
+
+pub told_strays_still : (P : Finding → Type 0) (I : List (List ℕ)) (L : VolumeLayout) (old new : List Finding × ℕ) → Adds P old new → TellsStrays I L old.0 → TellsStrays I L new.0
+told_strays_still P I L old new a t n low is = let was = t n low is in (was.0, was.1, was.2, told_still P old new (StrayNumbers was.0 was.1) a was.3)
 
 -- each line of directory d that names no file is told
 abbrev pub TellsNames : List (List ℕ) → VolumeLayout → ℕ → List Finding → Type 0

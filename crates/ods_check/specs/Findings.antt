@@ -1,5 +1,5 @@
 -- What a mount does not refuse, of a volume that has a layout, sound or not: what each finding says, and that all of a kind are told.
-use Rattle.std.specs.Prelude.{◌≡◌, ◌≢◌, ℕ, ◌+◌, ◌-◌, ◌*◌, ◌/◌, ◌%◌, ◌^◌, ◌<◌, ◌≤◌, ◌==◌, IsTrue, Bool, true, false, List, [], ◌∷◌, ◌++◌, ◌⊎◌, length, slice_get, Some, if◌then◌else◌}
+use Rattle.std.specs.Prelude.{◌≡◌, ◌≢◌, ℕ, ◌+◌, ◌-◌, ◌*◌, ◌/◌, ◌%◌, ◌^◌, ◌<◌, ◌≤◌, ◌==◌, IsTrue, Bool, true, false, List, [], ◌∷◌, ◌++◌, ◌⊎◌, length, slice_get, Option, Some, None, if◌then◌else◌}
 use Rattle.std.specs.List.{All, Contains, flat_map}
 use Rattle.ods_base.specs.declared.file_id.FileId.{FileId}
 use Rattle.ods_base.specs.declared.listed.Listed.{Listed}
@@ -7,7 +7,7 @@ use Rattle.ods_base.specs.Names.{lines_of}
 use Rattle.ods_header.specs.declared.header.HeaderFault.TheVariants as fault
 use Rattle.ods_header.specs.Header.{IsValidHeader, IsFirstFault, segment_of, sequence_of, user_char_of, system_char_of, attributes_of}
 use Rattle.ods_header.specs.Home.{IsHomePlace}
-use Rattle.ods_space.specs.Layout.{VolumeLayout, header_at, is_in_use}
+use Rattle.ods_space.specs.Layout.{VolumeLayout, header_at, is_in_use, last_number}
 use Rattle.ods_space.specs.Files.{IsFile, HasBlocks, Holds}
 use Rattle.ods_space.specs.Free.{is_covered, storage_bit}
 use Rattle.ods_directory.specs.Mark.{end_block, end_byte}
@@ -18,8 +18,9 @@ use Rattle.ods_mount.specs.Checks.{HasHeader}
 use Rattle.ods_check.specs.declared.finding.NoHeader.{NoHeader}
 use Rattle.ods_check.specs.declared.finding.NoHeader.TheVariants.{NoBlock, Checksum, Number, Level, Areas, Format}
 use Rattle.ods_check.specs.declared.finding.Finding.{Finding}
-use Rattle.ods_check.specs.declared.finding.Finding.TheVariants.{BadHeader, LostHeader, HeldByNone, RunHeldByNone, NamesNone, LostFile, EndPast, HiddenEntries, MarkedDeleted, Locked, Unnamed}
+use Rattle.ods_check.specs.declared.finding.Finding.TheVariants.{BadHeader, StrayNumbers, LostHeader, HeldByNone, RunHeldByNone, NamesNone, LostFile, EndPast, HiddenEntries, MarkedDeleted, Locked, Unnamed}
 use Rattle.ods_directory.specs.Hidden.{HasHidden}
+use Rattle.ods_check.specs.Lists.{AreDistinct}
 use Rattle.ods_check.specs.Runs.{IsRun, AreRising}
 
 -- There is no valid header n: it has no block, or this is the first check of it that fails.
@@ -31,9 +32,28 @@ IsWithout I L n Level = IsFirstFault (header_at I L n) n fault.BadLevel
 IsWithout I L n Areas = IsFirstFault (header_at I L n) n fault.BadLayout
 IsWithout I L n Format = IsFirstFault (header_at I L n) n fault.UnsupportedMap
 
--- the bit of number n in the index bitmap is set, and there is no valid header n, for this reason
+-- the bit of number n in the index bitmap is set, a file may have the number, and there is no valid header n, for this reason
 abbrev pub IsBadHeader : List (List ℕ) → VolumeLayout → ℕ → NoHeader → Type 0
-IsBadHeader I L n why = IsTrue (is_in_use I L.home n) × IsWithout I L n why
+IsBadHeader I L n why = IsTrue (is_in_use I L.home n) × (n ≤ last_number L) × IsWithout I L n why
+
+-- The bit of number n in the index bitmap is set, and no file may have the number: it is above H.FMAX, or INDEXF.SYS has no block for its header. There is no valid header n.
+pub record IsStray (I : List (List ℕ)) (L : VolumeLayout) (n : ℕ) : Type 0 where
+  pub in_use : IsTrue (is_in_use I L.home n)
+  pub above : last_number L < n
+  pub invalid : ¬ IsValidHeader (header_at I L n) n
+
+-- these are all such numbers below this one, each once
+pub record AreStrays (I : List (List ℕ)) (L : VolumeLayout) (end : ℕ) (numbers : List ℕ) : Type 0 where
+  pub each : All (λ n. (n < end) × IsStray I L n) numbers
+  pub all : (n : ℕ) → n < end → IsStray I L n → Contains numbers n
+  pub once : AreDistinct numbers
+
+-- there are so many of these numbers below `end`, and this is the lowest, where there is one
+pub record IsCountOfStrays (I : List (List ℕ)) (L : VolumeLayout) (end count first : ℕ) : Type 0 where
+  pub numbers : List ℕ
+  pub are : AreStrays I L end numbers
+  pub size : count ≡ length numbers
+  pub lowest : 0 < count → Contains numbers first × All (λ n. first ≤ n) numbers
 
 -- LBN b is one of the image, and the storage bitmap has a 0, used, for it.
 pub record IsMarkedUsed (I : List (List ℕ)) (L : VolumeLayout) (b : ℕ) : Type 0 where
@@ -192,6 +212,7 @@ pub record IsUnnamed (I : List (List ℕ)) (L : VolumeLayout) (n : ℕ) : Type 0
 -- what is found is so
 abbrev pub IsFound : List (List ℕ) → VolumeLayout → Finding → Type 0
 IsFound I L (BadHeader n why) = IsBadHeader I L n why
+IsFound I L (StrayNumbers count first) = (0 < count) × IsCountOfStrays I L 65536 count first
 IsFound I L (HeldByNone b) = IsUnheldRun I L b b
 IsFound I L (RunHeldByNone first last) = (first < last) × IsUnheldRun I L first last
 IsFound I L (NamesNone d line) = IsNamingNone I L d line
@@ -202,6 +223,21 @@ IsFound I L (HiddenEntries n) = IsHiding I L n
 IsFound I L (MarkedDeleted id) = IsMarkedDeleted I L id.number × (id ≡ id_at I L id.number)
 IsFound I L (Locked id) = IsLocked I L id.number × (id ≡ id_at I L id.number)
 IsFound I L (Unnamed n) = IsUnnamed I L n
+
+-- the file that is found odd
+abbrev pub file_of : Finding → Option ℕ
+file_of (BadHeader n why) = None
+file_of (StrayNumbers count first) = None
+file_of (HeldByNone b) = None
+file_of (RunHeldByNone first last) = None
+file_of (NamesNone d line) = Some d
+file_of (LostFile id) = None
+file_of (LostHeader id) = None
+file_of (EndPast id) = Some id.number
+file_of (HiddenEntries n) = Some n
+file_of (MarkedDeleted id) = Some id.number
+file_of (Locked id) = Some id.number
+file_of (Unnamed n) = Some n
 
 -- the first and the last block of the run that a finding tells of
 abbrev pub run_of : Finding → List (ℕ × ℕ)
@@ -217,9 +253,13 @@ runs_of findings = flat_map run_of findings
 abbrev pub IsOtherFound : List (List ℕ) → VolumeLayout → Finding → Type 0
 IsOtherFound I L finding = IsFound I L finding × (run_of finding ≡ [])
 
--- where number n is in use and has no valid header, that is among the findings
+-- where number n is in use and has no valid header, and a file may have the number, that is among the findings
 abbrev pub TellsHeader : List (List ℕ) → VolumeLayout → ℕ → List Finding → Type 0
-TellsHeader I L n findings = IsTrue (is_in_use I L.home n) → ¬ IsValidHeader (header_at I L n) n → (why : NoHeader) × Contains findings (BadHeader n why)
+TellsHeader I L n findings = IsTrue (is_in_use I L.home n) → ¬ IsValidHeader (header_at I L n) n → n ≤ last_number L → (why : NoHeader) × Contains findings (BadHeader n why)
+
+-- where there are numbers in use that no file may have, and that have no valid header, one of the findings says how many
+abbrev pub TellsStrays : List (List ℕ) → VolumeLayout → List Finding → Type 0
+TellsStrays I L findings = (n : ℕ) → n < 65536 → IsStray I L n → (count first : ℕ) × IsCountOfStrays I L 65536 count first × Contains findings (StrayNumbers count first)
 
 -- among the findings is a run that LBN b is in
 abbrev pub TellsUnheld : List Finding → ℕ → Type 0
@@ -228,6 +268,7 @@ TellsUnheld findings b = (first last : ℕ) × (first ≤ b) × (b ≤ last) × 
 -- Whatever there is to find is among the findings, each run of blocks once and in order; lost files where they are wanted.
 pub record FindsAll (I : List (List ℕ)) (L : VolumeLayout) (with_lost : Bool) (findings : List Finding) : Type 0 where
   pub headers : (n : ℕ) → n < 65536 → TellsHeader I L n findings
+  pub strays : TellsStrays I L findings
   pub lost_headers : (n : ℕ) → IsLostHeader I L n → Contains findings (LostHeader (id_at I L n))
   pub unheld : (b : ℕ) → IsHeldByNone I L b → TellsUnheld findings b
   pub rising : AreRising (runs_of findings)

@@ -1,12 +1,12 @@
 -- What each line of a list of faults says.
-use Rattle.std.specs.Prelude.{◌≡◌, ◌≢◌, ℕ, ◌+◌, ◌<◌, ◌≤◌, IsTrue, List, length, slice_get, Some}
+use Rattle.std.specs.Prelude.{◌≡◌, ◌≢◌, ℕ, ◌+◌, ◌<◌, ◌≤◌, ◌==◌, if◌then◌else◌, IsTrue, List, length, slice_get, Option, Some, None}
 use Rattle.std.specs.List.{Contains}
 use Rattle.ods_header.specs.Home.{IsHomeAt, IsHomePlace}
 use Rattle.ods_space.specs.Layout.{VolumeLayout}
 use Rattle.ods_space.specs.Files.{Holds, IsLayoutOf}
 use Rattle.ods_space.specs.Free.{is_free_block}
 use Rattle.ods_mount.specs.declared.fault.MountFault.{MountFault}
-use Rattle.ods_mount.specs.declared.fault.MountFault.TheVariants.{BadIndex, DoublyUsed}
+use Rattle.ods_mount.specs.declared.fault.MountFault.TheVariants.{NoHome, UnsupportedMap, BadChain, OutsideVolume, BadIndex, BadStorageMap, BadMaster, DoublyUsed, MarkedFree, BadDirectory, DuplicateName, NoMemory}
 use Rattle.ods_mount.specs.Faults.{IsTrueOf, FaultIsTrue}
 use Rattle.ods_mount.specs.Checks.{IsElsewhere}
 use Rattle.ods_check.specs.Lists.{AreDistinct}
@@ -64,3 +64,34 @@ abbrev pub LineIsTrue : List (List ℕ) → FaultLine → Type 0
 LineIsTrue I (Plain fault) = FaultIsTrue I fault
 LineIsTrue I (Shared m n lbn count) = (L : VolumeLayout) × IsLayoutOf I L × AreSharing I L m n lbn count
 LineIsTrue I (Index why) = (L : VolumeLayout) × IsLayoutOf I L × IsIndexFault I L why
+
+-- the file that a fault of a mount is of: the first of two
+abbrev pub file_in : MountFault → Option ℕ
+file_in NoHome = None
+file_in (UnsupportedMap n) = Some n
+file_in (BadChain n) = Some n
+file_in (OutsideVolume n lbn) = Some n
+file_in BadIndex = None
+file_in BadStorageMap = None
+file_in BadMaster = None
+file_in (DoublyUsed m n lbn) = Some m
+file_in (MarkedFree n lbn) = Some n
+file_in (BadDirectory n) = Some n
+file_in (DuplicateName n) = Some n
+file_in NoMemory = None
+
+-- the file that a line is of: the first of two
+abbrev pub first_file : FaultLine → Option ℕ
+first_file (Plain fault) = file_in fault
+first_file (Shared m n lbn count) = Some m
+first_file (Index TooShort) = None
+first_file (Index (Misplaced v)) = None
+first_file (Index (OtherHome lbn)) = None
+first_file (Index (FreePlace k)) = None
+first_file (Index (HeldPlace k n)) = Some n
+
+-- the other of two files that a line is of
+abbrev pub second_file : FaultLine → Option ℕ
+second_file (Plain fault) = None
+second_file (Shared m n lbn count) = if m == n then None else Some n
+second_file (Index why) = None

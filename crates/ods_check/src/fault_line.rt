@@ -1,6 +1,6 @@
 //! What is told of an image that is not sound, a line of text for each fault.
 ghost use Rattle.std.specs.Prelude.{◌≡◌};
-ghost use Rattle.ods_check.specs.Lines.{fault_of};
+ghost use Rattle.ods_check.specs.Lines.{fault_of, file_in as file_in_fault, first_file as first_of, second_file as second_of};
 
 use ods_mount::MountFault;
 use thiserror::Error;
@@ -50,6 +50,48 @@ impl FaultLine {
             FaultLine::Shared(one, other, lbn, _) => MountFault::DoublyUsed(*one, *other, *lbn),
             FaultLine::Index(_) => MountFault::BadIndex,
         }
+    }
+
+    /// The file that a line is of, where it is of one: the first of two.
+    pub fn first_file(&self) -> Option<u16>
+        ensures { result ≡ first_of self.now }
+    {
+        match self {
+            FaultLine::Plain(fault) => file_in(fault),
+            FaultLine::Shared(one, _, _, _) => Some(*one),
+            FaultLine::Index(IndexFault::HeldPlace(_, number)) => Some(*number),
+            FaultLine::Index(_) => None,
+        }
+    }
+
+    /// The other file that a line is of, where it is of two.
+    pub fn second_file(&self) -> Option<u16>
+        ensures { result ≡ second_of self.now }
+    {
+        match self {
+            FaultLine::Shared(one, other, _, _) if *one != *other => Some(*other),
+            _ => None,
+        }
+    }
+}
+
+/// The file that a fault of a mount is of, where it is of one: the first of two.
+pub fn file_in(fault: &MountFault) -> Option<u16>
+    ensures { result ≡ file_in_fault fault.now }
+{
+    match fault {
+        MountFault::NoHome => None,
+        MountFault::UnsupportedMap(number) => Some(*number),
+        MountFault::BadChain(number) => Some(*number),
+        MountFault::OutsideVolume(number, _) => Some(*number),
+        MountFault::BadIndex => None,
+        MountFault::BadStorageMap => None,
+        MountFault::BadMaster => None,
+        MountFault::DoublyUsed(one, _, _) => Some(*one),
+        MountFault::MarkedFree(number, _) => Some(*number),
+        MountFault::BadDirectory(number) => Some(*number),
+        MountFault::DuplicateName(number) => Some(*number),
+        MountFault::NoMemory => None,
     }
 }
 

@@ -1,11 +1,14 @@
 //! What a mount does not refuse, and whoever keeps a volume wants to know: one line of text each.
+ghost use Rattle.std.specs.Prelude.{◌≡◌};
+ghost use Rattle.ods_check.specs.Findings.{file_of};
+
 use ods_base::{FileId, Listed, print_name};
 use thiserror::Error;
 
 /// Why a number in use has no valid header: the first check that fails.
 #[derive(Clone, Copy, Debug, PartialEq, Eq, Error)]
 pub enum NoHeader {
-    /// INDEXF.SYS has no block for the header, or the image lacks the block.
+    /// The image lacks the block of the header.
     #[error("no block")]
     NoBlock,
     /// H.CKSM is not the sum of the words before it.
@@ -28,9 +31,12 @@ pub enum NoHeader {
 /// Something odd on a volume, whether it is sound or not.
 #[derive(Clone, Copy, Debug, PartialEq, Eq, Error)]
 pub enum Finding {
-    /// The index bit of this number says that it is in use, and its header is not valid.
+    /// The index bit of this number says that it is in use, a file may have it, and its header is not valid.
     #[error("file number {0} is marked as used and has no header: {1}")]
     BadHeader(u16, NoHeader),
+    /// So many numbers are in use that no file may have, and have no valid header. The second number is the first of them.
+    #[error("file numbers past the last header are marked as used: {0}, from {1} on")]
+    StrayNumbers(u32, u16),
     /// The storage bit of this block says that it is used, and no file holds it. It is alone: of the blocks beside it this is not so.
     #[error("block {0} is marked as used and no file holds it")]
     HeldByNone(u32),
@@ -61,6 +67,28 @@ pub enum Finding {
     /// The master directory has no line that has the name of this file, INDEXF.SYS, BITMAP.SYS or 000000.DIR, and names it.
     #[error("the master directory does not name file {0} as {name}", name = system_name(*.0))]
     Unnamed(u16),
+}
+
+impl Finding {
+    /// The file that is found odd, where one is.
+    pub fn file(&self) -> Option<u16>
+        ensures { result ≡ file_of self.now }
+    {
+        match self {
+            Finding::BadHeader(_, _) => None,
+            Finding::StrayNumbers(_, _) => None,
+            Finding::HeldByNone(_) => None,
+            Finding::RunHeldByNone(_, _) => None,
+            Finding::NamesNone(directory, _) => Some(*directory),
+            Finding::LostFile(_) => None,
+            Finding::LostHeader(_) => None,
+            Finding::EndPast(id) => Some(id.number),
+            Finding::HiddenEntries(directory) => Some(*directory),
+            Finding::MarkedDeleted(id) => Some(id.number),
+            Finding::Locked(id) => Some(id.number),
+            Finding::Unnamed(number) => Some(*number),
+        }
+    }
 }
 
 /// The name of a file of the system in the master directory.

@@ -8,10 +8,10 @@ ghost use Rattle.ods_space.specs.Disks.{header_on, on};
 use crate::numbers::header_end;
 use crate::{Finding, NoHeader, Told};
 use ods_header::{HeaderFault, read_header};
-use ods_space::{Disk, header_block, in_use};
+use ods_space::{Disk, header_block, in_use, last_number};
 use std::alloc::AllocError;
 
-/// Adds each number in use that has no valid header, up to 65,535, the greatest number that a header can have.
+/// Adds each number in use that has no valid header, and that a file may have.
 pub(crate) fn push_bad_headers(
     disk: &Disk<'_>,
     findings: &mut Told<Finding>,
@@ -34,7 +34,7 @@ fn push_bad_header(
     ensures adds { OnOk result (Adds (on IsOtherFound disk.now) findings.old findings.new) }
     ensures told { OnOk result (on TellsHeader disk.now number findings.new.0) }
 {
-    if !in_use(disk, number) {
+    if last_number(disk.layout) < number || !in_use(disk, number) {
         return Ok(());
     }
     let Some(why) = without_header(disk, number) else {

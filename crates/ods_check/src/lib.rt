@@ -26,6 +26,7 @@ mod reading;
 mod repeats;
 mod shared_headers;
 mod sharing;
+mod strays;
 mod sweep;
 mod system;
 mod told;
@@ -36,7 +37,7 @@ mod whole;
 mod whole_chain;
 
 pub use all_findings::{bad_headers, count_findings, findings};
-pub use fault_line::{FaultLine, IndexFault};
+pub use fault_line::{FaultLine, IndexFault, file_in};
 pub use faults::{Checked, MOST_LINES, check_all};
 pub use finding::{Finding, NoHeader};
 pub use first::{First, check_first};

@@ -1,12 +1,13 @@
 -- The parts of a text of files.
-use Rattle.std.proofs.Common.{◌≡◌, ◌↔◌, ℕ, ◌+◌, ◌-◌, ◌⊎◌, List, length, take, drop, Bool, false, Option, sym, ap, ◌∙◌, subst, arith}
+use Rattle.std.proofs.Common.{◌≡◌, ◌↔◌, ℕ, ◌+◌, ◌-◌, ◌⊎◌, List, length, take, drop, Bool, true, false, Option, Some, None, sym, ap, ◌∙◌, subst, arith}
+use Rattle.std.specs.Prelude.{codes}
 use Rattle.std.specs.Bool.{IsTrue}
 use Rattle.std.specs.List.{position_or_len, before_first, after_first}
 use Rattle.std.proofs.lemmas.List.{take_all, drop_all, take_rest}
 use Rattle.ods_paths.specs.declared.versions.Versions.{Versions}
-use Rattle.ods_text.specs.Cuts.{is, Has, Lacks}
+use Rattle.ods_text.specs.Cuts.{is, Has, Lacks, cut_of}
 use Rattle.ods_paths.specs.Patterns.{IsPattern, has_wildcard, capitals}
-use Rattle.ods_paths.specs.Paths.{SpellsFiles, IsVersions, IsDotted, name_text, kind_text, begins_version}
+use Rattle.ods_paths.specs.Paths.{SpellsFiles, IsVersions, IsDotted, name_text, kind_in, kind_text, begins_version}
 
 -- a text that lacks the byte stands before it as a whole, and nothing behind it
 pub whole_before : (c : ℕ) (text : List ℕ) → Lacks c text → text ≡ before_first (is c) text
@@ -19,8 +20,15 @@ none_behind c text lacks = take_rest text (length text) ∙ drop_all (length tex
 pub name_is : (text full name : List ℕ) → full ≡ before_first begins_version text → name ≡ before_first (is 46) full → name ≡ name_text text
 name_is text full name e f = f ∙ ap (before_first (is 46)) e
 
-pub kind_is : (text full kind : List ℕ) → full ≡ before_first begins_version text → kind ≡ after_first (is 46) full → kind ≡ kind_text text
-kind_is text full kind e f = f ∙ ap (after_first (is 46)) e
+pub kind_is : (text full kind : List ℕ) → full ≡ before_first begins_version text → kind ≡ kind_in (cut_of 46 full) → kind ≡ kind_text text
+kind_is text full kind e f = f ∙ ap (λ (l : List ℕ). kind_in (cut_of 46 l)) e
+
+-- the type behind a `.`, and without one
+pub kind_behind : (full name kind : List ℕ) → cut_of 46 full ≡ Some (name, kind) → kind ≡ kind_in (cut_of 46 full)
+kind_behind full name kind e = sym (ap kind_in e)
+
+pub any_kind : (full kind : List ℕ) → cut_of 46 full ≡ None → kind ≡ codes "*" → kind ≡ kind_in (cut_of 46 full)
+any_kind full kind e any = any ∙ sym (ap kind_in e)
 
 -- what a test that fails says of a part
 pub fails : {P : Type 0} {r : Bool} → (IsTrue r ↔ P) → r ≡ false → P → ⊥
@@ -29,16 +37,15 @@ fails is e p = let t = is.1 p in absurd (cc (t, e))
 pub along : (P : List ℕ → Type 0) (xs ys : List ℕ) → xs ≡ ys → (P xs → ⊥) → P ys → ⊥
 along P xs ys e bad p = bad (subst P (sym e) p)
 
-pub not_dotted : (text full name : List ℕ) → full ≡ before_first begins_version text → name ≡ before_first (is 46) full → (((has_wildcard name ≡ false) ⊎ Has 46 full) → ⊥) → IsDotted text → ⊥
-not_dotted text full name e f bad d =
-    bad (subst (λ (l : List ℕ). (has_wildcard l ≡ false) ⊎ Has 46 full) (sym (name_is text full name e f)) (subst (λ (l : List ℕ). (has_wildcard (name_text text) ≡ false) ⊎ Has 46 l) (sym e) d))
+pub not_dotted : (text full : List ℕ) → full ≡ before_first begins_version text → ((Has 46 full ⊎ (has_wildcard full ≡ true)) → ⊥) → IsDotted text → ⊥
+not_dotted text full e bad d = bad (subst (λ (l : List ℕ). Has 46 l ⊎ (has_wildcard l ≡ true)) (sym e) d)
 
-pub the_files : (text full name kind : List ℕ) (v : Option Versions) → full ≡ before_first begins_version text → name ≡ before_first (is 46) full → kind ≡ after_first (is 46) full → IsPattern 9 name → IsPattern 3 kind → ((has_wildcard name ≡ false) ⊎ Has 46 full) → IsVersions text v →
+pub the_files : (text full name kind : List ℕ) (v : Option Versions) → full ≡ before_first begins_version text → name ≡ before_first (is 46) full → kind ≡ kind_in (cut_of 46 full) → IsPattern 9 name → IsPattern 3 kind → (Has 46 full ⊎ (has_wildcard full ≡ true)) → IsVersions text v →
     SpellsFiles text (record { name = capitals name; kind = capitals kind; versions = v })
 the_files text full name kind v e f g one two dot versions = record {
   name_pattern = subst (IsPattern 9) (name_is text full name e f) one;
   kind_pattern = subst (IsPattern 3) (kind_is text full kind e g) two;
-  dotted = subst (λ (l : List ℕ). (has_wildcard (name_text text) ≡ false) ⊎ Has 46 l) e (subst (λ (l : List ℕ). (has_wildcard l ≡ false) ⊎ Has 46 full) (name_is text full name e f) dot);
+  dotted = subst (λ (l : List ℕ). Has 46 l ⊎ (has_wildcard l ≡ true)) e dot;
   name = ap capitals (name_is text full name e f);
   kind = ap capitals (kind_is text full kind e g);
   versions = versions;

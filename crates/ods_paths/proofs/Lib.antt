@@ -1,11 +1,14 @@
 pub mod Bounds
+pub mod Choices
 pub mod FileTexts
 pub mod FirstRow
+pub mod FolderTexts
 pub mod Ids
+pub mod LastParts
 pub mod ListingOrder
 pub mod OneMeaning
+pub mod PartTexts
 pub mod PathTexts
-pub mod PlaceTexts
 pub mod RowLoops
 pub mod RowSteps
 pub mod StepTexts

@@ -6,7 +6,7 @@ use Rattle.ods_paths.specs.declared.bad.BadPath.{BadPath}
 use Rattle.ods_paths.specs.declared.bad.BadPath.TheVariants as bad
 use Rattle.ods_paths.specs.Numbers.{IsId}
 use Rattle.ods_paths.specs.Patterns.{IsPattern}
-use Rattle.ods_paths.specs.Paths.{Folder, Files, Said, Says, SpellsFolder, name_text, kind_text, IsDotted, IsVersions, separator_of, folder_text, files_text, begins_id, IsClosed}
+use Rattle.ods_paths.specs.Paths.{Folder, Said, Says, SpellsFolder, name_text, kind_text, IsDotted, IsVersions, separator_of, folder_text, more_text, files_text, begins_id, IsClosed, past_device}
 
 -- the text of files, which is bad in this part
 abbrev pub IsBadFiles : List ℕ → BadPath → Type 0
@@ -19,31 +19,42 @@ IsBadFiles text bad.Id = ⊥
 IsBadFiles text bad.Bracket = ⊥
 IsBadFiles text bad.Directory = ⊥
 
--- the texts of a DIR and of FILES, which are bad in this part
-abbrev pub IsBadWithin : ℕ → List ℕ → List ℕ → BadPath → Type 0
-IsBadWithin separator folder files bad.Directory = (f : Folder) → ¬ SpellsFolder separator folder f
-IsBadWithin separator folder files bad.Name = (files ≢ []) × IsBadFiles files bad.Name
-IsBadWithin separator folder files bad.Type = (files ≢ []) × IsBadFiles files bad.Type
-IsBadWithin separator folder files bad.NoDot = (files ≢ []) × IsBadFiles files bad.NoDot
-IsBadWithin separator folder files bad.Version = (files ≢ []) × IsBadFiles files bad.Version
-IsBadWithin separator folder files bad.Empty = ⊥
-IsBadWithin separator folder files bad.Id = ⊥
-IsBadWithin separator folder files bad.Bracket = ⊥
+-- the texts of a DIR, of one more directory and of FILES, which are bad in this part
+abbrev pub IsBadWithin : ℕ → List ℕ → List ℕ → List ℕ → BadPath → Type 0
+IsBadWithin separator dir more files bad.Directory = (f : Folder) → ¬ SpellsFolder separator dir more f
+IsBadWithin separator dir more files bad.Name = (files ≢ []) × IsBadFiles files bad.Name
+IsBadWithin separator dir more files bad.Type = (files ≢ []) × IsBadFiles files bad.Type
+IsBadWithin separator dir more files bad.NoDot = (files ≢ []) × IsBadFiles files bad.NoDot
+IsBadWithin separator dir more files bad.Version = (files ≢ []) × IsBadFiles files bad.Version
+IsBadWithin separator dir more files bad.Empty = ⊥
+IsBadWithin separator dir more files bad.Id = ⊥
+IsBadWithin separator dir more files bad.Bracket = ⊥
 
--- its DIR or its FILES are bad in this part
+-- its directories or its files are bad in this part
 abbrev pub IsBadPart : List ℕ → BadPath → Type 0
-IsBadPart text e = (begins_id text ≡ false) × IsBadWithin (separator_of text) (folder_text text) (files_text text) e
+IsBadPart text e = (begins_id text ≡ false) × IsBadWithin (separator_of text) (folder_text text) (more_text text) (files_text text) e
+
+-- a text without a device says nothing, for this reason
+abbrev pub IsBadHere : List ℕ → BadPath → Type 0
+IsBadHere text bad.Empty = ⊥
+IsBadHere text bad.Id = (begins_id text ≡ true) × ((f : FileId) → ¬ IsId (drop 1 text) f)
+IsBadHere text bad.Bracket = (begins_id text ≡ false) × ¬ IsClosed text
+IsBadHere text bad.Directory = IsBadPart text bad.Directory
+IsBadHere text bad.Name = IsBadPart text bad.Name
+IsBadHere text bad.Type = IsBadPart text bad.Type
+IsBadHere text bad.NoDot = IsBadPart text bad.NoDot
+IsBadHere text bad.Version = IsBadPart text bad.Version
 
 -- the text is no path, for this reason
 abbrev pub IsBad : List ℕ → BadPath → Type 0
 IsBad text bad.Empty = text ≡ []
-IsBad text bad.Id = (begins_id text ≡ true) × ((f : FileId) → ¬ IsId (drop 1 text) f)
-IsBad text bad.Bracket = (begins_id text ≡ false) × ¬ IsClosed text
-IsBad text bad.Directory = IsBadPart text bad.Directory
-IsBad text bad.Name = IsBadPart text bad.Name
-IsBad text bad.Type = IsBadPart text bad.Type
-IsBad text bad.NoDot = IsBadPart text bad.NoDot
-IsBad text bad.Version = IsBadPart text bad.Version
+IsBad text bad.Id = IsBadHere (past_device text) bad.Id
+IsBad text bad.Bracket = IsBadHere (past_device text) bad.Bracket
+IsBad text bad.Directory = IsBadHere (past_device text) bad.Directory
+IsBad text bad.Name = IsBadHere (past_device text) bad.Name
+IsBad text bad.Type = IsBadHere (past_device text) bad.Type
+IsBad text bad.NoDot = IsBadHere (past_device text) bad.NoDot
+IsBad text bad.Version = IsBadHere (past_device text) bad.Version
 
 -- a text says one thing at most
 abbrev pub SaysOneThing : Type 0

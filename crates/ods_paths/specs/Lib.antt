@@ -6,4 +6,5 @@ pub mod Paths
 pub mod Patterns
 pub mod Picked
 pub mod Rows
+pub mod Steps
 pub mod Views

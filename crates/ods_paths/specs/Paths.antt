@@ -1,21 +1,16 @@
 -- What the text of a path says.
-use Rattle.std.specs.Prelude.{◌≡◌, ◌≢◌, ℕ, ◌-◌, ◌<◌, ◌==◌, ◌||◌, Bool, true, false, List, [], ◌∷◌, length, take, drop, map, codes, slice_index, nat_eq, if◌then◌else◌, Option, Some, None, ◌⊎◌}
-use Rattle.std.specs.List.{All, position_or_len, before_first, after_first, before_last, after_last, slice_split, ends_with}
+use Rattle.std.specs.Prelude.{◌≡◌, ◌≢◌, ℕ, ◌-◌, ◌<◌, ◌==◌, ◌||◌, ◌&&◌, not, nat_le, Bool, true, false, List, [], ◌∷◌, length, take, drop, map, codes, slice_index, nat_eq, if◌then◌else◌, Option, Some, None, ◌⊎◌}
+use Rattle.std.specs.List.{All, position_or_len, before_first, after_first, before_last, after_last, list_all, list_any, ends_with}
 use Rattle.ods_base.specs.declared.file_id.FileId.{FileId}
 use Rattle.ods_paths.specs.declared.versions.Versions.{Versions}
-use Rattle.ods_text.specs.Cuts.{is, Has, Lacks}
-use Rattle.ods_paths.specs.Numbers.{IsId, IsVersion, IsChoice}
+use Rattle.ods_text.specs.Cuts.{is, Has, Lacks, cut_of}
+use Rattle.ods_paths.specs.Numbers.{IsId, IsVersion, is_octal_digit}
 use Rattle.ods_paths.specs.Patterns.{IsPattern, has_wildcard, capitals}
+use Rattle.ods_paths.specs.Steps.{Step, IsStep, step_of, steps_text, unless_empty, step_texts}
 
--- where a path begins: the master directory, the directories of groups and members, or those that patterns name, each within the one before
-pub data Place : Type 0 where
-  Master : Place
-  Numbered : Option ℕ → Option ℕ → Place
-  Named : List (List ℕ) → Place
-
--- the place, and whether all directories below it belong to it
+-- the steps from the master directory, where no step is that itself; and whether all directories below belong to it
 pub record Folder : Type 0 where
-  pub place : Place
+  pub steps : List Step
   pub below : Bool
 
 -- the patterns of a name and of its type, and the versions, where they are said
@@ -40,17 +35,22 @@ full_name text = before_first begins_version text
 abbrev pub name_text : List ℕ → List ℕ
 name_text text = before_first (is 46) (full_name text)
 
+abbrev pub kind_in : Option (List ℕ × List ℕ) → List ℕ
+kind_in None = codes "*"
+kind_in (Some parts) = parts.1
+
+-- without a `.` any type
 abbrev pub kind_text : List ℕ → List ℕ
-kind_text text = after_first (is 46) (full_name text)
+kind_text text = kind_in (cut_of 46 (full_name text))
 
 -- the text has a `;`, and these versions behind it; or it has none
 abbrev pub IsVersions : List ℕ → Option Versions → Type 0
 IsVersions text None = position_or_len begins_version text ≡ length text
 IsVersions text (Some v) = (position_or_len begins_version text < length text) × IsVersion (after_first begins_version text) v
 
--- A name with no `.` has the empty type; a pattern has to have one.
+-- A pattern may have no `.`; any other name has one.
 abbrev pub IsDotted : List ℕ → Type 0
-IsDotted text = (has_wildcard (name_text text) ≡ false) ⊎ Has 46 (full_name text)
+IsDotted text = Has 46 (full_name text) ⊎ (has_wildcard (full_name text) ≡ true)
 
 -- the text spells these files
 pub record SpellsFiles (text : List ℕ) (f : Files) : Type 0 where
@@ -61,27 +61,6 @@ pub record SpellsFiles (text : List ℕ) (f : Files) : Type 0 where
   pub kind : f.kind ≡ capitals (kind_text text)
   pub versions : IsVersions text f.versions
 
--- group and member, with a comma between them
-abbrev pub SpellsNumbers : List ℕ → Option ℕ → Option ℕ → Type 0
-SpellsNumbers text group member = IsChoice (before_first (is 44) text) group × IsChoice (after_first (is 44) text) member
-
--- the name of a directory on the way, or a pattern for it
-abbrev pub IsStep : List ℕ → Type 0
-IsStep name = (0 < length name) × IsPattern 9 name
-
--- group and member 0 are the master directory
-abbrev pub IsMaster : Option ℕ → Option ℕ → Bool
-IsMaster (Some g) (Some m) = if g == 0 then m == 0 else false
-IsMaster (Some g) None = false
-IsMaster None m = false
-
--- The text, with this separator between names, spells the place: nothing and `000000` are the master directory, a text with a comma is a group and a member, and any other is names.
-abbrev pub SpellsPlace : ℕ → List ℕ → Place → Type 0
-SpellsPlace separator text Master = (text ≡ []) ⊎ (text ≡ codes "000000") ⊎ (Has 44 text × SpellsNumbers text (Some 0) (Some 0))
-SpellsPlace separator text (Numbered group member) = Has 44 text × SpellsNumbers text group member × (IsMaster group member ≡ false)
-SpellsPlace separator text (Named names) =
-    Lacks 44 text × (text ≢ codes "000000") × All IsStep (slice_split (is separator) text) × (names ≡ map capitals (slice_split (is separator) text))
-
 -- `...` at the end: all directories below
 abbrev pub has_dots : List ℕ → Bool
 has_dots text = ends_with nat_eq text (codes "...")
@@ -90,25 +69,77 @@ has_dots text = ends_with nat_eq text (codes "...")
 abbrev pub place_text : List ℕ → List ℕ
 place_text text = if has_dots text then take (length text - 3) text else text
 
--- the text spells the directory
-pub record SpellsFolder (separator : ℕ) (text : List ℕ) (f : Folder) : Type 0 where
-  pub place : SpellsPlace separator (place_text text) f.place
+-- the texts of the steps of a DIR, and of one more
+abbrev pub folder_steps : ℕ → List ℕ → List ℕ → List (List ℕ)
+folder_steps separator text more = step_texts separator (steps_text (place_text text)) (unless_empty more)
+
+-- The text of a DIR and that of one more step, which may be empty, spell the folder. In brackets a group and a member stand alone. Behind `...` stands no step.
+pub record SpellsFolder (separator : ℕ) (text more : List ℕ) (f : Folder) : Type 0 where
+  pub alone : separator ≡ 46 → Has 44 (place_text text) → Lacks 46 (place_text text)
+  pub last : has_dots text ≡ true → more ≡ []
+  pub each : All IsStep (folder_steps separator text more)
+  pub steps : f.steps ≡ map step_of (folder_steps separator text more)
   pub below : f.below ≡ has_dots text
 
--- A path is [DIR]FILES, with `.` between the names of DIR, or DIR/FILES, with `/` between them.
+abbrev pub is_letter : ℕ → Bool
+is_letter c = (nat_le 65 c && nat_le c 90) || (nat_le 97 c && nat_le c 122)
+
+-- two letters, and at most three octal digits
+abbrev pub is_device : List ℕ → Bool
+is_device [] = false
+is_device (a ∷ []) = false
+is_device (a ∷ b ∷ digits) = is_letter a && is_letter b && nat_le (length digits) 3 && list_all is_octal_digit digits
+
+abbrev pub past_cut : List ℕ → Option (List ℕ × List ℕ) → List ℕ
+past_cut text None = text
+past_cut text (Some parts) = if is_device parts.0 then parts.1 else text
+
+-- the text without a device and its `:` in front
+abbrev pub past_device : List ℕ → List ℕ
+past_device text = past_cut text (cut_of 58 text)
+
+abbrev pub begins_slash : List ℕ → Bool
+begins_slash [] = false
+begins_slash (c ∷ text) = c == 47
+
+-- the text without one `/` in front, behind which no other stands
+abbrev pub past_slash : List ℕ → List ℕ
+past_slash [] = []
+past_slash (c ∷ text) = if (c == 47) && not (begins_slash text) then text else c ∷ text
+
+-- The last part of a path names one more directory, where it has no `.` and no version, and either no wildcard or a comma. Any other last part names files.
+abbrev pub names_directory : List ℕ → Bool
+names_directory text =
+    nat_le 1 (length text) && not (list_any (is 46) text) && not (list_any begins_version text) && (not (has_wildcard text) || list_any (is 44) text)
+
+abbrev pub directory_in : List ℕ → List ℕ
+directory_in text = if names_directory text then text else []
+
+abbrev pub files_in : List ℕ → List ℕ
+files_in text = if names_directory text then [] else text
+
+-- A path is [DIR]LAST, with `.` between the steps of DIR, or DIR/LAST, with `/` between them.
 abbrev pub separator_of : List ℕ → ℕ
 separator_of [] = 47
 separator_of (c ∷ text) = if c == 91 then 46 else 47
 
--- the text of its DIR
+abbrev pub before_files : List ℕ → List ℕ
+before_files text = if names_directory (after_last (is 47) text) then text else before_last (is 47) text
+
+-- the text of its DIR: without brackets all, where the last part names a directory
 abbrev pub folder_text : List ℕ → List ℕ
 folder_text [] = []
-folder_text (c ∷ text) = if c == 91 then before_first (is 93) text else before_last (is 47) (c ∷ text)
+folder_text (c ∷ text) = if c == 91 then before_first (is 93) text else before_files (past_slash (c ∷ text))
+
+-- the text of one more directory, behind brackets
+abbrev pub more_text : List ℕ → List ℕ
+more_text [] = []
+more_text (c ∷ text) = if c == 91 then directory_in (after_first (is 93) text) else []
 
 -- the text of its FILES
 abbrev pub files_text : List ℕ → List ℕ
 files_text [] = []
-files_text (c ∷ text) = if c == 91 then after_first (is 93) text else after_last (is 47) (c ∷ text)
+files_text (c ∷ text) = files_in (if c == 91 then after_first (is 93) text else after_last (is 47) (past_slash (c ∷ text)))
 
 -- it begins with `#`, or with `@` for shells in which `#` speaks
 abbrev pub begins_id : List ℕ → Bool
@@ -124,13 +155,17 @@ abbrev pub SpellsSomeFiles : List ℕ → Option Files → Type 0
 SpellsSomeFiles text None = text ≡ []
 SpellsSomeFiles text (Some f) = (text ≢ []) × SpellsFiles text f
 
--- the texts of a DIR and of FILES say this
-abbrev pub IsWithin : ℕ → List ℕ → List ℕ → Said → Type 0
-IsWithin separator folder_says files_says (File f) = ⊥
-IsWithin separator folder_says files_says (Within folder files) = SpellsFolder separator folder_says folder × SpellsSomeFiles files_says files
+-- the texts of a DIR, of one more directory and of FILES say this
+abbrev pub IsWithin : ℕ → List ℕ → List ℕ → List ℕ → Said → Type 0
+IsWithin separator dir more files (File f) = ⊥
+IsWithin separator dir more files (Within folder some) = SpellsFolder separator dir more folder × SpellsSomeFiles files some
 
--- what a text says
+-- what a text without a device says
+abbrev pub SaysHere : List ℕ → Said → Type 0
+SaysHere text (File f) = (begins_id text ≡ true) × IsId (drop 1 text) f
+SaysHere text (Within folder files) =
+    (begins_id text ≡ false) × IsClosed text × IsWithin (separator_of text) (folder_text text) (more_text text) (files_text text) (Within folder files)
+
+-- what a text says, which is not empty; a device in front says nothing
 abbrev pub Says : List ℕ → Said → Type 0
-Says text (File f) = (begins_id text ≡ true) × IsId (drop 1 text) f
-Says text (Within folder files) =
-    (text ≢ []) × (begins_id text ≡ false) × IsClosed text × IsWithin (separator_of text) (folder_text text) (files_text text) (Within folder files)
+Says text said = (text ≢ []) × SaysHere (past_device text) said

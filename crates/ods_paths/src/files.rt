@@ -1,8 +1,8 @@
 //! The part of a path that names files.
-ghost use Rattle.std.specs.Prelude.{◌≡◌, ◌↔◌, ◌⊎◌, false, IsTrue, MatchResult};
-ghost use Rattle.std.specs.List.{before_first, after_first};
-ghost use Rattle.ods_text.specs.{Cuts.IsFirst, Cuts.Has, Cuts.is, One.IsTheOne};
-ghost use Rattle.ods_paths.specs.{Patterns.has_wildcard as wild, Paths.SpellsFiles, Paths.IsVersions, Paths.begins_version, Bad.IsBadFiles, Views.files};
+ghost use Rattle.std.specs.Prelude.{◌≡◌, ◌↔◌, ◌⊎◌, true, IsTrue, MatchResult};
+ghost use Rattle.std.specs.List.{before_first};
+ghost use Rattle.ods_text.specs.{Cuts.IsFirst, Cuts.Has, Cuts.cut_of, Cuts.is, One.IsTheOne};
+ghost use Rattle.ods_paths.specs.{Patterns.has_wildcard as wild, Paths.SpellsFiles, Paths.IsVersions, Paths.begins_version, Paths.kind_in, Bad.IsBadFiles, Views.files};
 
 use crate::versions::read_version;
 use crate::{BadPath, Versions, has_wildcard, is_pattern};
@@ -12,6 +12,9 @@ use ods_text::{cut_at, has_byte};
 const NAME_SIZE: usize = 9;
 
 const TYPE_SIZE: usize = 3;
+
+/// Any type.
+const ANY: &[u8] = b"*";
 
 /// Files that a path names: the patterns of their name and of their type, in either case, and their versions, where they are said.
 #[derive(Clone, Copy)]
@@ -33,7 +36,7 @@ pub(crate) fn read_files(text: &[u8]) -> Result<Files<'_>, BadPath>
     if !is_pattern(TYPE_SIZE, kind) {
         return Err(BadPath::Type);
     }
-    if !is_dotted(name, full) {
+    if !is_dotted(full) {
         return Err(BadPath::NoDot);
     }
     let Some(versions) = read_versions(text) else {
@@ -46,21 +49,21 @@ pub(crate) fn read_files(text: &[u8]) -> Result<Files<'_>, BadPath>
     })
 }
 
-/// The name and the type, which is empty where there is no `.`.
+/// The name and the type; where there is no `.` any type.
 fn split_name(full: &[u8]) -> (&[u8], &[u8])
-    ensures { (result.0.now ≡ before_first (is 46) full.now) × (result.1.now ≡ after_first (is 46) full.now) }
+    ensures { (result.0.now ≡ before_first (is 46) full.now) × (result.1.now ≡ kind_in (cut_of 46 full.now)) }
 {
     match cut_at(b'.', full) {
         Some(parts) => parts,
-        None => (full, &full[full.len()..]),
+        None => (full, ANY),
     }
 }
 
-/// Whether the name is no pattern, or there is a `.`.
-fn is_dotted(name: &[u8], full: &[u8]) -> bool
-    ensures { IsTrue result ↔ ((wild name.now ≡ false) ⊎ Has 46 full.now) }
+/// Whether there is a `.` or a wildcard.
+fn is_dotted(full: &[u8]) -> bool
+    ensures { IsTrue result ↔ (Has 46 full.now ⊎ (wild full.now ≡ true)) }
 {
-    !has_wildcard(name) || has_byte(b'.', full)
+    has_byte(b'.', full) || has_wildcard(full)
 }
 
 /// What stands before the `;` or `:` of the version, or all where there is none.

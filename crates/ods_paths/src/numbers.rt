@@ -1,13 +1,24 @@
 //! Groups and members, in octal.
-ghost use Rattle.std.specs.Prelude.{ℕ, MatchOption};
-ghost use Rattle.ods_text.specs.One.{IsTheOne};
-ghost use Rattle.ods_paths.specs.Numbers.{IsChoice, IsNumberedName};
+ghost use Rattle.std.specs.Prelude.{◌≡◌, ℕ, MatchOption};
+ghost use Rattle.std.specs.List.{before_first, after_first};
+ghost use Rattle.ods_text.specs.Cuts.{is};
+ghost use Rattle.ods_paths.specs.Numbers.{choice_of, IsNumberedName};
 
-use ods_text::{is_text, read_octal};
+use ods_text::{cut_at, is_text, read_octal};
 
-/// The group or member that a text spells, `None` for each.
+/// What stands before the first `byte`, and what stands behind it; all, and nothing, where there is none.
+pub(crate) fn cut_first(byte: u8, text: &[u8]) -> (&[u8], &[u8])
+    ensures { (result.0.now ≡ before_first (is byte) text.now) × (result.1.now ≡ after_first (is byte) text.now) }
+{
+    match cut_at(byte, text) {
+        Some(parts) => parts,
+        None => (text, &text[text.len()..]),
+    }
+}
+
+/// The group or the member that a text is, `Some(None)` for each; `None` for any other text.
 pub(crate) fn read_choice(text: &[u8]) -> Option<Option<u8>>
-    ensures { IsTheOne (IsChoice text.now) result }
+    ensures { result ≡ choice_of text.now }
 {
     if is_text(text, b"*") {
         return Some(None);

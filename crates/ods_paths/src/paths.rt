@@ -1,15 +1,17 @@
 //! What the text of a path says.
-ghost use Rattle.std.specs.Prelude.{◌∷◌, MatchResult};
-ghost use Rattle.ods_text.specs.One.{IsTheOne};
-ghost use Rattle.ods_paths.specs.{Numbers.IsId, Paths.Says, Paths.IsWithin, Bad.IsBad, Bad.IsBadWithin, Views.said};
+ghost use Rattle.std.specs.Prelude.{◌∷◌, [], MatchResult};
+ghost use Rattle.std.specs.List.{after_last};
+ghost use Rattle.ods_text.specs.{Cuts.is, One.IsTheOne};
+ghost use Rattle.ods_paths.specs.{Numbers.IsId, Paths.Says, Paths.SaysHere, Paths.IsWithin, Paths.before_files, Paths.files_in, Bad.IsBad, Bad.IsBadHere, Bad.IsBadWithin, Views.said};
 
 use crate::files::read_files;
 use crate::folders::read_folder;
+use crate::parts::{names_directory, past_device, past_slash};
 use crate::{BadPath, Files, Folder};
 use ods_base::FileId;
 use ods_text::{cut_at, cut_last, read_small};
 
-/// What a path says: a file by its ID, or a directory and, where they are said, files in it.
+/// What a path says: a file by its ID, or directories and, where they are said, files in them.
 #[derive(Clone, Copy)]
 pub enum Path<'a> {
     /// The file with this ID.
@@ -22,8 +24,18 @@ pub enum Path<'a> {
 pub fn parse_path(text: &[u8]) -> Result<Path<'_>, BadPath>
     ensures { MatchResult result (λ p. Says text.now (said p)) (IsBad text.now) }
 {
-    let Some((first, rest)) = text.split_first() else {
+    if text.is_empty() {
         return Err(BadPath::Empty);
+    }
+    parse_here(past_device(text))
+}
+
+/// What a text without a device says.
+fn parse_here(text: &[u8]) -> Result<Path<'_>, BadPath>
+    ensures { MatchResult result (λ p. SaysHere text.now (said p)) (IsBadHere text.now) }
+{
+    let Some((first, rest)) = text.split_first() else {
+        return parse_slashed(text);
     };
     if *first == b'#' || *first == b'@' {
         let Some(file) = read_id(rest) else {
@@ -34,28 +46,47 @@ pub fn parse_path(text: &[u8]) -> Result<Path<'_>, BadPath>
     if *first == b'[' {
         return parse_bracketed(rest);
     }
-    let (folder, files) = cut_last(b'/', text);
-    within(b'/', folder, files)
+    parse_slashed(past_slash(text))
 }
 
-/// What the text of a path says that begins with `[`, from what stands behind that.
+/// What a text says that begins with `[`, from what stands behind that.
 fn parse_bracketed(rest: &[u8]) -> Result<Path<'_>, BadPath>
-    ensures { MatchResult result (λ p. Says (91 ∷ rest.now) (said p)) (IsBad (91 ∷ rest.now)) }
+    ensures { MatchResult result (λ p. SaysHere (91 ∷ rest.now) (said p)) (IsBadHere (91 ∷ rest.now)) }
 {
-    let Some((folder, files)) = cut_at(b']', rest) else {
+    let Some((dir, last)) = cut_at(b']', rest) else {
         return Err(BadPath::Bracket);
     };
-    if folder.is_empty() {
+    if dir.is_empty() {
         return Err(BadPath::Bracket);
     }
-    within(b'.', folder, files)
+    if names_directory(last) {
+        return within(b'.', dir, last, b"");
+    }
+    within(b'.', dir, b"", last)
 }
 
-/// The directory that its text says, with this separator between names, and the files in it.
-fn within<'a>(separator: u8, folder: &'a [u8], files: &'a [u8]) -> Result<Path<'a>, BadPath>
-    ensures { MatchResult result (λ p. IsWithin separator folder.now files.now (said p)) (IsBadWithin separator folder.now files.now) }
+/// What a text without brackets says, behind a `/` that it begins with.
+fn parse_slashed(text: &[u8]) -> Result<Path<'_>, BadPath>
+    ensures { MatchResult result (λ p. IsWithin 47 (before_files text.now) [] (files_in (after_last (is 47) text.now)) (said p))
+        (IsBadWithin 47 (before_files text.now) [] (files_in (after_last (is 47) text.now))) }
 {
-    let Some(folder) = read_folder(separator, folder) else {
+    let (dir, last) = cut_last(b'/', text);
+    if names_directory(last) {
+        return within(b'/', text, b"", b"");
+    }
+    within(b'/', dir, b"", last)
+}
+
+/// The directories that the text of a DIR says, with this separator between names, and one more behind it; and the files in them.
+fn within<'a>(
+    separator: u8,
+    dir: &'a [u8],
+    more: &'a [u8],
+    files: &'a [u8],
+) -> Result<Path<'a>, BadPath>
+    ensures { MatchResult result (λ p. IsWithin separator dir.now more.now files.now (said p)) (IsBadWithin separator dir.now more.now files.now) }
+{
+    let Some(folder) = read_folder(separator, dir, more) else {
         return Err(BadPath::Directory);
     };
     if files.is_empty() {

@@ -8,6 +8,7 @@ pub mod ReadSoFar
 pub mod ShortLines
 pub mod SizedLines
 pub mod Standing
+pub mod LongRecords
 pub mod Surveyed
 pub mod WrittenSoFar
 pub mod WrittenStands

@@ -7,6 +7,7 @@ mod forms;
 mod kind;
 mod laws;
 mod lines;
+mod long;
 mod near;
 mod reading;
 mod sized;
@@ -25,6 +26,7 @@ pub use laws::{
     end_is_set, lines_come_back, one_fault, one_reading, plain_text_comes_back, records_or_fault,
     written_is_read,
 };
+pub use long::{LongRecord, first_long};
 pub use near::{NearText, why_no_text};
 pub use reading::records_to_text;
 pub use sized::{fixed_to_text, stream_to_text};

@@ -1,5 +1,5 @@
 -- A chain followed from header to header, each at its place.
-use Rattle.std.proofs.Common.{◌≡◌, ℕ, Bool, not, sym, ap, subst, List, [], ◌∷◌, ◌++◌, append_assoc, ◌∙◌}
+use Rattle.std.proofs.Common.{◌≡◌, ℕ, Bool, not, refl, sym, ap, subst, List, [], ◌∷◌, ◌++◌, append_assoc, ◌∙◌}
 use Rattle.std.specs.Prelude.{◌==◌}
 use Rattle.std.proofs.lemmas.List.{append-nil}
 use Rattle.std.proofs.lemmas.Grind.{flat_map-append}
@@ -41,3 +41,15 @@ module _ (block : ℕ → List ℕ) (Leads IsNext : ℕ → ℕ → Type 0) (fir
     -- where nothing leads on, the chain goes along what was passed
     pub along : ((c : ℕ) → ¬ Leads at c) → GoesAlong block Leads IsNext first so.passed cut
     along none = subst (λ xs. GoesAlong block Leads IsNext first xs cut) (append-nil so.passed) (so.onward [] cut (none, so.ends))
+
+    -- the same by the headers alone
+    pub one_more : (next : ℕ) → IsNext at next → (headers_on : List ℕ) (cut_on : Bool) → headers_on ≡ headers ++ next ∷ [] → cut_on ≡ not (next_number_of (block next) == 0)
+        → IsFollowed block Leads IsNext first headers_on (named_at block headers_on) cut_on next
+    one_more next is headers_on cut_on more ends =
+        let on = one_further next is headers_on (named ++ blocks_of (block next)) cut_on more refl ends in
+        subst (λ bs. IsFollowed block Leads IsNext first headers_on bs cut_on next) on.blocks on
+
+  pub begun_by : (headers : List ℕ) (cut : Bool) → headers ≡ first ∷ [] → cut ≡ not (next_number_of (block first) == 0) → IsFollowed block Leads IsNext first headers (named_at block headers) cut first
+  begun_by headers cut one ends =
+      let on = begun headers (blocks_of (block first)) cut one refl ends in
+      subst (λ bs. IsFollowed block Leads IsNext first headers bs cut first) on.blocks on

@@ -4,6 +4,8 @@ pub mod Going
 pub mod Following
 pub mod ListedKeys
 pub mod FormerFiles
+pub mod FileFronts
 pub mod Sharing
 pub mod Repeats
+pub mod Summing
 pub mod Wholeness

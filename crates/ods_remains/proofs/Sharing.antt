@@ -1,16 +1,17 @@
 -- Tables of the lowest and the highest deleted file that names a block.
-use Rattle.std.proofs.Common.{◌≡◌, ◌≢◌, ◌⊎◌, inl, inr, ℕ, ◌+◌, ◌<◌, ◌≤◌, Bool, refl, sym, ap, subst, List, [], ◌∷◌, ◌++◌, length, Option, Some, None, arith, ◌∙◌}
+use Rattle.std.proofs.Common.{◌≡◌, ◌≢◌, ◌⊎◌, inl, inr, ℕ, ◌+◌, ◌-◌, ◌<◌, ◌≤◌, Bool, true, false, refl, sym, ap, subst, List, [], ◌∷◌, ◌++◌, length, take, Option, Some, None, arith, ◌∙◌}
 use Rattle.std.specs.Prelude.{slice_index, slice_set}
 use Rattle.std.specs.List.{Contains}
 use Rattle.std.proofs.lemmas.Bool.{cases_lt, cases_eq}
+use Rattle.std.proofs.Math.Seq.{take-append_seam}
 use Rattle.std.proofs.lemmas.List.{get_or-set_same, get_or-set_other, get_or_past, length-set}
-use Rattle.std.proofs.lemmas.List.Elements.{Contains-append_left, Contains-push, Contains-push_cases}
+use Rattle.std.proofs.lemmas.List.Elements.{Contains-append_left, Contains-append_right, Contains-append_cases, Contains-push, Contains-push_cases}
+use Rattle.ods_header.specs.Header.{blocks_of}
 use Rattle.ods_space.specs.Layout.{VolumeLayout, last_number}
-use Rattle.ods_remains.specs.Chains.{GoesAlong, named_at}
-use Rattle.ods_remains.specs.Deleted.{IsDeletedFile, IsFormerFile, LeadsOn, former}
-use Rattle.ods_remains.specs.declared.former.DeletedFile.{DeletedFile}
-use Rattle.ods_remains.specs.Shared.{HasFormerBlocks, NamesBlock, IsLowest, IsHighest, AreTables, IsOverwritten, IsFilled, IsOtherOf, IsSharerAt}
-use Rattle.ods_remains.proofs.FormerFiles.{named}
+use Rattle.ods_remains.specs.Chains.{named_at}
+use Rattle.ods_remains.specs.Deleted.{IsDeleted, IsDeletedFile, former}
+use Rattle.ods_remains.specs.Shared.{NamesBlock, IsFirstNaming, IsTable, IsNoted, AreSeen, AreTables, AreWithin, IsFilled, IsOtherOf, IsSharerAt, is_seen}
+use Rattle.ods_remains.proofs.FileFronts.{only_one, chain_deleted, front_names, front_comes, front_all}
 
 module _ (n : ℕ) (old : List ℕ) where
   not_pushed : (places : List ℕ) (p lbn : ℕ) → lbn ≢ p → ¬ Contains places lbn → ¬ Contains (places ++ p ∷ []) lbn
@@ -20,24 +21,6 @@ module _ (n : ℕ) (old : List ℕ) where
   ]
 
   module _ (places now : List ℕ) (size : length now ≡ length old) (p : ℕ) where
-    module _ (so : IsOverwritten n places old now) where
-      pub over_set : p < length now → IsOverwritten n (places ++ p ∷ []) old (slice_set now p n)
-      over_set low lbn inside = elim (cases_eq lbn p) [
-        | inl same ↦ inl (subst (Contains (places ++ p ∷ [])) (sym same) (Contains-push places p), ap (slice_index (slice_set now p n)) same ∙ get_or-set_same now p n 0 low)
-        | inr other ↦ elim (so lbn inside) [
-          | inl one ↦ inl (Contains-append_left places (p ∷ []) lbn one.0, get_or-set_other now p lbn n 0 other ∙ one.1)
-          | inr none ↦ inr (not_pushed places p lbn other none.0, get_or-set_other now p lbn n 0 other ∙ none.1)
-        ]
-      ]
-
-      pub over_past : length now ≤ p → IsOverwritten n (places ++ p ∷ []) old now
-      over_past past lbn inside =
-          let other : lbn ≢ p = λ same. absurd (omega (arith, past, inside, size, same)) in
-          elim (so lbn inside) [
-            | inl one ↦ inl (Contains-append_left places (p ∷ []) lbn one.0, one.1)
-            | inr none ↦ inr (not_pushed places p lbn other none.0, none.1)
-          ]
-
     module _ (some : n ≢ 0) (so : IsFilled n places old now) where
       -- at another place all is as it was
       fill_other : (lbn : ℕ) (new : ℕ) → lbn < length old → lbn ≢ p → new ≡ slice_index now lbn
@@ -80,14 +63,6 @@ module _ (n : ℕ) (old : List ℕ) where
           let other : lbn ≢ p = λ same. absurd (omega (arith, past, inside, size, same)) in
           fill_other lbn (slice_index now lbn) inside other refl
 
--- one place more is overwritten
-pub over_step : (n : ℕ) (old places now : List ℕ) (p : ℕ) (new : List ℕ) → length now ≡ length old → IsOverwritten n places old now
-    → ((p < length now) × (new ≡ slice_set now p n)) ⊎ ((length now ≤ p) × (new ≡ now)) → (length new ≡ length old) × IsOverwritten n (places ++ p ∷ []) old new
-over_step n old places now p new size so (inl put) =
-    (ap length put.1 ∙ length-set now p n ∙ size, subst (IsOverwritten n (places ++ p ∷ []) old) (sym put.1) (over_set n old places now size p so put.0))
-over_step n old places now p new size so (inr past) =
-    (ap length past.1 ∙ size, subst (IsOverwritten n (places ++ p ∷ []) old) (sym past.1) (over_past n old places now size p so past.0))
-
 -- one place more is filled
 pub fill_step : (n : ℕ) (old places now : List ℕ) (p : ℕ) (new : List ℕ) → n ≢ 0 → length now ≡ length old → IsFilled n places old now
     → ((p < length now) × (slice_index now p ≡ 0) × (new ≡ slice_set now p n)) ⊎ (((length now ≤ p) ⊎ (slice_index now p ≢ 0)) × (new ≡ now)) → (length new ≡ length old) × IsFilled n (places ++ p ∷ []) old new
@@ -102,145 +77,170 @@ fill_step n old places now p new some size so (inr kept) = (
 )
 
 module _ (I : List (List ℕ)) (L : VolumeLayout) where
-  -- a chain goes one way
-  one_way : (a : ℕ) (xs ys : List ℕ) (c d : Bool) → GoesAlong (former I L) (LeadsOn I L) (LeadsOn I L) a xs c → GoesAlong (former I L) (LeadsOn I L) (LeadsOn I L) a ys d → xs ≡ ys
-  one_way a [] [] c d g h = refl
-  one_way a [] (y ∷ ys) c d g h = absurd (g.0 y h.0)
-  one_way a (x ∷ xs) [] c d g h = absurd (h.0 x g.0)
-  one_way a (x ∷ xs) (y ∷ ys) c d g h =
-      let same : x ≡ y = named I L a x g.0 ∙ sym (named I L a y h.0) in
-      let rest : xs ≡ ys = one_way x xs ys c d g.1 (subst (λ k. GoesAlong (former I L) (LeadsOn I L) (LeadsOn I L) k ys d) (sym same) h.1) in
-      ap (λ k. k ∷ xs) same ∙ ap (λ zs. y ∷ zs) rest
-
-  same_blocks : (n : ℕ) (xs ys : List ℕ) → HasFormerBlocks I L n xs → HasFormerBlocks I L n ys → xs ≡ ys
-  same_blocks n xs ys one other =
-      one.named ∙ ap (λ rest. named_at (former I L) (n ∷ rest)) (one_way n one.others other.others one.cut other.cut one.chain other.chain) ∙ sym other.named
-
   -- 0 is no deleted file
   names_some : (m lbn : ℕ) → NamesBlock I L m lbn → m ≢ 0
   names_some m lbn names none = let low = names.0.0.low in absurd (omega (arith, low, none))
 
-  module _ (before : ℕ) (lowest highest : List ℕ) (so : AreTables I L before lowest highest) where
-    pub none_noted : ¬ IsDeletedFile I L (before + 1) → AreTables I L (before + 1) lowest highest
-    none_noted none = record {
-      low_size = so.low_size;
-      high_size = so.high_size;
-      low = λ lbn inside. elim (so.low lbn inside) [
-        | inl nothing ↦ inl (
-          nothing.0,
-          λ n up names. elim (cases_lt before n) [
-            | inl last ↦ let same : n ≡ before + 1 = omega (arith, up, last) in none (subst (IsDeletedFile I L) same names.0)
-            | inr earlier ↦ nothing.1 n earlier names
-          ],
-        )
-        | inr one ↦ inr (
-          one.0,
-          omega (arith, one.1),
-          λ n up names. elim (cases_lt before n) [
-            | inl last ↦ let same : n ≡ before + 1 = omega (arith, up, last) in absurd (none (subst (IsDeletedFile I L) same names.0))
-            | inr earlier ↦ one.2 n earlier names
-          ],
-        )
-      ];
-      high = λ lbn inside. elim (so.high lbn inside) [
-        | inl nothing ↦ inl (
-          nothing.0,
-          λ n up names. elim (cases_lt before n) [
-            | inl last ↦ let same : n ≡ before + 1 = omega (arith, up, last) in none (subst (IsDeletedFile I L) same names.0)
-            | inr earlier ↦ nothing.1 n earlier names
-          ],
-        )
-        | inr one ↦ inr (
-          one.0,
-          omega (arith, one.1),
-          λ n up names. elim (cases_lt before n) [
-            | inl last ↦ let same : n ≡ before + 1 = omega (arith, up, last) in absurd (none (subst (IsDeletedFile I L) same names.0))
-            | inr earlier ↦ one.2 n earlier names
-          ],
-        )
-      ];
+  named_there : (headers : List ℕ) (lbn : ℕ) → Contains (named_at (former I L) headers) lbn → ((h : ℕ) → Contains headers h → IsDeleted I L h) → (h : ℕ) × IsDeleted I L h × Contains (blocks_of (former I L h)) lbn
+  named_there [] lbn has deleted = let none = has.1 in absurd (omega (arith, none))
+  named_there (x ∷ xs) lbn has deleted = elim (Contains-append_cases (blocks_of (former I L x)) (named_at (former I L) xs) lbn has) [
+    | inl here ↦ (x, deleted x (Contains-append_left (x ∷ []) xs x (0, omega arith, refl)), here)
+    | inr there ↦ named_there xs lbn there (λ h more. deleted h (Contains-append_right (x ∷ []) xs h more))
+  ]
+
+  -- a block that a deleted file names is one that a deleted header names
+  names_within : (size : ℕ) → AreWithin I L size → (n lbn : ℕ) → NamesBlock I L n lbn → lbn < size
+  names_within size within n lbn names =
+      let of = names.2 in
+      let headers : List ℕ = n ∷ of.others in
+      let deleted : (h : ℕ) → Contains headers h → IsDeleted I L h = λ h has. elim (Contains-append_cases (n ∷ []) of.others h has) [
+        | inl one ↦ subst (IsDeleted I L) (sym (only_one n h one)) names.0.0
+        | inr more ↦ chain_deleted I L n of.others of.cut of.chain h more
+      ] in
+      let it = named_there headers lbn (subst (λ xs. Contains xs lbn) of.named names.3) deleted in
+      within it.0 lbn it.1 it.2
+
+  module _ (Among : ℕ → Type 0) (IsBefore : ℕ → ℕ → Type 0) where
+    -- before any file a table is zeros, and nothing was seen
+    pub table_begun : (table : List ℕ) (seen : List Bool) → ((n : ℕ) → Among n → ¬ IsDeletedFile I L n) → ((i : ℕ) → slice_index table i ≡ 0) → ((h : ℕ) → is_seen seen h ≡ false) → IsTable I L Among IsBefore table seen
+    table_begun table seen none zeros unseen = record {
+      first = λ lbn inside. inl (zeros lbn, λ n among names. none n among names.0);
+      met = λ h was. let clash : false ≡ true = sym (unseen h) ∙ was in absurd (cc);
     }
 
-    module _ (blocks : List ℕ) (is : IsDeletedFile I L (before + 1)) (has_blocks : HasFormerBlocks I L (before + 1) blocks) where
-      it_names : (lbn : ℕ) → Contains blocks lbn → NamesBlock I L (before + 1) lbn
-      it_names lbn has = (is, blocks, has_blocks, has)
+    -- behind all files it is that of all
+    pub table_ended : (table : List ℕ) (seen : List Bool) → ((n : ℕ) → IsDeletedFile I L n → Among n) → IsTable I L Among IsBefore table seen
+        → (lbn : ℕ) → lbn < length table → IsFirstNaming I L (λ n. Unit {0}) IsBefore lbn (slice_index table lbn)
+    table_ended table seen all so lbn inside = elim (so.first lbn inside) [
+      | inl none ↦ inl (none.0, λ n any names. none.1 n (all n names.0) names)
+      | inr one ↦ inr (one.0, tt, λ n any names. one.2 n (all n names.0) names)
+    ]
 
-      named_by_it : (n lbn : ℕ) → n ≡ before + 1 → NamesBlock I L n lbn → Contains blocks lbn
-      named_by_it n lbn same names =
-          let mine : NamesBlock I L (before + 1) lbn = subst (λ k. NamesBlock I L k lbn) same names in
-          subst (λ xs. Contains xs lbn) (same_blocks (before + 1) mine.1 blocks mine.2 has_blocks) mine.3
+    pub seen_any : (seen : List Bool) → AreSeen I L Among seen → AreSeen I L (λ n. Unit {0}) seen
+    seen_any seen so h was = let of = so h was in (of.0, tt, of.2)
 
-      low_on : (lbn old new : ℕ) → IsLowest I L before lbn old
-          → (Contains blocks lbn × (old ≡ 0) × (new ≡ before + 1)) ⊎ (((¬ Contains blocks lbn) ⊎ (old ≢ 0)) × (new ≡ old)) → IsLowest I L (before + 1) lbn new
-      low_on lbn old new (inl nothing) (inl put) = subst (IsLowest I L (before + 1) lbn) (sym put.2) (inr (
-        it_names lbn put.0,
-        omega arith,
-        λ n up names. elim (cases_lt before n) [
-          | inl last ↦ omega (arith, last)
-          | inr earlier ↦ absurd (nothing.1 n earlier names)
-        ],
-      ))
-      low_on lbn old new (inr one) (inl put) = absurd (names_some old lbn one.0 put.1)
-      low_on lbn old new (inl nothing) (inr kept) = elim kept.0 [
-        | inl none ↦ subst (IsLowest I L (before + 1) lbn) (sym kept.1) (inl (
-          nothing.0,
-          λ n up names. elim (cases_lt before n) [
-            | inl last ↦ let same : n ≡ before + 1 = omega (arith, up, last) in none (named_by_it n lbn same names)
-            | inr earlier ↦ nothing.1 n earlier names
+    module _ (On : ℕ → Type 0) (k : ℕ) (split : (n : ℕ) → On n → (n ≡ k) ⊎ Among n) (joins : (n : ℕ) → Among n → On n) (table : List ℕ) (seen : List Bool) (so : IsTable I L Among IsBefore table seen) where
+      -- a number that is no deleted file changes nothing
+      pub table_same : ¬ IsDeletedFile I L k → IsTable I L On IsBefore table seen
+      table_same other = record {
+        first = λ lbn inside. elim (so.first lbn inside) [
+          | inl none ↦ inl (
+            none.0,
+            λ n on names. elim (split n on) [
+              | inl same ↦ other (subst (IsDeletedFile I L) same names.0)
+              | inr among ↦ none.1 n among names
+            ],
+          )
+          | inr one ↦ inr (
+            one.0,
+            joins (slice_index table lbn) one.1,
+            λ n on names. elim (split n on) [
+              | inl same ↦ absurd (other (subst (IsDeletedFile I L) same names.0))
+              | inr among ↦ one.2 n among names
+            ],
+          )
+        ];
+        met = λ h was. let of = so.met h was in (of.0, joins of.0 of.1, of.2);
+      }
+
+      module _ (here : On k) (behind : (m : ℕ) → Among m → IsBefore m k) (self : IsBefore k k) (new : List ℕ) (marked : List Bool) (noted : IsNoted I L k table seen new marked) where
+        it_names : (lbn : ℕ) → Contains noted.blocks lbn → NamesBlock I L k lbn
+        it_names = front_names I L seen k noted.headers noted.blocks noted.deleted noted.front
+
+        first_on : (lbn was is : ℕ) → IsFirstNaming I L Among IsBefore lbn was
+            → (Contains noted.blocks lbn × (was ≡ 0) × (is ≡ k)) ⊎ (((¬ Contains noted.blocks lbn) ⊎ (was ≢ 0)) × (is ≡ was)) → IsFirstNaming I L On IsBefore lbn is
+        first_on lbn was is (inl none) (inl put) = subst (IsFirstNaming I L On IsBefore lbn) (sym put.2) (inr (
+          it_names lbn put.0,
+          here,
+          λ n on names. elim (split n on) [
+            | inl same ↦ subst (IsBefore k) (sym same) self
+            | inr among ↦ absurd (none.1 n among names)
           ],
         ))
-        | inr some ↦ absurd (some nothing.0)
-      ]
-      low_on lbn old new (inr one) (inr kept) = subst (IsLowest I L (before + 1) lbn) (sym kept.1) (inr (
-        one.0,
-        omega (arith, one.1),
-        λ n up names. elim (cases_lt before n) [
-          | inl last ↦ omega (arith, last, one.1)
-          | inr earlier ↦ one.2 n earlier names
-        ],
-      ))
+        first_on lbn was is (inr one) (inl put) = absurd (names_some was lbn one.0 put.1)
+        first_on lbn was is (inl none) (inr kept) = subst (IsFirstNaming I L On IsBefore lbn) (sym kept.1) (inl (
+          none.0,
+          λ n on names. elim (split n on) [
+            | inl same ↦
+                elim (front_all I L seen k noted.headers noted.blocks noted.deleted noted.front Among so.met lbn (subst (λ m. NamesBlock I L m lbn) same names)) [
+                  | inl has ↦ elim kept.0 [
+                    | inl out ↦ out has
+                    | inr some ↦ some none.0
+                  ]
+                  | inr other ↦ none.1 other.0 other.1 other.2
+                ]
+            | inr among ↦ none.1 n among names
+          ],
+        ))
+        first_on lbn was is (inr one) (inr kept) = subst (IsFirstNaming I L On IsBefore lbn) (sym kept.1) (inr (
+          one.0,
+          joins was one.1,
+          λ n on names. elim (split n on) [
+            | inl same ↦ subst (IsBefore was) (sym same) (behind was one.1)
+            | inr among ↦ one.2 n among names
+          ],
+        ))
 
-      high_on : (lbn old new : ℕ) → IsHighest I L before lbn old
-          → (Contains blocks lbn × (new ≡ before + 1)) ⊎ ((¬ Contains blocks lbn) × (new ≡ old)) → IsHighest I L (before + 1) lbn new
-      high_on lbn old new was (inl put) = subst (IsHighest I L (before + 1) lbn) (sym put.1) (inr (it_names lbn put.0, omega arith, λ n up names. up))
-      high_on lbn old new (inl nothing) (inr kept) = subst (IsHighest I L (before + 1) lbn) (sym kept.1) (inl (
-        nothing.0,
-        λ n up names. elim (cases_lt before n) [
-          | inl last ↦ let same : n ≡ before + 1 = omega (arith, up, last) in kept.0 (named_by_it n lbn same names)
-          | inr earlier ↦ nothing.1 n earlier names
-        ],
-      ))
-      high_on lbn old new (inr one) (inr kept) = subst (IsHighest I L (before + 1) lbn) (sym kept.1) (inr (
-        one.0,
-        omega (arith, one.1),
-        λ n up names. elim (cases_lt before n) [
-          | inl last ↦ let same : n ≡ before + 1 = omega (arith, up, last) in absurd (kept.0 (named_by_it n lbn same names))
-          | inr earlier ↦ one.2 n earlier names
-        ],
-      ))
+        -- a deleted file more is noted
+        pub table_noted : IsTable I L On IsBefore new marked
+        table_noted = record {
+          first = λ lbn inside.
+              let low : lbn < length table = subst (λ s. lbn < s) noted.size inside in
+              first_on lbn (slice_index table lbn) (slice_index new lbn) (so.first lbn low) (noted.filled lbn low);
+          met = λ h is. elim (noted.marked.only h is) [
+            | inl was ↦ let of = so.met h was in (of.0, joins of.0 of.1, of.2)
+            | inr mine ↦ (k, here, front_comes I L seen k noted.headers noted.blocks noted.deleted noted.front h mine)
+          ];
+        }
 
-      pub one_noted : (low high : List ℕ) → IsFilled (before + 1) blocks lowest low → length low ≡ length lowest → IsOverwritten (before + 1) blocks highest high → length high ≡ length highest
-          → AreTables I L (before + 1) low high
-      one_noted low high filled low_size over high_size = record {
-        low_size = low_size ∙ so.low_size;
-        high_size = high_size ∙ so.high_size;
-        low = λ lbn inside. low_on lbn (slice_index lowest lbn) (slice_index low lbn) (so.low lbn inside) (filled lbn (subst (λ k. lbn < k) (sym so.low_size) inside));
-        high = λ lbn inside. high_on lbn (slice_index highest lbn) (slice_index high lbn) (so.high lbn inside) (over lbn (subst (λ k. lbn < k) (sym so.high_size) inside));
-      }
+  -- what noting a number does to its table, or leaves
+  abbrev pub notes : ℕ → List ℕ → List Bool → List ℕ → List Bool → Type 0
+  notes k table seen new marked = IsNoted I L k table seen new marked ⊎ ((¬ IsDeletedFile I L k) × (new ≡ table) × (marked ≡ seen))
 
-  -- before any file the tables are zeros
-  pub zeros_noted : (lowest highest : List ℕ) → length lowest ≡ length I → length highest ≡ length I → ((i : ℕ) → slice_index lowest i ≡ 0) → ((i : ℕ) → slice_index highest i ≡ 0) → AreTables I L 0 lowest highest
-  zeros_noted lowest highest low_size high_size low high =
-      let none : (lbn n : ℕ) → n ≤ 0 → ¬ NamesBlock I L n lbn = λ lbn n up names. names_some n lbn names (omega (arith, up)) in
-      record {
-        low_size = low_size;
-        high_size = high_size;
-        low = λ lbn inside. inl (low lbn, none lbn);
-        high = λ lbn inside. inl (high lbn, none lbn);
-      }
+  step : (Among : ℕ → Type 0) (IsBefore : ℕ → ℕ → Type 0) (On : ℕ → Type 0) (k : ℕ) → ((n : ℕ) → On n → (n ≡ k) ⊎ Among n) → ((n : ℕ) → Among n → On n) → On k → ((m : ℕ) → Among m → IsBefore m k) → IsBefore k k
+      → (table : List ℕ) (seen : List Bool) (new : List ℕ) (marked : List Bool) → IsTable I L Among IsBefore table seen → notes k table seen new marked
+      → (length new ≡ length table) × IsTable I L On IsBefore new marked
+  step Among IsBefore On k split joins here behind self table seen new marked so (inl noted) =
+      (noted.size, table_noted Among IsBefore On k split joins table seen so here behind self new marked noted)
+  step Among IsBefore On k split joins here behind self table seen new marked so (inr kept) = (
+    ap length kept.1,
+    subst (IsTable I L On IsBefore new) (sym kept.2) (subst (λ t. IsTable I L On IsBefore t seen) (sym kept.1) (table_same Among IsBefore On k split joins table seen so kept.0)),
+  )
+
+  pub low_step : (before : ℕ) (table : List ℕ) (seen : List Bool) (new : List ℕ) (marked : List Bool) → IsTable I L (λ n. n ≤ before) (λ m n. m ≤ n) table seen → notes (before + 1) table seen new marked
+      → (length new ≡ length table) × IsTable I L (λ n. n ≤ before + 1) (λ m n. m ≤ n) new marked
+  low_step before =
+      let split : (n : ℕ) → n ≤ before + 1 → (n ≡ before + 1) ⊎ (n ≤ before) = λ n up. elim (cases_lt before n) [
+        | inl last ↦ inl (omega (arith, up, last))
+        | inr earlier ↦ inr earlier
+      ] in
+      step (λ n. n ≤ before) (λ m n. m ≤ n) (λ n. n ≤ before + 1) (before + 1) split (λ n up. omega (arith, up)) (omega arith) (λ m up. omega (arith, up)) (omega arith)
+
+  pub high_step : (last done : ℕ) → done < last → (table : List ℕ) (seen : List Bool) (new : List ℕ) (marked : List Bool) → IsTable I L (λ n. last - done < n) (λ m n. n ≤ m) table seen
+      → notes (last - done) table seen new marked → (length new ≡ length table) × IsTable I L (λ n. last - (done + 1) < n) (λ m n. n ≤ m) new marked
+  high_step last done more =
+      let split : (n : ℕ) → last - (done + 1) < n → (n ≡ last - done) ⊎ (last - done < n) = λ n up. elim (cases_lt (last - done) n) [
+        | inl later ↦ inr later
+        | inr here ↦ inl (omega (arith, up, here, more))
+      ] in
+      step (λ n. last - done < n) (λ m n. n ≤ m) (λ n. last - (done + 1) < n) (last - done) split (λ n up. omega (arith, up)) (omega (arith, more)) (λ m up. omega (arith, up)) (omega arith)
+
+  pub low_begun : (table : List ℕ) (seen : List Bool) → ((i : ℕ) → slice_index table i ≡ 0) → ((h : ℕ) → is_seen seen h ≡ false) → IsTable I L (λ n. n ≤ 0) (λ m n. m ≤ n) table seen
+  low_begun table seen = table_begun (λ n. n ≤ 0) (λ m n. m ≤ n) table seen (λ n up is. let low = is.0.low in absurd (omega (arith, up, low)))
+
+  pub high_begun : (table : List ℕ) (seen : List Bool) → ((i : ℕ) → slice_index table i ≡ 0) → ((h : ℕ) → is_seen seen h ≡ false) → IsTable I L (λ n. last_number L - 0 < n) (λ m n. n ≤ m) table seen
+  high_begun table seen = table_begun (λ n. last_number L - 0 < n) (λ m n. n ≤ m) table seen (λ n up is. let high = is.0.high in absurd (omega (arith, up, high)))
+
+  pub low_ended : (before : ℕ) → last_number L ≤ before → (table : List ℕ) (seen : List Bool) → IsTable I L (λ n. n ≤ before) (λ m n. m ≤ n) table seen
+      → (lbn : ℕ) → lbn < length table → IsFirstNaming I L (λ n. Unit {0}) (λ m n. m ≤ n) lbn (slice_index table lbn)
+  low_ended before past table seen = table_ended (λ n. n ≤ before) (λ m n. m ≤ n) table seen (λ n is. let high = is.0.high in omega (arith, high, past))
+
+  pub high_ended : (last done : ℕ) → last ≤ done → (table : List ℕ) (seen : List Bool) → IsTable I L (λ n. last - done < n) (λ m n. n ≤ m) table seen
+      → (lbn : ℕ) → lbn < length table → IsFirstNaming I L (λ n. Unit {0}) (λ m n. n ≤ m) lbn (slice_index table lbn)
+  high_ended last done past table seen = table_ended (λ n. last - done < n) (λ m n. n ≤ m) table seen (λ n is. let low = is.0.low in omega (arith, low, past))
 
   -- what the tables say of a block
-  module _ (n lbn low high : ℕ) (lowest : IsLowest I L (last_number L) lbn low) (highest : IsHighest I L (last_number L) lbn high) where
+  module _ (n lbn low high : ℕ) (lowest : IsFirstNaming I L (λ n. Unit {0}) (λ m n. m ≤ n) lbn low) (highest : IsFirstNaming I L (λ n. Unit {0}) (λ m n. n ≤ m) lbn high) where
     names_low : (m : ℕ) → m ≢ 0 → m ≡ low → NamesBlock I L m lbn
     names_low m some is = elim lowest [
       | inl nothing ↦ absurd (some (is ∙ nothing.0))
@@ -255,24 +255,24 @@ module _ (I : List (List ℕ)) (L : VolumeLayout) where
 
     low_is : (low ≡ 0) ⊎ (low ≡ n) → (m : ℕ) → NamesBlock I L m lbn → n ≤ m
     low_is is m names = elim lowest [
-      | inl nothing ↦ absurd (nothing.1 m names.0.0.high names)
+      | inl nothing ↦ absurd (nothing.1 m tt names)
       | inr one ↦ elim is [
         | inl none ↦ absurd (names_some low lbn one.0 none)
-        | inr same ↦ let least = one.2 m names.0.0.high names in omega (arith, least, same)
+        | inr same ↦ let least = one.2 m tt names in omega (arith, least, same)
       ]
     ]
 
     high_is : (high ≡ 0) ⊎ (high ≡ n) → (m : ℕ) → NamesBlock I L m lbn → m ≤ n
     high_is is m names = elim highest [
-      | inl nothing ↦ absurd (nothing.1 m names.0.0.high names)
+      | inl nothing ↦ absurd (nothing.1 m tt names)
       | inr one ↦ elim is [
         | inl none ↦ absurd (names_some high lbn one.0 none)
-        | inr same ↦ let most = one.2 m names.0.0.high names in omega (arith, most, same)
+        | inr same ↦ let most = one.2 m tt names in omega (arith, most, same)
       ]
     ]
 
-    pub sharer_of : (which : Option ℕ) → IsOtherOf low high n which → IsSharerAt I L n lbn which
-    sharer_of None others = λ m inside names. let up = low_is others.0 m names in let down = high_is others.1 m names in omega (arith, up, down)
+    sharer_of : (which : Option ℕ) → IsOtherOf low high n which → IsSharerAt I L n lbn which
+    sharer_of None others = λ m names. let up = low_is others.0 m names in let down = high_is others.1 m names in omega (arith, up, down)
     sharer_of (Some m) other = (
       other.1,
       elim other.2 [
@@ -281,29 +281,22 @@ module _ (I : List (List ℕ)) (L : VolumeLayout) where
       ],
     )
 
-  -- past the end of the image nothing counts, and the tables have no number
-  past_end : (n lbn low high : ℕ) → length I ≤ lbn → low ≡ 0 → high ≡ 0 → (which : Option ℕ) → IsOtherOf low high n which → IsSharerAt I L n lbn which
-  past_end n lbn low high past is_low is_high None others = λ m inside names. absurd (omega (arith, past, inside))
-  past_end n lbn low high past is_low is_high (Some m) other = absurd (other.0 (elim other.2 [
-    | inl is ↦ is ∙ is_low
-    | inr is ↦ is ∙ is_high
-  ]))
-
-  -- the same where the tables have these numbers at the block
-  pub sharer_by : (lowest highest : List ℕ) → AreTables I L (last_number L) lowest highest → (n lbn low high : ℕ) (which : Option ℕ)
-      → low ≡ slice_index lowest lbn → high ≡ slice_index highest lbn → IsOtherOf low high n which → IsSharerAt I L n lbn which
-  sharer_by lowest highest so n lbn low high which is_low is_high other = elim (cases_lt lbn (length I)) [
-    | inl inside ↦ sharer_of n lbn low high (subst (IsLowest I L (last_number L) lbn) (sym is_low) (so.low lbn inside)) (subst (IsHighest I L (last_number L) lbn) (sym is_high) (so.high lbn inside)) which other
-    | inr past ↦
-        past_end n lbn low high past (is_low ∙ get_or_past lowest lbn 0 (subst (λ k. k ≤ lbn) (sym so.low_size) past))
-        (is_high ∙ get_or_past highest lbn 0 (subst (λ k. k ≤ lbn) (sym so.high_size) past)) which other
+  -- past its end a table has 0, and no file names the block
+  first_at : (IsBefore : ℕ → ℕ → Type 0) (table : List ℕ) → AreWithin I L (length table) → ((lbn : ℕ) → lbn < length table → IsFirstNaming I L (λ n. Unit {0}) IsBefore lbn (slice_index table lbn))
+      → (lbn : ℕ) → IsFirstNaming I L (λ n. Unit {0}) IsBefore lbn (slice_index table lbn)
+  first_at IsBefore table within first lbn = elim (cases_lt lbn (length table)) [
+    | inl inside ↦ first lbn inside
+    | inr past ↦ inl (get_or_past table lbn 0 past, λ n any names. let inside = names_within (length table) within n lbn names in absurd (omega (arith, past, inside)))
   ]
 
-  -- the blocks of a deleted file
-  pub former_blocks : (n : ℕ) (file : DeletedFile) → IsFormerFile I L n file → HasFormerBlocks I L n file.blocks.items
-  former_blocks n file is = record {
-    others = is.others;
-    cut = file.is_cut;
-    chain = is.chain;
-    named = is.blocks ∙ ap (named_at (former I L)) is.headers;
-  }
+  -- the same where the tables have these numbers at the block
+  pub sharer_by : (lowest highest : List ℕ) → AreTables I L lowest highest → (n lbn low high : ℕ) (which : Option ℕ)
+      → low ≡ slice_index lowest lbn → high ≡ slice_index highest lbn → IsOtherOf low high n which → IsSharerAt I L n lbn which
+  sharer_by lowest highest so n lbn low high which is_low is_high other =
+      sharer_of n lbn low high
+      (subst (IsFirstNaming I L (λ n. Unit {0}) (λ m n. m ≤ n) lbn) (sym is_low) (first_at (λ m n. m ≤ n) lowest so.low_size so.low lbn))
+      (subst (IsFirstNaming I L (λ n. Unit {0}) (λ m n. n ≤ m) lbn) (sym is_high) (first_at (λ m n. n ≤ m) highest so.high_size so.high lbn)) which other
+
+-- what was lent as a slice comes back as it is
+pub items_back : {X : Type 0} (new rest : List X) (n : ℕ) → n ≡ length new → take n (new ++ rest) ≡ new
+items_back new rest n size = ap (λ k. take k (new ++ rest)) size ∙ take-append_seam new rest

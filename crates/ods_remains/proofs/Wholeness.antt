@@ -1,13 +1,14 @@
 -- Which deleted files are whole.
-use Rattle.std.proofs.Common.{◌≡◌, ◌≢◌, inl, inr, ℕ, ◌<◌, Bool, true, false, not, refl, sym, ap, List, length, get_or, Some, None, arith, ◌∙◌}
-use Rattle.std.specs.Prelude.{◌&&◌, nat_eq, MatchBool}
+use Rattle.std.proofs.Common.{◌≡◌, ◌≢◌, ◌⊎◌, inl, inr, ℕ, ◌<◌, Bool, true, false, not, refl, sym, ap, List, length, get_or, Option, Some, None, arith, ◌∙◌}
+use Rattle.std.specs.Prelude.{nat_eq, MatchBool}
 use Rattle.std.specs.List.{All, Contains, IsDistinct, filter}
-use Rattle.std.proofs.lemmas.Bool.{cases_lt, le-ltb}
-use Rattle.std.proofs.lemmas.List.Elements.{All-filter, All-contains, Contains-get_or, filter_passes}
-use Rattle.ods_space.specs.Free.{is_free_block, is_covered, storage_bit}
+use Rattle.std.proofs.lemmas.Bool.{cases_lt}
+use Rattle.std.proofs.lemmas.List.Elements.{All-filter, Contains-get_or, filter_passes}
+use Rattle.ods_space.specs.Free.{is_free_block}
 use Rattle.ods_space.specs.Layout.{VolumeLayout}
-use Rattle.ods_remains.specs.Deleted.{used_again}
+use Rattle.ods_remains.specs.Deleted.{counted, used_again}
 use Rattle.ods_remains.specs.Shared.{IsSharer, IsWhole}
+use Rattle.ods_remains.specs.Summary.{IsSharerOrSelf}
 use Rattle.ods_remains.proofs.ListedKeys.{contains_filter}
 
 -- none fails a test where the list of those that fail it is empty
@@ -29,35 +30,37 @@ all_pass p xs all = elim (cases_lt 0 (length (filter (λ x. not (p x)) xs))) [
   | inr none ↦ omega (arith, none)
 ]
 
+-- a test that answers for one thing answers for another that is so just where it is
+pub answers_for : (b : Bool) (P Q : Type 0) → (P → Q) → (Q → P) → MatchBool b P (¬ P) → MatchBool b Q (¬ Q)
+answers_for true P Q to from it = to it
+answers_for false P Q to from it = λ q. it (from q)
+
 module _ (I : List (List ℕ)) (L : VolumeLayout) (n : ℕ) (blocks : List ℕ) (cut : Bool) where
-  pub not_cut : cut ≡ true → ¬ IsWhole I L n blocks cut
-  not_cut is whole = let clash : true ≡ false = sym is ∙ whole.complete in absurd (cc)
+  -- no header is missing, no block is used again, and no file names a block, too
+  abbrev pub has_all : ℕ → Option ℕ → Type 0
+  has_all used sharer = (cut ≡ false) × (used ≡ 0) × (sharer ≡ None)
 
-  pub not_used : used_again I L blocks ≢ 0 → ¬ IsWhole I L n blocks cut
-  not_used some whole = some (all_pass (is_free_block I L) blocks whole.free)
+  none_shared : (sharer : Option ℕ) → sharer ≡ None → IsSharerOrSelf I L n blocks sharer → IsSharer I L n blocks None × IsDistinct nat_eq blocks
+  none_shared None is so = so
+  none_shared (Some m) is so = absurd (cc)
 
-  pub not_shared : (m : ℕ) → IsSharer I L n blocks (Some m) → ¬ IsWhole I L n blocks cut
-  not_shared m other whole = other.0 (whole.alone m other.1 other.2 other.3)
-
-  pub not_twice : ¬ IsDistinct nat_eq blocks → ¬ IsWhole I L n blocks cut
-  not_twice twice whole = twice whole.once
-
-  pub is_whole : cut ≡ false → used_again I L blocks ≡ 0 → IsSharer I L n blocks None → IsDistinct nat_eq blocks → IsWhole I L n blocks cut
-  is_whole complete unused alone once =
-      let free : All (λ lbn. is_free_block I L lbn ≡ true) blocks = λ k d below. none_fails (is_free_block I L) blocks unused k d below (is_free_block I L (get_or blocks k d)) refl in
+  pub whole_from : (used : ℕ) (sharer : Option ℕ) → used ≡ counted (used_again I L blocks) → IsSharerOrSelf I L n blocks sharer → has_all used sharer → IsWhole I L n blocks cut
+  whole_from used sharer total shared all =
+      let alone = none_shared sharer all.2 shared in
+      let none : used_again I L blocks ≡ 0 = let zero = all.1 in omega (arith, total, zero) in
       record {
-        complete = complete;
-        free = free;
-        once = once;
-        alone = λ m lbn has names. alone m lbn has (inside lbn (All-contains (λ x. is_free_block I L x ≡ true) blocks lbn free has)) names;
-      } where
-        inside : (lbn : ℕ) → is_free_block I L lbn ≡ true → lbn < length I
-        inside lbn free = elim (cases_lt lbn (length I)) [
-          | inl low ↦ low
-          | inr past ↦ let clash : false ≡ true = sym (ap (λ b. b && (is_covered L lbn && storage_bit I L lbn)) (le-ltb lbn (length I) past)) ∙ free in absurd (cc)
-        ]
+        complete = all.0;
+        free = λ k d below. none_fails (is_free_block I L) blocks none k d below (is_free_block I L (get_or blocks k d)) refl;
+        once = alone.1;
+        alone = alone.0;
+      }
 
-  pub decided : cut ≡ false → used_again I L blocks ≡ 0 → IsSharer I L n blocks None → (twice : Bool) → MatchBool twice (¬ IsDistinct nat_eq blocks) (IsDistinct nat_eq blocks)
-      → MatchBool (not twice) (IsWhole I L n blocks cut) (¬ IsWhole I L n blocks cut)
-  decided complete unused alone true twice = not_twice twice
-  decided complete unused alone false once = is_whole complete unused alone once
+  none_shares : (sharer : Option ℕ) → IsWhole I L n blocks cut → IsSharerOrSelf I L n blocks sharer → sharer ≡ None
+  none_shares None whole shared = refl
+  none_shares (Some m) whole (inl other) = absurd (other.0 (whole.alone m other.1 other.2 other.3))
+  none_shares (Some m) whole (inr twice) = absurd (twice.2 whole.once)
+
+  pub whole_to : (used : ℕ) (sharer : Option ℕ) → used ≡ counted (used_again I L blocks) → IsSharerOrSelf I L n blocks sharer → IsWhole I L n blocks cut → has_all used sharer
+  whole_to used sharer total shared whole =
+      let none : used_again I L blocks ≡ 0 = all_pass (is_free_block I L) blocks whole.free in
+      (whole.complete, omega (arith, total, none), none_shares sharer whole shared)

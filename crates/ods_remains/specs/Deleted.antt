@@ -1,5 +1,5 @@
 -- Deleted files: headers that their index bits leave free, which deletion left as they were but for the number and the sum.
-use Rattle.std.specs.Prelude.{◌≡◌, ℕ, ◌≤◌, ◌⊎◌, false, not, List, ◌∷◌, length}
+use Rattle.std.specs.Prelude.{◌≡◌, ℕ, ◌-◌, ◌^◌, ◌≤◌, ◌⊎◌, min, Bool, false, not, List, ◌∷◌, length}
 use Rattle.std.specs.List.{Contains, filter}
 use Rattle.std.specs.List.Sorted.{IsStrictlyIncreasing}
 use Rattle.ods_base.specs.Block.{word, with_word, sum_of}
@@ -51,12 +51,20 @@ pub record AreDeletedFiles (I : List (List ℕ)) (L : VolumeLayout) (numbers : L
   pub rising : IsStrictlyIncreasing numbers
 
 -- the deleted file n: the numbers of its headers, the blocks that they name, and whether the chain is cut
-pub record IsFormerFile (I : List (List ℕ)) (L : VolumeLayout) (n : ℕ) (file : DeletedFile) : Type 0 where
+pub record IsFormerChain (I : List (List ℕ)) (L : VolumeLayout) (n : ℕ) (numbers named : List ℕ) (cut : Bool) : Type 0 where
   pub deleted : IsDeletedFile I L n
   pub others : List ℕ
-  pub headers : file.headers.items ≡ n ∷ others
-  pub chain : GoesAlong (former I L) (LeadsOn I L) (LeadsOn I L) n others file.is_cut
-  pub blocks : file.blocks.items ≡ named_at (former I L) file.headers.items
+  pub headers : numbers ≡ n ∷ others
+  pub chain : GoesAlong (former I L) (LeadsOn I L) (LeadsOn I L) n others cut
+  pub blocks : named ≡ named_at (former I L) numbers
+
+-- the same as it is handed out
+abbrev pub IsFormerFile : List (List ℕ) → VolumeLayout → ℕ → DeletedFile → Type 0
+IsFormerFile I L n file = IsFormerChain I L n file.headers.items file.blocks.items file.is_cut
+
+-- as far as 32 bits count
+abbrev pub counted : ℕ → ℕ
+counted n = min n (2 ^ 32 - 1)
 
 -- how many of these blocks are used again: the image lacks them, or they are not free
 abbrev pub used_again : List (List ℕ) → VolumeLayout → List ℕ → ℕ

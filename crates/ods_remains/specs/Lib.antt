@@ -4,3 +4,4 @@ pub mod Chains
 pub mod Scanned
 pub mod Deleted
 pub mod Shared
+pub mod Summary

@@ -1,10 +1,11 @@
 -- Blocks that several deleted files name. For each LBN two tables have the lowest and the highest of the files that name it.
-use Rattle.std.specs.Prelude.{◌≡◌, ◌≢◌, ◌⊎◌, ℕ, ◌<◌, ◌≤◌, Bool, false, true, List, ◌∷◌, nat_eq, length, slice_index, Option, Some, None}
+use Rattle.std.specs.Prelude.{◌≡◌, ◌≢◌, ◌⊎◌, ℕ, ◌<◌, ◌≤◌, Bool, false, true, List, [], ◌∷◌, ◌++◌, nat_eq, length, slice_index, slice_index_or, Option, Some, None}
 use Rattle.std.specs.List.{All, Contains, IsDistinct}
+use Rattle.ods_header.specs.Header.{blocks_of}
 use Rattle.ods_space.specs.Free.{is_free_block}
 use Rattle.ods_space.specs.Layout.{VolumeLayout}
 use Rattle.ods_remains.specs.Chains.{GoesAlong, named_at}
-use Rattle.ods_remains.specs.Deleted.{IsDeletedFile, LeadsOn, former}
+use Rattle.ods_remains.specs.Deleted.{IsDeleted, IsDeletedFile, LeadsOn, former}
 
 -- these are the blocks that the headers of the deleted file n name
 pub record HasFormerBlocks (I : List (List ℕ)) (L : VolumeLayout) (n : ℕ) (blocks : List ℕ) : Type 0 where
@@ -17,49 +18,95 @@ pub record HasFormerBlocks (I : List (List ℕ)) (L : VolumeLayout) (n : ℕ) (b
 abbrev pub NamesBlock : List (List ℕ) → VolumeLayout → ℕ → ℕ → Type 0
 NamesBlock I L n lbn = IsDeletedFile I L n × (blocks : List ℕ) × HasFormerBlocks I L n blocks × Contains blocks lbn
 
--- m is the lowest of the deleted files up to `last` that name this LBN, and 0 where none does
-abbrev pub IsLowest : List (List ℕ) → VolumeLayout → ℕ → ℕ → ℕ → Type 0
-IsLowest I L last lbn m =
-    ((m ≡ 0) × ((n : ℕ) → n ≤ last → ¬ NamesBlock I L n lbn))
-    ⊎ (NamesBlock I L m lbn × (m ≤ last) × ((n : ℕ) → n ≤ last → NamesBlock I L n lbn → m ≤ n))
+-- Of the deleted files among these that name this LBN m comes first in the order; 0 stands where none does.
+abbrev pub IsFirstNaming : List (List ℕ) → VolumeLayout → (ℕ → Type 0) → (ℕ → ℕ → Type 0) → ℕ → ℕ → Type 0
+IsFirstNaming I L Among IsBefore lbn m =
+    ((m ≡ 0) × ((n : ℕ) → Among n → ¬ NamesBlock I L n lbn))
+    ⊎ (NamesBlock I L m lbn × Among m × ((n : ℕ) → Among n → NamesBlock I L n lbn → IsBefore m n))
 
--- m is the highest of them, and 0 where none does
-abbrev pub IsHighest : List (List ℕ) → VolumeLayout → ℕ → ℕ → ℕ → Type 0
-IsHighest I L last lbn m =
-    ((m ≡ 0) × ((n : ℕ) → n ≤ last → ¬ NamesBlock I L n lbn))
-    ⊎ (NamesBlock I L m lbn × (m ≤ last) × ((n : ℕ) → n ≤ last → NamesBlock I L n lbn → n ≤ m))
+-- the deleted file n has this header
+abbrev pub ComesBy : List (List ℕ) → VolumeLayout → ℕ → ℕ → Type 0
+ComesBy I L n h = IsDeletedFile I L n × (others : List ℕ) × (cut : Bool) × GoesAlong (former I L) (LeadsOn I L) (LeadsOn I L) n others cut × Contains (n ∷ others) h
 
--- the two tables of an image for the deleted files up to `last`
-pub record AreTables (I : List (List ℕ)) (L : VolumeLayout) (last : ℕ) (lowest highest : List ℕ) : Type 0 where
-  pub low_size : length lowest ≡ length I
-  pub high_size : length highest ≡ length I
-  pub low : (lbn : ℕ) → lbn < length I → IsLowest I L last lbn (slice_index lowest lbn)
-  pub high : (lbn : ℕ) → lbn < length I → IsHighest I L last lbn (slice_index highest lbn)
+-- whether this header was seen
+abbrev pub is_seen : List Bool → ℕ → Bool
+is_seen seen h = slice_index_or seen h false
 
--- n stands at each of these places
-abbrev pub IsOverwritten : ℕ → List ℕ → List ℕ → List ℕ → Type 0
-IsOverwritten n places old new = (lbn : ℕ) → lbn < length old →
-    (Contains places lbn × (slice_index new lbn ≡ n)) ⊎ ((¬ Contains places lbn) × (slice_index new lbn ≡ slice_index old lbn))
+-- each header that was seen is one that a deleted file among these comes to
+abbrev pub AreSeen : List (List ℕ) → VolumeLayout → (ℕ → Type 0) → List Bool → Type 0
+AreSeen I L Among seen = (h : ℕ) → is_seen seen h ≡ true → (n : ℕ) × Among n × ComesBy I L n h
+
+-- the chain ends, or goes on with a header that was seen
+abbrev pub GoesOnSeen : List Bool → List ℕ → Type 0
+GoesOnSeen seen [] = Unit {0}
+GoesOnSeen seen (h ∷ rest) = is_seen seen h ≡ true
+
+-- The front of the deleted file n: its headers up to the first that was seen, and the blocks that these name. The chain goes on with the headers behind.
+pub record IsFront (I : List (List ℕ)) (L : VolumeLayout) (seen : List Bool) (n : ℕ) (headers blocks : List ℕ) : Type 0 where
+  pub passed : List ℕ
+  pub behind : List ℕ
+  pub cut : Bool
+  pub chain : GoesAlong (former I L) (LeadsOn I L) (LeadsOn I L) n (passed ++ behind) cut
+  pub whole : headers ≡ n ∷ passed
+  pub named : blocks ≡ named_at (former I L) headers
+  pub ends : GoesOnSeen seen behind
+
+-- these headers are seen from now on, and no other besides those that were
+pub record AreMarked (headers : List ℕ) (old new : List Bool) : Type 0 where
+  pub size : length new ≡ length old
+  pub only : (h : ℕ) → is_seen new h ≡ true → (is_seen old h ≡ true) ⊎ Contains headers h
+  pub kept : (h : ℕ) → is_seen old h ≡ true → is_seen new h ≡ true
+  pub there : (h : ℕ) → Contains headers h → h < length old → is_seen new h ≡ true
 
 -- n stands at each of these places where 0 stood
 abbrev pub IsFilled : ℕ → List ℕ → List ℕ → List ℕ → Type 0
 IsFilled n places old new = (lbn : ℕ) → lbn < length old →
     (Contains places lbn × (slice_index old lbn ≡ 0) × (slice_index new lbn ≡ n)) ⊎ (((¬ Contains places lbn) ⊎ (slice_index old lbn ≢ 0)) × (slice_index new lbn ≡ slice_index old lbn))
 
+-- n stands where its front names a block that no file before it names, and the headers of its front are seen; nothing changes where n is no deleted file
+pub record IsNoted (I : List (List ℕ)) (L : VolumeLayout) (n : ℕ) (old : List ℕ) (was : List Bool) (new : List ℕ) (seen : List Bool) : Type 0 where
+  pub headers : List ℕ
+  pub blocks : List ℕ
+  pub deleted : IsDeletedFile I L n
+  pub front : IsFront I L was n headers blocks
+  pub filled : IsFilled n blocks old new
+  pub size : length new ≡ length old
+  pub marked : AreMarked headers was seen
+
+-- each block that a deleted header names is below this
+abbrev pub AreWithin : List (List ℕ) → VolumeLayout → ℕ → Type 0
+AreWithin I L size = (n lbn : ℕ) → IsDeleted I L n → Contains (blocks_of (former I L n)) lbn → lbn < size
+
+-- a table of the files among these that come first in the order, for each block that a deleted header names, with the headers that were seen
+pub record IsTable (I : List (List ℕ)) (L : VolumeLayout) (Among : ℕ → Type 0) (IsBefore : ℕ → ℕ → Type 0) (table : List ℕ) (seen : List Bool) : Type 0 where
+  pub first : (lbn : ℕ) → lbn < length table → IsFirstNaming I L Among IsBefore lbn (slice_index table lbn)
+  pub met : AreSeen I L Among seen
+
+-- for each place of a table the deleted file stands there that comes first in the order, of all that name this LBN
+abbrev pub AreFirst : List (List ℕ) → VolumeLayout → (ℕ → ℕ → Type 0) → List ℕ → Type 0
+AreFirst I L IsBefore table = (lbn : ℕ) → lbn < length table → IsFirstNaming I L (λ n. Unit {0}) IsBefore lbn (slice_index table lbn)
+
+-- The two tables of an image: each LBN that a deleted header names has its place, where the lowest and the highest of the deleted files that name it stand.
+pub record AreTables (I : List (List ℕ)) (L : VolumeLayout) (lowest highest : List ℕ) : Type 0 where
+  pub low_size : AreWithin I L (length lowest)
+  pub high_size : AreWithin I L (length highest)
+  pub low : AreFirst I L (λ m n. m ≤ n) lowest
+  pub high : AreFirst I L (λ m n. n ≤ m) highest
+
 -- of two numbers one that is neither 0 nor n, if there is one
 abbrev pub IsOtherOf : ℕ → ℕ → ℕ → Option ℕ → Type 0
 IsOtherOf low high n (Some m) = (m ≢ 0) × (m ≢ n) × ((m ≡ low) ⊎ (m ≡ high))
 IsOtherOf low high n None = ((low ≡ 0) ⊎ (low ≡ n)) × ((high ≡ 0) ⊎ (high ≡ n))
 
--- Another deleted file than n names this LBN, namely this one; or none does. A block that the image lacks does not count.
+-- Another deleted file than n names this LBN, namely this one; or none does.
 abbrev pub IsSharerAt : List (List ℕ) → VolumeLayout → ℕ → ℕ → Option ℕ → Type 0
 IsSharerAt I L n lbn (Some m) = (m ≢ n) × NamesBlock I L m lbn
-IsSharerAt I L n lbn None = (m : ℕ) → lbn < length I → NamesBlock I L m lbn → m ≡ n
+IsSharerAt I L n lbn None = (m : ℕ) → NamesBlock I L m lbn → m ≡ n
 
--- Another deleted file than n names one of these blocks, namely this one; or none does. Blocks that the image lacks do not count.
+-- Another deleted file than n names one of these blocks, namely this one; or none does. Blocks that the image lacks count as others.
 abbrev pub IsSharer : List (List ℕ) → VolumeLayout → ℕ → List ℕ → Option ℕ → Type 0
 IsSharer I L n blocks (Some m) = (m ≢ n) × (lbn : ℕ) × Contains blocks lbn × NamesBlock I L m lbn
-IsSharer I L n blocks None = (m lbn : ℕ) → Contains blocks lbn → lbn < length I → NamesBlock I L m lbn → m ≡ n
+IsSharer I L n blocks None = (m lbn : ℕ) → Contains blocks lbn → NamesBlock I L m lbn → m ≡ n
 
 -- The deleted file n, which has these blocks, is whole: its chain is not cut, and each of its blocks is one of the image, free, and named by it alone and once.
 pub record IsWhole (I : List (List ℕ)) (L : VolumeLayout) (n : ℕ) (blocks : List ℕ) (cut : Bool) : Type 0 where

@@ -11,7 +11,7 @@ use ods_space::{Disk, is_free, last_number, push_header};
 use std::alloc::{AllocError, Global};
 
 /// Whether a number is a deleted file.
-fn is_deleted_file(disk: &Disk<'_>, number: u16) -> bool
+pub fn is_deleted_file(disk: &Disk<'_>, number: u16) -> bool
     ensures { MatchBool result (on IsDeletedFile disk.now number) (¬ on IsDeletedFile disk.now number) }
 {
     match deleted_header(disk, number) {
@@ -78,7 +78,7 @@ fn follow(alloc: Global, disk: &Disk<'_>, first: u16) -> Result<DeletedFile, All
 }
 
 /// Puts this deleted header behind the headers of a file, and the blocks that it names behind the file's.
-fn note(disk: &Disk<'_>, file: &mut DeletedFile, number: u16) -> Result<(), AllocError>
+pub(crate) fn note(disk: &Disk<'_>, file: &mut DeletedFile, number: u16) -> Result<(), AllocError>
     requires { on IsDeleted disk.now number }
     ensures headers { OnOk result (file.new.headers.items ≡ file.old.headers.items ++ number ∷ []) }
     ensures blocks { OnOk result (file.new.blocks.items ≡ file.old.blocks.items ++ blocks_of (seen former disk.now number)) }
@@ -94,7 +94,7 @@ fn note(disk: &Disk<'_>, file: &mut DeletedFile, number: u16) -> Result<(), Allo
 }
 
 /// How many of these blocks are used again: the image lacks them, or they are not free.
-pub fn used_again(disk: &Disk<'_>, blocks: &[u32]) -> usize
+pub(crate) fn used_again(disk: &Disk<'_>, blocks: &[u32]) -> usize
     ensures { result ≡ seen used_again_of disk.now blocks.now }
 {
     let mut count = 0;

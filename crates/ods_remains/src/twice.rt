@@ -6,7 +6,7 @@ ghost use Rattle.std.specs.List.Sorted.{IsNonDecreasing};
 use std::alloc::{AllocError, Global};
 
 /// Whether one of these blocks comes again. It takes memory for as many.
-pub fn names_twice(alloc: Global, blocks: &[u32]) -> Result<bool, AllocError>
+pub(crate) fn names_twice(alloc: Global, blocks: &[u32]) -> Result<bool, AllocError>
     ensures { IfOk result (λ twice. MatchBool twice (¬ IsDistinct nat_eq blocks.now) (IsDistinct nat_eq blocks.now)) }
 {
     let mut sorted = Vec::from_slice(alloc, blocks)?;

@@ -35,9 +35,9 @@ pub both_ok : {T E : Type 0} (r : Result T E) (P S : T → Type 0) (Q : Type 0) 
 both_ok (Ok x) P S Q gives p q = gives x p q
 both_ok (Err e) P S Q gives p q = tt
 
--- the directories of a folder, by those of its place
-pub meant_below : (I : List (List ℕ)) (L : VolumeLayout) (closed : List ℕ) (folder : Folder) (starts found : List Directory) → folder.below ≡ true → AreStarts I L closed folder.place starts → AreAllBelow I L closed starts found → AreMeant I L closed folder found
+-- the directories of a folder, by those of its steps
+pub meant_below : (I : List (List ℕ)) (L : VolumeLayout) (closed : List ℕ) (folder : Folder) (starts found : List Directory) → folder.below ≡ true → AreStarts I L closed folder.steps starts → AreAllBelow I L closed starts found → AreMeant I L closed folder found
 meant_below I L closed folder starts found below are all = (starts, are, subst (λ b. AreOpenOrBelow I L closed b starts found) (sym below) all)
 
-pub meant_alone : (I : List (List ℕ)) (L : VolumeLayout) (closed : List ℕ) (folder : Folder) (starts found : List Directory) → folder.below ≡ false → AreStarts I L closed folder.place starts → AreOpen closed starts found → AreMeant I L closed folder found
+pub meant_alone : (I : List (List ℕ)) (L : VolumeLayout) (closed : List ℕ) (folder : Folder) (starts found : List Directory) → folder.below ≡ false → AreStarts I L closed folder.steps starts → AreOpen closed starts found → AreMeant I L closed folder found
 meant_alone I L closed folder starts found below are some = (starts, are, subst (λ b. AreOpenOrBelow I L closed b starts found) (sym below) some)

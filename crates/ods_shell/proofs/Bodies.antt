@@ -16,12 +16,13 @@ use Rattle.ods_files.specs.declared.fault.FileFault.{FileFault}
 use Rattle.ods_files.specs.declared.fault.FileFault.TheVariants.{NoSuchFile, Chain}
 use Rattle.ods_files.specs.declared.form.Form.TheVariants.{Binary}
 use Rattle.ods_records.specs.Attributes.{kind_in}
+use Rattle.ods_records.specs.Long.{IsFirstLong}
 use Rattle.ods_records.specs.Faults.{IsFirstFault}
 use Rattle.ods_records.specs.Records.{Spells}
 use Rattle.ods_records.specs.declared.kind.RecordKind.{RecordKind}
 use Rattle.ods_records.specs.declared.faults.RecordFault.{RecordFault}
 use Rattle.ods_records.proofs.Standing.{fault_spells}
-use Rattle.ods_shell.specs.Spoiled.{IsSpoiled, HasSpoiledRecords}
+use Rattle.ods_shell.specs.Spoiled.{IsSpoiled, HasSpoiledRecords, HasLongRecord, IsTooLongIn, record_size}
 
 pub same_body : (I : List (List ℕ)) (L : VolumeLayout) (n : ℕ) (a b : Body) → HasBody I L n a → HasBody I L n b → a ≡ b
 same_body I L n a b f g =
@@ -46,7 +47,7 @@ pub none_of_file : (I : List (List ℕ)) (L : VolumeLayout) (n : ℕ) (body : Bo
 none_of_file I L n body has none fault spoiled = none fault (subst (λ b. IsSpoiled b fault) (same_body I L n spoiled.0 body spoiled.1 has) spoiled.2)
 
 -- where one thing follows from another, what is told where there is none
-pub none_told : {E : Type 0} (r : Result (Option RecordFault) E) (P Q : Type 0) → (P → Q) → IfOk r (λ found. IfNone found P) → IfOk r (λ found. IfNone found Q)
+pub none_told : {T E : Type 0} (r : Result (Option T) E) (P Q : Type 0) → (P → Q) → IfOk r (λ found. IfNone found P) → IfOk r (λ found. IfNone found Q)
 none_told (Ok None) P Q follows told = follows told
 none_told (Ok (Some f)) P Q follows told = told
 none_told (Err e) P Q follows told = told
@@ -73,12 +74,26 @@ none_whole I L n (Chain (OutsideVolume lbn)) body other told has = none_past I L
 none_whole I L n (Chain NoRoom) body other told has = other refl
 
 -- where nothing is told, all that is told is so; and what follows
-pub none_some : {E : Type 0} (r : Result (Option RecordFault) E) (P : RecordFault → Type 0) (Q : Type 0) → IfOk r (λ found. (found ≡ None) × Q) → IfOk r (λ found. IfSome found P)
+pub none_some : {T E : Type 0} (r : Result (Option T) E) (P : T → Type 0) (Q : Type 0) → IfOk r (λ found. (found ≡ None) × Q) → IfOk r (λ found. IfSome found P)
 none_some (Ok None) P Q told = tt
 none_some (Ok (Some f)) P Q told = absurd (cc told.0)
 none_some (Err e) P Q told = tt
 
-pub none_none : {E : Type 0} (r : Result (Option RecordFault) E) (Q R : Type 0) → (Q → R) → IfOk r (λ found. (found ≡ None) × Q) → IfOk r (λ found. IfNone found R)
+pub none_none : {T E : Type 0} (r : Result (Option T) E) (Q R : Type 0) → (Q → R) → IfOk r (λ found. (found ≡ None) × Q) → IfOk r (λ found. IfNone found R)
 none_none (Ok None) Q R follows told = follows told.1
 none_none (Ok (Some f)) Q R follows told = tt
 none_none (Err e) Q R follows told = tt
+
+-- where one thing follows from another, what is so where there is none
+pub if_none : {T : Type 0} (r : Option T) (P Q : Type 0) → (P → Q) → IfNone r P → IfNone r Q
+if_none None P Q follows so = follows so
+if_none (Some x) P Q follows so = tt
+
+-- what is not in the records of the body of a file is not in those of the file
+pub no_long_of_file : (I : List (List ℕ)) (L : VolumeLayout) (n : ℕ) (body : Body) → HasBody I L n body → ((at size : ℕ) → ¬ IsTooLongIn body at size) → (at size : ℕ) → ¬ HasLongRecord I L n at size
+no_long_of_file I L n body has none at size long = none at size (subst (λ b. IsTooLongIn b at size) (same_body I L n long.0 body long.1 has) long.2)
+
+pub no_long_in : (body : Body) (kind : RecordKind) (bytes : List ℕ) → kind_in body.attributes ≡ Some kind → bytes_in Binary body ≡ Some bytes → ((at size : ℕ) → ¬ IsFirstLong kind bytes (record_size body) at size)
+    → (at size : ℕ) → ¬ IsTooLongIn body at size
+no_long_in body kind bytes k b none at size long =
+    none at size (subst (λ x. IsFirstLong x bytes (record_size body) at size) (some_same long.0 kind (sym long.2 ∙ k)) (subst (λ x. IsFirstLong long.0 x (record_size body) at size) (some_same long.1 bytes (sym long.3 ∙ b)) long.5))

@@ -10,6 +10,7 @@ mod LeftBlocks
 mod GotContents
 mod Listed
 mod Named
+mod NoneAlone
 mod Numbered
 mod Objects
 mod OneName

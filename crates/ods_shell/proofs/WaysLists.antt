@@ -1,5 +1,5 @@
--- Lists that grow by one: the ways of a directory, the directories that entries name, and those to which steps lead.
-use Rattle.std.proofs.Common.{◌≡◌, inl, inr, ℕ, suc, zero, ◌+◌, ◌<◌, refl, sym, ap, ◌∙◌, subst, false, List, [], ◌∷◌, ◌++◌, length, get_or, take, map, append_assoc, append-nil, Option, Bor, arith}
+-- Lists that grow by one: the ways of a directory, the directories that entries name, and those to which a step leads.
+use Rattle.std.proofs.Common.{◌≡◌, inl, inr, ℕ, suc, zero, ◌+◌, ◌<◌, refl, sym, ap, ◌∙◌, subst, false, List, [], ◌∷◌, ◌++◌, length, get_or, take, append_assoc, append-nil, arith}
 use Rattle.std.specs.Prelude.{IsSortedByKey}
 use Rattle.std.specs.List.{All, AllPairs}
 use Rattle.std.specs.Ordering.{is_lt}
@@ -12,13 +12,13 @@ use Rattle.ods_base.specs.declared.listed.Listed.{Listed}
 use Rattle.ods_space.specs.Layout.{VolumeLayout}
 use Rattle.ods_paths.specs.Order.{listing_cmp}
 use Rattle.ods_paths.proofs.ListingOrder.{listing_total}
-use Rattle.ods_paths.specs.Paths.{Numbered}
-use Rattle.ods_paths.specs.Patterns.{capitals}
-use Rattle.ods_paths.specs.declared.versions.Versions.TheVariants.{Highest}
+use Rattle.ods_paths.specs.Steps.{Step}
 use Rattle.ods_walk.specs.Listing.{shown}
-use Rattle.ods_shell.specs.Choosing.{AreThose, IsChosen}
-use Rattle.ods_shell.specs.Ways.{AreLedTo, AreMaster, AreMet, AreNamedIn, AreStarts, AreSteps, AreWays, CountAsClosed, IsBelow, IsNumberedWay, IsStep, step_files}
+use Rattle.ods_shell.specs.Choosing.{AreEach, AreThose}
+use Rattle.ods_shell.specs.Ways.{AreLedTo, AreMet, AreNamedIn, AreStarts, AreSteps, AreWays, CountAsClosed, IsBelow, IsStep, IsWayBy}
+use Rattle.ods_shell.specs.Named.{AreEntries, AreLedBy}
 use Rattle.ods_shell.specs.declared.folders.Directory.{Directory}
+use Rattle.ods_shell.specs.declared.found.Found.{Found}
 use Rattle.ods_shell.proofs.WaysShut.{counts_before, counts_with}
 
 -- the front of a list, and the element behind it
@@ -64,70 +64,61 @@ named_next names entries n e d start mid new within is below added are = (
   subst (λ (es : List Listed). AreNamedIn names es (are.0 ++ d ∷ [])) (sym (front_more entries n e within is)) (named_in_more names (take n entries) are.0 e d are.2 below),
 )
 
+-- one more, and what is said of it
+each_more : {X Y : Type 0} (P : X → List Y → Type 0) (xs : List X) (found : List Y) (x : X) (next : List Y) → AreEach P xs found → P x next → AreEach P (xs ++ x ∷ []) (found ++ next)
+each_more P [] found x next are is = (next, [], ap (λ ys. ys ++ next) are ∙ sym (append-nil next), is, refl)
+each_more P (first ∷ xs) found x next are is = (
+  are.0,
+  are.1 ++ next,
+  ap (λ ys. ys ++ next) are.2 ∙ append_assoc are.0 are.1 next,
+  are.3,
+  each_more P xs are.1 x next are.4 is,
+)
+
+-- the same behind those at the front of a list
+pub each_next : {X Y : Type 0} (P : X → List Y → Type 0) (xs : List X) (n : ℕ) (x : X) (found next all : List Y) → n < length xs → x ≡ get_or xs n x → all ≡ found ++ next → AreEach P (take n xs) found → P x next → AreEach P (take (n + 1) xs) all
+each_next {X} {Y} P xs n x found next all within is added are here =
+    subst (λ (ys : List X). AreEach P ys all) (sym (front_more xs n x within is))
+    (subst (λ (ys : List Y). AreEach P (take n xs ++ x ∷ []) ys) (sym added) (each_more P (take n xs) found x next are here))
+
+-- the same past directories that count as closed: what was met is only added to
+pub shut_next : {X Y : Type 0} (P : List ℕ → X → List Y → Type 0) (xs : List X) (n : ℕ) (x : X) (found next all : List Y) (closed numbers : List ℕ) (before after : List Directory) → n < length xs → x ≡ get_or xs n x → numbers ≡ closed
+    → all ≡ found ++ next → AreMet numbers before after → ((shut : List ℕ) → CountAsClosed closed before shut → AreEach (P shut) (take n xs) found)
+    → ((shut : List ℕ) → CountAsClosed numbers after shut → P shut x next)
+    → (shut : List ℕ) → CountAsClosed closed after shut → AreEach (P shut) (take (n + 1) xs) all
+shut_next P xs n x found next all closed numbers before after within is same added met so_far here shut counts =
+    each_next (P shut) xs n x found next all within is added (so_far shut (counts_before closed numbers before after shut met counts)) (here shut (counts_with closed numbers after shut same counts))
+
 module _ (I : List (List ℕ)) (L : VolumeLayout) where
-  -- one directory more, and those to which the step leads from it
-  steps_more : (shut step : List ℕ) (from found : List Directory) (d : Directory) (next : List Directory) → AreSteps I L shut step from found → IsStep I L shut step d next → AreSteps I L shut step (from ++ d ∷ []) (found ++ next)
-  steps_more shut step [] found d next are is = (next, [], ap (λ ds. ds ++ next) are ∙ sym (append-nil next), is, refl)
-  steps_more shut step (first ∷ from) found d next are is = (
-    are.0,
-    are.1 ++ next,
-    ap (λ ds. ds ++ next) are.2 ∙ append_assoc are.0 are.1 next,
-    are.3,
-    steps_more shut step from are.1 d next are.4 is,
-  )
-
-  pub steps_next : (step : List ℕ) (from : List Directory) (n : ℕ) (d : Directory) (found next all : List Directory) (closed numbers : List ℕ) (before after : List Directory) → n < length from → d ≡ get_or from n d → numbers ≡ closed
-      → all ≡ found ++ next → AreMet numbers before after → ((shut : List ℕ) → CountAsClosed closed before shut → AreSteps I L shut step (take n from) found)
-      → ((shut : List ℕ) → CountAsClosed numbers after shut → IsStep I L shut step d next)
-      → (shut : List ℕ) → CountAsClosed closed after shut → AreSteps I L shut step (take (n + 1) from) all
-  steps_next step from n d found next all closed numbers before after within is same added met so_far here shut counts =
-      subst (λ (ds : List Directory). AreSteps I L shut step ds all) (sym (front_more from n d within is))
-      (subst (λ (ds : List Directory). AreSteps I L shut step (take n from ++ d ∷ []) ds) (sym added)
-      (steps_more shut step (take n from) found d next (so_far shut (counts_before closed numbers before after shut met counts)) (here shut (counts_with closed numbers after shut same counts))))
-
   -- one step more
-  led_more : (shut : List ℕ) (steps : List (List ℕ)) (from now : List Directory) (step : List ℕ) (next : List Directory) → AreLedTo I L shut steps from now → AreSteps I L shut step now next → AreLedTo I L shut (steps ++ step ∷ []) from next
-  led_more shut [] from now step next led are = (next, subst (λ (ds : List Directory). AreSteps I L shut step ds next) led are, refl)
-  led_more shut (first ∷ steps) from now step next led are = (led.0, led.1, led_more shut steps led.0 now step next led.2 are)
-
-  -- the directories to which steps lead from the master directory
-  abbrev pub AreFoundBy : List ℕ → List (List ℕ) → List Directory → Type 0
-  AreFoundBy shut steps found = (master : List Directory) × AreMaster master × AreLedTo I L shut steps master found
-
-  pub led_next : (steps : List (List ℕ)) (step : List ℕ) (more : List (List ℕ)) (now lent next : List Directory) (closed numbers : List ℕ) (before after : List Directory) → more ≡ steps ++ step ∷ [] → lent ≡ now → numbers ≡ closed
-      → AreMet numbers before after → ((shut : List ℕ) → CountAsClosed closed before shut → AreFoundBy shut steps now) → ((shut : List ℕ) → CountAsClosed numbers after shut → AreSteps I L shut step lent next)
-      → (shut : List ℕ) → CountAsClosed closed after shut → AreFoundBy shut more next
-  led_next steps step more now lent next closed numbers before after longer is same met so_far here shut counts =
-      let led = so_far shut (counts_before closed numbers before after shut met counts) in
+  pub starts_next : (all rest behind : List Step) (step : Step) (now lent next : List Directory) (closed numbers : List ℕ) (before after : List Directory) → rest ≡ step ∷ behind → lent ≡ now → numbers ≡ closed → AreMet numbers before after
+      → ((shut : List ℕ) → CountAsClosed closed before shut → (last : List Directory) → AreLedTo I L shut rest now last → AreStarts I L shut all last)
+      → ((shut : List ℕ) → CountAsClosed numbers after shut → AreSteps I L shut step lent next)
+      → (shut : List ℕ) → CountAsClosed closed after shut → (last : List Directory) → AreLedTo I L shut behind next last → AreStarts I L shut all last
+  starts_next all rest behind step now lent next closed numbers before after cut is same met so_far here shut counts last led =
       let on : AreSteps I L shut step now next = subst (λ (ds : List Directory). AreSteps I L shut step ds next) is (here shut (counts_with closed numbers after shut same counts)) in
-      (led.0, led.1, subst (λ (ts : List (List ℕ)). AreLedTo I L shut ts led.0 next) (sym longer) (led_more shut steps led.0 now step next led.2 on))
+      let more : AreLedTo I L shut (step ∷ behind) now last = (next, on, led) in
+      so_far shut (counts_before closed numbers before after shut met counts) last (subst (λ (steps : List Step). AreLedTo I L shut steps now last) (sym cut) more)
 
-  module _ (closed : List ℕ) (met : List Directory) (ways listed those named : List Listed) (names : List RadName) (same_ways : listed ≡ ways) (same_those : named ≡ those) where
+  module _ (closed : List ℕ) (met : List Directory) (ways listed those named : List Listed) (same_ways : listed ≡ ways) (same_those : named ≡ those) where
     -- a step from one directory, part by part
-    pub step_is : (step : List ℕ) (from : Directory) (next : List Directory) → names ≡ from.names.items → ((shut : List ℕ) → CountAsClosed closed met shut → AreWays I L shut from.number ways)
-        → AreThose (IsChosen (step_files step) Highest listed) listed those → AreNamedIn names named next → (shut : List ℕ) → CountAsClosed closed met shut → IsStep I L shut step from next
-    step_is step from next same_names are chosen all_named shut counts = (
+    pub step_is : (names : List RadName) (step : Step) (from : Directory) (next : List Directory) → names ≡ from.names.items → ((shut : List ℕ) → CountAsClosed closed met shut → AreWays I L shut from.number ways)
+        → AreThose (IsWayBy step listed) listed those → AreNamedIn names named next → (shut : List ℕ) → CountAsClosed closed met shut → IsStep I L shut step from next
+    step_is names step from next same_names are chosen all_named shut counts = (
       ways,
       those,
       are shut counts,
-      subst (λ (ls : List Listed). AreThose (IsChosen (step_files step) Highest ls) ls those) same_ways chosen,
+      subst (λ (ls : List Listed). AreThose (IsWayBy step ls) ls those) same_ways chosen,
       subst (λ (ns : List RadName). AreNamedIn ns those next) same_names (subst (λ (ls : List Listed). AreNamedIn names ls next) same_those all_named),
     )
 
-    -- the directories of a group and a member, part by part
-    pub numbered_are : (group member : Option ℕ) (start found more : List Directory) → names ≡ [] → start ≡ [] → found ≡ start ++ more → ((shut : List ℕ) → CountAsClosed closed met shut → AreWays I L shut 4 ways)
-        → AreThose (IsNumberedWay group member listed) listed those → AreNamedIn names named more → (shut : List ℕ) → CountAsClosed closed met shut → AreStarts I L shut (Numbered group member) found
-    numbered_are group member start found more no_names none added are chosen all_named shut counts =
-        let all : more ≡ found = sym (added ∙ ap (λ ds. ds ++ more) none) in (
-          ways,
-          those,
-          are shut counts,
-          subst (λ (ls : List Listed). AreThose (IsNumberedWay group member ls) ls those) same_ways chosen,
-          subst (λ (ds : List Directory). AreNamedIn [] those ds) all
-              (subst (λ (ns : List RadName). AreNamedIn ns those more) no_names (subst (λ (ls : List Listed). AreNamedIn names ls more) same_those all_named)),
-        )
-
--- the texts of the steps, and one more
-pub texts_more : (texts : List (Bor (List ℕ))) (text : Bor (List ℕ)) → map capitals (map (λ x. x.now) (texts ++ text ∷ [])) ≡ map capitals (map (λ x. x.now) texts) ++ capitals text.now ∷ []
-texts_more [] text = refl
-texts_more (first ∷ texts) text = ap (λ ts. capitals first.now ∷ ts) (texts_more texts text)
+    -- the entries by which a step leads on from one directory, part by part
+    pub led_is : (step : Step) (from : Directory) (next : List Found) → ((shut : List ℕ) → CountAsClosed closed met shut → AreWays I L shut from.number ways) → AreThose (IsWayBy step listed) listed those
+        → AreEntries I L from named next → (shut : List ℕ) → CountAsClosed closed met shut → AreLedBy I L shut step from next
+    led_is step from next are chosen all_named shut counts = (
+      ways,
+      those,
+      are shut counts,
+      subst (λ (ls : List Listed). AreThose (IsWayBy step ls) ls those) same_ways chosen,
+      subst (λ (ls : List Listed). AreEntries I L from ls next) same_those all_named,
+    )

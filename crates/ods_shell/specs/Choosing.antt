@@ -1,5 +1,5 @@
 -- Which lines of a directory a path chooses.
-use Rattle.std.specs.Prelude.{◌≡◌, ◌≤◌, ◌⊎◌, List, [], ◌∷◌, unwrap_or}
+use Rattle.std.specs.Prelude.{◌≡◌, ◌≤◌, ◌⊎◌, List, [], ◌∷◌, ◌++◌, unwrap_or}
 use Rattle.std.specs.List.{Contains}
 use Rattle.ods_base.specs.Name.{RadName, title, type_text}
 use Rattle.ods_base.specs.declared.listed.Listed.{Listed}
@@ -31,3 +31,8 @@ IsChosen files unsaid lines e = IsMatched files e.name × IsPicked (unwrap_or fi
 abbrev pub AreThose : {X : Type 0} → (X → Type 0) → List X → List X → Type 0
 AreThose P [] found = found ≡ []
 AreThose {X} P (x ∷ xs) found = (P x × (rest : List X) × (found ≡ x ∷ rest) × AreThose P xs rest) ⊎ ((¬ P x) × AreThose P xs found)
+
+-- for each of these, one after another, what P says of it
+abbrev pub AreEach : {X Y : Type 0} → (X → List Y → Type 0) → List X → List Y → Type 0
+AreEach P [] found = found ≡ []
+AreEach {X} {Y} P (x ∷ xs) found = (here : List Y) × (rest : List Y) × (found ≡ here ++ rest) × P x here × AreEach P xs rest

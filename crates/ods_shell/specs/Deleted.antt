@@ -1,14 +1,15 @@
 -- What is known of deleted files whose headers are still there, and which of them a path looks for.
-use Rattle.std.specs.Prelude.{◌≡◌, ℕ, ◌+◌, ◌-◌, ◌^◌, ◌⊎◌, min, Bool, if◌then◌else◌, List, [], ◌∷◌, length, nat_eq, Option, Some, None, MatchBool}
-use Rattle.std.specs.List.{AllZip, IsDistinct, range_with_len}
+use Rattle.std.specs.Prelude.{◌≡◌, ℕ, Bool, List, [], ◌∷◌, length, Option, Some, None, MatchBool, option_map}
+use Rattle.std.specs.List.{AllZip, range_with_len}
 use Rattle.ods_base.specs.Block.{word}
 use Rattle.ods_base.specs.Name.{RadName, IsName}
 use Rattle.ods_base.specs.declared.file_id.FileId.{FileId}
 use Rattle.ods_header.specs.Header.{attributes_of, ident_of, sequence_of}
 use Rattle.ods_space.specs.Layout.{VolumeLayout, last_number}
-use Rattle.ods_remains.specs.Deleted.{IsDeletedFile, IsFormerFile, former, used_again}
-use Rattle.ods_remains.specs.Shared.{IsSharer, IsWhole}
-use Rattle.ods_remains.specs.declared.former.DeletedFile.{DeletedFile}
+use Rattle.ods_remains.specs.Deleted.{IsDeletedFile, IsFormerChain, counted, former, used_again}
+use Rattle.ods_remains.specs.Shared.{IsWhole}
+use Rattle.ods_remains.specs.Summary.{IsSharerOrSelf, missing_header}
+use Rattle.ods_remains.specs.declared.summary.Summary.{Summary}
 use Rattle.ods_paths.specs.declared.versions.Versions.{Versions}
 use Rattle.ods_paths.specs.declared.versions.Versions.TheVariants.{Exact, Highest, Lowest, Every}
 use Rattle.ods_paths.specs.Paths.{Files}
@@ -16,52 +17,42 @@ use Rattle.ods_shell.specs.Choosing.{AreThose, IsMatched}
 use Rattle.ods_shell.specs.Facts.{bytes_by}
 use Rattle.ods_shell.specs.declared.deleted.Deletion.{Deletion}
 
--- as far as 32 bits count
-abbrev pub counted : ℕ → ℕ
-counted n = min n (2 ^ 32 - 1)
-
 -- the ID that the deleted header n has
 abbrev pub deleted_id : List (List ℕ) → VolumeLayout → ℕ → FileId
 deleted_id I L n = record { number = n; sequence = sequence_of (former I L n) }
 
--- the first of its headers that a deleted file lacks, where the first of all is 1
-abbrev pub missing_header : DeletedFile → Option ℕ
-missing_header file = if file.is_cut then Some (length file.headers.items + 1) else None
-
 -- A deleted file that shares blocks with the deleted file n, which has these: another one that names one of them, or where there is none n itself, which names one twice.
 abbrev pub SharesWith : List (List ℕ) → VolumeLayout → ℕ → List ℕ → Option FileId → Type 0
-SharesWith I L n blocks None = IsSharer I L n blocks None × IsDistinct nat_eq blocks
-SharesWith I L n blocks (Some id) = (m : ℕ) × (id ≡ deleted_id I L m)
-    × (IsSharer I L n blocks (Some m) ⊎ ((m ≡ n) × IsSharer I L n blocks None × ¬ IsDistinct nat_eq blocks))
+SharesWith I L n blocks id = (sharer : Option ℕ) × (id ≡ option_map (deleted_id I L) sharer) × IsSharerOrSelf I L n blocks sharer
 
--- what is said of the deleted file n with this first header, of which so many blocks are used again
-abbrev pub deletion_by : ℕ → List ℕ → DeletedFile → ℕ → Option FileId → Bool → Deletion
-deletion_by n header file used sharer whole = record {
+-- what is said of the deleted file n with this first header, and of which this is known by its headers
+abbrev pub deletion_by : ℕ → List ℕ → Summary → Option FileId → Deletion
+deletion_by n header summary sharer = record {
   file = record { number = n; sequence = sequence_of header };
   ident = ident_of header;
-  blocks = counted (length file.blocks.items);
-  bytes = bytes_by (attributes_of header) (counted (length file.blocks.items));
-  used = used;
-  missing = missing_header file;
+  blocks = summary.blocks;
+  bytes = bytes_by (attributes_of header) summary.blocks;
+  used = summary.used;
+  missing = summary.missing;
   sharer = sharer;
-  whole = whole;
+  whole = summary.is_whole;
 }
 
--- this is known of the deleted file n, which has this chain
-pub record IsDeletionBy (I : List (List ℕ)) (L : VolumeLayout) (n : ℕ) (chain : DeletedFile) (d : Deletion) : Type 0 where
-  pub follows : IsFormerFile I L n chain
+-- this is known of the deleted file n, which has these headers, and these blocks
+pub record IsDeletionBy (I : List (List ℕ)) (L : VolumeLayout) (n : ℕ) (numbers lbns : List ℕ) (ends : Bool) (d : Deletion) : Type 0 where
+  pub follows : IsFormerChain I L n numbers lbns ends
   pub id : d.file ≡ deleted_id I L n
   pub named : d.ident ≡ ident_of (former I L n)
-  pub held : d.blocks ≡ counted (length chain.blocks.items)
+  pub held : d.blocks ≡ counted (length lbns)
   pub sized : d.bytes ≡ bytes_by (attributes_of (former I L n)) d.blocks
-  pub reused : d.used ≡ counted (used_again I L chain.blocks.items)
-  pub cut : d.missing ≡ missing_header chain
-  pub shared : SharesWith I L n chain.blocks.items d.sharer
-  pub complete : MatchBool d.whole (IsWhole I L n chain.blocks.items chain.is_cut) (¬ IsWhole I L n chain.blocks.items chain.is_cut)
+  pub reused : d.used ≡ counted (used_again I L lbns)
+  pub cut : d.missing ≡ missing_header numbers ends
+  pub shared : SharesWith I L n lbns d.sharer
+  pub complete : MatchBool d.whole (IsWhole I L n lbns ends) (¬ IsWhole I L n lbns ends)
 
 -- this is known of the deleted file n
 abbrev pub IsDeletion : List (List ℕ) → VolumeLayout → ℕ → Deletion → Type 0
-IsDeletion I L n d = (chain : DeletedFile) × IsDeletionBy I L n chain d
+IsDeletion I L n d = (numbers : List ℕ) × (lbns : List ℕ) × (ends : Bool) × IsDeletionBy I L n numbers lbns ends d
 
 -- the name in an ident area
 abbrev pub name_in : List ℕ → RadName

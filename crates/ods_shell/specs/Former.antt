@@ -46,7 +46,7 @@ pub record HasChain (I : List (List ℕ)) (L : VolumeLayout) (id : FileId) (chai
 -- this is known of the deleted file with this ID: what is left of it by its chain, and its facts by its first header, where it is named by its ID
 pub record IsFormerBy (I : List (List ℕ)) (L : VolumeLayout) (id : FileId) (f : Former) : Type 0 where
   pub chain : HasChain I L id f.file
-  pub known : IsDeletionBy I L id.number f.file f.known
+  pub known : IsDeletionBy I L id.number f.file.headers.items f.file.blocks.items f.file.is_cut f.known
   pub path : string_bytes f.found.path ≡ shown_id id
   pub place : f.found.place ≡ None
   pub condition : Condition
@@ -71,7 +71,7 @@ pub record IsUndeleted (I : List (List ℕ)) (L : VolumeLayout) (id : FileId) (w
 -- Why nothing is got out of the deleted file with this ID: parts are not asked for, and it is not whole; or what is left of it has not the wanted form.
 abbrev pub IsNotUndeleted : List (List ℕ) → VolumeLayout → FileId → Wanted → Bool → FormerFault → Type 0
 IsNotUndeleted I L id wanted partial (fault.NotWhole d) =
-    (partial ≡ false) × (file : DeletedFile) × HasChain I L id file × IsDeletionBy I L id.number file d × ¬ IsWhole I L id.number file.blocks.items file.is_cut
+    (partial ≡ false) × (file : DeletedFile) × HasChain I L id file × IsDeletionBy I L id.number file.headers.items file.blocks.items file.is_cut d × ¬ IsWhole I L id.number file.blocks.items file.is_cut
 IsNotUndeleted I L id wanted partial (fault.Form why) =
     (file : DeletedFile) × HasChain I L id file × (partial ≡ false → IsWhole I L id.number file.blocks.items file.is_cut)
     × IsNotGotBy wanted (left_body I L id.number file.blocks.items) why

@@ -1,22 +1,29 @@
 -- The files that a path names, as the commands get them.
-use Rattle.std.specs.Prelude.{◌≡◌, ◌≢◌, ◌<◌, ℕ, List, [], ◌∷◌, length, Option, Some, None, MatchOption, slice_get}
+use Rattle.std.specs.Prelude.{◌≡◌, ◌≢◌, ◌<◌, ◌⊎◌, ℕ, true, false, List, [], ◌∷◌, ◌++◌, length, codes, Option, Some, None, MatchOption, slice_get}
 use Rattle.std.specs.Option.{option_or}
 use Rattle.ods_base.specs.declared.file_id.FileId.{FileId}
 use Rattle.ods_base.specs.declared.listed.Listed.{Listed}
 use Rattle.ods_header.specs.Header.{sequence_of}
 use Rattle.ods_space.specs.Layout.{VolumeLayout, header_at}
 use Rattle.ods_paths.specs.declared.versions.Versions.{Versions}
+use Rattle.ods_paths.specs.declared.versions.Versions.TheVariants as versions
 use Rattle.ods_paths.specs.Bad.{IsBad}
 use Rattle.ods_paths.specs.Paths.{Files, Folder, Said, Says, File, Within}
+use Rattle.ods_paths.specs.Steps.{Step}
 use Rattle.ods_walk.specs.declared.tables.Line.{Line}
+use Rattle.ods_shell.specs.declared.alone.Alone.{Alone}
+use Rattle.ods_shell.specs.declared.alone.Alone.TheVariants as alone
+use Rattle.ods_shell.specs.declared.alone.Unsaid.{Unsaid}
 use Rattle.ods_shell.specs.declared.facts.Facts.{Facts}
+use Rattle.ods_shell.specs.declared.facts.Kind.TheVariants as kind
 use Rattle.ods_shell.specs.declared.folders.Directory.{Directory}
 use Rattle.ods_shell.specs.declared.found.Found.{Found}
 use Rattle.ods_shell.specs.Facts.{AreFacts}
 use Rattle.ods_shell.specs.declared.path_fault.PathFault.{PathFault}
 use Rattle.ods_shell.specs.declared.path_fault.PathFault.TheVariants as fault
+use Rattle.ods_shell.specs.Choosing.{AreEach, AreThose}
 use Rattle.ods_shell.specs.Found.{AreFound}
-use Rattle.ods_shell.specs.Ways.{AreMeant}
+use Rattle.ods_shell.specs.Ways.{AreMeant, AreStarts, AreWays, IsWayBy}
 
 -- what is known of the file with this ID; nothing where there is none
 abbrev pub IsKnown : List (List ℕ) → VolumeLayout → FileId → Option Facts → Type 0
@@ -52,11 +59,59 @@ abbrev pub IsFileOf : List (List ℕ) → VolumeLayout → FileId → List Found
 IsFileOf I L file found = (one : Found) × (found ≡ one ∷ []) × (one.place ≡ None)
     × ((facts : Facts) × (one.facts ≡ Some facts) × AreFacts I L file.number facts × (facts.file ≡ file))
 
+-- what one entry of a directory names
+abbrev pub IsOne : List (List ℕ) → VolumeLayout → Directory → Listed → List Found → Type 0
+IsOne I L directory entry found = (one : Found) × (found ≡ one ∷ []) × IsEntryOf I L directory entry one
+
+-- what these entries of a directory name, in their order
+abbrev pub AreEntries : List (List ℕ) → VolumeLayout → Directory → List Listed → List Found → Type 0
+AreEntries I L directory entries found = AreEach (IsOne I L directory) entries found
+
+-- the entries by which a step leads on from this directory
+abbrev pub AreLedBy : List (List ℕ) → VolumeLayout → List ℕ → Step → Directory → List Found → Type 0
+AreLedBy I L closed step from found =
+    (ways : List Listed) × (those : List Listed) × AreWays I L closed from.number ways × AreThose (IsWayBy step ways) ways those × AreEntries I L from those found
+
+-- the entries by which a last step leads on from the directories to which the steps before it lead
+abbrev pub AreLed : List (List ℕ) → VolumeLayout → List ℕ → List Step → Step → List Found → Type 0
+AreLed I L closed before last found = (starts : List Directory) × AreStarts I L closed before starts × AreEach (AreLedBy I L closed last) starts found
+
+-- the name of the master directory, in itself
+abbrev pub master_file : Files
+master_file = record { name = codes "000000"; kind = codes "DIR"; versions = Some versions.Highest }
+
+-- The files of the directories themselves that a folder means: that of the master directory, or those to which its last step leads. A folder with all below has none.
+abbrev pub AreThemselves : List (List ℕ) → VolumeLayout → List ℕ → Folder → List Found → Type 0
+AreThemselves I L closed folder found = (folder.below ≡ false)
+    × (((folder.steps ≡ []) × AreNamed I L closed folder master_file None found)
+    ⊎ ((before : List Step) × (last : Step) × (folder.steps ≡ before ++ last ∷ []) × AreLed I L closed before last found))
+
+-- what was found is no directory
+abbrev pub IsNoDirectory : Found → Type 0
+IsNoDirectory found = MatchOption found.facts (Unit {0}) (λ facts. facts.kind ≢ kind.Directory)
+
+abbrev pub every_file : Files
+every_file = record { name = codes "*"; kind = codes "*"; versions = None }
+
+-- the files in the directories that a folder means, but for directories
+abbrev pub AreInside : List (List ℕ) → VolumeLayout → List ℕ → Folder → Option Versions → List Found → Type 0
+AreInside I L closed folder unsaid found = (all : List Found) × AreNamed I L closed folder every_file unsaid all × AreThose IsNoDirectory all found
+
+-- what a folder alone stands for
+abbrev pub AreAlone : List (List ℕ) → VolumeLayout → List ℕ → Folder → Option Versions → Alone → List Found → Type 0
+AreAlone I L closed folder unsaid alone.Refused found = ⊥
+AreAlone I L closed folder unsaid alone.Files found = AreInside I L closed folder unsaid found
+AreAlone I L closed folder unsaid alone.Themselves found = AreThemselves I L closed folder found
+
+-- the highest version where a path says none, and this of a folder alone
+abbrev pub highest : Alone → Unsaid
+highest meaning = record { versions = Some versions.Highest; alone = meaning }
+
 -- what a path names that says this
-abbrev pub AreNamedBy : List (List ℕ) → VolumeLayout → List ℕ → Said → Option Versions → List Found → Type 0
+abbrev pub AreNamedBy : List (List ℕ) → VolumeLayout → List ℕ → Said → Unsaid → List Found → Type 0
 AreNamedBy I L closed (File file) unsaid found = IsFileOf I L file found
-AreNamedBy I L closed (Within folder None) unsaid found = ⊥
-AreNamedBy I L closed (Within folder (Some files)) unsaid found = AreNamed I L closed folder files unsaid found
+AreNamedBy I L closed (Within folder None) unsaid found = AreAlone I L closed folder unsaid.versions unsaid.alone found
+AreNamedBy I L closed (Within folder (Some files)) unsaid found = AreNamed I L closed folder files unsaid.versions found
 
 -- Why files of a folder are not named: versions are wanted and not said, or there are none, and no directory on the way is closed.
 abbrev pub AreNotNamed : List (List ℕ) → VolumeLayout → Folder → Files → Option Versions → PathFault → Type 0
@@ -68,15 +123,30 @@ AreNotNamed I L folder files unsaid fault.NoName = ⊥
 AreNotNamed I L folder files unsaid fault.IsId = ⊥
 AreNotNamed I L folder files unsaid fault.NoSuchFile = ⊥
 
--- the path says files in a folder that are not named for this reason
-abbrev pub IsUnnamed : List (List ℕ) → VolumeLayout → List ℕ → Option Versions → PathFault → Type 0
-IsUnnamed I L path unsaid why = (folder : Folder) × (files : Files) × Says path (Within folder (Some files)) × AreNotNamed I L folder files unsaid why
+-- Why a folder alone stands for nothing: the command wants files, or no one path means the directories below others; or none are there.
+abbrev pub IsNoneAlone : List (List ℕ) → VolumeLayout → Folder → Option Versions → Alone → PathFault → Type 0
+IsNoneAlone I L folder unsaid meaning fault.NoMemory = Unit {0}
+IsNoneAlone I L folder unsaid meaning fault.NoName = (meaning ≡ alone.Refused) ⊎ ((meaning ≡ alone.Themselves) × (folder.below ≡ true))
+IsNoneAlone I L folder unsaid meaning fault.NoVersion = (meaning ≡ alone.Files) × (unsaid ≡ None)
+IsNoneAlone I L folder unsaid meaning fault.Nothing = AreAlone I L [] folder unsaid meaning []
+IsNoneAlone I L folder unsaid meaning (fault.Bad bad) = ⊥
+IsNoneAlone I L folder unsaid meaning fault.IsId = ⊥
+IsNoneAlone I L folder unsaid meaning fault.NoSuchFile = ⊥
+
+-- why files of a folder, or the folder alone, name nothing
+abbrev pub AreNoneOf : List (List ℕ) → VolumeLayout → Folder → Option Files → Unsaid → PathFault → Type 0
+AreNoneOf I L folder None unsaid why = IsNoneAlone I L folder unsaid.versions unsaid.alone why
+AreNoneOf I L folder (Some files) unsaid why = AreNotNamed I L folder files unsaid.versions why
+
+-- the path says a folder, or files in it, that name nothing for this reason
+abbrev pub IsUnnamed : List (List ℕ) → VolumeLayout → List ℕ → Unsaid → PathFault → Type 0
+IsUnnamed I L path unsaid why = (folder : Folder) × (files : Option Files) × Says path (Within folder files) × AreNoneOf I L folder files unsaid why
 
 -- Why a path names nothing.
-abbrev pub IsPathFault : List (List ℕ) → VolumeLayout → List ℕ → Option Versions → PathFault → Type 0
+abbrev pub IsPathFault : List (List ℕ) → VolumeLayout → List ℕ → Unsaid → PathFault → Type 0
 IsPathFault I L path unsaid fault.NoMemory = Unit {0}
 IsPathFault I L path unsaid (fault.Bad bad) = IsBad path bad
-IsPathFault I L path unsaid fault.NoName = (folder : Folder) × Says path (Within folder None)
+IsPathFault I L path unsaid fault.NoName = IsUnnamed I L path unsaid fault.NoName
 IsPathFault I L path unsaid fault.NoSuchFile = (file : FileId) × Says path (File file) × ((facts : Facts) → AreFacts I L file.number facts → facts.file ≢ file)
 IsPathFault I L path unsaid fault.NoVersion = IsUnnamed I L path unsaid fault.NoVersion
 IsPathFault I L path unsaid fault.Nothing = IsUnnamed I L path unsaid fault.Nothing

@@ -1,10 +1,12 @@
--- Files whose records are not whole.
-use Rattle.std.specs.Prelude.{◌≡◌, ℕ, List, Some}
+-- Files whose records are not whole, and files that have a longer record than they say.
+use Rattle.std.specs.Prelude.{◌≡◌, ℕ, ◌<◌, List, Some}
 use Rattle.ods_space.specs.Layout.{VolumeLayout}
 use Rattle.ods_files.specs.Body.{Body, HasBody, bytes_in}
 use Rattle.ods_files.specs.declared.form.Form.TheVariants.{Binary}
 use Rattle.ods_records.specs.Attributes.{kind_in}
 use Rattle.ods_records.specs.Faults.{IsFirstFault}
+use Rattle.ods_records.specs.Long.{IsFirstLong}
+use Rattle.ods_records.specs.Records.{word_at}
 use Rattle.ods_records.specs.declared.kind.RecordKind.{RecordKind}
 use Rattle.ods_records.specs.declared.faults.RecordFault.{RecordFault}
 
@@ -15,3 +17,16 @@ IsSpoiled body fault = (kind : RecordKind) × (bytes : List ℕ) × (kind_in bod
 -- file n is of records, and this is wrong with them
 abbrev pub HasSpoiledRecords : List (List ℕ) → VolumeLayout → ℕ → RecordFault → Type 0
 HasSpoiledRecords I L n fault = (body : Body) × HasBody I L n body × IsSpoiled body fault
+
+-- F.RSIZ, the size that no record may pass
+abbrev pub record_size : Body → ℕ
+record_size body = word_at body.attributes 2
+
+-- the file is of records and says how long they are at most, and the one at this place is the first that is longer, with so many bytes
+abbrev pub IsTooLongIn : Body → ℕ → ℕ → Type 0
+IsTooLongIn body at size =
+    (kind : RecordKind) × (bytes : List ℕ) × (kind_in body.attributes ≡ Some kind) × (bytes_in Binary body ≡ Some bytes) × (0 < record_size body) × IsFirstLong kind bytes (record_size body) at size
+
+-- file n has this record, which is longer than the file says
+abbrev pub HasLongRecord : List (List ℕ) → VolumeLayout → ℕ → ℕ → ℕ → Type 0
+HasLongRecord I L n at size = (body : Body) × HasBody I L n body × IsTooLongIn body at size

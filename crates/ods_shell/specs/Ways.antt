@@ -6,11 +6,12 @@ use Rattle.ods_base.specs.declared.listed.Listed.{Listed}
 use Rattle.ods_space.specs.Layout.{VolumeLayout}
 use Rattle.ods_mount.specs.Faults.{IsDirectoryFile}
 use Rattle.ods_paths.specs.Numbers.{IsNumberedName}
-use Rattle.ods_paths.specs.Paths.{Files, Folder, Place, Master, Numbered, Named}
+use Rattle.ods_paths.specs.Paths.{Files, Folder}
+use Rattle.ods_paths.specs.Steps.{Step, Numbers, Pattern}
 use Rattle.ods_paths.specs.declared.versions.Versions.TheVariants.{Highest}
 use Rattle.ods_walk.specs.Complete.{LeadsPast}
 use Rattle.ods_walk.specs.Walk.{NamesDirectory}
-use Rattle.ods_shell.specs.Choosing.{AreThose, IsChosen, IsPicked}
+use Rattle.ods_shell.specs.Choosing.{AreEach, AreThose, IsChosen, IsPicked}
 use Rattle.ods_shell.specs.Found.{AreLinesOf}
 use Rattle.ods_shell.specs.declared.folders.Directory.{Directory}
 
@@ -36,25 +37,6 @@ abbrev pub AreNamedIn : List RadName → List Listed → List Directory → Type
 AreNamedIn names [] found = found ≡ []
 AreNamedIn names (e ∷ entries) found = (d : Directory) × (rest : List Directory) × (found ≡ d ∷ rest) × IsBelow names e d × AreNamedIn names entries rest
 
--- a step of a path is a name, or a pattern for one, and stands for any type; of a name with several versions the highest is meant
-abbrev pub step_files : List ℕ → Files
-step_files step = record { name = step; kind = codes "*"; versions = None }
-
--- From this directory a step leads to these.
-abbrev pub IsStep : List (List ℕ) → VolumeLayout → List ℕ → List ℕ → Directory → List Directory → Type 0
-IsStep I L closed step from found =
-    (ways : List Listed) × (those : List Listed) × AreWays I L closed from.number ways × AreThose (IsChosen (step_files step) Highest ways) ways those × AreNamedIn from.names.items those found
-
--- From these directories, one after another, a step leads to these.
-abbrev pub AreSteps : List (List ℕ) → VolumeLayout → List ℕ → List ℕ → List Directory → List Directory → Type 0
-AreSteps I L closed step [] found = found ≡ []
-AreSteps I L closed step (from ∷ others) found = (next : List Directory) × (rest : List Directory) × (found ≡ next ++ rest) × IsStep I L closed step from next × AreSteps I L closed step others rest
-
--- The steps lead on, each from where the one before led to.
-abbrev pub AreLedTo : List (List ℕ) → VolumeLayout → List ℕ → List (List ℕ) → List Directory → List Directory → Type 0
-AreLedTo I L closed [] from found = found ≡ from
-AreLedTo I L closed (step ∷ steps) from found = (next : List Directory) × AreSteps I L closed step from next × AreLedTo I L closed steps next found
-
 -- a group or a member is the one that is said, or none is said
 abbrev pub IsMeant : Option ℕ → ℕ → Type 0
 IsMeant None n = Unit {0}
@@ -64,20 +46,36 @@ IsMeant (Some said) n = n ≡ said
 abbrev pub HasNumbers : Option ℕ → Option ℕ → Listed → Type 0
 HasNumbers group member e = (g : ℕ) × (m : ℕ) × IsNumberedName (title e.name) g m × IsMeant group g × IsMeant member m
 
--- of a name with several versions the highest is meant
-abbrev pub IsNumberedWay : Option ℕ → Option ℕ → List Listed → Listed → Type 0
-IsNumberedWay group member ways e = HasNumbers group member e × IsPicked Highest ways e
+-- a pattern is one for a name, and stands for any type
+abbrev pub step_files : List ℕ → Files
+step_files name = record { name = name; kind = codes "*"; versions = None }
+
+-- The way is one of those to which the step leads: its name is that of the group and the member, or the pattern matches it. Of a name with several versions the highest is meant.
+abbrev pub IsWayBy : Step → List Listed → Listed → Type 0
+IsWayBy (Numbers group member) ways e = HasNumbers group member e × IsPicked Highest ways e
+IsWayBy (Pattern name) ways e = IsChosen (step_files name) Highest ways e
+
+-- From this directory a step leads to these.
+abbrev pub IsStep : List (List ℕ) → VolumeLayout → List ℕ → Step → Directory → List Directory → Type 0
+IsStep I L closed step from found =
+    (ways : List Listed) × (those : List Listed) × AreWays I L closed from.number ways × AreThose (IsWayBy step ways) ways those × AreNamedIn from.names.items those found
+
+-- From these directories, one after another, a step leads to these.
+abbrev pub AreSteps : List (List ℕ) → VolumeLayout → List ℕ → Step → List Directory → List Directory → Type 0
+AreSteps I L closed step from found = AreEach (IsStep I L closed step) from found
+
+-- The steps lead on, each from where the one before led to.
+abbrev pub AreLedTo : List (List ℕ) → VolumeLayout → List ℕ → List Step → List Directory → List Directory → Type 0
+AreLedTo I L closed [] from found = found ≡ from
+AreLedTo I L closed (step ∷ steps) from found = (next : List Directory) × AreSteps I L closed step from next × AreLedTo I L closed steps next found
 
 -- the master directory, to which no names lead
 abbrev pub AreMaster : List Directory → Type 0
 AreMaster found = (master : Directory) × (found ≡ master ∷ []) × (master.number ≡ 4) × (master.names.items ≡ [])
 
--- the directories of a place, closed ones too
-abbrev pub AreStarts : List (List ℕ) → VolumeLayout → List ℕ → Place → List Directory → Type 0
-AreStarts I L closed Master found = AreMaster found
-AreStarts I L closed (Numbered group member) found =
-    (ways : List Listed) × (those : List Listed) × AreWays I L closed 4 ways × AreThose (IsNumberedWay group member ways) ways those × AreNamedIn [] those found
-AreStarts I L closed (Named steps) found = (master : List Directory) × AreMaster master × AreLedTo I L closed steps master found
+-- the directories to which steps lead from the master directory, closed ones too
+abbrev pub AreStarts : List (List ℕ) → VolumeLayout → List ℕ → List Step → List Directory → Type 0
+AreStarts I L closed steps found = (master : List Directory) × AreMaster master × AreLedTo I L closed steps master found
 
 -- just the open ones of these directories
 abbrev pub AreOpen : List ℕ → List Directory → List Directory → Type 0
@@ -105,7 +103,7 @@ AreOpenOrBelow I L closed true starts found = AreAllBelow I L closed starts foun
 
 -- the directories that a folder means, but for closed ones and those to which only names in closed ones lead
 abbrev pub AreMeant : List (List ℕ) → VolumeLayout → List ℕ → Folder → List Directory → Type 0
-AreMeant I L closed folder found = (starts : List Directory) × AreStarts I L closed folder.place starts × AreOpenOrBelow I L closed folder.below starts found
+AreMeant I L closed folder found = (starts : List Directory) × AreStarts I L closed folder.steps starts × AreOpenOrBelow I L closed folder.below starts found
 
 -- directories that are closed were met besides, or none
 abbrev pub AreMet : List ℕ → List Directory → List Directory → Type 0

@@ -1,13 +1,13 @@
 //! What is known of deleted files whose headers are still there, found by the name in their ident.
-ghost use Rattle.std.specs.Prelude.{◌≡◌, ◌≤◌, ◌⊎◌, ◌++◌, ◌∷◌, [], IfOk, OnOk, MatchBool, MatchOption};
+ghost use Rattle.std.specs.Prelude.{◌≡◌, ◌≤◌, ◌⊎◌, ◌++◌, ◌∷◌, [], IfOk, IfSome, OnOk, MatchBool, MatchOption, option_map};
 ghost use Rattle.ods_header.specs.Header.{IsLaidOut};
 ghost use Rattle.ods_base.specs.Block.{word as word_in};
 ghost use Rattle.ods_base.specs.Name.{IsName};
 ghost use Rattle.ods_paths.specs.Views.{files as said, said_files};
-ghost use Rattle.ods_remains.specs.Deleted.{IsDeleted, IsDeletedFile, IsFormerFile, used_again as used_again_of};
+ghost use Rattle.ods_remains.specs.Deleted.{IsDeleted, IsDeletedFile};
 ghost use Rattle.ods_space.specs.Disks.{on, seen};
 ghost use Rattle.ods_shell.specs.Choosing.{IsMatched};
-ghost use Rattle.ods_shell.specs.Deleted.{AreDeletions, HasVersion, IsDeletion, IsDeletionBy, IsSought, IsSoughtFile, SharesWith, counted as counted_of, deleted_id as id_of_deleted, deletion_by, missing_header as missing_in, name_in as name_of};
+ghost use Rattle.ods_shell.specs.Deleted.{AreDeletions, HasVersion, IsDeletion, IsSought, IsSoughtFile, deleted_id as id_of_deleted, deletion_by, name_in as name_of};
 ghost use Rattle.ods_shell.specs.declared.deleted.Deletion.{Deletion as Known};
 
 use crate::choosing::is_matched;
@@ -15,7 +15,7 @@ use crate::facts::size;
 use ods_base::{Block, FileId, Name};
 use ods_header::{attributes, file_sequence, ident};
 use ods_paths::{Files, Versions};
-use ods_remains::{DeletedFile, Shares, deleted_file, deleted_header, names_twice, used_again};
+use ods_remains::{Shares, Summary, deleted_header, is_deleted_file};
 use ods_space::{Disk, last_number};
 use std::alloc::{AllocError, Global};
 
@@ -39,7 +39,8 @@ pub struct Deletion {
     pub whole: bool,
 }
 
-/// What is known of each deleted file that is looked for: of all, where no files are said. It goes twice along the chain of each.
+/// What is known of each deleted file that is looked for: of all, where no files are said. Each header is read a few times, however many
+/// files share it.
 pub fn known_deletions(
     alloc: Global,
     disk: &Disk<'_>,
@@ -89,9 +90,10 @@ pub fn known_deletion(
     requires layout { shares.now.layout ≡ disk.now.layout.now }
     ensures { IfOk result (λ one. MatchOption one (¬ on IsDeletedFile disk.now number) (on IsDeletion disk.now number)) }
 {
-    match deleted_file(alloc, disk, number)? {
-        Some(file) => Ok(Some(known(alloc, disk, shares, number, &file)?)),
-        None => Ok(None),
+    if is_deleted_file(disk, number) {
+        Ok(Some(known(alloc, disk, shares, number)?))
+    } else {
+        Ok(None)
     }
 }
 
@@ -101,102 +103,49 @@ pub(crate) fn known(
     disk: &Disk<'_>,
     shares: &Shares<'_>,
     number: u16,
-    file: &DeletedFile,
 ) -> Result<Deletion, AllocError>
     requires image { shares.now.image ≡ disk.now.image.now }
     requires layout { shares.now.layout ≡ disk.now.layout.now }
-    requires file { on IsFormerFile disk.now number file.now }
-    ensures { IfOk result (on IsDeletionBy disk.now number file.now) }
+    requires deleted { on IsDeletedFile disk.now number }
+    ensures { IfOk result (on IsDeletion disk.now number) }
 {
     let Some(header) = deleted_header(disk, number) else {
         unreachable!()
     };
-    let whole = shares.is_whole(alloc, number, file)?;
-    let sharer = sharer_of(alloc, disk, shares, number, file)?;
-    let used = used_of(disk, file);
-    Ok(told(number, &header, file, used, sharer, whole))
+    let summary = shares.summary(alloc, number)?;
+    let sharer = id_of_sharer(disk, summary.sharer);
+    Ok(told(number, &header, &summary, sharer))
 }
 
 /// What is known of a deleted file: what its first header says, and what was found out of its blocks.
-fn told(
-    number: u16,
-    header: &Block,
-    file: &DeletedFile,
-    used: u32,
-    sharer: Option<FileId>,
-    whole: bool,
-) -> Deletion
+fn told(number: u16, header: &Block, summary: &Summary, sharer: Option<FileId>) -> Deletion
     requires { IsLaidOut header.now }
-    ensures { result ≡ deletion_by number header.now file.now used sharer whole }
+    ensures { result ≡ deletion_by number header.now summary.now sharer }
 {
-    let blocks = counted(file.blocks.len());
     Deletion {
         file: FileId {
             number,
             sequence: file_sequence(header),
         },
         ident: ident(header),
-        blocks,
-        bytes: size(&attributes(header), blocks),
-        used,
-        missing: missing_header(file),
+        blocks: summary.blocks,
+        bytes: size(&attributes(header), summary.blocks),
+        used: summary.used,
+        missing: summary.missing,
         sharer,
-        whole,
+        whole: summary.is_whole,
     }
 }
 
-/// How many blocks of a deleted file are used again.
-fn used_of(disk: &Disk<'_>, file: &DeletedFile) -> u32
-    ensures { result ≡ counted_of (seen used_again_of disk.now file.now.blocks.items) }
+/// The ID of the deleted file that shares blocks with another one.
+fn id_of_sharer(disk: &Disk<'_>, sharer: Option<u16>) -> Option<FileId>
+    requires { IfSome sharer (on IsDeleted disk.now) }
+    ensures { result ≡ option_map (seen id_of_deleted disk.now) sharer }
 {
-    counted(used_again(disk, &file.blocks))
-}
-
-/// A number, as far as 32 bits count.
-fn counted(number: usize) -> u32
-    ensures { result ≡ counted_of number }
-{
-    if number < 4_294_967_295 {
-        number as u32
-    } else {
-        u32::MAX
+    match sharer {
+        Some(number) => Some(deleted_id(disk, number)),
+        None => None,
     }
-}
-
-/// The first header that this deleted file lacks, where it lacks one.
-fn missing_header(file: &DeletedFile) -> Option<u64>
-    ensures { result ≡ missing_in file.now }
-{
-    if file.is_cut {
-        Some(file.headers.len() as u64 + 1)
-    } else {
-        None
-    }
-}
-
-/// A deleted file that shares blocks with this one.
-fn sharer_of(
-    alloc: Global,
-    disk: &Disk<'_>,
-    shares: &Shares<'_>,
-    number: u16,
-    file: &DeletedFile,
-) -> Result<Option<FileId>, AllocError>
-    requires image { shares.now.image ≡ disk.now.image.now }
-    requires layout { shares.now.layout ≡ disk.now.layout.now }
-    requires deleted { on IsDeleted disk.now number }
-    ensures { IfOk result (on SharesWith disk.now number file.now.blocks.items) }
-{
-    if let Some(other) = shares.sharer(number, &file.blocks) {
-        let id = deleted_id(disk, other);
-        return Ok(Some(id));
-    }
-    let twice = names_twice(alloc, &file.blocks)?;
-    if twice {
-        let own = deleted_id(disk, number);
-        return Ok(Some(own));
-    }
-    Ok(None)
 }
 
 /// The ID of the deleted header with this number.

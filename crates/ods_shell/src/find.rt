@@ -44,7 +44,7 @@ fn push_found(text: &mut String, directories: &[Directory], line: &Line) -> Resu
 }
 
 /// The path of a line, by the directory that it stands in.
-pub(crate) fn push_path_of(
+pub fn push_path_of(
     text: &mut String,
     directories: &[Directory],
     line: &Line,
@@ -225,7 +225,7 @@ fn id_of_file(disk: &Disk<'_>, number: u16) -> Option<FileId>
 }
 
 /// Whether there is a file with this ID.
-fn is_there(disk: &Disk<'_>, file: FileId) -> bool
+pub fn is_there(disk: &Disk<'_>, file: FileId) -> bool
     ensures { IsTrue result ↔ on IsThere disk.now file }
 {
     match primary_header(disk, file.number) {

@@ -1,18 +1,18 @@
 //! The directories that the folder of a path means.
 ghost use Rattle.std.specs.Prelude.{◌≡◌, ◌==◌, ◌++◌, ◌∷◌, ℕ, List, [], false, true, IfOk, OnOk, MatchBool, MatchOption, IsSortedByKey};
 ghost use Rattle.std.specs.List.{list_any};
-ghost use Rattle.ods_paths.specs.{Order.listing_cmp, Views.folder as said_folder, Views.place as said_place};
+ghost use Rattle.ods_paths.specs.{Order.listing_cmp, Views.folder as said_folder};
 ghost use Rattle.ods_mount.specs.{Faults.IsDirectoryFile};
 ghost use Rattle.ods_walk.specs.{Listing.IsListing, Listing.shown, Walk.NamesDirectory};
 ghost use Rattle.ods_shell.specs.declared.folders.Directory.{Directory as One};
-ghost use Rattle.ods_shell.specs.Ways.{AreMeant, AreMet, AreOpen, AreStarts, CountAsClosed};
+ghost use Rattle.ods_shell.specs.Ways.{AreMeant, AreMet, AreOpen, CountAsClosed};
 ghost use Rattle.ods_space.specs.Disks.{on};
 
 use crate::below::with_all_below;
-use crate::ways::{find_named, find_numbered};
+use crate::ways::find_starts;
 use ods_base::{Listed, Name};
 use ods_header::is_directory;
-use ods_paths::{Folder, Place};
+use ods_paths::Folder;
 use ods_space::{Disk, primary_header};
 use ods_walk::{listing, names_directory};
 use std::alloc::{AllocError, Global};
@@ -101,34 +101,11 @@ pub(crate) fn directories(
     ensures same { closed.new.numbers ≡ closed.old.numbers }
     ensures met { OnOk result (AreMet closed.old.numbers.now closed.old.met.items closed.new.met.items) }
 {
-    let starts = find_starts(alloc, disk, &folder.place, closed)?;
+    let starts = find_starts(alloc, disk, &folder.steps, closed)?;
     if folder.below {
         return with_all_below(alloc, disk, &starts, closed);
     }
     open_ones(alloc, starts, closed)
-}
-
-/// The directories of a place, closed ones too.
-fn find_starts(
-    alloc: Global,
-    disk: &Disk<'_>,
-    place: &Place<'_>,
-    closed: &mut Closed<'_>,
-) -> Result<Vec<Directory>, AllocError>
-    ensures found { IfOk result (λ found. (shut : List ℕ) → CountAsClosed closed.old.numbers.now closed.new.met.items shut
-        → on AreStarts disk.now shut (said_place place.now) found.items) }
-    ensures same { closed.new.numbers ≡ closed.old.numbers }
-    ensures met { OnOk result (AreMet closed.old.numbers.now closed.old.met.items closed.new.met.items) }
-{
-    match place {
-        Place::Master => {
-            let mut found = Vec::new(alloc);
-            found.push(master(alloc))?;
-            Ok(found)
-        }
-        Place::Numbered { group, member } => find_numbered(alloc, disk, *group, *member, closed),
-        Place::Named(steps) => find_named(alloc, disk, steps, closed),
-    }
 }
 
 /// Of these directories the open ones, in their order.

@@ -115,7 +115,7 @@ fn former_of(
     requires chain { on HasChain disk.now file chain }
     ensures { IfOk result (λ f. (f.known.file ≡ file) × on IsFormer disk.now f) }
 {
-    let left = known(alloc, disk, shares, file.number, &chain)?;
+    let left = known(alloc, disk, shares, file.number)?;
     let facts = facts_left(disk, file.number, &chain, left.blocks);
     let mut path = String::new(alloc);
     push_id(&mut path, file)?;

@@ -10,6 +10,7 @@ ghost use Rattle.ods_shell.specs.Ways.{AreMet, CountAsClosed};
 ghost use Rattle.ods_space.specs.Files.{IsLayoutOf};
 ghost use Rattle.ods_space.specs.Disks.{on};
 
+use crate::alone::{Unsaid, find_alone};
 use crate::facts::{Facts, facts_by_id};
 use crate::finding::find_open;
 use crate::folders::Directory;
@@ -55,13 +56,13 @@ impl Found {
     }
 }
 
-/// What a path names, in the order of a listing. `unsaid` are the versions that are meant where the path says none; where that is `None` either,
-/// the path is refused. Of these closed directories no names are read, and those that are on the way come back too.
+/// What a path names, in the order of a listing. `unsaid` is what it means where it says no versions, and where it says directories alone; a path
+/// that has to say more is refused. Of these closed directories no names are read, and those that are on the way come back too.
 pub fn find_path(
     alloc: Global,
     disk: &Disk<'_>,
     path: &str,
-    unsaid: Option<Versions>,
+    unsaid: Unsaid,
     closed: &[u16],
 ) -> Result<(Vec<Found>, Vec<Directory>), PathFault>
     requires { on IsLayoutOf disk.now }
@@ -73,9 +74,9 @@ pub fn find_path(
 {
     match parse_path(path.as_bytes()) {
         Ok(Path::File(file)) => Ok((find_file(alloc, disk, file)?, Vec::new(alloc))),
-        Ok(Path::Within(_, None)) => Err(PathFault::NoName),
+        Ok(Path::Within(folder, None)) => find_alone(alloc, disk, &folder, unsaid, closed),
         Ok(Path::Within(folder, Some(files))) => {
-            find_names(alloc, disk, &folder, files, unsaid, closed)
+            find_names(alloc, disk, &folder, files, unsaid.versions, closed)
         }
         Err(bad) => Err(PathFault::Bad(bad)),
     }
@@ -181,7 +182,7 @@ fn add_line(
 }
 
 /// What an entry of a directory names.
-fn file_at(
+pub(crate) fn file_at(
     alloc: Global,
     disk: &Disk<'_>,
     directory: &Directory,

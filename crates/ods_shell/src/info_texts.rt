@@ -61,7 +61,7 @@ pub(crate) fn behind_bitmap(info: &Info) -> u64
 }
 
 /// The label as people are shown it: without the zero bytes and spaces behind it, and `?` for each byte that is no character.
-pub(crate) fn label_text(label: &[u8; 12]) -> ArrayString<18>
+pub fn label_text(label: &[u8; 12]) -> ArrayString<18>
     ensures { result.bytes ≡ shown_label label.now }
 {
     let mut text = ArrayString::new();

@@ -160,6 +160,27 @@ pub fn pair_object(
     Ok(line)
 }
 
+/// An object with three texts.
+pub fn trio_object(
+    alloc: Global,
+    name: &str,
+    value: &str,
+    other: &str,
+    other_value: &str,
+    third: &str,
+    third_value: &str,
+) -> Result<String, AllocError>
+    ensures { IfOk result (λ line. string_bytes line ≡ object_line (with_text third.now third_value.now (with_text other.now other_value.now (with_text name.now value.now no_members)))) }
+{
+    let mut members = no_fields(alloc);
+    add_text(alloc, &mut members, name, value)?;
+    add_text(alloc, &mut members, other, other_value)?;
+    add_text(alloc, &mut members, third, third_value)?;
+    let mut line = String::new(alloc);
+    push_object(alloc, &mut line, members)?;
+    Ok(line)
+}
+
 /// An object for each line that was found: its path, the ID that it names, and what is known of the file.
 pub fn ls_objects(alloc: Global, disk: &Disk<'_>, found: &FoundLines) -> Result<String, AllocError>
     requires { on IsLayoutOf disk.now }

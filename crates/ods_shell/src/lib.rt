@@ -1,6 +1,7 @@
 //! The commands of `f11fs`: which files a path finds, what is known of each, and the text that a command prints.
 #![tactic(auto)]
 
+mod alone;
 mod below;
 mod by_blocks;
 mod choosing;
@@ -19,6 +20,7 @@ mod info_json;
 mod info_texts;
 mod json;
 mod laws;
+mod led;
 mod ls;
 pub mod mounted;
 mod naming;
@@ -35,12 +37,13 @@ mod usage;
 mod versioned;
 mod ways;
 
+pub use alone::{Alone, Unsaid};
 pub use by_blocks::contents_of_blocks;
 pub use comparing::have_same_bytes;
 pub use deleted::{Deletion, known_deletion, known_deletions};
 pub use deletions::{deletion_lines, deletion_objects};
 pub use facts::{Condition, Facts, Kind, facts_by_id, facts_of};
-pub use find::{find_lines, lost_lines, unreached_lines};
+pub use find::{find_lines, is_there, lost_lines, push_path_of, unreached_lines};
 pub use finding::{FoundLines, find_open};
 pub use folders::{Directory, MASTER, is_directory_file, lines_of};
 pub use form::{Contents, FormFault, Got, Remark, open_contents};
@@ -48,8 +51,10 @@ pub use former::{Former, FormerFault, find_former, open_former};
 pub use found::{EntryPlace, Found, find_names, find_path};
 pub use info::{Info, volume_info};
 pub use info_json::info_object;
-pub use info_texts::info_lines;
-pub use json::{ls_objects, number_object, pair_object, space_object, stat_object, text_object};
+pub use info_texts::{info_lines, label_text};
+pub use json::{
+    ls_objects, number_object, pair_object, space_object, stat_object, text_object, trio_object,
+};
 pub use laws::{facts_of_sound, sound_chains_are_got};
 pub use ls::{Columns, ls_lines};
 pub use ods_records::Wanted;
@@ -58,7 +63,7 @@ pub use remedies::{Advice, remedy};
 pub use rescued::{Rescued, RescuedPart, open_rescued, open_rescued_part};
 pub use scanned::{HeaderName, Refound, has_its_number_beside, name_at, open_scanned};
 pub use space::{Space, space_lines, space_of};
-pub use spoiled::spoiled_records;
+pub use spoiled::{long_record, spoiled_records};
 pub use stat::stat_lines;
 pub use status::Status;
 pub use texts::{push_directory, push_directory_name, push_path};

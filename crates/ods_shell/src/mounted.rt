@@ -10,6 +10,7 @@ ghost use Rattle.ods_shell.specs.{Listed.AreObjects, Listed.IsListing as IsListe
 ghost use Rattle.ods_shell.specs.{Found.AreFound, Named.AreNamed, Named.AreNamedBy, Named.AreNotNamed, Named.IsPathFault, Ways.AreMeant, Ways.AreMet, Ways.CountAsClosed};
 ghost use Rattle.ods_shell.specs.declared.facts.Facts.{Facts as Known};
 
+use crate::alone::Unsaid;
 use crate::facts::Facts;
 use crate::finding::FoundLines;
 use crate::folders::Directory;
@@ -92,7 +93,7 @@ pub fn find_path(
     alloc: Global,
     volume: &Mounted,
     path: &str,
-    unsaid: Option<Versions>,
+    unsaid: Unsaid,
     closed: &[u16],
 ) -> Result<(Vec<Found>, Vec<Directory>), PathFault>
     ensures named { IfOk result (λ r. (says : Said) × Says path.now says

@@ -13,7 +13,7 @@ pub enum PathFault {
     #[error("{0}")]
     Bad(BadPath),
     /// A directory, and no file in it.
-    #[error("no file is named")]
+    #[error("a directory, and no file in it: A/*.* are all files in A, A. is a file with no type")]
     NoName,
     /// Versions are wanted, and the path says none.
     #[error("no version is said: say ';*' (in quotes) for all, or --newest")]

@@ -1,12 +1,12 @@
-//! Files whose records are not whole, on an image that may be refused.
-ghost use Rattle.std.specs.Prelude.{◌≡◌, ◌≢◌, None, IfOk, IfSome, IfNone};
+//! Files whose records are not whole, or longer than they say, on an image that may be refused.
+ghost use Rattle.std.specs.Prelude.{◌≡◌, ◌≢◌, ℕ, None, IfOk, IfSome, IfNone};
 ghost use Rattle.ods_space.specs.Files.{IsLayoutOf};
 ghost use Rattle.ods_records.specs.declared.faults.RecordFault.{RecordFault as Fault};
-ghost use Rattle.ods_shell.specs.Spoiled.{HasSpoiledRecords, IsSpoiled};
+ghost use Rattle.ods_shell.specs.Spoiled.{HasLongRecord, HasSpoiledRecords, IsSpoiled, IsTooLongIn};
 ghost use Rattle.ods_space.specs.Disks.{on};
 
 use ods_files::{FileBody, FileFault, Form};
-use ods_records::{RecordFault, kind_of, records_to_text};
+use ods_records::{LongRecord, RecordFault, first_long, kind_of, record_size, records_to_text};
 use ods_space::{ChainFault, Disk};
 use std::alloc::{AllocError, Global};
 
@@ -28,7 +28,7 @@ pub fn spoiled_records(
 }
 
 /// What is told of records where there is no body: none, unless memory ran out.
-fn none_of(fault: FileFault) -> Result<Option<RecordFault>, AllocError>
+fn none_of<T: Drop>(fault: FileFault) -> Result<Option<T>, AllocError>
     ensures { IfOk result (λ found. (found ≡ None) × (fault ≢ FileFault.Chain ChainFault.NoMemory)) }
 {
     if fault == FileFault::Chain(ChainFault::NoMemory) {
@@ -53,4 +53,40 @@ fn fault_in(alloc: Global, body: &FileBody<'_>) -> Result<Option<RecordFault>, A
         Err(RecordFault::NoMemory) => Err(AllocError),
         Err(fault) => Ok(Some(fault)),
     }
+}
+
+/// The first record of the file with this number that is longer than F.RSIZ; `None` where F.RSIZ is 0, where no record is, and where
+/// `spoiled_records` looks at none.
+pub fn long_record(
+    alloc: Global,
+    disk: &Disk<'_>,
+    number: u16,
+) -> Result<Option<LongRecord>, AllocError>
+    requires { on IsLayoutOf disk.now }
+    ensures some { IfOk result (λ found. IfSome found (λ r. on HasLongRecord disk.now number r.at r.size)) }
+    ensures none { IfOk result (λ found. IfNone found ((at : ℕ) (size : ℕ) → ¬ on HasLongRecord disk.now number at size)) }
+{
+    match FileBody::open(alloc, disk, number) {
+        Ok(body) => long_in(alloc, &body),
+        Err(fault) => none_of(fault),
+    }
+}
+
+/// The first record of a file with this body that is longer than F.RSIZ.
+fn long_in(alloc: Global, body: &FileBody<'_>) -> Result<Option<LongRecord>, AllocError>
+    ensures some { IfOk result (λ found. IfSome found (λ r. IsTooLongIn body.now r.at r.size)) }
+    ensures none { IfOk result (λ found. IfNone found ((at : ℕ) (size : ℕ) → ¬ IsTooLongIn body.now at size)) }
+{
+    let attributes = body.attributes();
+    let most = record_size(&attributes);
+    if most == 0 {
+        return Ok(None);
+    }
+    let Some(kind) = kind_of(&attributes) else {
+        return Ok(None);
+    };
+    let Some(bytes) = body.read(alloc, Form::Binary)? else {
+        return Ok(None);
+    };
+    Ok(first_long(kind, &bytes, most as usize))
 }

@@ -1,22 +1,22 @@
 //! The directories to which the steps of a path lead.
 ghost use Rattle.std.specs.Prelude.{◌≡◌, ◌+◌, ◌<◌, ◌++◌, ◌∷◌, ℕ, List, [], IfOk, OnOk, MatchBool, IsSortedByKey, Some, length, slice_get, take};
 ghost use Rattle.ods_base.specs.declared.listed.Listed.{Listed as Entry};
-ghost use Rattle.ods_paths.specs.{Order.listing_cmp, Paths.Numbered, Patterns.capitals, Views.place as said_place};
+ghost use Rattle.ods_paths.specs.{Order.listing_cmp, Patterns.capitals, Steps.Numbers, Steps.Pattern, Views.step as said_step, Views.steps as said_steps};
 ghost use Rattle.ods_walk.specs.Listing.{shown};
 ghost use Rattle.ods_shell.specs.Choosing.{AreThose};
 ghost use Rattle.ods_shell.specs.declared.folders.Directory.{Directory as One};
-ghost use Rattle.ods_shell.specs.Ways.{AreMet, AreNamedIn, AreStarts, AreSteps, AreWays, CountAsClosed, HasNumbers, IsMeant, IsNumberedWay, IsStep, LeadsOn};
+ghost use Rattle.ods_shell.specs.Ways.{AreMet, AreNamedIn, AreStarts, AreSteps, AreWays, CountAsClosed, HasNumbers, IsMeant, IsStep, IsWayBy, LeadsOn};
 ghost use Rattle.ods_space.specs.Disks.{on};
 
 use crate::choosing::{chosen, is_highest};
 use crate::folders::{Closed, Directory, MASTER, directory_of, lines_of, master};
 use ods_base::{Listed, Name, print_title};
-use ods_paths::{Files, Place, Steps, Versions, numbered_name};
+use ods_paths::{Files, Step, Steps, Versions, numbered_name};
 use ods_space::Disk;
 use std::alloc::{AllocError, Global};
 
 /// The entries of a directory that lead on, in the order of a listing; none of a closed one, which is noted.
-fn ways_from(
+pub(crate) fn ways_from(
     alloc: Global,
     disk: &Disk<'_>,
     number: u16,
@@ -61,24 +61,93 @@ fn leads_on(disk: &Disk<'_>, entry: &Listed) -> bool
     }
 }
 
-/// The directories of a group and a member in the master directory, of all where there is `None`.
-pub(crate) fn find_numbered(
+/// The directories to which steps lead from the master directory, closed ones too.
+pub(crate) fn find_starts(
     alloc: Global,
     disk: &Disk<'_>,
-    group: Option<u8>,
-    member: Option<u8>,
+    steps: &Steps<'_>,
     closed: &mut Closed<'_>,
 ) -> Result<Vec<Directory>, AllocError>
     ensures found { IfOk result (λ found. (shut : List ℕ) → CountAsClosed closed.old.numbers.now closed.new.met.items shut
-        → on AreStarts disk.now shut (Numbered group member) found.items) }
+        → on AreStarts disk.now shut (said_steps steps.now) found.items) }
     ensures same { closed.new.numbers ≡ closed.old.numbers }
     ensures met { OnOk result (AreMet closed.old.numbers.now closed.old.met.items closed.new.met.items) }
 {
-    let ways = ways_from(alloc, disk, MASTER, &[], closed)?;
-    let those = numbered_ways(alloc, &ways, group, member)?;
     let mut found = Vec::new(alloc);
-    add_named(alloc, &[], &those, &mut found)?;
+    found.push(master(alloc))?;
+    let mut rest = *steps;
+    while let Some((step, behind)) = rest.split_first() {
+        found = follow_step(alloc, disk, &found, &step, closed)?;
+        rest = behind;
+    }
     Ok(found)
+}
+
+/// The directories to which a step leads from these, one after another.
+fn follow_step(
+    alloc: Global,
+    disk: &Disk<'_>,
+    from: &[Directory],
+    step: &Step<'_>,
+    closed: &mut Closed<'_>,
+) -> Result<Vec<Directory>, AllocError>
+    ensures found { IfOk result (λ found. (shut : List ℕ) → CountAsClosed closed.old.numbers.now closed.new.met.items shut
+        → on AreSteps disk.now shut (said_step step.now) from.now found.items) }
+    ensures same { closed.new.numbers ≡ closed.old.numbers }
+    ensures met { OnOk result (AreMet closed.old.numbers.now closed.old.met.items closed.new.met.items) }
+{
+    let mut found = Vec::new(alloc);
+    for directory in from {
+        add_steps(alloc, disk, directory, step, closed, &mut found)?;
+    }
+    Ok(found)
+}
+
+/// Adds the directories to which a step leads from this one.
+fn add_steps(
+    alloc: Global,
+    disk: &Disk<'_>,
+    from: &Directory,
+    step: &Step<'_>,
+    closed: &mut Closed<'_>,
+    found: &mut Vec<Directory>,
+) -> Result<(), AllocError>
+    ensures found { OnOk result ((next : List One) × (found.new.items ≡ found.old.items ++ next)
+        × ((shut : List ℕ) → CountAsClosed closed.old.numbers.now closed.new.met.items shut → on IsStep disk.now shut (said_step step.now) from.now next)) }
+    ensures same { closed.new.numbers ≡ closed.old.numbers }
+    ensures met { OnOk result (AreMet closed.old.numbers.now closed.old.met.items closed.new.met.items) }
+{
+    let ways = ways_from(alloc, disk, from.number, &from.names, closed)?;
+    let those = ways_by(alloc, &ways, step)?;
+    add_named(alloc, &from.names, &those, found)
+}
+
+/// Of these ways those to which a step leads, and of one name the highest version.
+pub(crate) fn ways_by(
+    alloc: Global,
+    ways: &[Listed],
+    step: &Step<'_>,
+) -> Result<Vec<Listed>, AllocError>
+    requires { IsSortedByKey shown listing_cmp ways.now }
+    ensures { IfOk result (λ those. AreThose (IsWayBy (said_step step.now) ways.now) ways.now those.items) }
+{
+    match step {
+        Step::Numbers { group, member } => numbered_ways(alloc, ways, *group, *member),
+        Step::Pattern(name) => named_ways(alloc, ways, name),
+    }
+}
+
+/// Of these ways those whose names a pattern matches, and of one name the highest version.
+fn named_ways(alloc: Global, ways: &[Listed], name: &[u8]) -> Result<Vec<Listed>, AllocError>
+    requires { IsSortedByKey shown listing_cmp ways.now }
+    ensures { IfOk result (λ those. AreThose (IsWayBy (Pattern (capitals name.now)) ways.now) ways.now those.items) }
+{
+    let files = Files {
+        name,
+        kind: b"*",
+        versions: None,
+    };
+    chosen(alloc, ways, &files, Versions::Highest)
 }
 
 /// Of these ways those whose names are of the group and the member, and of one name the highest version.
@@ -89,7 +158,7 @@ fn numbered_ways(
     member: Option<u8>,
 ) -> Result<Vec<Listed>, AllocError>
     requires { IsSortedByKey shown listing_cmp ways.now }
-    ensures { IfOk result (λ those. AreThose (IsNumberedWay group member ways.now) ways.now those.items) }
+    ensures { IfOk result (λ those. AreThose (IsWayBy (Numbers group member) ways.now) ways.now those.items) }
 {
     let mut those = Vec::new(alloc);
     for place in 0..ways.len() {
@@ -108,8 +177,8 @@ fn add_numbered(
 ) -> Result<(), AllocError>
     requires sorted { IsSortedByKey shown listing_cmp ways.now }
     requires inside { place < length ways.now }
-    ensures { OnOk result (AreThose (IsNumberedWay group member ways.now) (take place ways.now) those.old.items
-        → AreThose (IsNumberedWay group member ways.now) (take (place + 1) ways.now) those.new.items) }
+    ensures { OnOk result (AreThose (IsWayBy (Numbers group member) ways.now) (take place ways.now) those.old.items
+        → AreThose (IsWayBy (Numbers group member) ways.now) (take (place + 1) ways.now) those.new.items) }
 {
     let way = ways[place];
     if is_numbered_way(ways, place, &way, group, member) {
@@ -128,7 +197,7 @@ fn is_numbered_way(
 ) -> bool
     requires sorted { IsSortedByKey shown listing_cmp ways.now }
     requires there { slice_get ways.now place ≡ Some way.now }
-    ensures { MatchBool result (IsNumberedWay group member ways.now way.now) (¬ IsNumberedWay group member ways.now way.now) }
+    ensures { MatchBool result (IsWayBy (Numbers group member) ways.now way.now) (¬ IsWayBy (Numbers group member) ways.now way.now) }
 {
     has_numbers(way, group, member) && is_highest(ways, place, way)
 }
@@ -152,70 +221,6 @@ fn is_meant(meant: Option<u8>, found: u8) -> bool
         Some(meant) => meant == found,
         None => true,
     }
-}
-
-/// The directories of names, or of patterns for them, each within the one before.
-pub(crate) fn find_named(
-    alloc: Global,
-    disk: &Disk<'_>,
-    steps: &Steps<'_>,
-    closed: &mut Closed<'_>,
-) -> Result<Vec<Directory>, AllocError>
-    ensures found { IfOk result (λ found. (shut : List ℕ) → CountAsClosed closed.old.numbers.now closed.new.met.items shut
-        → on AreStarts disk.now shut (said_place (Place.Named steps.now)) found.items) }
-    ensures same { closed.new.numbers ≡ closed.old.numbers }
-    ensures met { OnOk result (AreMet closed.old.numbers.now closed.old.met.items closed.new.met.items) }
-{
-    let mut found = Vec::new(alloc);
-    found.push(master(alloc))?;
-    for step in steps.text.split(|c| *c == steps.separator) {
-        found = follow_step(alloc, disk, &found, step, closed)?;
-    }
-    Ok(found)
-}
-
-/// The directories to which a step leads from these, one after another.
-fn follow_step(
-    alloc: Global,
-    disk: &Disk<'_>,
-    from: &[Directory],
-    step: &[u8],
-    closed: &mut Closed<'_>,
-) -> Result<Vec<Directory>, AllocError>
-    ensures found { IfOk result (λ found. (shut : List ℕ) → CountAsClosed closed.old.numbers.now closed.new.met.items shut
-        → on AreSteps disk.now shut (capitals step.now) from.now found.items) }
-    ensures same { closed.new.numbers ≡ closed.old.numbers }
-    ensures met { OnOk result (AreMet closed.old.numbers.now closed.old.met.items closed.new.met.items) }
-{
-    let mut found = Vec::new(alloc);
-    for directory in from {
-        add_steps(alloc, disk, directory, step, closed, &mut found)?;
-    }
-    Ok(found)
-}
-
-/// Adds the directories to which a step leads from this one.
-fn add_steps(
-    alloc: Global,
-    disk: &Disk<'_>,
-    from: &Directory,
-    step: &[u8],
-    closed: &mut Closed<'_>,
-    found: &mut Vec<Directory>,
-) -> Result<(), AllocError>
-    ensures found { OnOk result ((next : List One) × (found.new.items ≡ found.old.items ++ next)
-        × ((shut : List ℕ) → CountAsClosed closed.old.numbers.now closed.new.met.items shut → on IsStep disk.now shut (capitals step.now) from.now next)) }
-    ensures same { closed.new.numbers ≡ closed.old.numbers }
-    ensures met { OnOk result (AreMet closed.old.numbers.now closed.old.met.items closed.new.met.items) }
-{
-    let ways = ways_from(alloc, disk, from.number, &from.names, closed)?;
-    let step_files = Files {
-        name: step,
-        kind: b"*",
-        versions: None,
-    };
-    let those = chosen(alloc, &ways, &step_files, Versions::Highest)?;
-    add_named(alloc, &from.names, &those, found)
 }
 
 /// Adds the directories that these entries name, which stand in the one to which these names lead.

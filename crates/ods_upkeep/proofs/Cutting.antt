@@ -11,7 +11,8 @@ use Rattle.ods_request.specs.declared.requests.Request.TheVariants.{SetUser, Tru
 use Rattle.ods_filing.specs.Filed.{Filed}
 use Rattle.ods_filing.specs.Led.{IsObeyed}
 use Rattle.ods_space.specs.Layout.{VolumeLayout}
-use Rattle.ods_paths.specs.declared.versions.Versions.TheVariants.{Highest}
+use Rattle.ods_shell.specs.declared.alone.Alone.TheVariants as alone
+use Rattle.ods_shell.specs.Named.{highest}
 use Rattle.ods_shell.specs.declared.facts.Facts.{Facts}
 use Rattle.ods_shell.specs.declared.found.Found.{Found}
 use Rattle.ods_upkeep.specs.declared.failure.Why.{Why}
@@ -58,7 +59,7 @@ gone_for old new facts bytes blocks are cut =
     subst (λ n. Does old (if nat_lt n facts.blocks then Truncate facts.file n ∷ [] else []) new) (are ∙ as_many bytes) cut
 
 -- the one file that a path names, where it can be cut, or why it cannot
-pub cut_or_not : (I : List (List ℕ)) (L : VolumeLayout) (path : List ℕ) (bytes : ℕ) (x : Found) (result : Result Facts Why) → AreOfPath I L (Some Highest) path (x ∷ []) → MatchResult result (IsCuttable x.facts bytes) (IsNoCut x.facts bytes)
+pub cut_or_not : (I : List (List ℕ)) (L : VolumeLayout) (path : List ℕ) (bytes : ℕ) (x : Found) (result : Result Facts Why) → AreOfPath I L (highest alone.Refused) path (x ∷ []) → MatchResult result (IsCuttable x.facts bytes) (IsNoCut x.facts bytes)
     → MatchResult result (IsCut I L path bytes) (IsNotCut I L path bytes)
 cut_or_not I L path bytes x (Ok facts) one is = record { found = x; one = one; cuttable = is }
 cut_or_not I L path bytes x (Err why) one is = inr (x ∷ [], one, inr (x, refl, is))

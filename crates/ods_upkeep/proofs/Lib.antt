@@ -22,7 +22,6 @@ pub mod Below
 pub mod NameTexts
 pub mod Stopping
 pub mod Emptying
-pub mod LastSteps
 pub mod Meaning
 pub mod Unemptying
 pub mod Unmaking

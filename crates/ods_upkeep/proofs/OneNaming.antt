@@ -13,7 +13,8 @@ use Rattle.ods_mount.specs.Faults.{IsDirectoryFile}
 use Rattle.ods_mount.specs.Sound.{IsSoundBy}
 use Rattle.ods_paths.specs.declared.versions.Versions.{Versions}
 use Rattle.ods_paths.specs.declared.versions.Versions.TheVariants.{Highest}
-use Rattle.ods_paths.specs.Paths.{Files, Folder, Place, Master, Numbered, Named}
+use Rattle.ods_paths.specs.Paths.{Files, Folder}
+use Rattle.ods_paths.specs.Steps.{Step}
 use Rattle.ods_walk.specs.Complete.{LeadsPast}
 use Rattle.ods_walk.specs.declared.tables.Line.{Line}
 use Rattle.ods_shell.specs.Choosing.{AreThose, IsChosen}
@@ -21,7 +22,7 @@ use Rattle.ods_shell.proofs.Reached.{known_in_one_way}
 use Rattle.ods_shell.specs.Facts.{AreFacts}
 use Rattle.ods_shell.specs.Found.{AreFound, AreFoundIn, AreLinesOf, placed}
 use Rattle.ods_shell.specs.Named.{AreLines, AreNamed, IsKnown}
-use Rattle.ods_shell.specs.Ways.{AreAllBelow, AreLedTo, AreMaster, AreMeant, AreNamedIn, AreOpen, AreOpenOrBelow, AreStarts, AreSteps, AreWays, IsNumberedWay, IsStep, LeadsOn, step_files}
+use Rattle.ods_shell.specs.Ways.{AreAllBelow, AreLedTo, AreMaster, AreMeant, AreNamedIn, AreOpen, AreOpenOrBelow, AreStarts, AreSteps, AreWays, IsStep, IsWayBy, LeadsOn}
 use Rattle.ods_shell.specs.declared.facts.Facts.{Facts}
 use Rattle.ods_shell.specs.declared.folders.Directory.{Directory}
 use Rattle.ods_shell.specs.declared.found.Found.{Found}
@@ -102,9 +103,9 @@ module _ (I : List (List ℕ)) (L : VolumeLayout) (sound : IsSoundBy I L) where
       let same : those ≡ these = those_one (P w) w those these (subst (λ u. AreThose (P u) u those) ways x) y in
       named_alike names others these f g (those_keep (P w) (LeadsOn I L) w these y (ways_lead n w b)) (subst (λ l. AreNamedIn names l f) same p) q
 
-  step_alike : (step : List ℕ) (a b : Directory) (f g : List Directory) → a.number ≡ b.number → IsDirectoryFile I L a.number → IsStep I L [] step a f → IsStep I L [] step b g → Alike f g
+  step_alike : (step : Step) (a b : Directory) (f g : List Directory) → a.number ≡ b.number → IsDirectoryFile I L a.number → IsStep I L [] step a f → IsStep I L [] step b g → Alike f g
   step_alike step a b f g same is x y =
-      chosen_alike (λ w. IsChosen (step_files step) Highest w) a.number a.names.items b.names.items x.0 y.0 x.1 y.1 f g is x.2 (subst (λ n. AreWays I L [] n y.0) (sym same) y.2) x.3 y.3 x.4 y.4
+      chosen_alike (λ w. IsWayBy step w) a.number a.names.items b.names.items x.0 y.0 x.1 y.1 f g is x.2 (subst (λ n. AreWays I L [] n y.0) (sym same) y.2) x.3 y.3 x.4 y.4
 
   joined : (us vs cs ds : List Directory) → Alike us vs → Alike cs ds → Alike (us ++ cs) (vs ++ ds)
   joined us vs cs ds x y = record {
@@ -112,7 +113,7 @@ module _ (I : List (List ℕ)) (L : VolumeLayout) (sound : IsSoundBy I L) where
     are = subst (All (IsDirectoryFile I L)) (sym (map-append (λ (d : Directory). d.number) us cs)) (All-append (IsDirectoryFile I L) (numbers us) (numbers cs) x.are y.are);
   }
 
-  steps_alike : (step : List ℕ) (us vs f g : List Directory) → Alike us vs → AreSteps I L [] step us f → AreSteps I L [] step vs g → Alike f g
+  steps_alike : (step : Step) (us vs f g : List Directory) → Alike us vs → AreSteps I L [] step us f → AreSteps I L [] step vs g → Alike f g
   steps_alike step [] [] f g from a b = record { same = ap numbers (a ∙ sym b); are = subst (λ l. All (IsDirectoryFile I L) (numbers l)) (sym a) (All-nil (IsDirectoryFile I L)) }
   steps_alike step [] (b ∷ vs) f g from x y = let clash : [] ≡ b.number ∷ numbers vs = from.same in absurd (cc)
   steps_alike step (a ∷ us) [] f g from x y = let clash : a.number ∷ numbers us ≡ [] = from.same in absurd (cc)
@@ -125,7 +126,7 @@ module _ (I : List (List ℕ)) (L : VolumeLayout) (sound : IsSoundBy I L) where
       let whole = joined x.0 y.0 x.1 y.1 next rest in
       subst (λ l. Alike l g) (sym x.2) (subst (λ l. Alike (x.0 ++ x.1) l) (sym y.2) whole)
 
-  led_alike : (steps : List (List ℕ)) (us vs f g : List Directory) → Alike us vs → AreLedTo I L [] steps us f → AreLedTo I L [] steps vs g → Alike f g
+  led_alike : (steps : List Step) (us vs f g : List Directory) → Alike us vs → AreLedTo I L [] steps us f → AreLedTo I L [] steps vs g → Alike f g
   led_alike [] us vs f g from a b = subst (λ l. Alike l g) (sym a) (subst (λ l. Alike us l) (sym b) from)
   led_alike (step ∷ steps) us vs f g from x y = led_alike steps x.0 y.0 f g (steps_alike step us vs x.0 y.0 from x.1 y.1) x.2 y.2
 
@@ -138,10 +139,8 @@ module _ (I : List (List ℕ)) (L : VolumeLayout) (sound : IsSoundBy I L) where
       let other : numbers g ≡ 4 ∷ [] = ap numbers b.1 ∙ (λ i. b.2 i ∷ []) in
       record { same = one ∙ sym other; are = subst (All (IsDirectoryFile I L)) (sym one) (All-cons (IsDirectoryFile I L) 4 [] is_master (All-nil (IsDirectoryFile I L))) }
 
-  starts_alike : (place : Place) (f g : List Directory) → AreStarts I L [] place f → AreStarts I L [] place g → Alike f g
-  starts_alike Master f g a b = masters_alike f g a b
-  starts_alike (Numbered group member) f g a b = chosen_alike (λ w. IsNumberedWay group member w) 4 [] [] a.0 b.0 a.1 b.1 f g is_master a.2 b.2 a.3 b.3 a.4 b.4
-  starts_alike (Named steps) f g a b = led_alike steps a.0 b.0 f g (masters_alike a.0 b.0 a.1 b.1) a.2 b.2
+  starts_alike : (steps : List Step) (f g : List Directory) → AreStarts I L [] steps f → AreStarts I L [] steps g → Alike f g
+  starts_alike steps f g a b = led_alike steps a.0 b.0 f g (masters_alike a.0 b.0 a.1 b.1) a.2 b.2
 
   open_all : (starts found : List Directory) → AreOpen [] starts found → found ≡ starts
   open_all [] found are = are
@@ -195,7 +194,7 @@ module _ (I : List (List ℕ)) (L : VolumeLayout) (sound : IsSoundBy I L) where
 
   -- a folder that means one directory means no other
   pub meant_one : (folder : Folder) (ds : List Directory) (d : Directory) → AreMeant I L [] folder (d ∷ []) → AreMeant I L [] folder ds → (numbers ds ≡ d.number ∷ []) × IsDirectoryFile I L d.number
-  meant_one folder ds d a b = one_meant folder.below a.0 b.0 ds d (starts_alike folder.place a.0 b.0 a.1 b.1) a.2 b.2
+  meant_one folder ds d a b = one_meant folder.below a.0 b.0 ds d (starts_alike folder.steps a.0 b.0 a.1 b.1) a.2 b.2
 
   -- a file is known in one way
   known_one : (file : FileId) (f g : Option Facts) → IsKnown I L file f → IsKnown I L file g → f ≡ g

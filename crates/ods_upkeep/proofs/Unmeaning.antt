@@ -4,9 +4,9 @@ use Rattle.std.specs.Prelude.{IfErr, MatchResult, OnErr, OnOk}
 use Rattle.ods_space.specs.Layout.{VolumeLayout}
 use Rattle.ods_paths.specs.Paths.{Folder, Said, Says}
 use Rattle.ods_upkeep.specs.declared.failure.Why.{Why}
-use Rattle.ods_upkeep.specs.Meant.{IsMeant, meant_text}
+use Rattle.ods_upkeep.specs.Meant.{IsMeant}
 use Rattle.ods_upkeep.specs.Unmade.{IsNoNewPlace, IsNoPlace}
-use Rattle.ods_upkeep.specs.Unmeant.{MeansNone, ReadsNone}
+use Rattle.ods_upkeep.specs.Unmeant.{MeansNone}
 use Rattle.ods_upkeep.proofs.Meaning.{means_by}
 
 -- what follows from why a call fails
@@ -20,10 +20,10 @@ match_last (Ok x) ok err p u q = ok p
 match_last (Err why) ok err p u q = err why u q
 
 -- what the text means none by that is read, the path means none by
-pub means_none : (path read : List ℕ) (why : Why) → read ≡ meant_text path → ReadsNone read why → MeansNone path why
-means_none path read why is none = inl (subst (λ t. ReadsNone t why) is none)
+pub means_none : (path read : List ℕ) (why : Why) → read ≡ path → MeansNone read why → MeansNone path why
+means_none path read why is none = subst (λ t. MeansNone t why) is none
 
 -- what the text means that is read is no new place, and so the path means none
-pub no_place : (I : List (List ℕ)) (L : VolumeLayout) (path read : List ℕ) (up : Folder) (name : List ℕ) (why : Why) → read ≡ meant_text path → (says : Said) × Says read says × IsMeant read says up name → IsNoPlace I L up name why
+pub no_place : (I : List (List ℕ)) (L : VolumeLayout) (path read : List ℕ) (up : Folder) (name : List ℕ) (why : Why) → read ≡ path → (says : Said) × Says read says × IsMeant read says up name → IsNoPlace I L up name why
     → IsNoNewPlace I L path why
 no_place I L path read up name why is meant none = inr (up, (name, means_by path read up name is meant, none))

@@ -4,7 +4,8 @@ use Rattle.std.specs.Borrow.{Bor}
 use Rattle.ods_base.specs.declared.file_id.FileId.{FileId}
 use Rattle.ods_base.specs.declared.file_id.Uic.{Uic}
 use Rattle.ods_space.specs.Layout.{VolumeLayout}
-use Rattle.ods_paths.specs.declared.versions.Versions.TheVariants.{Highest}
+use Rattle.ods_shell.specs.declared.alone.Alone.TheVariants as alone
+use Rattle.ods_shell.specs.Named.{highest}
 use Rattle.ods_shell.specs.declared.facts.Facts.{Facts}
 use Rattle.ods_shell.specs.declared.facts.Kind.TheVariants.{Directory}
 use Rattle.ods_shell.specs.declared.found.Found.{Found}
@@ -27,7 +28,7 @@ count_of several = if several then 2 else 1
 -- These are the attributes of the one file that the path names, the highest version where it says none. It is no directory, and its number is above 2.
 pub record AreAttributesAt (I : List (List ℕ)) (L : VolumeLayout) (path attributes : List ℕ) : Type 0 where
   pub found : Found
-  pub one : AreOfPath I L (Some Highest) path (found ∷ [])
+  pub one : AreOfPath I L (highest alone.Refused) path (found ∷ [])
   pub facts : Facts
   pub known : found.facts ≡ Some facts
   pub plain : facts.kind ≢ Directory
@@ -46,8 +47,8 @@ AreNames I L true names = (counts : List ℕ) × (names ≡ Some counts) × AreC
 
 -- the highest versions of the names in a directory, where they are wanted
 abbrev pub AreKept : List (List ℕ) → VolumeLayout → Bool → FileId → Option Noted → Type 0
-AreKept I L false dir highest = highest ≡ None
-AreKept I L true dir highest = (noted : Noted) × (highest ≡ Some noted) × AreHighest I L dir.number noted
+AreKept I L false dir kept = kept ≡ None
+AreKept I L true dir kept = (noted : Noted) × (kept ≡ Some noted) × AreHighest I L dir.number noted
 
 -- What put looks up on a volume: the target, the attributes of the file that is to be like, and counts of names or highest versions. All else is as it is asked for.
 pub record IsBegun (I : List (List ℕ)) (L : VolumeLayout) (stamp : List ℕ) (to : Option (Bor (List ℕ))) (several : Bool) (form : PutForm) (like : Option (Bor (List ℕ))) (replace : Bool) (owner : Option Uic) (begun : InPut) : Type 0 where

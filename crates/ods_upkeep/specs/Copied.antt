@@ -10,7 +10,6 @@ use Rattle.ods_files.specs.Body.{Body, HasBody, are_zeros, bytes_in}
 use Rattle.ods_files.specs.declared.fault.FileFault.{FileFault}
 use Rattle.ods_files.specs.declared.fault.FileFault.TheVariants.{NoSuchFile, Chain}
 use Rattle.ods_files.specs.declared.form.Form.TheVariants.{Raw}
-use Rattle.ods_paths.specs.declared.versions.Versions.TheVariants.{Highest}
 use Rattle.ods_space.specs.Layout.{VolumeLayout}
 use Rattle.ods_space.specs.declared.fault.ChainFault.TheVariants.{BadChain, OutsideVolume, NoMemory}
 use Rattle.ods_records.specs.Attributes.{block, end_of}
@@ -18,6 +17,8 @@ use Rattle.ods_request.specs.Rights.{permits}
 use Rattle.ods_request.specs.declared.refusals.Refusal.TheVariants as refusal
 use Rattle.ods_request.specs.declared.rights.Right.TheVariants.{Read}
 use Rattle.ods_filing.specs.Filed.{Filed}
+use Rattle.ods_shell.specs.declared.alone.Alone.TheVariants as alone
+use Rattle.ods_shell.specs.Named.{highest}
 use Rattle.ods_shell.specs.HostNames.{before_version}
 use Rattle.ods_shell.specs.declared.facts.Facts.{Facts}
 use Rattle.ods_shell.specs.declared.facts.Kind.TheVariants.{Directory}
@@ -102,5 +103,5 @@ AreCopied to stamp (f ∷ found) old new = (mid : Filed) × IsCopied to stamp f 
 -- Each file that these paths mean, the highest version where they say none, is copied to the target of the last path. Nothing else was done.
 abbrev pub IsCopiedTo : List ℕ → List (Bor (List ℕ)) → List ℕ → Filed → Filed → Type 0
 IsCopiedTo stamp paths to old new =
-    (found : List Found) × ((target : Target) × AreSources old.image old.layout (Some Highest) paths found × IsTarget old.image old.layout (length found) to target
+    (found : List Found) × ((target : Target) × AreSources old.image old.layout (highest alone.Files) paths found × IsTarget old.image old.layout (length found) to target
     × AreCopied target stamp found old new)

@@ -1,11 +1,12 @@
 -- What truncate asks for: the blocks behind the new end go, and the attributes say where it is.
 use Rattle.std.specs.Prelude.{◌≡◌, ◌≢◌, ◌⊎◌, ◌≤◌, ◌<◌, ◌*◌, ◌+◌, ◌/◌, ℕ, nat_lt, if◌then◌else◌, List, [], ◌∷◌, ◌++◌, length, Option, Some, None}
 use Rattle.ods_space.specs.Layout.{VolumeLayout}
-use Rattle.ods_paths.specs.declared.versions.Versions.TheVariants.{Highest}
 use Rattle.ods_filing.specs.Filed.{Filed}
 use Rattle.ods_request.specs.declared.refusals.Refusal.TheVariants.{Reserved, VolumeFull}
 use Rattle.ods_request.specs.declared.requests.Request.{Request as Asked}
 use Rattle.ods_request.specs.declared.requests.Request.TheVariants.{SetUser, Truncate}
+use Rattle.ods_shell.specs.declared.alone.Alone.TheVariants as alone
+use Rattle.ods_shell.specs.Named.{highest}
 use Rattle.ods_shell.specs.declared.facts.Facts.{Facts}
 use Rattle.ods_shell.specs.declared.facts.Kind.TheVariants.{Directory}
 use Rattle.ods_shell.specs.declared.found.Found.{Found}
@@ -29,7 +30,7 @@ pub record IsCuttable (known : Option Facts) (bytes : ℕ) (facts : Facts) : Typ
 -- the one file that the path names, the highest version where it says none, which can be cut to so many bytes
 pub record IsCut (I : List (List ℕ)) (L : VolumeLayout) (path : List ℕ) (bytes : ℕ) (facts : Facts) : Type 0 where
   pub found : Found
-  pub one : AreOfPath I L (Some Highest) path (found ∷ [])
+  pub one : AreOfPath I L (highest alone.Refused) path (found ∷ [])
   pub cuttable : IsCuttable found.facts bytes facts
 
 -- how many blocks these bytes take
@@ -65,8 +66,8 @@ IsNoCut (Some facts) bytes why =
 -- why what a path names is not cut: it names nothing, or more than one, or one that is not cut
 abbrev pub IsNotCut : List (List ℕ) → VolumeLayout → List ℕ → ℕ → Why → Type 0
 IsNotCut I L path bytes why =
-    IsNoSource I L (Some Highest) path why
-    ⊎ ((found : List Found) × AreOfPath I L (Some Highest) path found
+    IsNoSource I L (highest alone.Refused) path why
+    ⊎ ((found : List Found) × AreOfPath I L (highest alone.Refused) path found
     × (((why ≡ Several) × (length found ≢ 1)) ⊎ ((one : Found) × (found ≡ one ∷ []) × IsNoCut one.facts bytes why)))
 
 -- why cutting a file stops: no attributes say so many bytes, and nothing was done; or a request is not done

@@ -3,10 +3,11 @@ use Rattle.std.specs.Prelude.{◌≡◌, ◌⊎◌, ℕ, List, [], ◌∷◌, Op
 use Rattle.std.specs.Borrow.{Bor}
 use Rattle.std.specs.String.{string_bytes}
 use Rattle.ods_base.specs.declared.file_id.Uic.{Uic}
-use Rattle.ods_paths.specs.declared.versions.Versions.TheVariants.{Highest}
 use Rattle.ods_request.specs.declared.refusals.Refusal.{Refusal}
 use Rattle.ods_filing.specs.Filed.{Filed}
 use Rattle.ods_filing.specs.Amended.{HasGiven, IsWhyNotGiven}
+use Rattle.ods_shell.specs.declared.alone.Alone.TheVariants as alone
+use Rattle.ods_shell.specs.Named.{highest}
 use Rattle.ods_shell.specs.declared.facts.Facts.{Facts}
 use Rattle.ods_shell.specs.declared.found.Found.{Found}
 use Rattle.ods_shell.specs.declared.path_fault.PathFault.TheVariants.{NoSuchFile}
@@ -29,7 +30,7 @@ GetAccess owner protection (f ∷ found) old new = (mid : Filed) × GetsAccess o
 -- Each file that these paths name, the highest version where they say none, has got this owner and this protection, each where it is given. Nothing else was done.
 abbrev pub AreGiven : Option Uic → Option ℕ → List (Bor (List ℕ)) → Filed → Filed → Type 0
 AreGiven owner protection paths old new =
-    (found : List Found) × AreSources old.image old.layout (Some Highest) paths found × GetAccess owner protection found old new
+    (found : List Found) × AreSources old.image old.layout (highest alone.Themselves) paths found × GetAccess owner protection found old new
 
 -- why what was found gets none: its entry names no file; or the user may not give it, or there is no memory
 abbrev pub GetsNone : Option Facts → Filed → Why → Type 0
@@ -46,5 +47,5 @@ StopsGiving owner protection (f ∷ found) old new failure =
 -- Why not each file that these paths name gets them, and what was done before: there are no sources, and nothing was done; or one gets none.
 abbrev pub AreNotGiven : Option Uic → Option ℕ → List (Bor (List ℕ)) → Filed → Filed → Failure → Type 0
 AreNotGiven owner protection paths old new failure =
-    ((new ≡ old) × AreNoSources old.image old.layout (Some Highest) paths failure)
-    ⊎ ((found : List Found) × AreSources old.image old.layout (Some Highest) paths found × StopsGiving owner protection found old new failure)
+    ((new ≡ old) × AreNoSources old.image old.layout (highest alone.Themselves) paths failure)
+    ⊎ ((found : List Found) × AreSources old.image old.layout (highest alone.Themselves) paths found × StopsGiving owner protection found old new failure)

@@ -9,11 +9,12 @@ use Rattle.ods_mount.specs.Faults.{IsDirectoryFile}
 use Rattle.ods_walk.specs.Complete.{LeadsPast}
 use Rattle.ods_filing.specs.Filed.{Filed, IsRefusedFor}
 use Rattle.ods_filing.specs.Led.{IsObeyed}
-use Rattle.ods_paths.specs.declared.versions.Versions.TheVariants.{Highest}
 use Rattle.ods_request.specs.declared.refusals.Refusal.{Refusal}
 use Rattle.ods_request.specs.declared.refusals.Refusal.TheVariants as refusal
 use Rattle.ods_request.specs.declared.requests.Request.{Request as Asked}
 use Rattle.ods_request.specs.declared.requests.Request.TheVariants.{Enter, LookUp, Remove}
+use Rattle.ods_shell.specs.declared.alone.Alone.TheVariants as alone
+use Rattle.ods_shell.specs.Named.{highest}
 use Rattle.ods_shell.specs.declared.facts.Facts.{Facts}
 use Rattle.ods_shell.specs.declared.facts.Kind.TheVariants.{Directory}
 use Rattle.ods_shell.specs.declared.found.EntryPlace.{EntryPlace}
@@ -100,7 +101,7 @@ MayNotMove I L to f Hidden = ⊥
 -- Each name that these paths mean, the highest version where they say none, has moved to the target of the last path. All may move, and nothing else was done.
 abbrev pub IsMoved : List (Bor (List ℕ)) → List ℕ → Filed → Filed → Type 0
 IsMoved paths to old new =
-    (found : List Found) × ((target : Target) × AreSources old.image old.layout (Some Highest) paths found × IsTarget old.image old.layout (length found) to target
+    (found : List Found) × ((target : Target) × AreSources old.image old.layout (highest alone.Themselves) paths found × IsTarget old.image old.layout (length found) to target
     × AreNotKept (MayNotMove old.image old.layout target) found × AreMoved target found old new)
 
 -- why a name does not move that may: a directory of the name it gets is there; or one of its requests is not done
@@ -125,7 +126,7 @@ AreNotMoved to found old new failure =
 -- Why not all that these paths name moves, and what was done before: there are no sources, or no target, and nothing was done; or not all of the sources move.
 abbrev pub IsNotMoved : List (Bor (List ℕ)) → List ℕ → Filed → Filed → Failure → Type 0
 IsNotMoved paths to old new failure =
-    ((new ≡ old) × AreNoSources old.image old.layout (Some Highest) paths failure)
-    ⊎ ((found : List Found) × AreSources old.image old.layout (Some Highest) paths found
+    ((new ≡ old) × AreNoSources old.image old.layout (highest alone.Themselves) paths failure)
+    ⊎ ((found : List Found) × AreSources old.image old.layout (highest alone.Themselves) paths found
     × (((new ≡ old) × IsNoTarget old.image old.layout (length found) to failure.why × HasPath failure to)
     ⊎ ((target : Target) × IsTarget old.image old.layout (length found) to target × AreNotMoved target found old new failure)))

@@ -9,9 +9,9 @@ use Rattle.ods_request.specs.declared.refusals.Refusal.TheVariants as refusal
 use Rattle.ods_request.specs.declared.requests.Request.{Request as Asked}
 use Rattle.ods_request.specs.Refusals.{refusal_row}
 use Rattle.ods_state.specs.Outcome.{CanBeAsked}
-use Rattle.ods_paths.specs.declared.versions.Versions.{Versions}
 use Rattle.ods_filing.specs.Filed.{Filed, IsRefusedFor}
 use Rattle.ods_filing.specs.Led.{IsObeyed}
+use Rattle.ods_shell.specs.declared.alone.Unsaid.{Unsaid}
 use Rattle.ods_shell.specs.declared.found.Found.{Found}
 use Rattle.ods_shell.specs.declared.path_fault.PathFault.{PathFault}
 use Rattle.ods_shell.specs.declared.path_fault.PathFault.TheVariants as fault
@@ -58,11 +58,11 @@ abbrev pub IsOutOfMemory : Failure → Type 0
 IsOutOfMemory failure = (string_bytes failure.path ≡ []) × (failure.why ≡ no_memory)
 
 -- why a path names nothing
-abbrev pub IsNoSource : List (List ℕ) → VolumeLayout → Option Versions → List ℕ → Why → Type 0
+abbrev pub IsNoSource : List (List ℕ) → VolumeLayout → Unsaid → List ℕ → Why → Type 0
 IsNoSource I L unsaid path why = (fault : PathFault) × (why ≡ for_fault fault) × IsPathFault I L path unsaid fault
 
 -- the first of these paths that names nothing, and why
-pub record IsFirstNoSource (I : List (List ℕ)) (L : VolumeLayout) (unsaid : Option Versions) (paths : List (Bor (List ℕ))) (failure : Failure) : Type 0 where
+pub record IsFirstNoSource (I : List (List ℕ)) (L : VolumeLayout) (unsaid : Unsaid) (paths : List (Bor (List ℕ))) (failure : Failure) : Type 0 where
   pub before : List (Bor (List ℕ))
   pub path : Bor (List ℕ)
   pub behind : List (Bor (List ℕ))
@@ -74,7 +74,7 @@ pub record IsFirstNoSource (I : List (List ℕ)) (L : VolumeLayout) (unsaid : Op
   pub said : HasPath failure path.now
 
 -- why there are no sources: one of the paths names nothing, or there is no memory to tell apart what they name
-abbrev pub AreNoSources : List (List ℕ) → VolumeLayout → Option Versions → List (Bor (List ℕ)) → Failure → Type 0
+abbrev pub AreNoSources : List (List ℕ) → VolumeLayout → Unsaid → List (Bor (List ℕ)) → Failure → Type 0
 AreNoSources I L unsaid paths failure = IsFirstNoSource I L unsaid paths failure ⊎ IsOutOfMemory failure
 
 -- One of these may not be changed, as the failure says; all before it may.

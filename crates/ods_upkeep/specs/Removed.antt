@@ -3,17 +3,18 @@ use Rattle.std.specs.Prelude.{◌≡◌, ◌⊎◌, ◌==◌, ◌<◌, ℕ, Bool
 use Rattle.std.specs.Borrow.{Bor}
 use Rattle.std.specs.String.{string_bytes}
 use Rattle.ods_base.specs.declared.name.Pick.TheVariants.{Exact}
-use Rattle.ods_paths.specs.declared.versions.Versions.{Versions}
-use Rattle.ods_paths.specs.declared.versions.Versions.TheVariants.{Highest}
 use Rattle.ods_request.specs.declared.refusals.Refusal.TheVariants.{Reserved}
 use Rattle.ods_request.specs.declared.requests.Request.{Request as Asked}
 use Rattle.ods_request.specs.declared.requests.Request.TheVariants.{Delete, Remove}
 use Rattle.ods_filing.specs.Filed.{Filed}
 use Rattle.ods_filing.specs.Led.{Asks, Leads}
+use Rattle.ods_shell.specs.declared.alone.Alone.TheVariants as alone
+use Rattle.ods_shell.specs.declared.alone.Unsaid.{Unsaid}
 use Rattle.ods_shell.specs.declared.facts.Facts.{Facts}
 use Rattle.ods_shell.specs.declared.facts.Kind.TheVariants.{Directory}
 use Rattle.ods_shell.specs.declared.found.EntryPlace.{EntryPlace}
 use Rattle.ods_shell.specs.declared.found.Found.{Found}
+use Rattle.ods_shell.specs.Named.{highest}
 use Rattle.ods_upkeep.specs.Counted.{AreCounts, one_less}
 use Rattle.ods_upkeep.specs.Pieces.{Stays}
 use Rattle.ods_upkeep.specs.Refused.{AreNoSources, AreNotKept, HasPath, IsFirstKept, IsOutOfMemory, StopsAt}
@@ -52,10 +53,10 @@ abbrev pub removals : Bool → (ℕ → ℕ) → List Found → List Asked
 removals entry_alone names [] = []
 removals entry_alone names (f ∷ found) = one_gone entry_alone names f.place f.facts ++ removals entry_alone (names_left names f.place f.facts) found
 
--- the versions that are meant where a path says none: with --newest the highest
-abbrev pub unsaid_versions : Bool → Option Versions
-unsaid_versions true = Some Highest
-unsaid_versions false = None
+-- what is meant where a path does not say it: with --newest the highest version
+abbrev pub unsaid_by : Bool → Unsaid
+unsaid_by true = highest alone.Refused
+unsaid_by false = record { versions = None; alone = alone.Refused }
 
 -- a file is there that is a directory
 abbrev pub IsOfDirectory : Option Facts → Type 0
@@ -87,7 +88,7 @@ MayNotGo entry_alone names f Hidden = ⊥
 -- Each entry that these paths name has gone, and, unless the entries alone are meant, each file that no entry names then. All may go, and nothing else was done.
 abbrev pub IsRemoved : Bool → Bool → List (Bor (List ℕ)) → Filed → Filed → Type 0
 IsRemoved entry_alone newest paths old new =
-    (found : List Found) × ((names : ℕ → ℕ) × AreSources old.image old.layout (unsaid_versions newest) paths found × AreCounts old.image old.layout names
+    (found : List Found) × ((names : ℕ → ℕ) × AreSources old.image old.layout (unsaid_by newest) paths found × AreCounts old.image old.layout names
     × AreNotKept (MayNotGo entry_alone names) found × Does old (removals entry_alone names found) new)
 
 -- These go, one after another, up to one, of which a request is not done.
@@ -106,6 +107,6 @@ AreNotGone entry_alone names found old new failure =
 -- Why not all that these paths name goes, and what was done before: there are no sources, or no memory to count names, and nothing was done; or not all of the sources go.
 abbrev pub IsNotRemoved : Bool → Bool → List (Bor (List ℕ)) → Filed → Filed → Failure → Type 0
 IsNotRemoved entry_alone newest paths old new failure =
-    ((new ≡ old) × AreNoSources old.image old.layout (unsaid_versions newest) paths failure)
-    ⊎ ((found : List Found) × AreSources old.image old.layout (unsaid_versions newest) paths found
+    ((new ≡ old) × AreNoSources old.image old.layout (unsaid_by newest) paths failure)
+    ⊎ ((found : List Found) × AreSources old.image old.layout (unsaid_by newest) paths found
     × (((new ≡ old) × IsOutOfMemory failure) ⊎ ((names : ℕ → ℕ) × AreCounts old.image old.layout names × AreNotGone entry_alone names found old new failure)))

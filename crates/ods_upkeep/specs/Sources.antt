@@ -3,19 +3,19 @@ use Rattle.std.specs.Prelude.{◌≡◌, ◌⊎◌, ℕ, List, [], ◌∷◌, �
 use Rattle.std.specs.Borrow.{Bor}
 use Rattle.std.specs.List.{Contains}
 use Rattle.ods_space.specs.Layout.{VolumeLayout}
-use Rattle.ods_paths.specs.declared.versions.Versions.{Versions}
 use Rattle.ods_paths.specs.Paths.{Said, Says}
+use Rattle.ods_shell.specs.declared.alone.Unsaid.{Unsaid}
 use Rattle.ods_shell.specs.declared.facts.Facts.{Facts}
 use Rattle.ods_shell.specs.declared.found.EntryPlace.{EntryPlace}
 use Rattle.ods_shell.specs.declared.found.Found.{Found}
 use Rattle.ods_shell.specs.Named.{AreNamedBy}
 
--- this is what a path names; where it says no version, these are meant
-abbrev pub AreOfPath : List (List ℕ) → VolumeLayout → Option Versions → List ℕ → List Found → Type 0
+-- this is what a path names; where it does not say all, this is meant
+abbrev pub AreOfPath : List (List ℕ) → VolumeLayout → Unsaid → List ℕ → List Found → Type 0
 AreOfPath I L unsaid path found = (says : Said) × Says path says × AreNamedBy I L [] says unsaid found
 
 -- What these paths name, one path after another. Of one path the last comes first, so that of one name the versions rise.
-abbrev pub AreOfPaths : List (List ℕ) → VolumeLayout → Option Versions → List (Bor (List ℕ)) → List Found → Type 0
+abbrev pub AreOfPaths : List (List ℕ) → VolumeLayout → Unsaid → List (Bor (List ℕ)) → List Found → Type 0
 AreOfPaths I L unsaid [] all = all ≡ []
 AreOfPaths I L unsaid (path ∷ paths) all =
     (here : List Found) × (rest : List Found) × (all ≡ reverse here ++ rest) × AreOfPath I L unsaid path.now here × AreOfPaths I L unsaid paths rest
@@ -53,5 +53,5 @@ AreFirst seen [] once = once ≡ []
 AreFirst seen (x ∷ xs) once = (IsAgain seen x × AreFirst (seen ++ x ∷ []) xs once) ⊎ ((¬ IsAgain seen x) × (rest : List Found) × (once ≡ x ∷ rest) × AreFirst (seen ++ x ∷ []) xs rest)
 
 -- what these paths name, each once
-abbrev pub AreSources : List (List ℕ) → VolumeLayout → Option Versions → List (Bor (List ℕ)) → List Found → Type 0
+abbrev pub AreSources : List (List ℕ) → VolumeLayout → Unsaid → List (Bor (List ℕ)) → List Found → Type 0
 AreSources I L unsaid paths once = (all : List Found) × AreOfPaths I L unsaid paths all × AreFirst [] all once

@@ -2,8 +2,9 @@
 use Rattle.std.specs.Prelude.{◌≡◌, ◌≢◌, ◌⊎◌, ◌≤◌, ℕ, Bool, true, List, [], ◌∷◌, Option, Some, None}
 use Rattle.std.specs.Borrow.{Bor}
 use Rattle.ods_space.specs.Layout.{VolumeLayout}
-use Rattle.ods_paths.specs.declared.versions.Versions.TheVariants.{Highest}
 use Rattle.ods_request.specs.declared.refusals.Refusal.TheVariants as refusal
+use Rattle.ods_shell.specs.declared.alone.Alone.TheVariants as alone
+use Rattle.ods_shell.specs.Named.{highest}
 use Rattle.ods_shell.specs.declared.facts.Facts.{Facts}
 use Rattle.ods_shell.specs.declared.facts.Kind.TheVariants.{Directory}
 use Rattle.ods_shell.specs.declared.found.Found.{Found}
@@ -26,7 +27,7 @@ pub data AreNoPattern (found : List Found) : Why → Type 0 where
 
 -- why a path says no attributes for new files: it names nothing, or what it names is no pattern for them
 abbrev pub SaysNoAttributes : List (List ℕ) → VolumeLayout → List ℕ → Why → Type 0
-SaysNoAttributes I L path why = IsNoSource I L (Some Highest) path why ⊎ ((found : List Found) × AreOfPath I L (Some Highest) path found × AreNoPattern found why)
+SaysNoAttributes I L path why = IsNoSource I L (highest alone.Refused) path why ⊎ ((found : List Found) × AreOfPath I L (highest alone.Refused) path found × AreNoPattern found why)
 
 -- there is no file that the new ones are to be like, where one is said
 abbrev pub IsNotLike : List (List ℕ) → VolumeLayout → Option (Bor (List ℕ)) → Failure → Type 0

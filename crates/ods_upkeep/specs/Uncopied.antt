@@ -6,9 +6,10 @@ use Rattle.ods_base.specs.Name.{RadName}
 use Rattle.ods_base.specs.declared.file_id.Uic.{Uic}
 use Rattle.ods_files.specs.Body.{Body, HasBody, bytes_in}
 use Rattle.ods_files.specs.declared.form.Form.TheVariants.{Raw}
-use Rattle.ods_paths.specs.declared.versions.Versions.TheVariants.{Highest}
 use Rattle.ods_request.specs.declared.refusals.Refusal.TheVariants as refusal
 use Rattle.ods_filing.specs.Filed.{Filed}
+use Rattle.ods_shell.specs.declared.alone.Alone.TheVariants as alone
+use Rattle.ods_shell.specs.Named.{highest}
 use Rattle.ods_shell.specs.declared.facts.Facts.{Facts}
 use Rattle.ods_shell.specs.declared.found.Found.{Found}
 use Rattle.ods_upkeep.specs.Copied.{IsCopyable, IsCopied, IsUncopyable, IsUnread, true_for}
@@ -62,7 +63,7 @@ AreNotCopied to stamp found old new failure =
 -- Why not all that these paths name is copied, and what was done before: there are no sources, or no target, and nothing was done; or not all of the sources are copied.
 abbrev pub IsNotCopiedTo : List ℕ → List (Bor (List ℕ)) → List ℕ → Filed → Filed → Failure → Type 0
 IsNotCopiedTo stamp paths to old new failure =
-    ((new ≡ old) × AreNoSources old.image old.layout (Some Highest) paths failure)
-    ⊎ ((found : List Found) × AreSources old.image old.layout (Some Highest) paths found
+    ((new ≡ old) × AreNoSources old.image old.layout (highest alone.Files) paths failure)
+    ⊎ ((found : List Found) × AreSources old.image old.layout (highest alone.Files) paths found
     × (((new ≡ old) × IsNoTarget old.image old.layout (length found) to failure.why × HasPath failure to)
     ⊎ ((target : Target) × IsTarget old.image old.layout (length found) to target × AreNotCopied target stamp found old new failure)))

@@ -21,9 +21,8 @@ use ods_files::{FileBody, FileFault, Form};
 use ods_filing::{Filing, NewFile};
 use ods_header::print_ident;
 use ods_mount::Mounted;
-use ods_paths::Versions;
 use ods_request::{Refusal, Right, Stamp, permits};
-use ods_shell::{Facts, Found, Kind, PathFault};
+use ods_shell::{Alone, Facts, Found, Kind, PathFault, Unsaid};
 use ods_space::ChainFault;
 use std::alloc::Global;
 
@@ -43,7 +42,12 @@ pub fn copy_files(
     // Refused, it is so for a reason that holds, and of the path that the failure says.
     ensures refused { IfErr result (IsNotCopiedTo stamp paths.now to.now filing.old filing.new) }
 {
-    let all = sources(alloc, filing.mounted(), paths, Some(Versions::Highest))?;
+    let all = sources(
+        alloc,
+        filing.mounted(),
+        paths,
+        Unsaid::highest(Alone::Files),
+    )?;
     let target = target_of(alloc, filing.mounted(), all.len(), to)?;
     check_all(alloc, &all, &target, filing.user())?;
     copy_all(alloc, filing, &all, &target, stamp)

@@ -2,7 +2,7 @@
 ghost use Rattle.std.specs.Prelude.{◌≡◌, ◌≢◌, ◌↔◌, false, [], codes, IsTrue, Some, None, IfOk, IfErr, MatchBool, MatchResult, OnOk};
 ghost use Rattle.std.specs.List.{All};
 ghost use Rattle.ods_filing.specs.{Filed.IsDone, Led.IsLed};
-ghost use Rattle.ods_paths.specs.{Paths.Master as said_master, Patterns.capitals, Views.folder as said_folder, Views.place as said_place};
+ghost use Rattle.ods_paths.specs.{Patterns.capitals, Views.folder as said_folder, Views.steps as said_steps};
 ghost use Rattle.ods_shell.specs.Named.{AreNamed, AreNotNamed};
 ghost use Rattle.ods_upkeep.specs.{Emptied.AreEmptied, Emptied.IsEmptied, Emptied.IsEmptyDirectory, Emptied.IsSought, Kinds.MakesDirectories, Kinds.Removes, Made.AreMade, Made.IsMade, Made.IsNewPlace, Made.blocks_for, Made.directories_named, Meant.IsBelowAnother, Refused.IsRefusedBy, Unemptied.AreNotEmptied, Unemptied.IsNotEmptied, Unemptied.IsNotEmpty, Unemptied.IsNotSought, Unemptied.IsOneNotEmpty, Unmade.AreNotMade, Unmade.IsNoNewPlace, Unmade.IsNotMade, Unmeant.MeansNone};
 
@@ -10,7 +10,7 @@ use crate::Removal;
 use crate::asking::{enter, make};
 use crate::failure::{Failure, Why, of_path};
 use crate::hidden::hides_entries;
-use crate::meant::{Meant, path_text, read_meant};
+use crate::meant::{Meant, read_meant};
 use crate::names::{Names, is_directory_file};
 use crate::own_files::{LAST_OWN, MASTER};
 use crate::owners::owner_of;
@@ -19,7 +19,7 @@ use crate::targets::{name_of, the_directory};
 use ods_base::{FileId, Name, Uic};
 use ods_filing::Filing;
 use ods_mount::Mounted;
-use ods_paths::{Files, Place, Versions, has_wildcard};
+use ods_paths::{Files, Steps, Versions, has_wildcard};
 use ods_request::{Answer, Refusal, Request, Stamp};
 use ods_shell::mounted::{find_names, lines_of};
 use ods_shell::{Found, Kind, PathFault};
@@ -107,24 +107,25 @@ fn blocks_for(names: u32) -> u32
 pub fn is_below_another(alloc: Global, path: &str) -> Result<bool, Why>
     ensures { MatchResult result (λ below. MatchBool below (IsBelowAnother path.now) (¬ IsBelowAnother path.now)) (MeansNone path.now) }
 {
-    let text = path_text(alloc, path)?;
-    let meant = read_meant(alloc, text.as_bytes())?;
-    Ok(!is_master_place(&meant.folder.place))
+    let meant = read_meant(alloc, path.as_bytes())?;
+    Ok(has_steps(&meant.folder.steps))
 }
 
-/// Whether the place is the master directory.
-fn is_master_place(place: &Place<'_>) -> bool
-    ensures { MatchBool result (said_place place.now ≡ said_master) (said_place place.now ≢ said_master) }
+/// Whether there is a step, and not the master directory alone.
+fn has_steps(steps: &Steps<'_>) -> bool
+    ensures { MatchBool result (said_steps steps.now ≢ []) (said_steps steps.now ≡ []) }
 {
-    matches!(place, Place::Master)
+    match steps.split_first() {
+        Some(_) => true,
+        None => false,
+    }
 }
 
 /// Where a directory is made: the directory above it, and its name, which is there in no version.
 fn new_place(alloc: Global, volume: &Mounted, path: &str) -> Result<(FileId, Name), Why>
     ensures { MatchResult result (λ place. IsNewPlace volume.now.image volume.now.layout path.now place.0 place.1) (IsNoNewPlace volume.now.image volume.now.layout path.now) }
 {
-    let text = path_text(alloc, path)?;
-    let meant = read_meant(alloc, text.as_bytes())?;
+    let meant = read_meant(alloc, path.as_bytes())?;
     if has_wildcard(&meant.name) {
         return Err(Why::Several);
     }
@@ -214,8 +215,7 @@ fn remove_path(alloc: Global, filing: &mut Filing, path: &str) -> Result<(), Fai
 fn find_removed(alloc: Global, volume: &Mounted, path: &str) -> Result<Vec<Found>, Why>
     ensures { MatchResult result (λ found. IsSought volume.now.image volume.now.layout path.now found.items) (IsNotSought volume.now.image volume.now.layout path.now) }
 {
-    let text = path_text(alloc, path)?;
-    let meant = read_meant(alloc, text.as_bytes())?;
+    let meant = read_meant(alloc, path.as_bytes())?;
     let found = find_meant(alloc, volume, &meant, Versions::Highest)?;
     Ok(found)
 }

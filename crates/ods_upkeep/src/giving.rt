@@ -6,8 +6,7 @@ use crate::failure::{Failure, Why, of_path};
 use crate::sources::sources;
 use ods_base::Uic;
 use ods_filing::Filing;
-use ods_paths::Versions;
-use ods_shell::{Found, PathFault};
+use ods_shell::{Alone, Found, PathFault, Unsaid};
 use std::alloc::Global;
 
 /// Gives each file that the paths name another protection word, where a set bit denies. Where a path says no version, the highest is meant. The user of the requests
@@ -52,7 +51,12 @@ fn give(
     ensures done { OnOk result (AreGiven owner protection paths.now filing.old filing.new) }
     ensures refused { IfErr result (AreNotGiven owner protection paths.now filing.old filing.new) }
 {
-    let all = sources(alloc, filing.mounted(), paths, Some(Versions::Highest))?;
+    let all = sources(
+        alloc,
+        filing.mounted(),
+        paths,
+        Unsaid::highest(Alone::Themselves),
+    )?;
     give_all(alloc, filing, &all, owner, protection)
 }
 

@@ -5,10 +5,9 @@ ghost use Rattle.ods_upkeep.specs.Unbegun.{IsNotLike, SaysNoAttributes};
 
 use crate::failure::{Failure, Why, of_path};
 use ods_mount::Mounted;
-use ods_paths::Versions;
 use ods_request::Refusal;
 use ods_shell::mounted::find_path;
-use ods_shell::{Kind, PathFault};
+use ods_shell::{Alone, Kind, PathFault, Unsaid};
 use std::alloc::Global;
 
 /// The attributes of the file like which others are made.
@@ -32,7 +31,7 @@ pub(crate) fn like_attributes(
 fn attributes_of(alloc: Global, volume: &Mounted, path: &str) -> Result<[u8; 32], Why>
     ensures { MatchResult result (AreAttributesAt volume.now.image volume.now.layout path.now) (SaysNoAttributes volume.now.image volume.now.layout path.now) }
 {
-    let (found, _) = find_path(alloc, volume, path, Some(Versions::Highest), &[])?;
+    let (found, _) = find_path(alloc, volume, path, Unsaid::highest(Alone::Refused), &[])?;
     let [one] = found.as_slice() else {
         return Err(Why::Several);
     };

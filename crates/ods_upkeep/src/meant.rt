@@ -1,20 +1,16 @@
 //! Which directory a path of `mkdir` or `rmdir` means: `[A]`, `[1,2]`, `A/`, `A`, `1,2`, and the same below others.
-ghost use Rattle.std.specs.Prelude.{◌≡◌, ◌≢◌, ◌++◌, [], false, map, IfErr, IfOk, MatchResult, OnOk};
-ghost use Rattle.std.specs.List.{list_any, slice_split};
-ghost use Rattle.std.specs.String.{string_bytes};
-ghost use Rattle.ods_text.specs.Cuts.{is};
-ghost use Rattle.ods_paths.specs.{Paths.Said, Paths.Says, Paths.Master as said_master, Patterns.capitals, Views.files as said_files, Views.folder as said_folder, Views.place as said_place};
-ghost use Rattle.ods_upkeep.specs.Meant.{IsLastStep, IsMeant, IsOnePlace, MayBeFirst, are_numbers, just_at, meant_text, tells_more};
+ghost use Rattle.std.specs.Prelude.{◌≡◌, ◌≢◌, ◌++◌, [], false, IfErr, IfOk, MatchResult, OnOk};
+ghost use Rattle.ods_paths.specs.{Paths.Said, Paths.Says, Patterns.capitals, Views.files as said_files, Views.folder as said_folder, Views.step as said_step, Views.steps as said_steps};
+ghost use Rattle.ods_upkeep.specs.Meant.{IsLastStep, IsMeant, MayBeFirst, SaysName};
 ghost use Rattle.ods_upkeep.specs.Pieces.{octal_digits};
 ghost use Rattle.ods_upkeep.specs.Refused.{no_memory};
-ghost use Rattle.ods_upkeep.specs.Unmeant.{AreUnfit, IsNoOneFolder, ReadsNone};
+ghost use Rattle.ods_upkeep.specs.Unmeant.{AreUnfit, IsNoOneFolder, MeansNone, SaysNoName};
 
 use crate::failure::Why;
 use crate::targets::may_be_directory;
-use ods_paths::{Files, Folder, Path, Place, Steps, Versions, parse_path};
+use ods_paths::{Files, Folder, Path, Step, Versions, parse_path};
 use ods_request::Refusal;
 use ods_shell::PathFault;
-use ods_text::{cut_last, has_byte};
 use std::alloc::{AllocError, Global};
 
 /// The directories above, and the name, or the pattern for it.
@@ -24,48 +20,9 @@ pub(crate) struct Meant<'a> {
     pub name: Vec<u8>,
 }
 
-/// The text of a path, in which a group and a member alone, as `1,2`, have a `/` behind them.
-pub(crate) fn path_text(alloc: Global, path: &str) -> Result<String, AllocError>
-    ensures { IfOk result (λ text. string_bytes text ≡ meant_text path.now) }
-{
-    let mut text = String::from_str(alloc, path)?;
-    if are_numbers(path.as_bytes()) {
-        text.push('/')?;
-    }
-    Ok(text)
-}
-
-/// Whether a path is a group and a member alone, as `1,2`.
-fn are_numbers(path: &[u8]) -> bool
-    ensures { result ≡ are_numbers path.now }
-{
-    has_comma(path) && !has_more(path)
-}
-
-/// Whether there is a comma.
-fn has_comma(path: &[u8]) -> bool
-    ensures { result ≡ list_any (is 44) path.now }
-{
-    path.iter().any(|c| *c == b',')
-}
-
-/// Whether there is more than a group and a member.
-fn has_more(path: &[u8]) -> bool
-    ensures { result ≡ list_any tells_more path.now }
-{
-    path.iter().any(|c| tells_more(*c))
-}
-
-/// Whether a group and a member alone do not have this character.
-fn tells_more(character: u8) -> bool
-    ensures { result ≡ tells_more character }
-{
-    character == b'[' || character == b'/' || character == b'#' || character == b'@'
-}
-
 /// What a path means.
 pub(crate) fn read_meant<'a>(alloc: Global, path: &'a [u8]) -> Result<Meant<'a>, Why>
-    ensures { MatchResult result (λ meant. (says : Said) × Says path.now says × IsMeant path.now says (said_folder meant.folder) (capitals meant.name.items)) (ReadsNone path.now) }
+    ensures { MatchResult result (λ meant. (says : Said) × Says path.now says × IsMeant path.now says (said_folder meant.folder) (capitals meant.name.items)) (MeansNone path.now) }
 {
     match parse_path(path) {
         Ok(Path::File(_)) => Err(Why::IsId),
@@ -98,47 +55,54 @@ fn of_files<'a>(alloc: Global, folder: Folder<'a>, files: Files<'a>) -> Result<M
     Ok(Meant { folder, name })
 }
 
-/// A directory as a path names it.
+/// A directory as a path names it: the last of its steps, in the directory to which those before it lead.
 fn of_folder<'a>(alloc: Global, folder: Folder<'a>) -> Result<Meant<'a>, Why>
     ensures { MatchResult result (λ meant. (folder.entry.below ≡ false)
-        × IsOnePlace (said_place folder.entry.place) (said_folder meant.folder) (capitals meant.name.items))
+        × IsLastStep (said_steps folder.entry.steps) (said_folder meant.folder) (capitals meant.name.items))
         (IsNoOneFolder (said_folder folder.entry)) }
 {
     if folder.below {
         return Err(Why::Several);
     }
-    match folder.place {
-        Place::Master => Err(Why::Request(Refusal::Reserved)),
-        Place::Numbered {
-            group: Some(group),
-            member: Some(member),
-        } => of_numbers(alloc, group, member),
-        Place::Numbered { .. } => Err(Why::Several),
-        Place::Named(steps) => of_steps(alloc, steps),
-    }
-}
-
-/// The directory of a group and a member, in the master directory.
-fn of_numbers<'a>(alloc: Global, group: u8, member: u8) -> Result<Meant<'a>, Why>
-    ensures { MatchResult result (λ meant. (said_folder meant.folder ≡ just_at said_master) × (capitals meant.name.items ≡ octal_digits group ++ octal_digits member)) (λ why. why ≡ no_memory) }
-{
-    let mut name = Vec::new(alloc);
-    push_octal(&mut name, group)?;
-    push_octal(&mut name, member)?;
+    let Some((before, last)) = folder.steps.split_last() else {
+        return Err(Why::Request(Refusal::Reserved));
+    };
+    let name = name_said(alloc, &last)?;
+    let above = Folder {
+        steps: before,
+        below: false,
+    };
     Ok(Meant {
-        folder: below(Place::Master),
+        folder: above,
         name,
     })
 }
 
-/// A place by itself.
-fn below(place: Place<'_>) -> Folder<'_>
-    ensures { said_folder result ≡ just_at (said_place place.entry) }
+/// The name that a step says, or the pattern for it.
+fn name_said(alloc: Global, step: &Step<'_>) -> Result<Vec<u8>, Why>
+    ensures { MatchResult result (λ name. SaysName (said_step step.now) (capitals name.items)) (SaysNoName (said_step step.now)) }
 {
-    Folder {
-        place,
-        below: false,
+    match step {
+        Step::Numbers {
+            group: Some(group),
+            member: Some(member),
+        } => numbered_name(alloc, *group, *member),
+        Step::Numbers { .. } => Err(Why::Several),
+        Step::Pattern(name) => {
+            let name = Vec::from_slice(alloc, name)?;
+            Ok(name)
+        }
     }
+}
+
+/// The name of the directory of a group and a member.
+fn numbered_name(alloc: Global, group: u8, member: u8) -> Result<Vec<u8>, Why>
+    ensures { MatchResult result (λ name. capitals name.items ≡ octal_digits group ++ octal_digits member) (λ why. why ≡ no_memory) }
+{
+    let mut name = Vec::new(alloc);
+    push_octal(&mut name, group)?;
+    push_octal(&mut name, member)?;
+    Ok(name)
 }
 
 /// Appends three octal digits.
@@ -149,26 +113,4 @@ fn push_octal(text: &mut Vec<u8>, number: u8) -> Result<(), AllocError>
     text.push(b'0' + number / 8 % 8)?;
     text.push(b'0' + number % 8)?;
     Ok(())
-}
-
-/// The last of some names, in the directory that those before it name.
-fn of_steps<'a>(alloc: Global, steps: Steps<'a>) -> Result<Meant<'a>, Why>
-    ensures { MatchResult result (λ meant. IsLastStep (map capitals (slice_split (is steps.entry.separator) steps.entry.text.now)) (said_folder meant.folder) (capitals meant.name.items)) (λ why. why ≡ no_memory) }
-{
-    if !has_byte(steps.separator, steps.text) {
-        let name = Vec::from_slice(alloc, steps.text)?;
-        return Ok(Meant {
-            folder: below(Place::Master),
-            name,
-        });
-    }
-    let (text, last) = cut_last(steps.separator, steps.text);
-    let name = Vec::from_slice(alloc, last)?;
-    Ok(Meant {
-        folder: below(Place::Named(Steps {
-            text,
-            separator: steps.separator,
-        })),
-        name,
-    })
 }

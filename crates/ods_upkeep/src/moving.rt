@@ -16,9 +16,8 @@ use crate::targets::target_of;
 use ods_base::{DIRECTORY_TYPE, Name, Pick};
 use ods_filing::Filing;
 use ods_mount::Mounted;
-use ods_paths::Versions;
 use ods_request::{Refusal, Request};
-use ods_shell::{EntryPlace, Found, Kind};
+use ods_shell::{Alone, EntryPlace, Found, Kind, Unsaid};
 use ods_walk::{Walk, walk_from};
 use std::alloc::Global;
 
@@ -38,7 +37,12 @@ pub fn move_names(
     // Refused, it is so for a reason that holds, and of the path that the failure says.
     ensures refused { IfErr result (IsNotMoved paths.now to.now filing.old filing.new) }
 {
-    let all = sources(alloc, filing.mounted(), paths, Some(Versions::Highest))?;
+    let all = sources(
+        alloc,
+        filing.mounted(),
+        paths,
+        Unsaid::highest(Alone::Themselves),
+    )?;
     let target = target_of(alloc, filing.mounted(), all.len(), to)?;
     check_all(alloc, filing.mounted(), &all, &target)?;
     move_all(alloc, filing, &all, &target)

@@ -15,9 +15,8 @@ use crate::names::Names;
 use crate::own_files::stays;
 use crate::sources::sources;
 use ods_filing::Filing;
-use ods_paths::Versions;
 use ods_request::Refusal;
-use ods_shell::{EntryPlace, Facts, Found, Kind};
+use ods_shell::{Alone, EntryPlace, Facts, Found, Kind, Unsaid};
 use std::alloc::Global;
 
 /// Removes entries, and deletes each file that no entry of any directory names any more. A path has to say its versions, or `newest` is asked for. A
@@ -37,9 +36,12 @@ pub fn remove_files(
     ensures refused { IfErr result (IsNotRemoved removal.entry_alone removal.newest paths.now filing.old filing.new) }
 {
     let unsaid = if removal.newest {
-        Some(Versions::Highest)
+        Unsaid::highest(Alone::Refused)
     } else {
-        None
+        Unsaid {
+            versions: None,
+            alone: Alone::Refused,
+        }
     };
     let all = sources(alloc, filing.mounted(), paths, unsaid)?;
     let mut names = match Names::of(alloc, filing.mounted()) {

@@ -7,9 +7,8 @@ ghost use Rattle.ods_upkeep.specs.Once.{HasKeysOf, key_of};
 
 use crate::failure::{Failure, Why, of_path};
 use ods_mount::Mounted;
-use ods_paths::Versions;
-use ods_shell::Found;
 use ods_shell::mounted::find_path;
+use ods_shell::{Found, Unsaid};
 use std::alloc::{AllocError, Global};
 use std::collections::BTreeSet;
 
@@ -18,7 +17,7 @@ pub(crate) fn sources(
     alloc: Global,
     volume: &Mounted,
     paths: &[&str],
-    unsaid: Option<Versions>,
+    unsaid: Unsaid,
 ) -> Result<Vec<Found>, Failure>
     ensures { MatchResult result (λ found. AreSources volume.now.image volume.now.layout unsaid paths.now found.items)
         (AreNoSources volume.now.image volume.now.layout unsaid paths.now) }
@@ -40,7 +39,7 @@ fn add_found(
     alloc: Global,
     volume: &Mounted,
     path: &str,
-    unsaid: Option<Versions>,
+    unsaid: Unsaid,
     all: &mut Vec<Found>,
 ) -> Result<(), Why>
     ensures { MatchResult result (λ _. (here : List One) × AreOfPath volume.now.image volume.now.layout unsaid path.now here × (all.new.items ≡ all.old.items ++ reverse here))

@@ -10,10 +10,9 @@ use crate::attributes::ending_at;
 use crate::failure::{Failure, Why, of_path};
 use ods_filing::Filing;
 use ods_mount::Mounted;
-use ods_paths::Versions;
 use ods_request::{Refusal, Request};
 use ods_shell::mounted::find_path;
-use ods_shell::{Facts, Kind, PathFault};
+use ods_shell::{Alone, Facts, Kind, PathFault, Unsaid};
 use std::alloc::Global;
 
 /// Cuts a file to so many bytes: the blocks behind them go, and F.EFBK, F.FFBY and F.HIBK say so. It never grows.
@@ -44,7 +43,7 @@ pub fn truncate_file(
 fn the_file(alloc: Global, volume: &Mounted, path: &str, bytes: u64) -> Result<Facts, Why>
     ensures { MatchResult result (IsCut volume.now.image volume.now.layout path.now bytes) (IsNotCut volume.now.image volume.now.layout path.now bytes) }
 {
-    let (found, _) = find_path(alloc, volume, path, Some(Versions::Highest), &[])?;
+    let (found, _) = find_path(alloc, volume, path, Unsaid::highest(Alone::Refused), &[])?;
     let [one] = found.as_slice() else {
         return Err(Why::Several);
     };

@@ -1,45 +1,64 @@
 //! Paths and patterns: what texts say, what patterns match, the order of a listing, and which versions are picked.
 use ods_paths::{
-    BadPath, Files, Folder, Path, Place, Shown, Versions, choose_span, compare, has_wildcard,
-    is_pattern, matches, parse_path,
+    BadPath, Files, Folder, Path, Shown, Step, Steps, Versions, choose_span, compare, has_wildcard,
+    is_pattern, matches, no_steps, parse_path, read_step,
 };
 use std::cmp::Ordering;
 use std::process::Abort;
 
-/// Whether the place is that of the row: the master directory where it is empty, a group and a member, or names.
-fn is_place(place: Place<'_>, row: &[u8]) -> bool {
-    match place {
-        Place::Master => row == b"".as_slice(),
-        Place::Numbered {
+/// Whether the step is that of the row: a group and a member, or a pattern.
+fn is_step(step: Step<'_>, row: &[u8]) -> bool {
+    match step {
+        Step::Numbers {
             group: Some(1),
             member: Some(2),
         } => row == b"1,2".as_slice(),
-        Place::Numbered {
+        Step::Numbers {
             group: Some(1),
             member: None,
         } => row == b"1,*".as_slice(),
-        Place::Numbered {
+        Step::Numbers {
             group: None,
             member: None,
         } => row == b"*,*".as_slice(),
-        Place::Numbered {
+        Step::Numbers {
             group: Some(255),
             member: Some(0),
         } => row == b"377,0".as_slice(),
-        Place::Numbered { .. } => false,
-        Place::Named(steps) => steps.text == row,
+        Step::Numbers { .. } => false,
+        Step::Pattern(pattern) => pattern == row,
     }
 }
 
-fn is_folder(folder: Folder<'_>, place: &[u8], below: bool) -> bool {
-    is_place(folder.place, place) && folder.below == below
+/// Whether the steps are those of the row, with a space behind each; and whether the last one comes from behind too.
+fn are_steps(steps: Steps<'_>, row: &[u8]) -> bool {
+    let mut rest = steps;
+    let mut left = row;
+    let mut last = row;
+    while let Some((step, behind)) = rest.split_first() {
+        let end = left.iter().position(|c| *c == b' ').unwrap_or(left.len());
+        if !is_step(step, &left[..end]) {
+            return false;
+        }
+        last = &left[..end];
+        left = &left[(end + 1).min(left.len())..];
+        rest = behind;
+    }
+    match steps.split_last() {
+        Some((_, step)) => left.is_empty() && is_step(step, last),
+        None => row.is_empty(),
+    }
+}
+
+fn is_folder(folder: Folder<'_>, steps: &[u8], below: bool) -> bool {
+    are_steps(folder.steps, steps) && folder.below == below
 }
 
 fn are_files(files: Files<'_>, name: &[u8], kind: &[u8], versions: Option<Versions>) -> bool {
     files.name == name && files.kind == kind && files.versions == versions
 }
 
-/// A path with files: its text, its place, whether all below belong to it, the name, the type, and the versions.
+/// A path with files: its text, its steps, whether all below belong to them, the name, the type, and the versions.
 type Row = (
     &'static [u8],
     &'static [u8],
@@ -51,7 +70,7 @@ type Row = (
 
 #[test]
 fn texts_say_directories_and_files(rt: HostRuntime) {
-    let rows: [Row; 22] = [
+    let rows: [Row; 41] = [
         (
             b"[1,2]NOTES.TXT;3",
             b"1,2",
@@ -65,7 +84,7 @@ fn texts_say_directories_and_files(rt: HostRuntime) {
         (b"[377,0]A.B", b"377,0", false, b"A", b"B", None),
         (
             b"[A.B]C.D;0",
-            b"A.B",
+            b"A B",
             false,
             b"C",
             b"D",
@@ -73,7 +92,7 @@ fn texts_say_directories_and_files(rt: HostRuntime) {
         ),
         (
             b"a/b/c.d;-1",
-            b"a/b",
+            b"a b",
             false,
             b"c",
             b"d",
@@ -89,6 +108,7 @@ fn texts_say_directories_and_files(rt: HostRuntime) {
         ),
         (b"[0,0]A.B", b"", false, b"A", b"B", None),
         (b"000000/A.B", b"", false, b"A", b"B", None),
+        (b"0,0/A.B", b"", false, b"A", b"B", None),
         (b"A.B:7", b"", false, b"A", b"B", Some(Versions::Exact(7))),
         (
             b"A.B;32767",
@@ -98,29 +118,61 @@ fn texts_say_directories_and_files(rt: HostRuntime) {
             b"B",
             Some(Versions::Exact(32_767)),
         ),
-        (b"/X", b"", false, b"X", b"", None),
-        (b"X", b"", false, b"X", b"", None),
+        (b"/X.Y", b"", false, b"X", b"Y", None),
+        (b"/A/X.Y", b"A", false, b"X", b"Y", None),
+        (b"X.", b"", false, b"X", b"", None),
+        (b".X", b"", false, b"", b"X", None),
         (b"*.*;*", b"", false, b"*", b"*", Some(Versions::Every)),
+        (b"*", b"", false, b"*", b"*", None),
+        (b"*NOTES*", b"", false, b"*NOTES*", b"*", None),
+        (b"A?;2", b"", false, b"A?", b"*", Some(Versions::Exact(2))),
+        (b"*;2", b"", false, b"*", b"*", Some(Versions::Exact(2))),
+        (b"[A]*", b"A", false, b"*", b"*", None),
+        (b"A/*", b"A", false, b"*", b"*", None),
         (b"[1,*]*.?", b"1,*", false, b"*", b"?", None),
         (b"[*,*]A.", b"*,*", false, b"A", b"", None),
+        (b"*,*/A.B", b"*,*", false, b"A", b"B", None),
         (b"[*]A.B", b"*", false, b"A", b"B", None),
         (b"[A*]A.B", b"A*", false, b"A", b"B", None),
         (b"[...]A.B", b"", true, b"A", b"B", None),
         (b"[A...]A.B", b"A", true, b"A", b"B", None),
         (b".../A.B", b"", true, b"A", b"B", None),
+        (b"1,2.../A.B", b"1,2", true, b"A", b"B", None),
         (
             b"[A.B...]*A*B*C*.TXT",
-            b"A.B",
+            b"A B",
             true,
             b"*A*B*C*",
             b"TXT",
             None,
         ),
+        (b"1,2/SUB/A.B", b"1,2 SUB", false, b"A", b"B", None),
+        (b"A/1,2/X.TXT", b"A 1,2", false, b"X", b"TXT", None),
+        (b"[000000.A]B.C", b"000000 A", false, b"B", b"C", None),
+        (b"DK0:A.B", b"", false, b"A", b"B", None),
+        (
+            b"db:[1,2]A.B;1",
+            b"1,2",
+            false,
+            b"A",
+            b"B",
+            Some(Versions::Exact(1)),
+        ),
+        (b"DK377:/A/B.C", b"A", false, b"B", b"C", None),
+        (
+            b"DK:1,2/A.B:3",
+            b"1,2",
+            false,
+            b"A",
+            b"B",
+            Some(Versions::Exact(3)),
+        ),
+        (b"DK0:*", b"", false, b"*", b"*", None),
     ];
-    for (text, place, below, name, kind, versions) in rows {
+    for (text, steps, below, name, kind, versions) in rows {
         match parse_path(text) {
             Ok(Path::Within(folder, Some(files))) => {
-                assert!(rt; is_folder(folder, place, below), "{text:?}");
+                assert!(rt; is_folder(folder, steps, below), "{text:?}");
                 assert!(rt; are_files(files, name, kind, versions), "{text:?}");
             }
             _ => assert!(rt; false, "{text:?}"),
@@ -130,19 +182,51 @@ fn texts_say_directories_and_files(rt: HostRuntime) {
 
 #[test]
 fn texts_say_directories_alone(rt: HostRuntime) {
-    let rows: [(&[u8], &[u8], bool); 7] = [
+    let rows: [(&[u8], &[u8], bool); 39] = [
         (b"[1,2]", b"1,2", false),
         (b"A/", b"A", false),
         (b"/", b"", false),
-        (b"[A.B]", b"A.B", false),
-        (b"A/B/", b"A/B", false),
+        (b"[A.B]", b"A B", false),
+        (b"A/B/", b"A B", false),
         (b"[...]", b"", true),
         (b"[0,0...]", b"", true),
+        (b".../", b"", true),
+        (b"[A...]", b"A", true),
+        (b"A.../", b"A", true),
+        (b"[*]", b"*", false),
+        (b"[A*]", b"A*", false),
+        (b"[1,*]", b"1,*", false),
+        (b"[000000]", b"", false),
+        (b"000000", b"", false),
+        (b"000000/", b"", false),
+        (b"0,0", b"", false),
+        (b"00,000/", b"", false),
+        (b"FORT", b"FORT", false),
+        (b"/FORT", b"FORT", false),
+        (b"A/FORT", b"A FORT", false),
+        (b"/A/B/", b"A B", false),
+        (b"1,2", b"1,2", false),
+        (b"1,*", b"1,*", false),
+        (b"*,*", b"*,*", false),
+        (b"1,2/SUB", b"1,2 SUB", false),
+        (b"[1,2]SUB", b"1,2 SUB", false),
+        (b"[A.B]C", b"A B C", false),
+        (b"[0,0]SUB", b"SUB", false),
+        (b"A/1,2", b"A 1,2", false),
+        (b"[A]1,2", b"A 1,2", false),
+        (b"A*/", b"A*", false),
+        (b"DK0:", b"", false),
+        (b"DB:", b"", false),
+        (b"DK0:/", b"", false),
+        (b"dk12:FORT", b"FORT", false),
+        (b"DK377:[1,2]", b"1,2", false),
+        (b"DK0:1,2", b"1,2", false),
+        (b"AB:1", b"1", false),
     ];
-    for (text, place, below) in rows {
+    for (text, steps, below) in rows {
         match parse_path(text) {
             Ok(Path::Within(folder, None)) => {
-                assert!(rt; is_folder(folder, place, below), "{text:?}");
+                assert!(rt; is_folder(folder, steps, below), "{text:?}");
             }
             _ => assert!(rt; false, "{text:?}"),
         }
@@ -151,9 +235,11 @@ fn texts_say_directories_alone(rt: HostRuntime) {
 
 #[test]
 fn texts_say_ids(rt: HostRuntime) {
-    let rows: [(&[u8], u16, u16); 4] = [
+    let rows: [(&[u8], u16, u16); 6] = [
         (b"#6,1", 6, 1),
         (b"@6,1", 6, 1),
+        (b"DK0:#6,1", 6, 1),
+        (b"db:@6,1", 6, 1),
         (b"#65535,65535", 65_535, 65_535),
         (b"#1,0", 1, 0),
     ];
@@ -185,27 +271,44 @@ fn other_texts_are_bad(rt: HostRuntime) {
     are_bad(&rt, "", BadPath::Empty);
     are_bad(
         &rt,
-        "#|#6|#6,|#0,1|#65536,1|#6,65536|@06,1|#6,1,1|#6,1;1",
+        "#|#6|#6,|#0,1|#65536,1|#6,65536|@06,1|#6,1,1|#6,1;1|DK0:#6",
         BadPath::Id,
     );
-    are_bad(&rt, "[|[1,2|[]|[]A.B", BadPath::Bracket);
+    are_bad(&rt, "[|[1,2|[]|[]A.B|[]A|DK0:[", BadPath::Bracket);
     are_bad(
         &rt,
-        "[1,2.A]|[400,1]A.B|[1,8]A.B|[0001,2]A.B|[1,]A.B|[A..B]C.D|[.A]B.C|A//B.C|//X|[A.B/C]D.E|A.B/C.D|[ABCDEFGHIJ]A.B|[A...B]C.D",
+        "[1,2.A]|[A.1,2]|[400,1]A.B|[1,8]A.B|[0001,2]A.B|[1,]A.B|[A..B]C.D|[.A]B.C|[A.]B.C|A//B.C|000000//B.C|//X|//X.Y|//|[A.B/C]D.E|A.B/C.D|[ABCDEFGHIJ]A.B|[A...B]C.D",
         BadPath::Directory,
     );
     are_bad(
         &rt,
-        "ABCDEFGHIJ.TXT|A_.TXT|A B.TXT|1,2|[A]B/C.D|[1,2]]A.B",
-        BadPath::Name,
+        "ABCDEFGHIJ|A_|A B|8,9|1,2,3|1,2A|A,B|*,|[...]FORT|[A...]FORT|.../FORT|A/.../B.C|[A]B/C|[A]B/|[1,2]8,9",
+        BadPath::Directory,
     );
-    are_bad(&rt, "A.TXTX|A.TX_|A.B.C", BadPath::Type);
-    are_bad(&rt, "*|A*|?;1|[A]*", BadPath::NoDot);
     are_bad(
         &rt,
-        "A.B;|A.B;01|A.B;-2|A.B;32768|A.B;1;1|A.B:|A.B;**|A.B;+1",
+        "ABCDEFGHIJ.TXT|A_.TXT|A B.TXT|[A]B/C.D|[1,2]]A.B|ABCDEFGHIJ;1|1,2;1|A,B.C",
+        BadPath::Name,
+    );
+    are_bad(&rt, "A.TXTX|A.TX_|A.B.C|A...", BadPath::Type);
+    are_bad(
+        &rt,
+        "FORT;1|FORT;x|FORT:1|[A]FORT;*|;1|:1|DK0:DK1:A.B|DK8:A.B|DK0000:A.B|D:A.B|DKA:A.B",
+        BadPath::NoDot,
+    );
+    are_bad(
+        &rt,
+        "A.B;|A.B;01|A.B;-2|A.B;32768|A.B;1;1|A.B:|A.B;**|A.B;+1|*;x",
         BadPath::Version,
     );
+}
+
+#[test]
+fn steps_are_read(rt: HostRuntime) {
+    assert!(rt; no_steps().split_first().is_none());
+    assert!(rt; no_steps().split_last().is_none());
+    assert!(rt; is_step(read_step(b"001,2"), b"1,2"));
+    assert!(rt; is_step(read_step(b"1,8"), b"1,8"));
 }
 
 #[test]

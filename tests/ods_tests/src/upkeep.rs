@@ -2,6 +2,7 @@
 mod copies;
 mod directories;
 mod ends;
+mod long_records;
 mod moves;
 mod puts;
 mod removals;
@@ -11,10 +12,9 @@ use ods_base::{Image, Uic};
 use ods_cli::sample;
 use ods_filing::Filing;
 use ods_mount::{Mounted, check_image, mount};
-use ods_paths::Versions;
 use ods_request::Stamp;
 use ods_shell::mounted::{find_path, open_contents};
-use ods_shell::{Found, Wanted};
+use ods_shell::{Alone, Found, Unsaid, Wanted};
 use ods_upkeep::{Failure, HostFile, PutForm, Putting, Removal, Why};
 use std::alloc::Global;
 use std::process::Abort;
@@ -206,7 +206,13 @@ fn truncate_file(
 /// The paths that a path finds, with a space behind each; nothing where it finds none.
 fn paths(alloc: Global, volume: &Mounted, path: &str) -> Result<String, Fail> {
     let mut text = String::new(alloc);
-    if let Ok((found, _)) = find_path(alloc, volume, path, Some(Versions::Highest), &[]) {
+    if let Ok((found, _)) = find_path(
+        alloc,
+        volume,
+        path,
+        Unsaid::highest(Alone::Themselves),
+        &[],
+    ) {
         for one in &found {
             text.push_str(one.path.as_str())?;
             text.push(' ')?;
@@ -217,7 +223,7 @@ fn paths(alloc: Global, volume: &Mounted, path: &str) -> Result<String, Fail> {
 
 /// The one file of a path.
 fn the(alloc: Global, volume: &Mounted, path: &str) -> Result<Found, Fail> {
-    let (mut found, _) = find_path(alloc, volume, path, Some(Versions::Highest), &[])
+    let (mut found, _) = find_path(alloc, volume, path, Unsaid::highest(Alone::Themselves), &[])
         .ok()
         .ok_or("nothing there")?;
     found.pop().ok_or("none").map_err(Fail::from)

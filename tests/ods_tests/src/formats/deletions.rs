@@ -5,9 +5,7 @@ use crate::settings::{Refusing, ends};
 use crate::volumes::{Variant, added, run, sample_of};
 use ods_base::{Block, Image, set_word, sum, word};
 use ods_header::{Run, deleted_header as delete_header, file_number};
-use ods_remains::{
-    DeletedFile, Shares, deleted_file, deleted_files, deleted_header, names_twice, used_again,
-};
+use ods_remains::{DeletedFile, Shares, Summary, deleted_file, deleted_files, deleted_header};
 use ods_space::Disk;
 use std::alloc::Global;
 use std::process::Abort;
@@ -53,7 +51,9 @@ fn has_deleted_file_6(rt: &impl Abort, alloc: Global, disk: &Disk<'_>) -> Result
     let file = file_of(alloc, disk, 6)?;
     assert!(rt; file.headers.as_slice() == [6, 7].as_slice() && !file.is_cut);
     assert!(rt; file.blocks.as_slice() == [22, 24, 25].as_slice());
-    assert!(rt; used_again(disk, &file.blocks) == 1);
+    let summary = Shares::of(alloc, disk)?.summary(alloc, 6)?;
+    assert!(rt; summary.blocks == 3 && summary.used == 1 && summary.missing.is_none());
+    assert!(rt; summary.sharer.is_none() && !summary.is_whole);
     Ok(())
 }
 
@@ -131,7 +131,8 @@ fn deleted_file_is_cut_where_its_next_header_is_in_use(rt: HostRuntime) -> Resul
     let file = file_of(rt.alloc(), &disk, 6)?;
     assert!(rt; file.headers.as_slice() == [6].as_slice() && file.is_cut);
     assert!(rt; file.blocks.as_slice() == [22].as_slice());
-    assert!(rt; used_again(&disk, &file.blocks) == 0);
+    let summary = Shares::of(rt.alloc(), &disk)?.summary(rt.alloc(), 6)?;
+    assert!(rt; summary.blocks == 1 && summary.used == 0 && summary.missing == Some(2));
     Ok(())
 }
 
@@ -183,15 +184,12 @@ fn two_deleted(alloc: Global, one: &[Run], other: &[Run]) -> Result<Image, Fail>
     .image(alloc)
 }
 
-/// Which other deleted file each of the two shares a block with.
+/// Which deleted file each of the two shares a block with.
 fn sharers(alloc: Global, disk: &Disk<'_>) -> Result<(Option<u16>, Option<u16>), Fail> {
     let shares = Shares::of(alloc, disk)?;
-    let one = file_of(alloc, disk, 6)?;
-    let other = file_of(alloc, disk, 8)?;
-    Ok((
-        shares.sharer(6, &one.blocks),
-        shares.sharer(8, &other.blocks),
-    ))
+    let one = shares.summary(alloc, 6)?;
+    let other = shares.summary(alloc, 8)?;
+    Ok((one.sharer, other.sharer))
 }
 
 #[test]
@@ -207,19 +205,53 @@ fn deleted_files_share_a_block(rt: HostRuntime) -> Result<(), Fail> {
     Ok(())
 }
 
-#[test]
-fn deleted_files_apart_share_no_block(rt: HostRuntime) -> Result<(), Fail> {
-    let image = two_deleted(
-        rt.alloc(),
-        &[run(22, 3), run(70, 1)],
-        &[run(25, 2), run(70, 1)],
-    )?;
-    let layout = layout_of(rt.alloc(), &image)?;
+/// The files that share blocks on the volume with two deleted files.
+fn sharers_of(
+    alloc: Global,
+    one: &[Run],
+    other: &[Run],
+) -> Result<(Option<u16>, Option<u16>), Fail> {
+    let image = two_deleted(alloc, one, other)?;
+    let layout = layout_of(alloc, &image)?;
     let disk = Disk {
         image: &image,
         layout: &layout,
     };
-    assert!(rt; sharers(rt.alloc(), &disk)? == (None, None));
+    sharers(alloc, &disk)
+}
+
+#[test]
+fn deleted_files_apart_share_no_block(rt: HostRuntime) -> Result<(), Fail> {
+    assert!(rt;
+        sharers_of(
+            rt.alloc(),
+            &[run(22, 3), run(70, 1)],
+            &[run(25, 2), run(71, 1)]
+        )? == (None, None)
+    );
+    Ok(())
+}
+
+#[test]
+fn deleted_files_share_a_block_that_the_image_lacks(rt: HostRuntime) -> Result<(), Fail> {
+    assert!(rt;
+        sharers_of(
+            rt.alloc(),
+            &[run(22, 3), run(70, 1)],
+            &[run(25, 2), run(70, 1)]
+        )? == (Some(8), Some(6))
+    );
+    Ok(())
+}
+
+#[test]
+fn deleted_file_that_names_a_block_twice_shares_it_with_itself(
+    rt: HostRuntime,
+) -> Result<(), Fail> {
+    assert!(rt;
+        sharers_of(rt.alloc(), &[run(22, 2), run(23, 1)], &[run(25, 1)])? == (Some(6), None)
+    );
+    assert!(rt; sharers_of(rt.alloc(), &[run(70, 2), run(71, 1)], &[])? == (Some(6), None));
     Ok(())
 }
 
@@ -231,8 +263,7 @@ fn is_whole(alloc: Global, one: &[Run], other: &[Run]) -> Result<bool, Fail> {
         image: &image,
         layout: &layout,
     };
-    let file = file_of(alloc, &disk, 6)?;
-    Ok(Shares::of(alloc, &disk)?.is_whole(alloc, 6, &file)?)
+    Ok(Shares::of(alloc, &disk)?.summary(alloc, 6)?.is_whole)
 }
 
 #[test]
@@ -247,10 +278,34 @@ fn deleted_file_is_whole_where_its_blocks_are_its_own(rt: HostRuntime) -> Result
 }
 
 #[test]
-fn block_that_comes_again_is_found(rt: HostRuntime) -> Result<(), Fail> {
-    assert!(rt; !names_twice(rt.alloc(), &[])?);
-    assert!(rt; !names_twice(rt.alloc(), &[3, 1, 2])?);
-    assert!(rt; names_twice(rt.alloc(), &[3, 1, 2, 3])?);
+fn deleted_files_share_a_header(rt: HostRuntime) -> Result<(), Fail> {
+    let of = |number: u16, runs: &[Run]| added(number, a_txt()).before(7).mapping(runs);
+    let image = Variant {
+        headers: &[
+            (8, of(6, &[run(22, 1)])),
+            (9, second()),
+            (10, of(8, &[run(23, 1)])),
+            (11, of(9, &[])),
+        ],
+        index_bits: &[(6, false), (7, false), (8, false), (9, false)],
+        storage_bits: &[(22, true), (23, true), (24, true), (25, false)],
+        ..sample_of(40)
+    }
+    .image(rt.alloc())?;
+    let layout = layout_of(rt.alloc(), &image)?;
+    let disk = Disk {
+        image: &image,
+        layout: &layout,
+    };
+    let shares = Shares::of(rt.alloc(), &disk)?;
+    for (number, blocks, sharer) in [(6, 3, 9), (8, 3, 6), (9, 2, 6)] {
+        let summary = shares.summary(rt.alloc(), number)?;
+        assert!(rt; summary.blocks == blocks && summary.used == 1, "{number}");
+        assert!(rt;
+            summary.sharer == Some(sharer) && !summary.is_whole,
+            "{number}"
+        );
+    }
     Ok(())
 }
 
@@ -270,8 +325,8 @@ fn refused_memory_of_shared_blocks(rt: HostRuntime) -> Result<(), Fail> {
             Shares::of(rt.alloc(), &disk)?
         }
     };
-    assert!(rt; shares.sharer(6, &[22, 23]).is_none());
-    assert!(rt; shares.sharer(6, &[22, 24]) == Some(8));
+    let summary = shares.summary(rt.alloc(), 6)?;
+    assert!(rt; summary.sharer == Some(8) && !summary.is_whole);
     ends(&rt, rt.alloc());
     Ok(())
 }

@@ -75,6 +75,18 @@ pub row_command-requires-in-Truncate : goal.row_command-requires-in-Truncate
 unfolding own_rules
 row_command-requires-in-Truncate c = rw c.in-Truncate.is refl
 
+pub row_command-requires-in-Chmod : goal.row_command-requires-in-Chmod
+unfolding own_rules
+row_command-requires-in-Chmod c = rw c.in-Chmod.is refl
+
+pub row_command-requires-in-Chown : goal.row_command-requires-in-Chown
+unfolding own_rules
+row_command-requires-in-Chown c = rw c.in-Chown.is refl
+
+pub row_command-requires-in-Label : goal.row_command-requires-in-Label
+unfolding own_rules
+row_command-requires-in-Label c = rw c.in-Label.is refl
+
 pub row_command-requires-in-Init : goal.row_command-requires-in-Init
 unfolding own_rules
 row_command-requires-in-Init c = rw c.in-Init.is refl

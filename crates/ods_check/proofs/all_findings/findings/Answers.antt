@@ -4,7 +4,7 @@ use Rattle.ods_check.specs.declared.finding.Finding.TheVariants.{NamesNone, Lost
 use Rattle.ods_check.specs.Lists.{Adds}
 use Rattle.ods_check.specs.Findings.{IsFound, IsOtherFound, IsHeldByNone, id_at, unheld_line}
 use Rattle.ods_check.proofs.Adding.{adds_more, adds_most, all_added, told_still}
-use Rattle.ods_check.proofs.StillTold.{told_header_still}
+use Rattle.ods_check.proofs.StillTold.{told_header_still, told_strays_still}
 use Rattle.ods_check.proofs.Sweeping.{each_adds, each_told}
 use Rattle.ods_check.proofs.Running.{run_adds}
 use Rattle.ods_check.proofs.UnheldLines.{unheld_found, unheld_told}
@@ -43,11 +43,14 @@ after_lost c =
     let L = c.args.disk.now.layout.now in
     adds_more (Is c) _ _ _ (run_adds (IsHeldByNone I L) unheld_line _ _ c.in_ok-push_unheld.ensures (Is c) (unheld_found I L)) (found_too I L _ _ (after_unheld c))
 
-lost_added : (c : In_ok-push_each-6) → Adds (Other c) c.push_bad_headers.new.findings c.push_each.new.told
+lost_added : (c : In_ok-push_each-6) → Adds (Other c) c.push_strays.new.findings c.push_each.new.told
 lost_added c = each_adds _ _ _ _ c.in_ok-push_each.ensures.each (Other c) (λ n h. ((h, refl), refl))
 
+after_strays : (c : In_ok-push_each-6) → Adds (Is c) c.push_strays.new.findings c.push_each-6.new.told
+after_strays c = adds_more (Is c) _ _ _ (found_too c.args.disk.now.image.now c.args.disk.now.layout.now _ _ (lost_added c)) (after_lost c)
+
 after_bad : (c : In_ok-push_each-6) → Adds (Is c) c.push_bad_headers.new.findings c.push_each-6.new.told
-after_bad c = adds_more (Is c) _ _ _ (found_too c.args.disk.now.image.now c.args.disk.now.layout.now _ _ (lost_added c)) (after_lost c)
+after_bad c = adds_more (Is c) _ _ _ (found_too c.args.disk.now.image.now c.args.disk.now.layout.now _ _ c.in_ok-push_strays.ensures.adds) (after_strays c)
 
 all_adds : (c : In_ok-push_each-6) → Adds (Is c) c.new-found.result c.push_each-6.new.told
 all_adds c = adds_more (Is c) _ _ _ (found_too c.args.disk.now.image.now c.args.disk.now.layout.now _ _ c.in_ok-push_bad_headers.ensures.adds) (after_bad c)
@@ -64,9 +67,10 @@ returns-clause-all c =
     let all = (goal.at.returns-clause-all c).In_ok-push_each-6 in
     record {
       headers = λ n small. told_header_still (Is all) I L n _ _ (after_bad all) (c.in_ok-push_bad_headers.ensures.all n small);
+      strays = told_strays_still (Is all) I L _ _ (after_strays all) c.in_ok-push_strays.ensures.told;
       lost_headers = λ n h. told_still (Is all) _ _ (LostHeader (id_at I L n)) (after_lost all) (each_told _ _ _ _ c.in_ok-push_each.ensures.each n h);
       unheld = unheld_told I L _ _ _ c.in_ok-push_unheld.ensures (found_too I L _ _ (after_unheld all));
-      rising = rising_found I L _ _ _ _ (ap (λ l. l.0) c.new-found.ensures) (adds_more (Other all) _ _ _ c.in_ok-push_bad_headers.ensures.adds (lost_added all)) c.in_ok-push_unheld.ensures (after_unheld all);
+      rising = rising_found I L _ _ _ _ (ap (λ l. l.0) c.new-found.ensures) (adds_more (Other all) _ _ _ c.in_ok-push_bad_headers.ensures.adds (adds_more (Other all) _ _ _ c.in_ok-push_strays.ensures.adds (lost_added all))) c.in_ok-push_unheld.ensures (after_unheld all);
       names = λ d line h. told_still (Other all) _ _ (NamesNone d line) (after_naming all) (c.in_ok-push_naming.ensures.names d line h);
       lost = λ wanted n h. told_still (Other all) _ _ (LostFile (id_at I L n)) (after_naming all) (c.in_ok-push_naming.ensures.lost wanted n h);
       ends = λ n h. told_still (Other all) _ _ (EndPast (id_at I L n)) (after_ends all) (each_told _ _ _ _ c.in_ok-push_each-2.ensures.each n h);

@@ -1,4 +1,6 @@
 use Rattle.std.proofs.Common.{rules, string_bytes, [], ◌++◌, ◌≡◌, ◌∙◌, ap, refl, sym, subst, Some, None}
+use Rattle.ods_remains.proofs.FileFronts.{one_chain}
+use Rattle.ods_shell.specs.Deleted.{IsDeletionBy}
 use Rattle.ods_shell.specs.Former.{IsFormerBy}
 use Rattle.ods_shell.specs.Texts.{shown_id}
 use Rattle.ods_shell.specs.declared.former.Former.{Former}
@@ -15,11 +17,15 @@ returns c =
       known = left;
       file = c.args.chain;
     } in
-    let same : left.file ≡ c.args.file = c.in_ok-left.ensures.id ∙ sym c.requires.chain.own in
+    let of = c.in_ok-left.ensures in
+    let same : left.file ≡ c.args.file = of.3.id ∙ sym c.requires.chain.own in
+    let n = c.args.file.number in
+    let one = one_chain I L n of.0 of.1 c.args.chain.headers.items c.args.chain.blocks.items of.2 c.args.chain.is_cut of.3.follows c.requires.chain.follows in
     let none : string_bytes c.new-path.result ≡ [] = search rules in
     let is : IsFormerBy I L c.args.file f = record {
       chain = c.requires.chain;
-      known = c.in_ok-left.ensures;
+      known = subst (λ b. IsDeletionBy I L n c.args.chain.headers.items c.args.chain.blocks.items b left) one.2
+          (subst (λ bs. IsDeletionBy I L n c.args.chain.headers.items bs of.2 left) one.1 (subst (λ xs. IsDeletionBy I L n xs of.1 of.2 left) one.0 of.3));
       path = c.in_ok-push_id.ensures ∙ ap (λ text. text ++ shown_id c.args.file) none;
       place = refl;
       condition = facts.ensures.0;

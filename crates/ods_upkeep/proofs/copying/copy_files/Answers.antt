@@ -1,13 +1,14 @@
 use Rattle.std.proofs.Common.{refl, subst, Some, length, inl, inr, arith}
 use Rattle.std.proofs.lemmas.Result.{IfErr-weaker, err_from_is_err_and}
-use Rattle.ods_paths.specs.declared.versions.Versions.TheVariants.{Highest}
+use Rattle.ods_shell.specs.declared.alone.Alone.TheVariants as alone
+use Rattle.ods_shell.specs.Named.{highest}
 use Rattle.ods_upkeep.specs.Copied.{AreCopied}
 use Rattle.ods_upkeep.specs.Refused.{HasPath}
 use Rattle.ods_upkeep.specs.Sources.{AreSources}
 use Rattle.ods_upkeep.specs.Target.{IsNoTarget, IsTarget}
 use Rattle.ods_upkeep.specs.Uncopied.{IsFirstUncopyable, IsNotCopiedTo, MayAllBeCopied, StopsCopying}
 use Rattle.ods_upkeep.proofs.Lists.{if_done}
-use Rattle.ods_upkeep.proofs.Naming.{same_disk}
+use Rattle.ods_upkeep.proofs.Naming.{same_disk, same_unsaid}
 use Rattle.ods_upkeep.proofs.copying.copy_files.Goals as goal
 
 pub returns-clause-done : goal.returns-clause-done
@@ -16,7 +17,7 @@ returns-clause-done c =
     let L = c.args.filing.now.layout in
     let all = c.in_ok-all.all.items in
     let to = c.in_ok-target.target in
-    let sources : AreSources I L (Some Highest) c.args.paths.now all = same_disk (λ J M. AreSources J M (Some Highest) c.args.paths.now all) c.mounted.ensures.0 c.mounted.ensures.1 c.in_ok-all.ensures in
+    let sources : AreSources I L (highest alone.Files) c.args.paths.now all = same_unsaid (λ J M u. AreSources J M u c.args.paths.now all) c.mounted.ensures.0 c.mounted.ensures.1 c.highest.ensures c.in_ok-all.ensures in
     let counted : IsTarget I L c.len.result c.args.to.now to = same_disk (λ J M. IsTarget J M c.len.result c.args.to.now to) c.mounted-2.ensures.0 c.mounted-2.ensures.1 c.in_ok-target.ensures in
     let target : IsTarget I L (length all) c.args.to.now to = subst (λ n. IsTarget I L n c.args.to.now to) (omega (arith, c.len.ensures, c.in_ok-all.all.ok.0)) counted in
     if_done c.copy_all.result (λ copied. (all, (to, sources, target, subst (λ l. AreCopied to c.args.stamp l c.args.filing.now c.copy_all.new.filing) c.deref-2.ensures.value copied))) c.copy_all.ensures.done
@@ -28,7 +29,7 @@ returns-clause-refused c =
     let all = c.in_ok-all.all.items in
     let to = c.in_ok-target.target in
     let new = c.copy_all.new.filing in
-    let sources : AreSources I L (Some Highest) c.args.paths.now all = same_disk (λ J M. AreSources J M (Some Highest) c.args.paths.now all) c.mounted.ensures.0 c.mounted.ensures.1 c.in_ok-all.ensures in
+    let sources : AreSources I L (highest alone.Files) c.args.paths.now all = same_unsaid (λ J M u. AreSources J M u c.args.paths.now all) c.mounted.ensures.0 c.mounted.ensures.1 c.highest.ensures c.in_ok-all.ensures in
     let counted : IsTarget I L c.len.result c.args.to.now to = same_disk (λ J M. IsTarget J M c.len.result c.args.to.now to) c.mounted-2.ensures.0 c.mounted-2.ensures.1 c.in_ok-target.ensures in
     let target : IsTarget I L (length all) c.args.to.now to = subst (λ n. IsTarget I L n c.args.to.now to) (omega (arith, c.len.ensures, c.in_ok-all.all.ok.0)) counted in
     let may : MayAllBeCopied c.args.filing.now.user to all = subst (λ u. MayAllBeCopied u to all) c.user.ensures (subst (MayAllBeCopied c.user.result to) c.deref.ensures.value c.in_ok-check_all.ensures.ok) in
@@ -40,7 +41,7 @@ returns-in_err-target-clause-refused c =
     let I = c.args.filing.now.image in
     let L = c.args.filing.now.layout in
     let all = c.in_ok-all.all.items in
-    let sources : AreSources I L (Some Highest) c.args.paths.now all = same_disk (λ J M. AreSources J M (Some Highest) c.args.paths.now all) c.mounted.ensures.0 c.mounted.ensures.1 c.in_ok-all.ensures in
+    let sources : AreSources I L (highest alone.Files) c.args.paths.now all = same_unsaid (λ J M u. AreSources J M u c.args.paths.now all) c.mounted.ensures.0 c.mounted.ensures.1 c.highest.ensures c.in_ok-all.ensures in
     let failure = c.in_err-target.field-0.0 in
     let counted : IsNoTarget I L c.len.result c.args.to.now failure.why = same_disk (λ J M. IsNoTarget J M c.len.result c.args.to.now failure.why) c.mounted-2.ensures.0 c.mounted-2.ensures.1 c.in_err-target.ensures.0 in
     let none : IsNoTarget I L (length all) c.args.to.now failure.why = subst (λ n. IsNoTarget I L n c.args.to.now failure.why) (omega (arith, c.len.ensures, c.in_ok-all.all.ok.0)) counted in
@@ -54,7 +55,7 @@ returns-in_err-check_all-clause-refused c =
     let L = c.args.filing.now.layout in
     let all = c.in_ok-all.all.items in
     let to = c.in_ok-target.target in
-    let sources : AreSources I L (Some Highest) c.args.paths.now all = same_disk (λ J M. AreSources J M (Some Highest) c.args.paths.now all) c.mounted.ensures.0 c.mounted.ensures.1 c.in_ok-all.ensures in
+    let sources : AreSources I L (highest alone.Files) c.args.paths.now all = same_unsaid (λ J M u. AreSources J M u c.args.paths.now all) c.mounted.ensures.0 c.mounted.ensures.1 c.highest.ensures c.in_ok-all.ensures in
     let counted : IsTarget I L c.len.result c.args.to.now to = same_disk (λ J M. IsTarget J M c.len.result c.args.to.now to) c.mounted-2.ensures.0 c.mounted-2.ensures.1 c.in_ok-target.ensures in
     let target : IsTarget I L (length all) c.args.to.now to = subst (λ n. IsTarget I L n c.args.to.now to) (omega (arith, c.len.ensures, c.in_ok-all.all.ok.0)) counted in
     let failure = c.in_err-check_all.field-0.0 in

@@ -1,4 +1,4 @@
-use Rattle.std.proofs.Common.{◌∙◌, inl, inr}
+use Rattle.std.proofs.Common.{inl, inr}
 use Rattle.std.proofs.lemmas.Result.{err_from_is_err_and}
 use Rattle.ods_paths.specs.Patterns.{capitals}
 use Rattle.ods_paths.specs.Views.{folder}
@@ -11,12 +11,12 @@ pub returns : goal.returns
 returns c =
     let up = folder c.in_ok-meant.meant.folder in
     let name = capitals c.in_ok-meant.meant.name.items in
-    record { up = up; name = name; means = means_by c.args.path.now c.as_bytes.result.now up name (c.as_bytes.ensures.value ∙ c.in_ok-text.ensures) c.in_ok-meant.ensures; are = c.in_ok-found.ensures.named }
+    record { up = up; name = name; means = means_by c.args.path.now c.as_bytes.result.now up name c.as_bytes.ensures.value c.in_ok-meant.ensures; are = c.in_ok-found.ensures.named }
 
 pub returns-in_err-meant : goal.returns-in_err-meant
 returns-in_err-meant c =
-    let p = err_from_is_err_and c.from_residual-in_err-meant.result c.from_residual-in_err-meant.ensures.1 in
-    rw (p.1, p.2) (inl (means_none c.args.path.now c.as_bytes.result.now c.in_err-meant.field-0.0 (c.as_bytes.ensures.value ∙ c.in_ok-text.ensures) c.in_err-meant.ensures))
+    let p = err_from_is_err_and c.from_residual.result c.from_residual.ensures.1 in
+    rw (p.1, p.2) (inl (means_none c.args.path.now c.as_bytes.result.now c.in_err-meant.field-0.0 c.as_bytes.ensures.value c.in_err-meant.ensures))
 
 pub returns-in_err-found : goal.returns-in_err-found
 returns-in_err-found c =
@@ -28,7 +28,7 @@ returns-in_err-found c =
       up,
       (
         name,
-        means_by c.args.path.now c.as_bytes.result.now up name (c.as_bytes.ensures.value ∙ c.in_ok-text.ensures) c.in_ok-meant.ensures,
+        means_by c.args.path.now c.as_bytes.result.now up name c.as_bytes.ensures.value c.in_ok-meant.ensures,
         no_find c.args.volume.now.image c.args.volume.now.layout up name c.in_err-found.field-0.0 c.in_err-found.ensures.err,
       ),
     ))

@@ -27,7 +27,7 @@ returns c =
     record {
       up = up;
       text = capitals name;
-      means = means_by c.args.path.now c.as_bytes.result.now up (capitals name) (c.as_bytes.ensures.value ∙ c.in_ok-text.ensures) c.in_ok-meant.ensures;
+      means = means_by c.args.path.now c.as_bytes.result.now up (capitals name) c.as_bytes.ensures.value c.in_ok-meant.ensures;
       one = wildcards_stay name ∙ ap has_wildcard (sym c.deref.ensures.value) ∙ sym c.if-has_wildcard.ensures;
       above = c.in_ok-dir.ensures;
       spelled = subst (λ n. Spells (capitals n ++ codes ".DIR") c.in_ok-name.name Highest) c.deref-2.ensures.value c.in_ok-name.ensures;
@@ -38,13 +38,13 @@ returns c =
 
 pub returns-in_err-meant : goal.returns-in_err-meant
 returns-in_err-meant c =
-    let p = err_from_is_err_and c.from_residual-in_err-meant.result c.from_residual-in_err-meant.ensures.1 in
-    rw (p.1, p.2) (inl (means_none c.args.path.now c.as_bytes.result.now c.in_err-meant.field-0.0 (c.as_bytes.ensures.value ∙ c.in_ok-text.ensures) c.in_err-meant.ensures))
+    let p = err_from_is_err_and c.from_residual.result c.from_residual.ensures.1 in
+    rw (p.1, p.2) (inl (means_none c.args.path.now c.as_bytes.result.now c.in_err-meant.field-0.0 c.as_bytes.ensures.value c.in_err-meant.ensures))
 
 pub returns-then-has_wildcard : goal.returns-then-has_wildcard
 returns-then-has_wildcard c =
     let name = c.in_ok-meant.meant.name.items in
-    no_place c.args.volume.now.image c.args.volume.now.layout c.args.path.now c.as_bytes.result.now (folder c.in_ok-meant.meant.folder) (capitals name) _ (c.as_bytes.ensures.value ∙ c.in_ok-text.ensures) c.in_ok-meant.ensures
+    no_place c.args.volume.now.image c.args.volume.now.layout c.args.path.now c.as_bytes.result.now (folder c.in_ok-meant.meant.folder) (capitals name) _ c.as_bytes.ensures.value c.in_ok-meant.ensures
     (inl (refl, wildcards_stay name ∙ ap has_wildcard (sym c.deref.ensures.value) ∙ sym c.if-has_wildcard.ensures))
 
 pub returns-in_err-dir : goal.returns-in_err-dir
@@ -52,14 +52,14 @@ returns-in_err-dir c =
     let p = err_from_is_err_and c.from_residual-in_err-dir.result c.from_residual-in_err-dir.ensures.1 in
     rw (p.1, p.2)
     (no_place c.args.volume.now.image c.args.volume.now.layout c.args.path.now c.as_bytes.result.now (folder c.in_ok-meant.meant.folder) (capitals c.in_ok-meant.meant.name.items) _
-    (c.as_bytes.ensures.value ∙ c.in_ok-text.ensures) c.in_ok-meant.ensures (inr (wildcards_stay c.in_ok-meant.meant.name.items ∙ ap has_wildcard (sym c.deref.ensures.value) ∙ sym c.if-has_wildcard.ensures, inl c.in_err-dir.ensures)))
+    c.as_bytes.ensures.value c.in_ok-meant.ensures (inr (wildcards_stay c.in_ok-meant.meant.name.items ∙ ap has_wildcard (sym c.deref.ensures.value) ∙ sym c.if-has_wildcard.ensures, inl c.in_err-dir.ensures)))
 
 pub returns-in_err-name : goal.returns-in_err-name
 returns-in_err-name c =
     let p = err_from_is_err_and c.from_residual-in_err-name.result c.from_residual-in_err-name.ensures.1 in
     rw (p.1, p.2)
     (no_place c.args.volume.now.image c.args.volume.now.layout c.args.path.now c.as_bytes.result.now (folder c.in_ok-meant.meant.folder) (capitals c.in_ok-meant.meant.name.items) _
-    (c.as_bytes.ensures.value ∙ c.in_ok-text.ensures) c.in_ok-meant.ensures
+    c.as_bytes.ensures.value c.in_ok-meant.ensures
     (inr (
       wildcards_stay c.in_ok-meant.meant.name.items ∙ ap has_wildcard (sym c.deref.ensures.value) ∙ sym c.if-has_wildcard.ensures,
       inr (c.in_ok-dir.dir, c.in_ok-dir.ensures, inl (subst (λ n. IsNoName (capitals n) (codes "DIR") c.in_err-name.field-0.0) c.deref-2.ensures.value c.in_err-name.ensures)),
@@ -69,7 +69,7 @@ pub returns-then-is_master : goal.returns-then-is_master
 returns-then-is_master c =
     let both = c.if-is_master.ensures.0 refl in
     no_place c.args.volume.now.image c.args.volume.now.layout c.args.path.now c.as_bytes.result.now (folder c.in_ok-meant.meant.folder) (capitals c.in_ok-meant.meant.name.items) _
-    (c.as_bytes.ensures.value ∙ c.in_ok-text.ensures) c.in_ok-meant.ensures
+    c.as_bytes.ensures.value c.in_ok-meant.ensures
     (inr (
       wildcards_stay c.in_ok-meant.meant.name.items ∙ ap has_wildcard (sym c.deref.ensures.value) ∙ sym c.if-has_wildcard.ensures,
       inr (c.in_ok-dir.dir, c.in_ok-dir.ensures, inr (inl (refl, (both.0, ap capitals (sym c.deref-3.ensures.value) ∙ both.1)))),
@@ -81,7 +81,7 @@ returns-in-Ok c =
     let L = c.args.volume.now.layout in
     let up = folder c.in_ok-meant.meant.folder in
     let name = c.in_ok-meant.meant.name.items in
-    no_place I L c.args.path.now c.as_bytes.result.now up (capitals name) _ (c.as_bytes.ensures.value ∙ c.in_ok-text.ensures) c.in_ok-meant.ensures
+    no_place I L c.args.path.now c.as_bytes.result.now up (capitals name) _ c.as_bytes.ensures.value c.in_ok-meant.ensures
     (inr (
       wildcards_stay name ∙ ap has_wildcard (sym c.deref.ensures.value) ∙ sym c.if-has_wildcard.ensures,
       inr (
@@ -98,7 +98,7 @@ returns-in-Err c =
     let up = folder c.in_ok-meant.meant.folder in
     let name = c.in_ok-meant.meant.name.items in
     let other : c.in-Err.fault ≢ Nothing = search rules in
-    no_place I L c.args.path.now c.as_bytes.result.now up (capitals name) _ (c.as_bytes.ensures.value ∙ c.in_ok-text.ensures) c.in_ok-meant.ensures
+    no_place I L c.args.path.now c.as_bytes.result.now up (capitals name) _ c.as_bytes.ensures.value c.in_ok-meant.ensures
     (inr (
       wildcards_stay name ∙ ap has_wildcard (sym c.deref.ensures.value) ∙ sym c.if-has_wildcard.ensures,
       inr (
@@ -121,7 +121,7 @@ returns-in_err-hides_entries c =
     let name = c.in_ok-meant.meant.name.items in
     let p = err_from_is_err_and c.from_residual-in_err-hides_entries.result c.from_residual-in_err-hides_entries.ensures.1 in
     rw (p.1, p.2)
-    (no_place I L c.args.path.now c.as_bytes.result.now up (capitals name) _ (c.as_bytes.ensures.value ∙ c.in_ok-text.ensures) c.in_ok-meant.ensures
+    (no_place I L c.args.path.now c.as_bytes.result.now up (capitals name) _ c.as_bytes.ensures.value c.in_ok-meant.ensures
     (inr (
       wildcards_stay name ∙ ap has_wildcard (sym c.deref.ensures.value) ∙ sym c.if-has_wildcard.ensures,
       inr (c.in_ok-dir.dir, c.in_ok-dir.ensures, inr (inr (not_masters c.in_ok-dir.dir name c.deref-3.result.now c.deref-3.ensures.value c.if-is_master.ensures, inr (inr refl)))),
@@ -134,7 +134,7 @@ returns-then-branch c =
     let up = folder c.in_ok-meant.meant.folder in
     let name = c.in_ok-meant.meant.name.items in
     let dir = c.in_ok-dir.dir.number in
-    no_place I L c.args.path.now c.as_bytes.result.now up (capitals name) _ (c.as_bytes.ensures.value ∙ c.in_ok-text.ensures) c.in_ok-meant.ensures
+    no_place I L c.args.path.now c.as_bytes.result.now up (capitals name) _ c.as_bytes.ensures.value c.in_ok-meant.ensures
     (inr (
       wildcards_stay name ∙ ap has_wildcard (sym c.deref.ensures.value) ∙ sym c.if-has_wildcard.ensures,
       inr (

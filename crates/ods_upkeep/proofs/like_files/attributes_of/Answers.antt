@@ -1,12 +1,13 @@
 use denote.Enum.Bare.{same_false, same_true}
 use Rattle.std.proofs.Common.{◌≡◌, ◌≢◌, ◌∙◌, refl, sym, subst, inl, inr, List, [], ◌∷◌, Some, rules}
 use Rattle.std.proofs.lemmas.Result.{err_from_is_err_and}
-use Rattle.ods_paths.specs.declared.versions.Versions.TheVariants.{Highest}
+use Rattle.ods_shell.specs.declared.alone.Alone.TheVariants as alone
+use Rattle.ods_shell.specs.Named.{highest}
 use Rattle.ods_shell.specs.contracts.facts.Kind.{the_type}
 use Rattle.ods_shell.specs.declared.found.Found.{Found}
 use Rattle.ods_upkeep.specs.Sources.{AreOfPath}
 use Rattle.ods_upkeep.specs.Unbegun.{directory, not_one, not_there, reserved}
-use Rattle.ods_upkeep.proofs.Naming.{just_one, of_path}
+use Rattle.ods_upkeep.proofs.Naming.{just_one, no_source_by, of_path_by}
 use Rattle.ods_upkeep.proofs.like_files.attributes_of.Goals as goal
 
 pub returns : goal.returns
@@ -14,11 +15,11 @@ returns c =
     let I = c.args.volume.now.image in
     let L = c.args.volume.now.layout in
     let found : List Found = c.in_ok-found.found.items in
-    let named : AreOfPath I L (Some Highest) c.args.path.now found = of_path I L (Some Highest) c.args.path.now [] c.in_ok-found.field-0-1.items found refl c.in_ok-found.ensures.named in
+    let named : AreOfPath I L (highest alone.Refused) c.args.path.now found = of_path_by I L c.highest.result (highest alone.Refused) c.args.path.now [] c.in_ok-found.field-0-1.items found c.highest.ensures refl c.in_ok-found.ensures.named in
     let one : found ≡ c.one-item.result ∷ [] = just_one c.as_slice.result.now found c.one-item.result c.as_slice.ensures.value c.in-len1.len_at_least c.in-len1.len_below c.one-item.is in
     record {
       found = c.one-item.result;
-      one = subst (AreOfPath I L (Some Highest) c.args.path.now) one named;
+      one = subst (AreOfPath I L (highest alone.Refused) c.args.path.now) one named;
       facts = c.in-Some.facts;
       known = c.in-Some.is;
       plain = same_false the_type _ _ (sym c.if-eq.ensures);
@@ -29,14 +30,14 @@ returns c =
 pub returns-in_err-found : goal.returns-in_err-found
 returns-in_err-found c =
     let p = err_from_is_err_and c.from_residual.result c.from_residual.ensures.1 in
-    rw (p.1, p.2) (inl (_, refl, c.in_err-found.ensures.err))
+    rw (p.1, p.2) (inl (no_source_by c.args.volume.now.image c.args.volume.now.layout _ _ c.args.path.now _ _ c.highest.ensures refl c.in_err-found.ensures.err))
 
 pub returns-then-eq : goal.returns-then-eq
 returns-then-eq c =
     let I = c.args.volume.now.image in
     let L = c.args.volume.now.layout in
     let found : List Found = c.in_ok-found.found.items in
-    let named : AreOfPath I L (Some Highest) c.args.path.now found = of_path I L (Some Highest) c.args.path.now [] c.in_ok-found.field-0-1.items found refl c.in_ok-found.ensures.named in
+    let named : AreOfPath I L (highest alone.Refused) c.args.path.now found = of_path_by I L c.highest.result (highest alone.Refused) c.args.path.now [] c.in_ok-found.field-0-1.items found c.highest.ensures refl c.in_ok-found.ensures.named in
     let one : found ≡ c.one-item.result ∷ [] = just_one c.as_slice.result.now found c.one-item.result c.as_slice.ensures.value c.in-len1.len_at_least c.in-len1.len_below c.one-item.is in
     inr (found, named, directory c.one-item.result c.in-Some.facts one c.in-Some.is (same_true the_type (search rules) _ _ (sym c.if-eq.ensures)))
 
@@ -45,7 +46,7 @@ returns-then-facts-le2 c =
     let I = c.args.volume.now.image in
     let L = c.args.volume.now.layout in
     let found : List Found = c.in_ok-found.found.items in
-    let named : AreOfPath I L (Some Highest) c.args.path.now found = of_path I L (Some Highest) c.args.path.now [] c.in_ok-found.field-0-1.items found refl c.in_ok-found.ensures.named in
+    let named : AreOfPath I L (highest alone.Refused) c.args.path.now found = of_path_by I L c.highest.result (highest alone.Refused) c.args.path.now [] c.in_ok-found.field-0-1.items found c.highest.ensures refl c.in_ok-found.ensures.named in
     let one : found ≡ c.one-item.result ∷ [] = just_one c.as_slice.result.now found c.one-item.result c.as_slice.ensures.value c.in-len1.len_at_least c.in-len1.len_below c.one-item.is in
     inr (found, named, reserved c.one-item.result c.in-Some.facts one c.in-Some.is c.if-facts-le2.true)
 
@@ -54,7 +55,7 @@ returns-in_default c =
     let I = c.args.volume.now.image in
     let L = c.args.volume.now.layout in
     let found : List Found = c.in_ok-found.found.items in
-    let named : AreOfPath I L (Some Highest) c.args.path.now found = of_path I L (Some Highest) c.args.path.now [] c.in_ok-found.field-0-1.items found refl c.in_ok-found.ensures.named in
+    let named : AreOfPath I L (highest alone.Refused) c.args.path.now found = of_path_by I L c.highest.result (highest alone.Refused) c.args.path.now [] c.in_ok-found.field-0-1.items found c.highest.ensures refl c.in_ok-found.ensures.named in
     let other : (one : Found) → c.as_slice.result.now ≢ one ∷ [] = search rules in
     inr (found, named, not_one (λ one is. other one (c.as_slice.ensures.value ∙ is)))
 
@@ -63,6 +64,6 @@ returns-in_default-facts c =
     let I = c.args.volume.now.image in
     let L = c.args.volume.now.layout in
     let found : List Found = c.in_ok-found.found.items in
-    let named : AreOfPath I L (Some Highest) c.args.path.now found = of_path I L (Some Highest) c.args.path.now [] c.in_ok-found.field-0-1.items found refl c.in_ok-found.ensures.named in
+    let named : AreOfPath I L (highest alone.Refused) c.args.path.now found = of_path_by I L c.highest.result (highest alone.Refused) c.args.path.now [] c.in_ok-found.field-0-1.items found c.highest.ensures refl c.in_ok-found.ensures.named in
     let one : found ≡ c.one-item.result ∷ [] = just_one c.as_slice.result.now found c.one-item.result c.as_slice.ensures.value c.in-len1.len_at_least c.in-len1.len_below c.one-item.is in
     inr (found, named, not_there c.one-item.result one c.in_default-facts.is)

@@ -3,7 +3,7 @@ use Rattle.std.specs.Prelude.{slice_index}
 use Rattle.std.proofs.lemmas.Result.{err_from_is_err_and, IfErr-weaker}
 use Rattle.ods_upkeep.specs.Counted.{AreCounts}
 use Rattle.ods_upkeep.specs.Refused.{AreNoSources, AreNotKept, IsFirstKept}
-use Rattle.ods_upkeep.specs.Removed.{Does, IsNotRemoved, MayNotGo, StopsGoing, removals, unsaid_versions}
+use Rattle.ods_upkeep.specs.Removed.{Does, IsNotRemoved, MayNotGo, StopsGoing, removals, unsaid_by}
 use Rattle.ods_upkeep.specs.Sources.{AreSources}
 use Rattle.ods_upkeep.proofs.Lists.{if_done}
 use Rattle.ods_upkeep.proofs.Naming.{same_disk}
@@ -12,11 +12,11 @@ use Rattle.ods_upkeep.proofs.removing.remove_files.Goals as goal
 use Rattle.ods_upkeep.proofs.removing.remove_files.Goals.{After-sources, In-Ok, In_ok-all, In_ok-check_all, then-removal, else-removal}
 
 -- the versions that are meant where none are said
-unsaid : (c : After-sources) → c.if-removal.unsaid ≡ unsaid_versions c.args.removal.newest
-unsaid c = elim c.if-removal.branch [ then-removal w ↦ w.unsaid-is ∙ ap unsaid_versions (sym w.if-removal.true) | else-removal w ↦ w.unsaid-is ∙ ap unsaid_versions (sym w.if-removal.false) ]
+unsaid : (c : After-sources) → c.if-removal.unsaid ≡ unsaid_by c.args.removal.newest
+unsaid c = elim c.if-removal.branch [ then-removal w ↦ w.unsaid-is ∙ w.highest-unsaid.ensures ∙ ap unsaid_by (sym w.if-removal.true) | else-removal w ↦ w.unsaid-is ∙ ap unsaid_by (sym w.if-removal.false) ]
 
 -- what the paths name
-sources : (c : In_ok-all) → c.if-removal.unsaid ≡ unsaid_versions c.args.removal.newest → AreSources c.args.filing.now.image c.args.filing.now.layout (unsaid_versions c.args.removal.newest) c.args.paths.now c.in_ok-all.all.items
+sources : (c : In_ok-all) → c.if-removal.unsaid ≡ unsaid_by c.args.removal.newest → AreSources c.args.filing.now.image c.args.filing.now.layout (unsaid_by c.args.removal.newest) c.args.paths.now c.in_ok-all.all.items
 sources c is =
     subst (λ u. AreSources c.args.filing.now.image c.args.filing.now.layout u c.args.paths.now c.in_ok-all.all.items) is
     (same_disk (λ J M. AreSources J M c.if-removal.unsaid c.args.paths.now c.in_ok-all.all.items) c.mounted.ensures.0 c.mounted.ensures.1 c.in_ok-all.ensures)

@@ -1,9 +1,10 @@
 use Rattle.std.proofs.Common.{◌≡◌, refl, subst, List, [], ◌∷◌, Some}
-use Rattle.ods_paths.specs.declared.versions.Versions.TheVariants.{Highest}
+use Rattle.ods_shell.specs.declared.alone.Alone.TheVariants as alone
+use Rattle.ods_shell.specs.Named.{highest}
 use Rattle.ods_shell.specs.declared.found.Found.{Found}
 use Rattle.ods_upkeep.specs.Sources.{AreOfPath}
 use Rattle.ods_upkeep.proofs.Cutting.{cut_or_not}
-use Rattle.ods_upkeep.proofs.Naming.{just_one, of_path}
+use Rattle.ods_upkeep.proofs.Naming.{just_one, of_path_by}
 use Rattle.ods_upkeep.proofs.truncating.the_file.Goals as goal
 
 pub returns : goal.returns
@@ -11,6 +12,6 @@ returns c =
     let I = c.args.volume.now.image in
     let L = c.args.volume.now.layout in
     let found : List Found = c.in_ok-found.found.items in
-    let named : AreOfPath I L (Some Highest) c.args.path.now found = of_path I L (Some Highest) c.args.path.now [] c.in_ok-found.field-0-1.items found refl c.in_ok-found.ensures.named in
+    let named : AreOfPath I L (highest alone.Refused) c.args.path.now found = of_path_by I L c.highest.result (highest alone.Refused) c.args.path.now [] c.in_ok-found.field-0-1.items found c.highest.ensures refl c.in_ok-found.ensures.named in
     let one : found ≡ c.one-item.result ∷ [] = just_one c.as_slice.result.now found c.one-item.result c.as_slice.ensures.value c.in-len1.len_at_least c.in-len1.len_below c.one-item.is in
-    cut_or_not I L c.args.path.now c.args.bytes c.one-item.result c.to_be_cut.result (subst (AreOfPath I L (Some Highest) c.args.path.now) one named) c.to_be_cut.ensures
+    cut_or_not I L c.args.path.now c.args.bytes c.one-item.result c.to_be_cut.result (subst (AreOfPath I L (highest alone.Refused) c.args.path.now) one named) c.to_be_cut.ensures

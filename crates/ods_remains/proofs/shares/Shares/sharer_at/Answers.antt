@@ -9,5 +9,5 @@ returns c =
     let D = c.self.inside.disk in
     let lbn = c.args.lbn in
     subst (λ d. IsSharerAt d.image d.layout c.args.number lbn c.other_of.result) c.self.view_is
-    (sharer_by D.image.now D.layout.now c.self.inside.lowest.items c.self.inside.highest.items c.self.invariant c.args.number lbn c.entry-low.result c.entry-high.result c.other_of.result
+    (sharer_by D.image.now D.layout.now c.self.inside.lowest.items c.self.inside.highest.items c.self.invariant.0 c.args.number lbn c.entry-low.result c.entry-high.result c.other_of.result
     (c.entry-low.ensures ∙ ap (λ xs. slice_index xs lbn) c.deref.ensures.value) (c.entry-high.ensures ∙ ap (λ xs. slice_index xs lbn) c.deref-2.ensures.value) c.other_of.ensures)
