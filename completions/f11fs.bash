@@ -30,7 +30,7 @@ _f11fs_of() {
     find) options='--lost --deleted -l --json -u -q --blocks --order -h --help' takes='path' ;;
     stat) options='--json -u -q --blocks --order -h --help' takes='path' ;;
     cat) options='-t -b --raw -u -q --blocks --order -h --help' takes='path' ;;
-    get) options='-t -b --raw --deleted --partial -o -n --force --json -u -q --blocks --order -h --help' takes='path host' ;;
+    get) options='-t -b --raw -r --deleted --partial -o -n --force --json -u -q --blocks --order -h --help' takes='path host' ;;
     df) options='--json -q --blocks --order -h --help' takes='' ;;
     info) options='--json -q --blocks --order -h --help' takes='' ;;
     du) options='--top --json -q --blocks --order -h --help' takes='' ;;
@@ -41,6 +41,7 @@ _f11fs_of() {
     cp) options='-o --backup --break-links -n --force --json --stamp -u -q --blocks --order -h --help' takes='path' ;;
     mv) options='-o --backup --break-links -n --force --json -u -q --blocks --order -h --help' takes='path' ;;
     rm) options='--entry --newest -o --backup --break-links -n --force --json -u -q --blocks --order -h --help' takes='path' ;;
+    purge) options='-k -o --backup --break-links -n --force --json -u -q --blocks --order -h --help' takes='path' ;;
     mkdir) options='--names --owner -o --backup --break-links -n --force --json --stamp -u -q --blocks --order -h --help' takes='path' ;;
     rmdir) options='-o --backup --break-links -n --force --json -u -q --blocks --order -h --help' takes='path' ;;
     truncate) options='-o --backup --break-links -n --force --json -u -q --blocks --order -h --help' takes='path' ;;
@@ -56,7 +57,7 @@ _f11fs_of() {
 _f11fs_value() {
     case $1 in
     -f | --commands | -o) kind=host ;;
-    --stamp | -u | --blocks | --order | --top | --form | --owner | --names | --files | --label) kind=none ;;
+    --stamp | -u | --blocks | --order | --top | --form | --owner | -k | --names | --files | --label) kind=none ;;
     --like) kind=path ;;
     *) return 1 ;;
     esac
@@ -96,7 +97,7 @@ _f11fs() {
     elif [[ -z $image ]]; then
         takes=host
     elif [[ -z $command ]]; then
-        mapfile -t COMPREPLY < <(compgen -W 'ls find stat cat get df info du check rescue cmp put cp mv rm mkdir rmdir truncate chmod chown label init' -- "$cur")
+        mapfile -t COMPREPLY < <(compgen -W 'ls find stat cat get df info du check rescue cmp put cp mv rm purge mkdir rmdir truncate chmod chown label init' -- "$cur")
         return
     fi
     for one in $takes; do

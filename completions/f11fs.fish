@@ -9,7 +9,7 @@ function __f11fs_state
     set -l at 2
     while test $at -le (count $words)
         switch $words[$at]
-            case -f --commands -o --stamp -u --blocks --order --top --form --like --owner --names --files --label
+            case -f --commands -o --stamp -u --blocks --order --top --form --like --owner -k --names --files --label
                 set at (math $at + 1)
                 test $words[(math $at - 1)] = --blocks; and test $at -le (count $words); and set blocks --blocks $words[$at]
             case '-?*'
@@ -83,6 +83,7 @@ complete -c f11fs -n '__f11fs_at command' -a put -d 'Copy host files (- is stand
 complete -c f11fs -n '__f11fs_at command' -a cp -d 'Copy files within the volume'
 complete -c f11fs -n '__f11fs_at command' -a mv -d 'Move or rename directory entries. The name in the header of a file stays'
 complete -c f11fs -n '__f11fs_at command' -a rm -d 'Remove names, and delete files that have no name left'
+complete -c f11fs -n '__f11fs_at command' -a purge -d 'Remove all but the highest versions of each name, and their files'
 complete -c f11fs -n '__f11fs_at command' -a mkdir -d 'Make directories'
 complete -c f11fs -n '__f11fs_at command' -a rmdir -d 'Remove empty directories'
 complete -c f11fs -n '__f11fs_at command' -a truncate -d 'Cut a file to its first BYTES bytes'
@@ -146,6 +147,7 @@ complete -c f11fs -n '__f11fs_at get' -F
 complete -c f11fs -n '__f11fs_at get' -s t -d 'Write records as lines. Default if it is lossless'
 complete -c f11fs -n '__f11fs_at get' -s b -d 'Write the bytes up to the end of file'
 complete -c f11fs -n '__f11fs_at get' -l raw -d 'Write the bytes of all blocks'
+complete -c f11fs -n '__f11fs_at get' -s r -d 'Copy the files in the one directory PATH and below it, into folders with the names of the directories'
 complete -c f11fs -n '__f11fs_at get' -l deleted -d 'Copy deleted files. Each PATH is an ID that find --deleted shows, such as \'#9,1\''
 complete -c f11fs -n '__f11fs_at get' -l partial -d 'With --deleted: copy what is left of a file that is not whole, with zeros for blocks that are used again or outside the volume'
 complete -c f11fs -n '__f11fs_at get' -s o -r -F -d 'Write to this host file or folder. - is standard output'
@@ -256,6 +258,19 @@ complete -c f11fs -n '__f11fs_at rm' -s q -d 'Hide progress and remarks, but not
 complete -c f11fs -n '__f11fs_at rm' -l blocks -x -d 'Assume that the volume has N blocks, 1 to 1048576, whatever the image says'
 complete -c f11fs -n '__f11fs_at rm' -l order -x -d 'Read and write the sectors of the image in this order: plain, rx01, rx02 or rx50. Default: f11fs finds it'
 complete -c f11fs -n '__f11fs_at rm' -s h -l help -d 'Print help'
+complete -c f11fs -n '__f11fs_at purge' -a '(__f11fs_paths)'
+complete -c f11fs -n '__f11fs_at purge' -s k -x -d 'Keep the N highest versions of each name instead of one'
+complete -c f11fs -n '__f11fs_at purge' -s o -r -F -d 'Write the changed image to FILE, and keep IMAGE as it is. FILE must not exist'
+complete -c f11fs -n '__f11fs_at purge' -l backup -d 'Keep the old image as IMAGE~'
+complete -c f11fs -n '__f11fs_at purge' -l break-links -d 'Change an image with several hard links under this name only. Default: refuse it'
+complete -c f11fs -n '__f11fs_at purge' -s n -d 'Write nothing. Print what the command would do'
+complete -c f11fs -n '__f11fs_at purge' -l force -d 'Change the image even if another process has it open'
+complete -c f11fs -n '__f11fs_at purge' -l json -d 'With -n: print JSON, one object a line'
+complete -c f11fs -n '__f11fs_at purge' -s u -x -d 'Act as this user, such as [1,2]. Default: [1,1]'
+complete -c f11fs -n '__f11fs_at purge' -s q -d 'Hide progress and remarks, but not errors'
+complete -c f11fs -n '__f11fs_at purge' -l blocks -x -d 'Assume that the volume has N blocks, 1 to 1048576, whatever the image says'
+complete -c f11fs -n '__f11fs_at purge' -l order -x -d 'Read and write the sectors of the image in this order: plain, rx01, rx02 or rx50. Default: f11fs finds it'
+complete -c f11fs -n '__f11fs_at purge' -s h -l help -d 'Print help'
 complete -c f11fs -n '__f11fs_at mkdir' -a '(__f11fs_paths)'
 complete -c f11fs -n '__f11fs_at mkdir' -l names -x -d 'Make room for N names'
 complete -c f11fs -n '__f11fs_at mkdir' -l owner -x -d 'Give the directories this owner. Default: [1,2] for directory [1,2]; otherwise the user of -u'

@@ -55,6 +55,7 @@ def commands_for_keepers_run(room: Room) -> None:
         shutil.copy2(SAMPLE, room.folder / name)
     (room.folder / "notes.txt").write_bytes(b"one\ntwo\n")
     (room.folder / "f11fs").symlink_to(room.program)
+    (room.folder / "examples").symlink_to(TOP / "examples")
     lines = [line.split(" # ")[0] for block in blocks() if "disk.dsk" in block[0] for line in block]
     assert len(lines) >= 12, f"only {len(lines)} lines of README.md"
     for line in lines:

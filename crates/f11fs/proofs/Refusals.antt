@@ -33,6 +33,7 @@ path_refused path.NoMemory s e = ap is_refused e
 
 word_refused : (fault : WordFault) (s : Status) → HasWordStatus fault s → is_refused s ≡ true
 word_refused word.NoFolder s e = ap is_refused e
+word_refused word.OneDirectory s e = ap is_refused e
 word_refused word.NoText s e = ap is_refused e
 word_refused (word.ManyBytes most) s e = ap is_refused e
 word_refused word.NoLabel s e = ap is_refused e
@@ -83,6 +84,7 @@ why_refused (why.Put fault) s e = put_refused fault s e
 why_refused why.BadName s e = ap is_refused e
 why_refused why.IsId s e = ap is_refused e
 why_refused why.Several s e = ap is_refused e
+why_refused why.Versioned s e = ap is_refused e
 why_refused why.IsDirectory s e = ap is_refused e
 why_refused why.DirectoryType s e = ap is_refused e
 why_refused why.DirectoryThere s e = ap is_refused e

@@ -27,6 +27,7 @@ use Rattle.ods_upkeep.specs.Emptied.{AreEmptied}
 use Rattle.ods_upkeep.specs.Given.{AreGiven}
 use Rattle.ods_upkeep.specs.Made.{AreMade}
 use Rattle.ods_upkeep.specs.Moved.{IsMoved}
+use Rattle.ods_upkeep.specs.Purged.{IsPurged}
 use Rattle.ods_upkeep.specs.Removed.{IsRemoved}
 use Rattle.ods_upkeep.specs.HostPut.{IsHostPut}
 use Rattle.ods_upkeep.specs.Left.{InPut}
@@ -93,6 +94,7 @@ IsChanged (change.Put how) words stamp old new = ArePut how words stamp old new
 IsChanged change.Cp words stamp old new = CopiesToLast words stamp old new
 IsChanged change.Mv words stamp old new = MovesToLast words old new
 IsChanged (change.Rm entry_alone newest) words stamp old new = IsRemoved entry_alone newest words old new
+IsChanged (change.Purge keep) words stamp old new = IsPurged keep words old new
 IsChanged (change.Mkdir names owner) words stamp old new = AreMade owner (unwrap_or names 0) stamp words old new
 IsChanged change.Rmdir words stamp old new = AreEmptied words old new
 IsChanged (change.Truncate bytes) words stamp old new = CutsFirst words bytes old new
@@ -115,6 +117,7 @@ KeepsTo (change.Put how) old new = Unit {0}
 KeepsTo change.Cp old new = Unit {0}
 KeepsTo change.Mv old new = IsLed Renames old new
 KeepsTo (change.Rm entry_alone newest) old new = IsLed (Removes entry_alone) old new
+KeepsTo (change.Purge keep) old new = IsLed (Removes false) old new
 KeepsTo (change.Mkdir names owner) old new = Unit {0}
 KeepsTo change.Rmdir old new = IsLed (Removes false) old new
 KeepsTo (change.Truncate bytes) old new = IsLed Cuts old new

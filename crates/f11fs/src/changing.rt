@@ -1,4 +1,4 @@
-//! The commands that change a volume: put, cp, mv, rm, mkdir, rmdir, truncate, chmod, chown and label.
+//! The commands that change a volume: put, cp, mv, rm, purge, mkdir, rmdir, truncate, chmod, chown and label.
 ghost use Rattle.std.specs.Prelude.{◌≡◌, ◌⊎◌, ◌&&◌, true, false, None, IfErr, IfOk, IfSome, IsOk, IsSomeAnd, MatchOption, OnErr, OnOk, is_some, length, not, unwrap_or};
 ghost use Rattle.fs_host.specs.{Found.SaysShort, Kept.force_kept, Kept.is_floppy, Kept.remark_kept, Times.IsStampOfLocal};
 ghost use Rattle.ods_shell.specs.declared.status.Status.{Status as Code};
@@ -24,7 +24,7 @@ use ods_request::Stamp;
 use ods_shell::Status;
 use ods_upkeep::{
     Failure, Removal, copy_files, give_owner, give_protection, is_below_another, make_directories,
-    move_names, remove_directories, remove_files, truncate_file,
+    move_names, purge_files, remove_directories, remove_files, truncate_file,
 };
 use std::alloc::{AllocError, Global};
 use std::fs::File;
@@ -257,6 +257,7 @@ pub fn change_volume<'a, R: Files<File = File> + AllocGlobal + Eprint>(
             };
             end_change(alloc, remove_files(alloc, filing, paths, removal))
         }
+        Change::Purge { keep } => end_change(alloc, purge_files(alloc, filing, paths, keep)),
         Change::Mkdir { names, owner } => {
             match make_directories(alloc, filing, stamp, paths, names.unwrap_or(0), owner) {
                 Ok(()) => {

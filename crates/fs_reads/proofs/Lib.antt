@@ -1,6 +1,7 @@
 mod Closing
 mod DeletedShown
 mod FilesGot
+mod TreeFiles
 mod Growing
 mod InfoEnds
 mod Likeness

@@ -15,6 +15,7 @@ use Rattle.fs_reads.specs.declared.stop.WordFault.TheVariants as fault
 -- what a word says wrongly is wrong words, what there is no room for or would be lost is refused, and else it is the host's
 abbrev pub HasWordStatus : WordFault → Status → Type 0
 HasWordStatus fault.NoFolder s = s ≡ status.Words
+HasWordStatus fault.OneDirectory s = s ≡ status.Words
 HasWordStatus fault.NoText s = s ≡ status.Words
 HasWordStatus (fault.ManyBytes most) s = s ≡ status.Words
 HasWordStatus fault.NoLabel s = s ≡ status.Words

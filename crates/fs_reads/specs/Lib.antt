@@ -17,3 +17,4 @@ pub mod Gets
 pub mod Undeleted
 pub mod Scans
 pub mod Trees
+pub mod TreesGot

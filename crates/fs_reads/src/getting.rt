@@ -187,7 +187,7 @@ fn last_word<'a, 'b>(words: &'b [&'a str]) -> (&'b [&'a str], Option<&'a str>)
 }
 
 /// Whether this is what the host says of a folder.
-fn is_folder(found: io::Result<Metadata>) -> bool
+pub(crate) fn is_folder(found: io::Result<Metadata>) -> bool
     ensures { MatchResult found (λ metadata. IsTrue result ↔ IsDir (file_type metadata)) (λ _. result ≡ false) }
 {
     match found {
@@ -196,7 +196,7 @@ fn is_folder(found: io::Result<Metadata>) -> bool
     }
 }
 
-/// Gets these files.
+/// Gets these files; a file of the host takes one.
 fn get_all<'a, R: Files<File = File> + Clock + AllocGlobal + Print + Eprint>(
     rt: &R,
     disk: &Disk<'_>,
@@ -214,6 +214,22 @@ fn get_all<'a, R: Files<File = File> + Clock + AllocGlobal + Print + Eprint>(
             return Err(Stop::Word(host, WordFault::NoFolder));
         }
     }
+    get_each(rt, disk, files, to, how, progress)
+}
+
+/// Gets each of these files.
+pub(crate) fn get_each<'a, R: Files<File = File> + Clock + AllocGlobal + Print + Eprint>(
+    rt: &R,
+    disk: &Disk<'_>,
+    files: &[Found],
+    to: Destination<'_>,
+    how: How<'_>,
+    progress: &mut Progress,
+) -> Result<Status, Stop<'a>>
+    requires { on IsLayoutOf disk.now }
+    ensures status { IfOk result (λ s. may_name s ≡ true) }
+    ensures done { IfOk result (λ s. s ≡ Code.Done → All (IsGettable how.entry.reader.user (λ n. on IsGot disk.now n how.entry.wanted)) files.now) }
+{
     let versions = Versioned::of(rt.alloc(), files)?;
     let mut written = BTreeSet::new(rt.alloc());
     let mut status = Status::Done;

@@ -10,6 +10,7 @@ mod deleted;
 mod finding;
 mod getting;
 mod getting_deleted;
+mod getting_tree;
 mod host_files;
 mod informing;
 mod listing;

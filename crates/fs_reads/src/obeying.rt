@@ -9,6 +9,7 @@ use crate::deleted::push_deleted;
 use crate::finding::{push_paths, push_usage};
 use crate::getting::get;
 use crate::getting_deleted::get_deleted;
+use crate::getting_tree::get_tree;
 use crate::listing::push_listings;
 use crate::printing::cat;
 use crate::progress::Progress;
@@ -39,12 +40,21 @@ pub fn obey<'a, R: Files<File = File> + Clock + AllocGlobal + Print + Eprint>(
         Action::Get {
             wanted,
             target,
+            below: false,
             deleted: false,
             partial: _,
         } => get(rt, disk, words, target, wanted, progress),
         Action::Get {
             wanted,
             target,
+            below: true,
+            deleted: false,
+            partial: _,
+        } => get_tree(rt, disk, words, target, wanted, progress),
+        Action::Get {
+            wanted,
+            target,
+            below: _,
             deleted: true,
             partial,
         } => get_deleted(rt, disk, words, target, wanted, partial, progress),

@@ -59,6 +59,9 @@ pub enum WordFault {
     /// Several files would be written to this file of the host.
     #[error("no folder")]
     NoFolder,
+    /// Files, several directories or an ID, where one directory is wanted.
+    #[error("one directory is wanted: -r copies the files in it and below it")]
+    OneDirectory,
     /// A folder with names, or something else, is there.
     #[error("an empty folder, or none, is wanted there")]
     NotEmpty,
@@ -104,6 +107,7 @@ impl WordFault {
     {
         match self {
             WordFault::NoFolder
+            | WordFault::OneDirectory
             | WordFault::NoText
             | WordFault::ManyBytes(_)
             | WordFault::NoLabel

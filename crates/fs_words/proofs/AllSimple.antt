@@ -34,6 +34,7 @@ whole_simple verb.Put = refl
 whole_simple verb.Cp = refl
 whole_simple verb.Mv = refl
 whole_simple verb.Rm = refl
+whole_simple verb.Purge = refl
 whole_simple verb.Mkdir = refl
 whole_simple verb.Rmdir = refl
 whole_simple verb.Truncate = refl

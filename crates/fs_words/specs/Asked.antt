@@ -1,5 +1,5 @@
 -- What a command asks for, by what a parse found behind its name.
-use Rattle.std.specs.Prelude.{◌≡◌, ℕ, Bool, true, false, List, [], codes, Option, Some, None, MatchOption, unwrap_or}
+use Rattle.std.specs.Prelude.{◌≡◌, ◌≢◌, ℕ, Bool, true, false, List, [], codes, Option, Some, None, MatchOption, unwrap_or}
 use Rattle.std.specs.Borrow.{Bor}
 use Rattle.clap.specs.declared.parser.matches.ArgMatches.{ArgMatches}
 use Rattle.clap.specs.Words.{first_value, found_of, one_text}
@@ -48,10 +48,10 @@ IsWanted m ByKind = IsSet m (codes "-t") false × IsSet m (codes "-b") false × 
 abbrev pub IsCat : ArgMatches → Action → Type 0
 IsCat m a = (wanted : Wanted) × IsWanted m wanted × (a ≡ action.Cat wanted)
 
--- --partial does nothing without --deleted
+-- --partial does nothing without --deleted, and -r nothing with it
 abbrev pub IsGet : ArgMatches → Option (Bor (List ℕ)) → Action → Type 0
-IsGet m out a = (wanted : Wanted) × (deleted partial : Bool) × IsWanted m wanted × IsSet m (codes "--deleted") deleted × IsSet m (codes "--partial") partial
-    × (partial ≡ true → deleted ≡ true) × (a ≡ action.Get wanted out deleted partial)
+IsGet m out a = (wanted : Wanted) × (below deleted partial : Bool) × IsWanted m wanted × IsSet m (codes "-r") below × IsSet m (codes "--deleted") deleted
+    × IsSet m (codes "--partial") partial × (partial ≡ true → deleted ≡ true) × (below ≡ true → deleted ≡ false) × (a ≡ action.Get wanted out below deleted partial)
 
 abbrev pub IsDu : ArgMatches → Action → Type 0
 IsDu m a = (top : Option ℕ) × IsValue IsNumber (text_of m (codes "--top")) top × (a ≡ action.Du top)
@@ -78,6 +78,10 @@ IsPut m a = (p : PutWords) × IsPutSo m p × (a ≡ action.Change (change.Put p)
 
 abbrev pub IsRm : ArgMatches → Action → Type 0
 IsRm m a = (alone newest : Bool) × IsSet m (codes "--entry") alone × IsSet m (codes "--newest") newest × (a ≡ action.Change (change.Rm alone newest))
+
+-- how many versions stay: those that are said, at least one; else one
+abbrev pub IsPurge : ArgMatches → Action → Type 0
+IsPurge m a = (keep : Option ℕ) × IsValue IsNumber (text_of m (codes "-k")) keep × (unwrap_or keep 1 ≢ 0) × (a ≡ action.Change (change.Purge (unwrap_or keep 1)))
 
 abbrev pub IsMkdir : ArgMatches → Action → Type 0
 IsMkdir m a = (names : Option ℕ) × (owner : Option Uic) × IsValue IsNumber (text_of m (codes "--names")) names × IsValue IsSaid (text_of m (codes "--owner")) owner × (a ≡ action.Change (change.Mkdir names owner))
@@ -119,6 +123,7 @@ Asks verb.Put m out a = IsPut m a
 Asks verb.Cp m out a = a ≡ action.Change change.Cp
 Asks verb.Mv m out a = a ≡ action.Change change.Mv
 Asks verb.Rm m out a = IsRm m a
+Asks verb.Purge m out a = IsPurge m a
 Asks verb.Mkdir m out a = IsMkdir m a
 Asks verb.Rmdir m out a = a ≡ action.Change change.Rmdir
 Asks verb.Truncate m out a = IsTruncate m a

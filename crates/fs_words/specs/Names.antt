@@ -21,6 +21,7 @@ verb_text verb.Put = codes "put"
 verb_text verb.Cp = codes "cp"
 verb_text verb.Mv = codes "mv"
 verb_text verb.Rm = codes "rm"
+verb_text verb.Purge = codes "purge"
 verb_text verb.Mkdir = codes "mkdir"
 verb_text verb.Rmdir = codes "rmdir"
 verb_text verb.Truncate = codes "truncate"
@@ -32,7 +33,7 @@ verb_text verb.File = codes "-f"
 
 -- the commands, in the order of the help
 abbrev pub verbs : List Verb
-verbs = verb.Ls ∷ verb.Find ∷ verb.Stat ∷ verb.Cat ∷ verb.Get ∷ verb.Df ∷ verb.Info ∷ verb.Du ∷ verb.Check ∷ verb.Rescue ∷ verb.Cmp ∷ verb.Put ∷ verb.Cp ∷ verb.Mv ∷ verb.Rm ∷ verb.Mkdir ∷ verb.Rmdir ∷ verb.Truncate ∷ verb.Chmod ∷ verb.Chown ∷ verb.Label ∷ verb.Init ∷ []
+verbs = verb.Ls ∷ verb.Find ∷ verb.Stat ∷ verb.Cat ∷ verb.Get ∷ verb.Df ∷ verb.Info ∷ verb.Du ∷ verb.Check ∷ verb.Rescue ∷ verb.Cmp ∷ verb.Put ∷ verb.Cp ∷ verb.Mv ∷ verb.Rm ∷ verb.Purge ∷ verb.Mkdir ∷ verb.Rmdir ∷ verb.Truncate ∷ verb.Chmod ∷ verb.Chown ∷ verb.Label ∷ verb.Init ∷ []
 
 -- the command of this name
 abbrev pub verb_named : List ℕ → Option Verb

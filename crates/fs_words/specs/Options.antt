@@ -11,6 +11,7 @@ verb_changes verb.Put = true
 verb_changes verb.Cp = true
 verb_changes verb.Mv = true
 verb_changes verb.Rm = true
+verb_changes verb.Purge = true
 verb_changes verb.Mkdir = true
 verb_changes verb.Rmdir = true
 verb_changes verb.Truncate = true

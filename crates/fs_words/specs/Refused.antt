@@ -69,10 +69,11 @@ pub data IsBeside (s : Said) (v : Verb) : Type 0 where
 -- What is wrong with the own words of each command, of which a parse found these.
 abbrev pub IsUnasked : Verb → ArgMatches → Type 0
 IsUnasked verb.Find m = IsSet m (codes "-l") true × IsSet m (codes "--deleted") false
-IsUnasked verb.Get m = IsSet m (codes "--partial") true × IsSet m (codes "--deleted") false
+IsUnasked verb.Get m = (IsSet m (codes "--partial") true × IsSet m (codes "--deleted") false) ⊎ (IsSet m (codes "-r") true × IsSet m (codes "--deleted") true)
 IsUnasked verb.Du m = IsNoValue IsNumber (text_of m (codes "--top"))
 IsUnasked verb.Put m = IsNoValue IsForm (text_of m (codes "--form")) ⊎ IsNoValue IsSaid (text_of m (codes "--owner"))
 IsUnasked verb.Mkdir m = IsNoValue IsNumber (text_of m (codes "--names")) ⊎ IsNoValue IsSaid (text_of m (codes "--owner"))
+IsUnasked verb.Purge m = IsNoValue IsNumber (text_of m (codes "-k")) ⊎ IsValue IsNumber (text_of m (codes "-k")) (Some 0)
 IsUnasked verb.Truncate m = (bytes : ℕ) → IsValue IsLargeNumber (text_of m (codes "bytes")) (Some bytes) → ⊥
 IsUnasked verb.Chmod m = (protection : ℕ) → IsValue IsProtection (text_of m (codes "protection")) (Some protection) → ⊥
 IsUnasked verb.Chown m = (owner : Uic) → IsValue IsSaid (text_of m (codes "owner")) (Some owner) → ⊥

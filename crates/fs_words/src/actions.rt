@@ -22,11 +22,12 @@ pub enum Action<'a> {
     Stat,
     /// Writes files to standard output.
     Cat(Wanted),
-    /// Writes files to the host: to this target, or where there is none into the working folder or to the last word. Where `deleted`, deleted files by
-    /// their IDs; where `partial`, what is left of those that are not whole too.
+    /// Writes files to the host: to this target, or where there is none into the working folder or to the last word. Where `below`, the files in a
+    /// directory and below it. Where `deleted`, deleted files by their IDs; where `partial`, what is left of those that are not whole too.
     Get {
         wanted: Wanted,
         target: Option<&'a str>,
+        below: bool,
         deleted: bool,
         partial: bool,
     },
@@ -81,6 +82,10 @@ pub enum Change<'a> {
     Rm {
         entry_alone: bool,
         newest: bool,
+    },
+    /// Removes all but the highest versions of each name, as many as `keep`, and their files.
+    Purge {
+        keep: u32,
     },
     /// Makes directories with room for this many names, where a number is said, and of this owner, where one is.
     Mkdir {

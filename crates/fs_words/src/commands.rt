@@ -19,6 +19,7 @@ mod label;
 mod ls;
 mod mkdir;
 mod mv;
+mod purge;
 mod put;
 mod rescue;
 mod rm;
@@ -56,6 +57,7 @@ pub(crate) fn command_of<'a>(alloc: Global, verb: Verb) -> Result<Command<'a>, A
         Verb::Cp => row_command(alloc, verb, &cp::ROW),
         Verb::Mv => row_command(alloc, verb, &mv::ROW),
         Verb::Rm => row_command(alloc, verb, &rm::ROW),
+        Verb::Purge => row_command(alloc, verb, &purge::ROW),
         Verb::Mkdir => row_command(alloc, verb, &mkdir::ROW),
         Verb::Rmdir => row_command(alloc, verb, &rmdir::ROW),
         Verb::Truncate => row_command(alloc, verb, &truncate::ROW),
@@ -102,6 +104,7 @@ pub(crate) fn action_of<'a>(
         Verb::Cp => Ok(Action::Change(Change::Cp)),
         Verb::Mv => Ok(Action::Change(Change::Mv)),
         Verb::Rm => Ok(rm::action(own)),
+        Verb::Purge => purge::action(alloc, own),
         Verb::Mkdir => mkdir::action(alloc, own),
         Verb::Rmdir => Ok(Action::Change(Change::Rmdir)),
         Verb::Truncate => truncate::action(alloc, own),

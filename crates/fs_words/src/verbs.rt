@@ -39,6 +39,8 @@ pub enum Verb {
     Mv,
     /// `rm`: removes entries, and deletes files without a name.
     Rm,
+    /// `purge`: removes all but the highest versions of names.
+    Purge,
     /// `mkdir`: makes directories.
     Mkdir,
     /// `rmdir`: removes empty directories.
@@ -58,7 +60,7 @@ pub enum Verb {
 }
 
 /// The commands, in the order of the help.
-pub(crate) const VERBS: [Verb; 22] = [
+pub(crate) const VERBS: [Verb; 23] = [
     Verb::Ls,
     Verb::Find,
     Verb::Stat,
@@ -74,6 +76,7 @@ pub(crate) const VERBS: [Verb; 22] = [
     Verb::Cp,
     Verb::Mv,
     Verb::Rm,
+    Verb::Purge,
     Verb::Mkdir,
     Verb::Rmdir,
     Verb::Truncate,
@@ -104,6 +107,7 @@ impl Verb {
             Verb::Cp => "cp",
             Verb::Mv => "mv",
             Verb::Rm => "rm",
+            Verb::Purge => "purge",
             Verb::Mkdir => "mkdir",
             Verb::Rmdir => "rmdir",
             Verb::Truncate => "truncate",
@@ -132,6 +136,7 @@ impl Verb {
                 | Verb::Cp
                 | Verb::Mv
                 | Verb::Rm
+                | Verb::Purge
                 | Verb::Mkdir
                 | Verb::Rmdir
                 | Verb::Truncate

@@ -12,6 +12,7 @@ pub mod Json
 pub mod Lines
 pub mod Listed
 pub mod Named
+pub mod Passed
 pub mod Rescued
 pub mod Scanned
 pub mod Shown

@@ -6,12 +6,13 @@ ghost use Rattle.ods_shell.specs.Facts.{AreFacts};
 ghost use Rattle.ods_shell.specs.declared.folders.Directory.{Directory as Holder};
 ghost use Rattle.ods_shell.specs.declared.found.Found.{Found as One};
 ghost use Rattle.ods_shell.specs.Named.{AreLines, AreNamed, AreNamedBy, AreNotNamed, AreWithin, IsEntryOf, IsFileOf, IsPathFault};
+ghost use Rattle.ods_shell.specs.Passed.{is_passed_over};
 ghost use Rattle.ods_shell.specs.Ways.{AreMet, CountAsClosed};
 ghost use Rattle.ods_space.specs.Files.{IsLayoutOf};
 ghost use Rattle.ods_space.specs.Disks.{on};
 
 use crate::alone::{Unsaid, find_alone};
-use crate::facts::{Facts, facts_by_id};
+use crate::facts::{Facts, Kind, facts_by_id};
 use crate::finding::find_open;
 use crate::folders::Directory;
 use crate::path_fault::PathFault;
@@ -54,7 +55,20 @@ impl Found {
     {
         self.facts
     }
+
+    /// Whether it is passed over where all files are meant: a directory, or one of the volume's own files, 1 to 5.
+    pub fn is_passed_over(&self) -> bool
+        ensures { result ≡ is_passed_over self.now.facts }
+    {
+        match self.facts {
+            Some(facts) => facts.kind == Kind::Directory || facts.file.number <= LAST_OWN,
+            None => false,
+        }
+    }
 }
+
+/// The number of the last of the volume's own files.
+const LAST_OWN: u16 = 5;
 
 /// What a path names, in the order of a listing. `unsaid` is what it means where it says no versions, and where it says directories alone; a path
 /// that has to say more is refused. Of these closed directories no names are read, and those that are on the way come back too.
@@ -182,7 +196,7 @@ fn add_line(
 }
 
 /// What an entry of a directory names.
-pub(crate) fn file_at(
+pub fn file_at(
     alloc: Global,
     disk: &Disk<'_>,
     directory: &Directory,

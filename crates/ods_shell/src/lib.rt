@@ -48,7 +48,7 @@ pub use finding::{FoundLines, find_open};
 pub use folders::{Directory, MASTER, is_directory_file, lines_of};
 pub use form::{Contents, FormFault, Got, Remark, open_contents};
 pub use former::{Former, FormerFault, find_former, open_former};
-pub use found::{EntryPlace, Found, find_names, find_path};
+pub use found::{EntryPlace, Found, file_at, find_names, find_path};
 pub use info::{Info, volume_info};
 pub use info_json::info_object;
 pub use info_texts::{info_lines, label_text};
@@ -57,6 +57,7 @@ pub use json::{
 };
 pub use laws::{facts_of_sound, sound_chains_are_got};
 pub use ls::{Columns, ls_lines};
+pub use naming::push_small;
 pub use ods_records::Wanted;
 pub use path_fault::PathFault;
 pub use remedies::{Advice, remedy};

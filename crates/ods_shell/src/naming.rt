@@ -88,7 +88,7 @@ fn without_dot(text: &str) -> &str
 }
 
 /// Appends a text in small letters.
-fn push_small(text: &mut String, part: &str) -> Result<(), AllocError>
+pub fn push_small(text: &mut String, part: &str) -> Result<(), AllocError>
     ensures { OnOk result (string_bytes text.new ≡ string_bytes text.old ++ small_text part.now) }
 {
     for character in part.chars() {

@@ -10,7 +10,7 @@ use Rattle.ods_shell.specs.declared.found.EntryPlace.{EntryPlace}
 use Rattle.ods_shell.specs.declared.found.Found.{Found}
 use Rattle.ods_upkeep.specs.declared.failure.Failure.{Failure}
 use Rattle.ods_upkeep.specs.declared.failure.Why.{Why}
-use Rattle.ods_upkeep.specs.declared.failure.Why.TheVariants.{Path, Request, Text, Put, BadName, IsDirectory, DirectoryType, DirectoryThere, IntoItself, IsId, Several, IsNamed, PastEnd, Hidden}
+use Rattle.ods_upkeep.specs.declared.failure.Why.TheVariants.{Path, Request, Text, Put, BadName, IsDirectory, DirectoryType, DirectoryThere, IntoItself, IsId, Several, Versioned, IsNamed, PastEnd, Hidden}
 use Rattle.ods_upkeep.specs.Pieces.{Stays}
 use Rattle.ods_upkeep.specs.Refused.{HasPath, IsRefusedBy, StopsAt}
 use Rattle.ods_upkeep.specs.Removed.{Does, HasNames, IsOfDirectory, MayNotGo, StopsGoing, entry_gone, file_gone, names_left, one_gone, removals}
@@ -91,5 +91,6 @@ may_go alone names f free has plain unnamed DirectoryType kept = absurd kept
 may_go alone names f free has plain unnamed DirectoryThere kept = absurd kept
 may_go alone names f free has plain unnamed IntoItself kept = absurd kept
 may_go alone names f free has plain unnamed Several kept = absurd kept
+may_go alone names f free has plain unnamed Versioned kept = absurd kept
 may_go alone names f free has plain unnamed PastEnd kept = absurd kept
 may_go alone names f free has plain unnamed Hidden kept = absurd kept

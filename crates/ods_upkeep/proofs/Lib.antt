@@ -35,4 +35,5 @@ pub mod Beginning
 pub mod Storing
 pub mod Making
 pub mod Noting
+pub mod Superseding
 pub mod Gets

@@ -20,10 +20,10 @@ one_name : (a b : RadName) → key_of a ≡ key_of b → a ≡ b
 one_name a b same = λ i. record { words = drop 1 (same i); ext = slice_index (same i) 0 }
 
 -- a key is found at itself
-itself : (k : List ℕ) → is_eq (slice_cmp nat_cmp k k) ≡ true
+pub itself : (k : List ℕ) → is_eq (slice_cmp nat_cmp k k) ≡ true
 itself k = (eq_by_cmp_equiv nat_list_cmp_total).refl k
 
-is_equal : (r : Ordering) → is_eq r ≡ true → r ≡ Equal
+pub is_equal : (r : Ordering) → is_eq r ≡ true → r ≡ Equal
 is_equal Less e = absurd (cc)
 is_equal Equal e = refl
 is_equal Greater e = absurd (cc)

@@ -10,6 +10,8 @@ pub mod Moved
 pub mod Once
 pub mod Pieces
 pub mod PutFor
+pub mod NameCounts
+pub mod Purged
 pub mod Removed
 pub mod Sources
 pub mod Target

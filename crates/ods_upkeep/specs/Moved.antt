@@ -26,7 +26,7 @@ use Rattle.ods_upkeep.specs.Sources.{AreSources}
 use Rattle.ods_upkeep.specs.Target.{IsNoTarget, IsTarget}
 use Rattle.ods_upkeep.specs.declared.failure.Failure.{Failure}
 use Rattle.ods_upkeep.specs.declared.failure.Why.{Why}
-use Rattle.ods_upkeep.specs.declared.failure.Why.TheVariants.{Path, Request, Text, Put, BadName, IsDirectory, DirectoryType, DirectoryThere, IntoItself, IsId, Several, IsNamed, PastEnd, Hidden}
+use Rattle.ods_upkeep.specs.declared.failure.Why.TheVariants.{Path, Request, Text, Put, BadName, IsDirectory, DirectoryType, DirectoryThere, IntoItself, IsId, Several, Versioned, IsNamed, PastEnd, Hidden}
 use Rattle.ods_upkeep.specs.declared.target.Target.{Target}
 
 -- the name that is said, or the entry's own
@@ -94,6 +94,7 @@ MayNotMove I L to f BadName = ⊥
 MayNotMove I L to f IsDirectory = ⊥
 MayNotMove I L to f DirectoryThere = ⊥
 MayNotMove I L to f Several = ⊥
+MayNotMove I L to f Versioned = ⊥
 MayNotMove I L to f IsNamed = ⊥
 MayNotMove I L to f PastEnd = ⊥
 MayNotMove I L to f Hidden = ⊥

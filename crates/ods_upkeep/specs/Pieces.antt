@@ -10,7 +10,7 @@ use Rattle.ods_shell.specs.declared.facts.Facts.{Facts}
 use Rattle.ods_shell.specs.declared.found.EntryPlace.{EntryPlace}
 use Rattle.ods_shell.specs.Found.{HasPathStatus}
 use Rattle.ods_upkeep.specs.declared.failure.Why.{Why}
-use Rattle.ods_upkeep.specs.declared.failure.Why.TheVariants.{Path, Request, Text, Put, BadName, IsDirectory, DirectoryType, DirectoryThere, IntoItself, IsId, Several, IsNamed, PastEnd, Hidden}
+use Rattle.ods_upkeep.specs.declared.failure.Why.TheVariants.{Path, Request, Text, Put, BadName, IsDirectory, DirectoryType, DirectoryThere, IntoItself, IsId, Several, Versioned, IsNamed, PastEnd, Hidden}
 use Rattle.ods_upkeep.specs.PutFor.{HasPutStatus}
 
 -- The exit status of a refusal: want of memory is the host's, words that mean nothing are wrong words, and what is asked for and is not done is refused. That of a path is the path's own.
@@ -24,6 +24,7 @@ HasStatus (Put fault) s = HasPutStatus fault s
 HasStatus BadName s = s ≡ Words
 HasStatus IsId s = s ≡ Words
 HasStatus Several s = s ≡ Words
+HasStatus Versioned s = s ≡ Words
 HasStatus IsDirectory s = s ≡ Refused
 HasStatus DirectoryType s = s ≡ Refused
 HasStatus DirectoryThere s = s ≡ Refused

@@ -19,7 +19,7 @@ use Rattle.ods_shell.specs.Named.{IsPathFault}
 use Rattle.ods_shell.specs.Remedies.{Row}
 use Rattle.ods_upkeep.specs.declared.failure.Failure.{Failure}
 use Rattle.ods_upkeep.specs.declared.failure.Why.{Why}
-use Rattle.ods_upkeep.specs.declared.failure.Why.TheVariants.{Path, Request, Text, Put, BadName, IsDirectory, DirectoryType, DirectoryThere, IntoItself, IsId, Several, IsNamed, PastEnd, Hidden}
+use Rattle.ods_upkeep.specs.declared.failure.Why.TheVariants.{Path, Request, Text, Put, BadName, IsDirectory, DirectoryType, DirectoryThere, IntoItself, IsId, Several, Versioned, IsNamed, PastEnd, Hidden}
 use Rattle.ods_upkeep.specs.Sources.{AreOfPaths}
 
 -- there is no memory
@@ -100,6 +100,7 @@ refusal_name DirectoryThere = []
 refusal_name IntoItself = []
 refusal_name IsId = []
 refusal_name Several = []
+refusal_name Versioned = []
 refusal_name IsNamed = []
 refusal_name PastEnd = []
 refusal_name Hidden = []

@@ -21,7 +21,7 @@ use Rattle.ods_upkeep.specs.Refused.{AreNoSources, AreNotKept, HasPath, IsFirstK
 use Rattle.ods_upkeep.specs.Sources.{AreSources}
 use Rattle.ods_upkeep.specs.declared.failure.Failure.{Failure}
 use Rattle.ods_upkeep.specs.declared.failure.Why.{Why}
-use Rattle.ods_upkeep.specs.declared.failure.Why.TheVariants.{Path, Request, Text, Put, BadName, IsDirectory, DirectoryType, DirectoryThere, IntoItself, IsId, Several, IsNamed, PastEnd, Hidden}
+use Rattle.ods_upkeep.specs.declared.failure.Why.TheVariants.{Path, Request, Text, Put, BadName, IsDirectory, DirectoryType, DirectoryThere, IntoItself, IsId, Several, Versioned, IsNamed, PastEnd, Hidden}
 
 -- just these requests of the user, one after another, each accepted
 abbrev pub Does : Filed → List Asked → Filed → Type 0
@@ -82,6 +82,7 @@ MayNotGo entry_alone names f DirectoryType = ⊥
 MayNotGo entry_alone names f DirectoryThere = ⊥
 MayNotGo entry_alone names f IntoItself = ⊥
 MayNotGo entry_alone names f Several = ⊥
+MayNotGo entry_alone names f Versioned = ⊥
 MayNotGo entry_alone names f PastEnd = ⊥
 MayNotGo entry_alone names f Hidden = ⊥
 

@@ -51,6 +51,9 @@ pub enum Why {
     /// Patterns, several files or directories, or several versions, where one is wanted.
     #[error("more than one is meant, where one is wanted: say it without * and ?")]
     Several,
+    /// Versions, where names alone are wanted.
+    #[error("versions are said, where those below the highest go: say the name without ';'")]
+    Versioned,
     /// A file that would be deleted has a name.
     #[error("a name stands for it: 'find' shows it, and 'rm' of all its names deletes the file")]
     IsNamed,
@@ -79,6 +82,7 @@ impl Why {
             | Why::IntoItself
             | Why::IsId
             | Why::Several
+            | Why::Versioned
             | Why::IsNamed
             | Why::PastEnd
             | Why::Hidden => "",
@@ -174,7 +178,7 @@ impl Why {
             Why::Path(fault) => fault.status(),
             Why::Put(fault) => fault.status(),
             Why::Request(Refusal::NoMemory) | Why::Text(TextFault::NoMemory) => Status::Host,
-            Why::BadName | Why::IsId | Why::Several => Status::Words,
+            Why::BadName | Why::IsId | Why::Several | Why::Versioned => Status::Words,
             Why::Request(_)
             | Why::Text(_)
             | Why::IsDirectory

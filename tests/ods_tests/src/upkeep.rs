@@ -4,6 +4,7 @@ mod directories;
 mod ends;
 mod long_records;
 mod moves;
+mod purges;
 mod puts;
 mod removals;
 
@@ -161,6 +162,19 @@ fn remove_files(
 ) -> Result<Mounted, Failure> {
     let mut filing = filing_for(alloc, volume, asked.user);
     ods_upkeep::remove_files(alloc, &mut filing, paths, removal)?;
+    Ok(filing.into_mounted())
+}
+
+/// What `purge` makes of the volume.
+fn purge_files(
+    alloc: Global,
+    volume: Mounted,
+    asked: &Asker,
+    paths: &[&str],
+    keep: u32,
+) -> Result<Mounted, Failure> {
+    let mut filing = filing_for(alloc, volume, asked.user);
+    ods_upkeep::purge_files(alloc, &mut filing, paths, keep)?;
     Ok(filing.into_mounted())
 }
 

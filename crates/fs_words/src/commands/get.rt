@@ -12,12 +12,16 @@ use std::alloc::Global;
 
 /// How `get` is written.
 pub(crate) const ROW: Row<'static> = Row {
-    usage: "f11fs IMAGE get [OPTIONS] [-t|-b|--raw] [--deleted [--partial]] PATH.. [TARGET]",
+    usage: "f11fs IMAGE get [OPTIONS] [-t|-b|--raw] [-r|--deleted [--partial]] PATH.. [TARGET]",
     about: "Copy files to the host",
     arguments: &[
         TEXT,
         BINARY,
         RAW,
+        Argument::Flag(
+            "-r",
+            "Copy the files in the one directory PATH and below it, into folders with the names of the directories",
+        ),
         Argument::Flag(
             "--deleted",
             "Copy deleted files. Each PATH is an ID that find --deleted shows, such as '#9,1'",
@@ -31,7 +35,7 @@ pub(crate) const ROW: Row<'static> = Row {
     conflicts: &FORMS_APART,
 };
 
-/// What its words ask for; `out` is what `-o` says. `--partial` does nothing alone.
+/// What its words ask for; `out` is what `-o` says. `--partial` does nothing alone, and `-r` nothing for deleted files, which stand in no directory.
 pub(crate) fn action<'a>(
     alloc: Global,
     own: &ArgMatches<'a>,
@@ -41,15 +45,21 @@ pub(crate) fn action<'a>(
     ensures refused { IfErr result (HasReason (IsUnasked Verb.Get own.now)) }
 {
     let wanted = wanted_form(own);
+    let below = own.get_flag("-r");
     let deleted = own.get_flag("--deleted");
     let partial = own.get_flag("--partial");
     if partial && !deleted {
         let text = "error: --partial does nothing for get without --deleted";
         return Err(say_wrong(alloc, text)?);
     }
+    if below && deleted {
+        let text = "error: -r does nothing for get with --deleted";
+        return Err(say_wrong(alloc, text)?);
+    }
     Ok(Action::Get {
         wanted,
         target: out,
+        below,
         deleted,
         partial,
     })

@@ -63,6 +63,10 @@ pub row_command-requires-in-Rm : goal.row_command-requires-in-Rm
 unfolding own_rules
 row_command-requires-in-Rm c = rw c.in-Rm.is refl
 
+pub row_command-requires-in-Purge : goal.row_command-requires-in-Purge
+unfolding own_rules
+row_command-requires-in-Purge c = rw c.in-Purge.is refl
+
 pub row_command-requires-in-Mkdir : goal.row_command-requires-in-Mkdir
 unfolding own_rules
 row_command-requires-in-Mkdir c = rw c.in-Mkdir.is refl

@@ -5,7 +5,7 @@ use Rattle.ods_shell.specs.Contents.{IsGot}
 use Rattle.ods_shell.specs.declared.status.Status.TheVariants as status
 use Rattle.fs_reads.specs.Ends.{may_name}
 use Rattle.fs_reads.specs.Gets.{IsGettable}
-use Rattle.fs_reads.proofs.getting.get_all.Given as goal
+use Rattle.fs_reads.proofs.getting.get_each.Given as goal
 
 abbrev pub invariant-loop-found : goal.invariant-loop-found
 invariant-loop-found g l = record {

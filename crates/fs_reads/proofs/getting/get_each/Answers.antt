@@ -9,7 +9,7 @@ use Rattle.ods_shell.specs.declared.found.Found.{Found}
 use Rattle.fs_reads.specs.Ends.{may_name}
 use Rattle.fs_reads.specs.Gets.{IsGettable}
 use Rattle.fs_reads.proofs.FilesGot.{both_done, either_holds, get_done, get_may, one_more}
-use Rattle.fs_reads.proofs.getting.get_all.Goals as goal
+use Rattle.fs_reads.proofs.getting.get_each.Goals as goal
 
 pub loop-found-preserved : goal.loop-found-preserved
 loop-found-preserved g c =

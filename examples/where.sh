@@ -1,0 +1,13 @@
+#!/bin/sh
+# Lists the files of a name or pattern in many images, each with the sum of its bytes, so that equal files stand together:
+#     examples/where.sh 'NOTES.*' *.dsk
+# Each line has the sum, the image and the path. F11FS says which program is meant, where it is not ./f11fs.
+f11fs=${F11FS:-$(cd "$(dirname "$0")/.." && pwd)/f11fs}
+pattern=$1
+shift
+for image; do
+    "$f11fs" -q "$image" find "$pattern" | while read -r id path; do
+        sum=$("$f11fs" -q "$image" get -b "$id" - | sha256sum)
+        printf '%s %s %s\n' "${sum%% *}" "$image" "$path"
+    done
+done | sort
