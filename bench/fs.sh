@@ -2,7 +2,7 @@
 # Measures f11fs on 512 MiB with 10,000 files in 30 directories: `ls -lR` and `get` of all files beside `f11 IMAGE` and `cat` of the same
 # bytes, and `check --all` beside `f11 IMAGE`. Each is run several times in turn, and the least of user and system seconds stands.
 #
-#   bench/fs.sh F11 F11FS [TIMES]
+#   bench/fs.sh F11 F11FS [TIMES]      IMAGE gives make_image.py words for a smaller image
 set -eu
 f11=$(readlink -f "$1")
 f11fs=$(readlink -f "$2")
@@ -11,7 +11,8 @@ top=$(cd "$(dirname "$0")/.." && pwd)
 folder=$(mktemp -d "${TMPDIR:-/tmp}/f11fs-bench.XXXXXX")
 trap 'rm -rf "$folder"' EXIT
 cd "$folder"
-python3 "$top/bench/make_image.py" image.dsk --files 10000 --directories 30 >/dev/null
+read -ra words <<<"${IMAGE---files 10000 --directories 30}"
+python3 "$top/bench/make_image.py" image.dsk "${words[@]}" >/dev/null
 mkdir got
 
 # The least seconds of processor of a command over all runs: least COMMAND..

@@ -3,10 +3,12 @@
 # (mtools), and `put` of 20,000 empty files into one directory beside a run that puts none. The least seconds of processor of several runs
 # stand, and of the clock, which counts the writing, the reading back and the syncing of the image too.
 #
-#   bench/put.sh F11FS [TIMES]
+#   bench/put.sh F11FS [TIMES]      COUNT names another number of files than 10000; names are twice as many
 set -eu
 f11fs=$(readlink -f "$1")
 times=${2:-3}
+export COUNT=${COUNT:-10000}
+names=$((2 * COUNT))
 folder=$(mktemp -d "${TMPDIR:-/tmp}/f11fs-put.XXXXXX")
 trap 'rm -rf "$folder"' EXIT
 cd "$folder"
@@ -18,10 +20,11 @@ import random
 os.mkdir("files")
 os.mkdir("names")
 chance = random.Random(20_000)
-for k in range(10_000):
+count = int(os.environ["COUNT"])
+for k in range(count):
     with open(f"files/f{k:05}.dat", "wb") as file:
         file.write(chance.randbytes(20_000))
-for k in range(20_000):
+for k in range(2 * count):
     open(f"names/n{k:05}.dat", "wb").close()
 END
 
@@ -44,9 +47,9 @@ names() { "$f11fs" image put names/*.dat '[NAMES]'; }
 none() { "$f11fs" image put names/n00000.dat '[NAMES]'; }
 fat() { mcopy -i image files/*.dat ::/; }
 
-"$f11fs" new init 524288 --files 21000
-"$f11fs" new mkdir --names 10000 DATA
-"$f11fs" new mkdir --names 20000 NAMES
+"$f11fs" new init 524288 --files $((names + 1000))
+"$f11fs" new mkdir --names "$COUNT" DATA
+"$f11fs" new mkdir --names "$names" NAMES
 put=$(least new many)
 all=$(least new names)
 one=$(least new none)
@@ -56,7 +59,7 @@ if command -v mcopy >/dev/null; then
 else
     copied='- -'
 fi
-echo "put of 10,000 files $put, mcopy $copied; put of 20,000 names $all, of one $one (seconds of processor and of the clock)"
+echo "put of $COUNT files $put, mcopy $copied; put of $names names $all, of one $one (seconds of processor and of the clock)"
 echo "$put $copied $all $one" | awk '{
     if ($3 != "-") printf "put %.2f times the processor of mcopy, %.2f times its clock; ", $1 / $3, $2 / $4
-    printf "20,000 names %.2f s of processor more than one, %.2f s of the clock\n", $5 - $7, $6 - $8 }'
+    printf "all names %.2f s of processor more than one, %.2f s of the clock\n", $5 - $7, $6 - $8 }'
