@@ -35,7 +35,7 @@ def shared_block(files: int) -> Volume:
 def each_pair_is_told_while_there_are_few(room: Room) -> None:
     _, output, _ = room.run("disk", "check", "--all")
     lines = [line for line in output.decode().splitlines() if line.startswith("DoublyUsed")]
-    equal(sorted(lines), sorted(f"DoublyUsed {one} {other} 79 (1 block)" for other in range(6, 18) for one in range(6, other)),
+    equal(sorted(lines), sorted(f"DoublyUsed {one} {other} 79 (1 block)  [0,0]F{one}.DAT;1  [0,0]F{other}.DAT;1" for other in range(6, 18) for one in range(6, other)),
             "check --all")
 
 
@@ -130,12 +130,17 @@ def a_place_of_a_home_block_parts_a_run(room: Room) -> None:
 
 @row(image=lambda: plain_volume(flags=0o200 << 8).bytes())
 def a_file_marked_for_deletion_is_told(room: Room) -> None:
-    told(room, "file 9,1 is marked for deletion")
+    told(room, "file 9,1 is marked for deletion  [1,2]NOTES.TXT;1")
 
 
 @row(image=lambda: plain_volume(flags=0o100).bytes())
 def a_locked_file_is_told(room: Room) -> None:
-    told(room, "file 9,1 is locked")
+    told(room, "file 9,1 is locked  [1,2]NOTES.TXT;1")
+
+
+@row(image=lambda: plain_volume(size=4).bytes())
+def a_record_that_is_longer_than_the_file_says_is_told(room: Room) -> None:
+    told(room, "file 9,1: the record at byte 0 has 5 bytes, more than F.RSIZ  [1,2]NOTES.TXT;1")
 
 
 @row(image=lambda: changed(plain_volume().bytes(), 2, 510, b"\x01\x80", has_sum=False))

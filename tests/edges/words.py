@@ -1,4 +1,5 @@
 """What the words of f11fs ask for: options, wrong words, files of commands, host files that are put."""
+import fcntl
 import os
 import pathlib
 import re
@@ -10,6 +11,7 @@ from fs_image import BLOCK
 from fs_reader import File
 from fs_room import STAMP, Room, equal, fits
 from fs_rows import row
+from fs_volumes import plain_volume
 
 TEXT = b"one\ntwo\n"
 USAGE = b"usage: f11fs [OPTIONS] IMAGE COMMAND [WORD..]\nf11fs --help names the commands\n"
@@ -371,3 +373,36 @@ def control_bytes_in_words(room: Room) -> None:
     for words in (("disk", "\x1b[2J"), ("disk", "mkdir", "--owner", "\x1b", "NEW"), ("disk", "put", "\x1bnone", "1,2/"), ("disk", "mkdir", "\x1b"), ("disk", "-f", "\x07"), ("disk", "init", "\x07")):
         ended, out, err = room.run(*words)
         assert ended and not re.search(rb"[\x00-\x09\x0b-\x1f]", err), f"{words}: {err!r}"
+
+
+# A line that names a file, one that counts, and one that shows what the image is.
+LOOKS = "ls -i [1,2]NOTES.TXT\nstat 1,2/NOTES.TXT # of a refused volume too\ncheck\n"
+
+
+@row(image=lambda: plain_volume().bytes(free=[47]))
+def a_file_of_commands_that_look_at_a_refused_volume(room: Room) -> None:
+    (room.folder / "todo").write_text(LOOKS)
+    ended, out, err = room.run("disk", "-f", "todo")
+    equal((ended, err.split(b": ")[:3]), (1, [b"f11fs", b"disk", b"MarkedFree 9 47"]), "the end")
+    lines = out.decode().splitlines()
+    assert lines[0].startswith("NOTES.TXT;1 ") and "Path: [1,2]NOTES.TXT;1" in lines, f"what was shown: {lines}"
+    equal(lines[-1], "MarkedFree 9 47  [1,2]NOTES.TXT;1", "check")
+    for line in ("mkdir NEW", "df"):
+        (room.folder / "todo").write_text(LOOKS + line + "\n")
+        refused(room, re.compile(rb"f11fs: disk: MarkedFree 9 47: [^\n]+\n"), "disk", "-f", "todo", status=1)
+    (room.folder / "todo").write_text("ls NONE.TXT\nls [1,2]\n")
+    ended, out, err = room.run("disk", "-f", "todo")
+    equal((ended, out, err.splitlines()[1]), (1, b"", b"todo:1: f11fs: NONE.TXT: nothing there"), "a line that is refused")
+    ended, out, err = room.run("--keep-going", "-f", "todo", "disk")
+    equal((ended, b"NOTES.TXT;1\n" in out), (1, True), "past a line that is refused")
+    assert room.is_untouched(), "the image was touched"
+
+
+@row
+def a_file_of_commands_that_look_takes_no_lock(room: Room) -> None:
+    (room.folder / "todo").write_text(LOOKS)
+    with open(room.image, "r+b") as held:
+        fcntl.flock(held, fcntl.LOCK_EX)
+        assert done(room, "disk", "-f", "todo").endswith(b"sound\n"), "what was shown"
+        (room.folder / "todo").write_text(LOOKS + "mkdir NEW\n")
+        refused(room, re.compile(rb"f11fs: disk: [^\n]+\n"), "disk", "-f", "todo", status=3)

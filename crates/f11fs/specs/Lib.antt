@@ -1,8 +1,10 @@
 pub mod Changed
 pub mod Forms
 pub mod Laws
+pub mod Looks
 pub mod Orders
 pub mod Plans
 pub mod Readings
 pub mod Saved
 pub mod Seen
+pub mod Wrong

@@ -3,16 +3,17 @@ ghost use Rattle.std.specs.Prelude.{◌≡◌, ◌≤◌, ◌⊎◌, ◌&&◌, �
 ghost use Rattle.std.specs.{List.list_any, Str.Lines.lines, Str.bytes_eq};
 ghost use Rattle.fs_host.specs.Faults.{is_reason};
 ghost use Rattle.fs_reads.specs.declared.stop.Stop.{Stop as End};
-ghost use Rattle.f11fs.specs.{Changed.AreAllDone, Changed.AreLinesEnded, Changed.AsksChange, Changed.IsChange, Changed.IsChanged, Changed.IsDoneBy, Changed.IsDoneNow, Changed.IsLineDone, Changed.is_refused, Readings.IsUnread, Readings.behind_mark, Readings.reads_commands};
+ghost use Rattle.f11fs.specs.{Looks.IsAsOuter, Changed.AreAllDone, Changed.AreLinesEnded, Changed.AsksChange, Changed.IsChange, Changed.IsChanged, Changed.IsDoneBy, Changed.IsDoneNow, Changed.IsLineDone, Changed.is_refused, Readings.IsUnread, Readings.behind_mark, Readings.reads_commands};
 ghost use Rattle.ods_shell.specs.declared.status.Status.{Status as Code};
 
 use crate::changing::{Asker, Finished, asker_of, change_volume, finish, kept_before, lock_volume};
 use crate::early::{Early, read_bytes};
 use crate::host::Host;
-use crate::lines::{say_no_memory, say_wrong};
+use crate::lines::{say_bad_line, say_bad_words, say_no_memory, say_wrong};
+use crate::looking::{look_all, only_look};
 use fs_host::{Collecting, HostFault, Noting};
 use fs_reads::{Progress, Stop, WordFault, check_image, info_image, obey, say_end, show_space};
-use fs_words::{Action, Change, LineFault, Words, WordsFault, line_words, parse_line};
+use fs_words::{Action, Change, Words, line_words, parse_line};
 use ods_base::write_bytes;
 use ods_filing::Filing;
 use ods_mount::Mounted;
@@ -27,6 +28,12 @@ use std::rt::{Clock, Files};
 /// The most bytes of a file of commands.
 const MOST: u64 = 1_048_576;
 
+/// What is said of a command that no file of commands has.
+pub const NO_COMMAND: &str = "error: no command for a file of commands";
+
+/// What is said of a line that says how the image is saved.
+pub const SAVED_BEFORE: &str = "error: how the image is saved is said before IMAGE";
+
 /// Obeys the commands in this file. A refusal ends the run, and nothing is saved; with `keep_going` the refused command has done nothing.
 pub fn obey_file<'a, R: Host>(
     rt: &R,
@@ -38,6 +45,9 @@ pub fn obey_file<'a, R: Host>(
     let Some(text) = commands_text(bytes.as_slice()) else {
         return Err(Stop::Word(file, WordFault::NoText));
     };
+    if words.saving.out.is_none() && only_look(rt.alloc(), words.image, text)? {
+        return look_all(rt, words, file, keep_going, text);
+    }
     let mut early = Early::of(rt, words.image);
     read_early(rt, words, text, &mut early)?;
     let (mut locked, volume) = lock_volume(rt, words, keep_going)?;
@@ -203,7 +213,7 @@ fn obey_lines<R: Host>(
 }
 
 /// Whether a line ends the run: its volume does not stand, or it is refused and the run is not to go on then.
-fn ends_run(done: Status, stands: bool, goes_on: bool) -> bool
+pub fn ends_run(done: Status, stands: bool, goes_on: bool) -> bool
     ensures { result ≡ (not stands || (is_refused done && not goes_on)) }
 {
     !stands || (is_refused(done) && !goes_on)
@@ -217,7 +227,7 @@ fn is_refused(done: Status) -> bool
 }
 
 /// Writes what the commands printed.
-fn write_printed<R: Print>(rt: &R, printed: &[u8]) -> Result<(), HostFault>
+pub fn write_printed<R: Print>(rt: &R, printed: &[u8]) -> Result<(), HostFault>
     ensures { IfErr result (λ why. IsTrue (is_reason why)) }
 {
     let mut output = io::writer(rt);
@@ -242,21 +252,12 @@ fn obey_line<R: Files<File = File> + Clock + Input + AllocGlobal + Print + Eprin
 {
     let words = match line_words(rt.alloc(), line) {
         Ok(words) => words,
-        Err(LineFault::Open) => return (say_wrong(rt, "error: a quote is not closed"), true),
-        Err(LineFault::NoMemory) => return (say_no_memory(rt), true),
+        Err(fault) => return (say_bad_line(rt, fault), true),
     };
     match parse_line(rt.alloc(), run.outer.image, words.as_slice()) {
         Ok(Some(own)) => obey_words(rt, filing, run, own, early),
         Ok(None) => (Status::Done, true),
-        Err(WordsFault::Help(text)) => {
-            let status = match print!(rt; "{text}") {
-                Ok(()) => Status::Done,
-                Err(_) => Status::Host,
-            };
-            (status, true)
-        }
-        Err(WordsFault::Wrong(text)) => (say_wrong(rt, text.as_str()), true),
-        Err(WordsFault::NoMemory) => (say_no_memory(rt), true),
+        Err(fault) => (say_bad_words(rt, fault), true),
     }
 }
 
@@ -297,20 +298,25 @@ fn obey_words<R: Files<File = File> + Clock + Input + AllocGlobal + Print + Epri
     ensures ended { result.1 ≡ false → IsChange own.entry.action }
     ensures refused { result.1 ≡ false → is_refused result.0 ≡ true }
 {
-    let mut own = own;
     if !own.saving.says_nothing() {
-        let text = "error: how the image is saved is said before IMAGE";
-        return (say_wrong(rt, text), true);
+        return (say_wrong(rt, SAVED_BEFORE), true);
     }
     filing.set_user(own.user.unwrap_or(run.asker.user));
     let stamp = own.stamp.unwrap_or(run.asker.stamp);
-    let outer = run.outer;
+    obey_action(rt, filing, run, stamp, &as_outer(own, run.outer), early)
+}
+
+/// The words of a line, with what it does not say of users and forms as in the words of the run.
+pub fn as_outer<'a>(own: Words<'a>, outer: &Words<'_>) -> Words<'a>
+    ensures { IsAsOuter own.entry outer.now result }
+{
+    let mut own = own;
     own.user = own.user.or(outer.user);
     own.force |= outer.force;
     own.json |= outer.json;
     own.quiet |= outer.quiet;
     own.saving.only_tells = outer.saving.only_tells;
-    obey_action(rt, filing, run, stamp, &own, early)
+    own
 }
 
 /// Obeys a command for the user of the filing, with this stamp for new files.
@@ -352,10 +358,7 @@ fn obey_action<R: Files<File = File> + Clock + Input + AllocGlobal + Print + Epr
         }
         Action::Df => (say_end(rt, show_space(rt, filing.mounted(), own)), true),
         Action::Commands { .. } | Action::Init { .. } | Action::Rescue { .. } => {
-            (
-                say_wrong(rt, "error: no command for a file of commands"),
-                true,
-            )
+            (say_wrong(rt, NO_COMMAND), true)
         }
         _ => {
             let disk = filing.mounted().disk();

@@ -12,6 +12,7 @@ mod early;
 mod host;
 mod laws;
 mod lines;
+mod looking;
 mod making;
 mod orders;
 mod putting;
@@ -19,9 +20,9 @@ mod telling;
 
 use commands::{Seen, run_command};
 use fs_host::hold_streams;
-use fs_words::{WordsFault, parse_words};
+use fs_words::parse_words;
 use host::Host;
-use lines::{say_no_memory, say_wrong};
+use lines::{say_bad_words, say_no_memory, say_wrong};
 use ods_shell::Status;
 use std::io::IsTerminal;
 use std::process::ExitCode;
@@ -56,12 +57,7 @@ fn run<R: Host>(rt: &R, seen: Seen) -> Status {
     };
     match parse_words(rt.alloc(), words.as_slice()) {
         Ok(found) => run_command(rt, &found, seen),
-        Err(WordsFault::Help(text)) => match print!(rt; "{text}") {
-            Ok(()) => Status::Done,
-            Err(_) => Status::Host,
-        },
-        Err(WordsFault::Wrong(line)) => say_wrong(rt, line.as_str()),
-        Err(WordsFault::NoMemory) => say_no_memory(rt),
+        Err(fault) => say_bad_words(rt, fault),
     }
 }
 

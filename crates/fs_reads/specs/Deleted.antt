@@ -15,9 +15,9 @@ use Rattle.fs_reads.specs.declared.stop.Stop.TheVariants as stop
 use Rattle.fs_reads.specs.Ends.{StopsWith}
 use Rattle.fs_reads.specs.Named.{names_no_directory}
 
--- what is shown of these deleted files: an object each, or a line
-abbrev pub deletions_text : Bool → Bool → List Deletion → List ℕ
-deletions_text json long all = if json then deletion_objects all else deletion_lines long all
+-- what is shown of these deleted files: an object of this image each, or a line
+abbrev pub deletions_text : Bool → List ℕ → Bool → List Deletion → List ℕ
+deletions_text json image long all = if json then deletion_objects image all else deletion_lines long all
 
 -- A version is the highest or the lowest only beside others in its directory, which a deleted file has not.
 abbrev pub counts_from_others : Option Versions → Bool
@@ -35,22 +35,22 @@ pub record SaysDeleted (path : List ℕ) (files : Files) : Type 0 where
   pub own : counts_from_others files.versions ≡ false
 
 -- this text shows just those deleted files that these files look for
-abbrev pub ShowsDeleted : List (List ℕ) → VolumeLayout → Bool → Bool → Option Files → List ℕ → Type 0
-ShowsDeleted I L json long files text = (all : List Deletion) × AreDeletions I L files all × (text ≡ deletions_text json long all)
+abbrev pub ShowsDeleted : List (List ℕ) → VolumeLayout → Bool → List ℕ → Bool → Option Files → List ℕ → Type 0
+ShowsDeleted I L json image long files text = (all : List Deletion) × AreDeletions I L files all × (text ≡ deletions_text json image long all)
 
 -- this text shows those that this path looks for
-abbrev pub ShowsPath : List (List ℕ) → VolumeLayout → Bool → Bool → List ℕ → List ℕ → Type 0
-ShowsPath I L json long path text = (files : Files) × SaysDeleted path files × ShowsDeleted I L json long (Some files) text
+abbrev pub ShowsPath : List (List ℕ) → VolumeLayout → Bool → List ℕ → Bool → List ℕ → List ℕ → Type 0
+ShowsPath I L json image long path text = (files : Files) × SaysDeleted path files × ShowsDeleted I L json image long (Some files) text
 
 -- the texts of these paths, one behind another
-abbrev pub ShowsPaths : List (List ℕ) → VolumeLayout → Bool → Bool → List (Bor (List ℕ)) → List ℕ → Type 0
-ShowsPaths I L json long [] text = text ≡ []
-ShowsPaths I L json long (path ∷ paths) text = (one rest : List ℕ) × ShowsPath I L json long path.now one × ShowsPaths I L json long paths rest × (text ≡ one ++ rest)
+abbrev pub ShowsPaths : List (List ℕ) → VolumeLayout → Bool → List ℕ → Bool → List (Bor (List ℕ)) → List ℕ → Type 0
+ShowsPaths I L json image long [] text = text ≡ []
+ShowsPaths I L json image long (path ∷ paths) text = (one rest : List ℕ) × ShowsPath I L json image long path.now one × ShowsPaths I L json image long paths rest × (text ≡ one ++ rest)
 
 -- the texts of the paths, or of all deleted files where there are no paths
-abbrev pub ShowsAsked : List (List ℕ) → VolumeLayout → Bool → Bool → List (Bor (List ℕ)) → List ℕ → Type 0
-ShowsAsked I L json long [] text = ShowsDeleted I L json long None text
-ShowsAsked I L json long (path ∷ paths) text = ShowsPaths I L json long (path ∷ paths) text
+abbrev pub ShowsAsked : List (List ℕ) → VolumeLayout → Bool → List ℕ → Bool → List (Bor (List ℕ)) → List ℕ → Type 0
+ShowsAsked I L json image long [] text = ShowsDeleted I L json image long None text
+ShowsAsked I L json image long (path ∷ paths) text = ShowsPaths I L json image long (path ∷ paths) text
 
 -- a command ends since its words are wrong, or for want of memory
 abbrev pub EndsWords : Stop → Type 0

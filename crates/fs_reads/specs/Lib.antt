@@ -18,3 +18,4 @@ pub mod Undeleted
 pub mod Scans
 pub mod Trees
 pub mod TreesGot
+pub mod Told

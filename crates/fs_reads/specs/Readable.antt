@@ -9,11 +9,12 @@ use Rattle.ods_shell.specs.declared.status.Status.TheVariants as status
 use Rattle.fs_reads.specs.declared.stop.Stop.{Stop}
 use Rattle.fs_reads.specs.declared.stop.Stop.TheVariants as stop
 
--- an image with its layout, and whether a mount takes it
+-- an image with its layout, whether a mount takes it, and how many bytes stand behind the volume
 pub record Opened : Type 0 where
   pub image : List (List ℕ)
   pub layout : VolumeLayout
   pub sound : Bool
+  pub behind : ℕ
 
 -- the status of a command that showed all that it could: that an image is refused comes first
 abbrev pub end_of : Bool → Status → Status

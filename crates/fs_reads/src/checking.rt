@@ -1,19 +1,23 @@
 //! `check`: what is wrong with an image, sound or not.
-ghost use Rattle.std.specs.Prelude.{◌≡◌, ◌++◌, ◌⊎◌, IfOk, OnOk, string_bytes};
-ghost use Rattle.ods_mount.specs.Faults.{IsSound};
+ghost use Rattle.std.specs.Prelude.{◌≡◌, ◌++◌, ◌⊎◌, None, IfOk, MatchOption, OnOk, string_bytes};
+ghost use Rattle.ods_mount.specs.Faults.{IsDirectoryFile, IsSound};
+ghost use Rattle.ods_shell.specs.ByNumber.{AreNames};
 ghost use Rattle.ods_shell.specs.declared.status.Status.{Status as Code};
 ghost use Rattle.fs_reads.specs.{Ends.EndsCheck, Shown.StaysSaid, Shown.findings_line};
 ghost use Rattle.ods_space.specs.Files.{IsLayoutOf};
 ghost use Rattle.ods_space.specs.Disks.{on};
 
+use crate::file_paths::{line_about, paths_beside};
 use crate::output::Output;
 use crate::stop::{Stop, send, stop_at_own_output};
 use crate::volume::{VolumeFault, no_volume, open_image, say_extent};
 use fs_host::{Extent, Layers};
 use ods_base::Image;
-use ods_check::{MOST_LINES, are_all_read, check_all, check_first, count_findings, findings};
-use ods_shell::{Status, number_object, spoiled_records, text_object};
-use ods_space::{Disk, last_number, sequence};
+use ods_check::{
+    MOST_LINES, are_all_read, check_all, check_first, count_findings, file_in, findings,
+};
+use ods_shell::{FileNames, Status, long_record, number_object, spoiled_records};
+use ods_space::{Disk, Layout, last_number, sequence};
 use std::alloc::{AllocError, Global};
 use std::fs::File;
 use std::rt::Files;
@@ -111,12 +115,10 @@ fn tell_first<'a, R: AllocGlobal + Print>(
     let mut text = String::new(alloc);
     if let Some(fault) = &first.answer {
         let line = format!(in alloc; "{fault}")?;
-        if json {
-            text.push_str(text_object(alloc, "fault", line.as_str())?.as_str())?;
-        } else {
-            text.push_str(line.as_str())?;
-            text.push('\n')?;
-        }
+        let names = all_names(alloc, image, &first.layout)?;
+        let beside = paths_beside(alloc, &names, file_in(fault), None)?;
+        let told = line_about(alloc, json, "fault", line.as_str(), &beside)?;
+        text.push_str(told.as_str())?;
     } else if count == 0 {
         return tell_sound(rt, json);
     }
@@ -129,7 +131,7 @@ fn tell_first<'a, R: AllocGlobal + Print>(
     Ok(Status::Found)
 }
 
-/// How many findings there are, and files whose records are not whole.
+/// How many findings there are, with files whose records are not whole, and files that have a longer one than they say.
 fn count_all(alloc: Global, disk: &Disk<'_>) -> Result<u64, AllocError>
     requires { on IsLayoutOf disk.now }
 {
@@ -137,6 +139,9 @@ fn count_all(alloc: Global, disk: &Disk<'_>) -> Result<u64, AllocError>
     let mut count = count_findings(alloc, disk, all_read)?;
     for number in 3..=last_number(disk.layout) {
         if spoiled_records(alloc, disk, number)?.is_some() {
+            count = count.saturating_add(1);
+        }
+        if long_record(alloc, disk, number)?.is_some() {
             count = count.saturating_add(1);
         }
     }
@@ -174,8 +179,10 @@ fn tell_all<'a, R: AllocGlobal + Print>(
         output.say(rt, "finding", short)?;
     }
     let checked = check_all(rt.alloc(), image)?;
+    let names = all_names(rt.alloc(), image, &checked.layout)?;
     for fault in checked.faults.kept_lines() {
-        output.say(rt, "fault", *fault)?;
+        let beside = paths_beside(rt.alloc(), &names, fault.first_file(), fault.second_file())?;
+        output.say_about(rt, "fault", *fault, &beside)?;
     }
     output.say_more(rt, "more_faults", checked.faults.more(), "faults")?;
     let sharing = checked.sharing.more();
@@ -187,8 +194,9 @@ fn tell_all<'a, R: AllocGlobal + Print>(
     )?;
     if let Some(layout) = &checked.layout {
         let disk = Disk { image, layout };
-        tell_findings(rt, &disk, &mut output)?;
-        tell_spoiled(rt, &disk, &mut output)?;
+        tell_findings(rt, &disk, &names, &mut output)?;
+        tell_spoiled(rt, &disk, &names, &mut output)?;
+        tell_long(rt, &disk, &names, &mut output)?;
     }
     if output.is_empty() {
         return tell_sound(rt, json);
@@ -202,6 +210,7 @@ fn tell_all<'a, R: AllocGlobal + Print>(
 fn tell_findings<'a, R: AllocGlobal + Print>(
     rt: &R,
     disk: &Disk<'_>,
+    names: &Option<FileNames>,
     output: &mut Output,
 ) -> Result<Status, Stop<'a>>
     requires { on IsLayoutOf disk.now }
@@ -212,7 +221,8 @@ fn tell_findings<'a, R: AllocGlobal + Print>(
     tell_unread(rt, all_read, output)?;
     let found = findings(rt.alloc(), disk, MOST_LINES, all_read)?;
     for finding in found.kept_lines() {
-        output.say(rt, "finding", *finding)?;
+        let beside = paths_beside(rt.alloc(), names, finding.file(), None)?;
+        output.say_about(rt, "finding", *finding, &beside)?;
     }
     output.say_more(rt, "more_findings", found.more(), "findings")
 }
@@ -240,6 +250,7 @@ fn tell_unread<'a, R: Print>(
 fn tell_spoiled<'a, R: AllocGlobal + Print>(
     rt: &R,
     disk: &Disk<'_>,
+    names: &Option<FileNames>,
     output: &mut Output,
 ) -> Result<Status, Stop<'a>>
     requires { on IsLayoutOf disk.now }
@@ -254,7 +265,8 @@ fn tell_spoiled<'a, R: AllocGlobal + Print>(
             if count <= u64::from(MOST_LINES) {
                 let sequence = sequence(disk, number);
                 let line = format!(in rt.alloc(); "file {number},{sequence}: {fault}")?;
-                output.say(rt, "finding", line.as_str())?;
+                let beside = paths_beside(rt.alloc(), names, Some(number), None)?;
+                output.say_about(rt, "finding", line.as_str(), &beside)?;
             }
         }
     }
@@ -265,4 +277,57 @@ fn tell_spoiled<'a, R: AllocGlobal + Print>(
         more,
         "files whose records are not whole",
     )
+}
+
+/// A line for each file above 2 that has a record longer than F.RSIZ says, where that is not 0: the first such record.
+fn tell_long<'a, R: AllocGlobal + Print>(
+    rt: &R,
+    disk: &Disk<'_>,
+    names: &Option<FileNames>,
+    output: &mut Output,
+) -> Result<Status, Stop<'a>>
+    requires { on IsLayoutOf disk.now }
+    ensures stays { OnOk result (StaysSaid output.old.is_empty output.new.is_empty) }
+    ensures status { IfOk result (λ s. s ≡ Code.Done) }
+{
+    let mut count = 0u64;
+    for before in 2..last_number(disk.layout) {
+        let number = before + 1;
+        if let Some(record) = long_record(rt.alloc(), disk, number)? {
+            count = count.saturating_add(1);
+            if count <= u64::from(MOST_LINES) {
+                let sequence = sequence(disk, number);
+                let (at, size) = (record.at, record.size);
+                let line = format!(in rt.alloc();
+                    "file {number},{sequence}: the record at byte {at} has {size} bytes, more than F.RSIZ"
+                )?;
+                let beside = paths_beside(rt.alloc(), names, Some(number), None)?;
+                output.say_about(rt, "finding", line.as_str(), &beside)?;
+            }
+        }
+    }
+    let more = count.saturating_sub(u64::from(MOST_LINES));
+    output.say_more(
+        rt,
+        "more_long",
+        more,
+        "files with a record longer than F.RSIZ",
+    )
+}
+
+/// The names of the files of an image, where it has a layout and a master directory.
+fn all_names(
+    alloc: Global,
+    image: &Image,
+    layout: &Option<Layout>,
+) -> Result<Option<FileNames>, AllocError>
+    ensures { IfOk result (λ found. MatchOption layout.now (found ≡ None) (λ L. MatchOption found (¬ IsDirectoryFile image.now L 4) (AreNames image.now L))) }
+{
+    match layout {
+        Some(layout) => {
+            let disk = Disk { image, layout };
+            FileNames::of(alloc, &disk)
+        }
+        None => Ok(None),
+    }
 }

@@ -20,10 +20,18 @@ pub(crate) fn push_deleted<'a>(
     long: bool,
     text: &mut String,
 ) -> Result<(), Stop<'a>>
-    ensures ok { OnOk result ((more : List ℕ) × ShowsAsked disk.now.image.now disk.now.layout.now words.now.json long words.now.paths.items more × (string_bytes text.new ≡ string_bytes text.old ++ more)) }
+    ensures ok { OnOk result ((more : List ℕ) × ShowsAsked disk.now.image.now disk.now.layout.now words.now.json words.now.image.now long words.now.paths.items more × (string_bytes text.new ≡ string_bytes text.old ++ more)) }
     ensures extends { Extends (string_bytes text.old) (string_bytes text.new) }
 {
-    push_asked(alloc, disk, &words.paths, words.json, long, text)
+    push_asked(
+        alloc,
+        disk,
+        &words.paths,
+        words.json,
+        words.image,
+        long,
+        text,
+    )
 }
 
 /// Appends the deleted files that these paths look for, or all where there are no paths.
@@ -33,17 +41,18 @@ fn push_asked<'a>(
     disk: &Disk<'_>,
     paths: &[&'a str],
     json: bool,
+    image: &str,
     long: bool,
     text: &mut String,
 ) -> Result<(), Stop<'a>>
-    ensures ok { OnOk result ((more : List ℕ) × ShowsAsked disk.now.image.now disk.now.layout.now json long paths.now more × (string_bytes text.new ≡ string_bytes text.old ++ more)) }
+    ensures ok { OnOk result ((more : List ℕ) × ShowsAsked disk.now.image.now disk.now.layout.now json image.now long paths.now more × (string_bytes text.new ≡ string_bytes text.old ++ more)) }
     ensures extends { Extends (string_bytes text.old) (string_bytes text.new) }
 {
     if 0 < paths.len() {
-        push_each(alloc, disk, paths, json, long, text)?;
+        push_each(alloc, disk, paths, json, image, long, text)?;
         Ok(())
     } else {
-        Ok(push_all(alloc, disk, json, long, text)?)
+        Ok(push_all(alloc, disk, json, image, long, text)?)
     }
 }
 
@@ -54,14 +63,15 @@ fn push_each<'a>(
     disk: &Disk<'_>,
     paths: &[&'a str],
     json: bool,
+    image: &str,
     long: bool,
     text: &mut String,
 ) -> Result<(), Stop<'a>>
-    ensures ok { OnOk result ((more : List ℕ) × ShowsPaths disk.now.image.now disk.now.layout.now json long paths.now more × (string_bytes text.new ≡ string_bytes text.old ++ more)) }
+    ensures ok { OnOk result ((more : List ℕ) × ShowsPaths disk.now.image.now disk.now.layout.now json image.now long paths.now more × (string_bytes text.new ≡ string_bytes text.old ++ more)) }
     ensures extends { Extends (string_bytes text.old) (string_bytes text.new) }
 {
     for path in paths {
-        push_path(alloc, disk, *path, json, long, text)?;
+        push_path(alloc, disk, *path, json, image, long, text)?;
     }
     Ok(())
 }
@@ -72,14 +82,15 @@ fn push_all(
     alloc: Global,
     disk: &Disk<'_>,
     json: bool,
+    image: &str,
     long: bool,
     text: &mut String,
 ) -> Result<(), AllocError>
-    ensures ok { OnOk result ((more : List ℕ) × ShowsDeleted disk.now.image.now disk.now.layout.now json long None more × (string_bytes text.new ≡ string_bytes text.old ++ more)) }
+    ensures ok { OnOk result ((more : List ℕ) × ShowsDeleted disk.now.image.now disk.now.layout.now json image.now long None more × (string_bytes text.new ≡ string_bytes text.old ++ more)) }
     ensures extends { Extends (string_bytes text.old) (string_bytes text.new) }
 {
     let all = known_deletions(alloc, disk, &None)?;
-    push_deletions(alloc, &all, json, long, text)?;
+    push_deletions(alloc, &all, json, image, long, text)?;
     Ok(())
 }
 
@@ -90,17 +101,18 @@ fn push_path<'a>(
     disk: &Disk<'_>,
     path: &'a str,
     json: bool,
+    image: &str,
     long: bool,
     text: &mut String,
 ) -> Result<(), Stop<'a>>
-    ensures ok { OnOk result ((more : List ℕ) × ShowsPath disk.now.image.now disk.now.layout.now json long path.entry.now more × (string_bytes text.new ≡ string_bytes text.old ++ more)) }
+    ensures ok { OnOk result ((more : List ℕ) × ShowsPath disk.now.image.now disk.now.layout.now json image.now long path.entry.now more × (string_bytes text.new ≡ string_bytes text.old ++ more)) }
     ensures err { IfErr result (EndsDeleted disk.now.image.now disk.now.layout.now path.entry) }
     ensures extends { Extends (string_bytes text.old) (string_bytes text.new) }
 {
     let files = files_alone(alloc, path)?;
     let all = known_deletions(alloc, disk, &Some(files))?;
     if 0 < all.len() {
-        Ok(push_deletions(alloc, &all, json, long, text)?)
+        Ok(push_deletions(alloc, &all, json, image, long, text)?)
     } else {
         Err(Stop::Path(path, PathFault::Nothing))
     }
@@ -112,22 +124,29 @@ fn push_deletions(
     alloc: Global,
     all: &[Deletion],
     json: bool,
+    image: &str,
     long: bool,
     text: &mut String,
 ) -> Result<(), AllocError>
-    ensures ok { OnOk result (string_bytes text.new ≡ string_bytes text.old ++ deletions_text json long all.now) }
+    ensures ok { OnOk result (string_bytes text.new ≡ string_bytes text.old ++ deletions_text json image.now long all.now) }
     ensures extends { Extends (string_bytes text.old) (string_bytes text.new) }
 {
-    let lines = text_of(alloc, all, json, long)?;
+    let lines = text_of(alloc, all, json, image, long)?;
     text.push_str(lines.as_str())
 }
 
 /// An object, or a line, for each of these deleted files.
-fn text_of(alloc: Global, all: &[Deletion], json: bool, long: bool) -> Result<String, AllocError>
-    ensures { IfOk result (λ text. string_bytes text ≡ deletions_text json long all.now) }
+fn text_of(
+    alloc: Global,
+    all: &[Deletion],
+    json: bool,
+    image: &str,
+    long: bool,
+) -> Result<String, AllocError>
+    ensures { IfOk result (λ text. string_bytes text ≡ deletions_text json image.now long all.now) }
 {
     if json {
-        deletion_objects(alloc, all)
+        deletion_objects(alloc, image, all)
     } else {
         deletion_lines(alloc, all, long)
     }

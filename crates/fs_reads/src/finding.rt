@@ -33,21 +33,21 @@ pub(crate) fn push_paths<'a>(
     let closed = closed_to(alloc, disk, words.user)?;
     if lost {
         stop_at_numbers(&closed, words.user)?;
-        let lines = lost_lines(alloc, disk, words.json)?;
+        let lines = lost_lines(alloc, disk, words.json, words.image)?;
         text.push_str(lines.as_str())?;
         return Ok(());
     }
     if words.paths.is_empty() {
         let all = find_all(alloc, disk, &closed)?;
-        push_found(alloc, disk, &all, words.json, text)?;
+        push_found(alloc, disk, &all, words, text)?;
         stop_at_closed(alloc, &all.closed, words.user)?;
-        let lines = unreached_lines(alloc, disk, &all, words.json)?;
+        let lines = unreached_lines(alloc, disk, &all, words.json, words.image)?;
         text.push_str(lines.as_str())?;
         return Ok(());
     }
     for path in &words.paths {
         let found = found_by(alloc, disk, *path, &closed)?;
-        push_found(alloc, disk, &found, words.json, text)?;
+        push_found(alloc, disk, &found, words, text)?;
         stop_at_closed(alloc, &found.closed, words.user)?;
     }
     Ok(())
@@ -59,14 +59,14 @@ fn push_found(
     alloc: Global,
     disk: &Disk<'_>,
     found: &FoundLines,
-    json: bool,
+    words: &Words<'_>,
     text: &mut String,
 ) -> Result<(), AllocError>
     requires { on IsLayoutOf disk.now }
     ensures { Extends (string_bytes text.old) (string_bytes text.new) }
 {
-    let lines = if json {
-        ls_objects(alloc, disk, found)?
+    let lines = if words.json {
+        ls_objects(alloc, disk, found, words.image)?
     } else {
         find_lines(alloc, found)?
     };
@@ -139,7 +139,7 @@ pub(crate) fn push_usage(
     alloc: Global,
     disk: &Disk<'_>,
     top: Option<u32>,
-    json: bool,
+    words: &Words<'_>,
     text: &mut String,
 ) -> Result<(), AllocError>
     requires { on IsLayoutOf disk.now }
@@ -147,8 +147,8 @@ pub(crate) fn push_usage(
 {
     let all = find_all(alloc, disk, &[])?;
     let lines = match top {
-        Some(most) => largest_lines(alloc, disk, &all, most as usize, json)?,
-        None => usage_lines(alloc, disk, &all, json)?,
+        Some(most) => largest_lines(alloc, disk, &all, most as usize, words.json, words.image)?,
+        None => usage_lines(alloc, disk, &all, words.json, words.image)?,
     };
     text.push_str(lines.as_str())
 }

@@ -67,7 +67,7 @@ pub fn info_image<'a, R: Files<File = File> + AllocGlobal + Print + Eprint>(
                 image,
                 layout: &layout,
             };
-            tell_info(rt, &disk, behind, "sound", json)
+            tell_info(rt, path, &disk, behind, "sound", json)
         }
         Err(fault) => info_refused(rt, path, image, &not_mounted(rt, path, fault), behind, json),
     }
@@ -92,7 +92,7 @@ fn info_refused<'a, R: AllocGlobal + Print + Eprint>(
             };
             say_refused(rt, path, *why);
             let answer = format!(in rt.alloc(); "{why}")?;
-            tell_info(rt, &disk, behind, answer.as_str(), json)?;
+            tell_info(rt, path, &disk, behind, answer.as_str(), json)?;
             Ok(Status::Image)
         }
         Err(MountFault::NoMemory) => Err(Stop::NoMemory),
@@ -103,6 +103,7 @@ fn info_refused<'a, R: AllocGlobal + Print + Eprint>(
 /// Prints what is known of a volume; this is what a mount answers.
 fn tell_info<'a, R: AllocGlobal + Print>(
     rt: &R,
+    path: &str,
     disk: &Disk<'_>,
     behind: u64,
     answer: &str,
@@ -111,24 +112,25 @@ fn tell_info<'a, R: AllocGlobal + Print>(
     requires { on IsLayoutOf disk.now }
     ensures { IfOk result (λ s. s ≡ Code.Done) }
 {
-    let text = info_shown(rt.alloc(), disk, behind, answer, json)?;
+    let text = info_shown(rt.alloc(), path, disk, behind, answer, json)?;
     send(rt, text.as_str())
 }
 
 /// What is known of a volume, as lines or as an object.
 fn info_shown(
     alloc: Global,
+    path: &str,
     disk: &Disk<'_>,
     behind: u64,
     answer: &str,
     json: bool,
 ) -> Result<String, AllocError>
     requires { on IsLayoutOf disk.now }
-    ensures { IfOk result (λ text. on ShowsInfo disk.now json behind answer.now (string_bytes text)) }
+    ensures { IfOk result (λ text. on ShowsInfo disk.now json path.now behind answer.now (string_bytes text)) }
 {
     let info = volume_info(disk);
     if json {
-        info_object(alloc, &info, behind, answer)
+        info_object(alloc, path, &info, behind, answer)
     } else {
         info_lines(alloc, &info, disk.layout.index(), behind, answer)
     }

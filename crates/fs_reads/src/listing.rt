@@ -60,7 +60,7 @@ fn push_listing<'a>(
             let mut columns = columns;
             columns.headings = columns.headings || found.directories.len() > 1;
             columns.empty = files.is_none();
-            push_lines(alloc, disk, &found, columns, words.json, text)?;
+            push_lines(alloc, disk, &found, columns, words, text)?;
             stop_at_closed(alloc, &found.closed, words.user)
         }
         Ok(Path::File(_)) => Err(Stop::Path(path, PathFault::IsId)),
@@ -75,7 +75,7 @@ fn push_lines(
     disk: &Disk<'_>,
     found: &FoundLines,
     columns: Columns,
-    json: bool,
+    words: &Words<'_>,
     text: &mut String,
 ) -> Result<(), AllocError>
     requires { on IsLayoutOf disk.now }
@@ -84,8 +84,8 @@ fn push_lines(
     if found.directories.is_empty() {
         return Ok(());
     }
-    let lines = if json {
-        ls_objects(alloc, disk, found)?
+    let lines = if words.json {
+        ls_objects(alloc, disk, found, words.image)?
     } else {
         ls_lines(alloc, disk, found, columns)?
     };

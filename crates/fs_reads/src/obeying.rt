@@ -101,7 +101,7 @@ fn push_shown<'a>(
             long: _,
         } => push_paths(alloc, disk, words, lost, text),
         Action::Stat => push_stats(alloc, disk, words, text),
-        Action::Du { top } => Ok(push_usage(alloc, disk, top, words.json, text)?),
+        Action::Du { top } => Ok(push_usage(alloc, disk, top, words, text)?),
         // These write as they go on, want a sound volume, or have no volume that is there and stays.
         Action::Cat(_)
         | Action::Df

@@ -3,6 +3,7 @@ ghost use Rattle.std.specs.Prelude.{◌≡◌, ◌<◌, ◌++◌, ◌⊎◌, [],
 ghost use Rattle.fs_reads.specs.Shown.{StaysSaid};
 ghost use Rattle.ods_shell.specs.declared.status.Status.{Status as Code};
 
+use crate::file_paths::{Beside, line_about};
 use crate::stop::{Stop, send};
 use ods_shell::{Status, number_object, text_object};
 use std::alloc::Global;
@@ -58,6 +59,22 @@ impl Output {
             self.text.push_str(text.as_str())?;
             self.push(rt, "\n")
         }
+    }
+
+    /// A line about files, with their paths behind it; as an object it is the text of this name, and has the paths.
+    pub fn say_about<'a, R: Print, D: Display + Drop>(
+        &mut self,
+        rt: &R,
+        name: &str,
+        line: D,
+        beside: &Beside,
+    ) -> Result<Status, Stop<'a>>
+        ensures said { OnOk result (self.new.is_empty ≡ false) }
+        ensures status { IfOk result (λ s. s ≡ Code.Done) }
+    {
+        let text = format!(in self.alloc; "{line}")?;
+        let told = line_about(self.alloc, self.json, name, text.as_str(), beside)?;
+        self.push(rt, told.as_str())
     }
 
     /// How many lines are left out, where there are some, with the words behind that number; as an object it is the number of this name.

@@ -5,6 +5,8 @@ ghost use Rattle.ods_space.specs.{Files.IsLayoutOf, Layout.VolumeLayout};
 ghost use Rattle.fs_reads.specs.{Readable.IsJudged, Readable.LacksLayout, Readable.Opened, Volumes.IsNoVolume};
 ghost use Rattle.fs_reads.specs.declared.volume.VolumeFault.{VolumeFault as Fault};
 
+use crate::informing::behind_by;
+use crate::passed_over::say_passed_over;
 use crate::stop::{Stop, say_end};
 use crate::volume::{VolumeFault, no_volume, not_mounted, open_image, say_extent};
 use fs_host::Layers;
@@ -17,12 +19,13 @@ use std::fs::File;
 use std::marker::Model;
 use std::rt::Files;
 
-/// An image with its layout, and whether a mount takes it.
+/// An image with its layout, whether a mount takes it, and how many bytes of the host's file stand behind the volume.
 #[derive(Drop)]
 pub struct Readable {
     image: Image,
     layout: Layout,
     is_sound: bool,
+    behind: u64,
 }
 
 impl Model for Readable {
@@ -31,7 +34,7 @@ impl Model for Readable {
 
     ghost Value = { Opened };
 
-    ghost view = { λ r. record { image = r.image; layout = r.layout; sound = r.is_sound } };
+    ghost view = { λ r. record { image = r.image; layout = r.layout; sound = r.is_sound; behind = r.behind } };
 
     ghost invariant = { λ r. IsLayoutOf r.image r.layout };
 }
@@ -51,6 +54,7 @@ impl Readable {
             image,
             layout,
             is_sound: true,
+            behind: 0,
         }
     }
 
@@ -66,6 +70,13 @@ impl Readable {
         }
     }
 
+    /// How many bytes of the image stand behind the volume.
+    pub fn behind(&self) -> u64
+        ensures { result ≡ self.now.behind }
+    {
+        self.behind
+    }
+
     /// The status of a command that showed all that it could, and ended with this one.
     pub fn ends(&self, done: Status) -> Status
         ensures { result ≡ end_of self.now.sound done }
@@ -74,8 +85,8 @@ impl Readable {
     }
 }
 
-/// The volume of the image at this path, of so many blocks where a number is given. Why a mount refuses it is said first, and where there is a
-/// layout the command goes on.
+/// The volume of the image at this path, of so many blocks where a number is given. Why a mount refuses it is said first, and which directories have
+/// entries that are passed over. Where there is a layout the command goes on.
 pub fn open_readable<'a, R: Files<File = File> + AllocGlobal + Eprint>(
     rt: &R,
     path: &'a str,
@@ -88,7 +99,15 @@ pub fn open_readable<'a, R: Files<File = File> + AllocGlobal + Eprint>(
     match open_image(rt, path, given, layers) {
         Ok((image, extent)) => {
             say_extent(rt, path, extent, tells_behind);
-            make_readable(rt, path, image)
+            let mut volume = make_readable(rt, path, image)?;
+            volume.behind = behind_by(extent);
+            if volume.is_sound {
+                return Ok(volume);
+            }
+            match say_passed_over(rt, path, &volume.disk()) {
+                Ok(()) => Ok(volume),
+                Err(_) => Err(no_volume(path, VolumeFault::NoMemory)),
+            }
         }
         Err(fault) => Err(no_volume(path, fault)),
     }
@@ -149,6 +168,7 @@ fn laid_out<'a, R: Files<File = File> + AllocGlobal + Eprint>(
                 image,
                 layout,
                 is_sound: false,
+                behind: 0,
             })
         }
         Ok(None) => Err(not_taken(rt, path, fault)),

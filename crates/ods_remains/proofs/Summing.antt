@@ -12,7 +12,7 @@ use Rattle.ods_space.specs.Free.{is_free_block}
 use Rattle.ods_space.specs.Layout.{VolumeLayout}
 use Rattle.ods_remains.specs.Chains.{named_at}
 use Rattle.ods_remains.specs.Deleted.{IsDeleted, IsFormerChain, LeadsOn, counted, former, used_again}
-use Rattle.ods_remains.specs.Shared.{IsSharer}
+use Rattle.ods_remains.specs.Shared.{IsSharer, IsSharerAt}
 use Rattle.ods_remains.specs.Summary.{IsLeft, IsSharerOrSelf}
 use Rattle.ods_remains.specs.declared.left.Left.{Left}
 use Rattle.ods_remains.proofs.FileFronts.{only_one, chain_deleted}
@@ -58,6 +58,11 @@ module _ (I : List (List ℕ)) (L : VolumeLayout) where
   pub sharer_found : (n : ℕ) (headers : List ℕ) (h m : ℕ) → Contains headers h → IsSharer I L n (blocks_of (former I L h)) (Some m) → IsSharerOrSelf I L n (names headers) (Some m)
   sharer_found n headers h m has is = inl (is.0, is.1, named_has headers h is.1 has is.2, is.3)
 
+  -- another file that names one block of a header shares it
+  pub first_shared : (n h lbn : ℕ) (which : Option ℕ) → Contains (blocks_of (former I L h)) lbn → IsSharerAt I L n lbn which → IfSome which (λ m. IsSharer I L n (blocks_of (former I L h)) (Some m))
+  first_shared n h lbn None has is = tt
+  first_shared n h lbn (Some m) has is = (is.0, lbn, has, is.1)
+
   -- no other file names a block of the headers so far, and none one of this header
   pub none_on : (n : ℕ) (headers : List ℕ) (h : ℕ) → IsSharer I L n (names headers) None → IsSharer I L n (blocks_of (former I L h)) None → IsSharer I L n (names (headers ++ h ∷ [])) None
   none_on n headers h so here m lbn has it = elim (Contains-append_cases (names headers) (blocks_of (former I L h)) lbn (subst (λ xs. Contains xs lbn) (named_more headers h) has)) [
@@ -83,6 +88,10 @@ module _ (I : List (List ℕ)) (L : VolumeLayout) where
 
   pub names_none : (n : ℕ) (l : Left) → IsLeft I L n l → l.blocks ≡ 0 → blocks_of (former I L n) ≡ []
   names_none n l so none = let many = so.blocks in nil_from_length (blocks_of (former I L n)) (omega (arith, many, none))
+
+  pub names_first : (n blocks first : ℕ) → blocks ≡ counted (length (blocks_of (former I L n))) → (length (blocks_of (former I L n)) ≢ 0 → Contains (blocks_of (former I L n)) first)
+      → blocks ≢ 0 → Contains (blocks_of (former I L n)) first
+  names_first n blocks first many has some = has (λ none. some (omega (arith, many, none)))
 
   -- what is kept of one header more
   pub left_on : (all : List Left) (k : ℕ) (l : Left) (new : List Left) → length all ≡ k → ((n : ℕ) → n < k → IsDeleted I L n → (one : Left) × (slice_get all n ≡ Some one) × IsLeft I L n one)

@@ -1,6 +1,6 @@
 -- What is known of a deleted file by what is kept of its headers, of which each is looked at once.
 use Rattle.std.specs.Prelude.{◌≡◌, ◌≢◌, ◌⊎◌, ◌==◌, ◌+◌, ◌<◌, ℕ, Bool, if◌then◌else◌, not, List, nat_eq, length, slice_get, Option, Some, None, MatchBool}
-use Rattle.std.specs.List.{IsDistinct}
+use Rattle.std.specs.List.{Contains, IsDistinct}
 use Rattle.ods_header.specs.Header.{next_number_of, segment_of, blocks_of}
 use Rattle.ods_space.specs.Layout.{VolumeLayout}
 use Rattle.ods_remains.specs.Deleted.{IsDeleted, IsFormerChain, LeadsOn, counted, former, used_again}
@@ -8,12 +8,13 @@ use Rattle.ods_remains.specs.Shared.{IsSharer, IsWhole}
 use Rattle.ods_remains.specs.declared.left.Left.{Left}
 use Rattle.ods_remains.specs.declared.summary.Summary.{Summary}
 
--- the deleted header n goes on with this number, or with none; how many blocks it names, and how many of them are used again
+-- the deleted header n goes on with this number, or with none; how many blocks it names, how many of them are used again, and one of them
 pub record IsLeft (I : List (List ℕ)) (L : VolumeLayout) (n : ℕ) (l : Left) : Type 0 where
   pub onward : ((l.next ≡ 0) × ((c : ℕ) → ¬ LeadsOn I L n c)) ⊎ (LeadsOn I L n l.next × (segment_of (former I L l.next) < 256))
   pub cut : l.names_next ≡ not (next_number_of (former I L n) == 0)
   pub blocks : l.blocks ≡ counted (length (blocks_of (former I L n)))
   pub used : l.used ≡ counted (used_again I L (blocks_of (former I L n)))
+  pub first : l.blocks ≢ 0 → Contains (blocks_of (former I L n)) l.first
 
 -- what is kept of each deleted header stands at its number
 abbrev pub AreLeft : List (List ℕ) → VolumeLayout → List Left → Type 0

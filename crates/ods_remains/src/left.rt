@@ -1,5 +1,5 @@
 //! What each deleted header names and goes on with, looked up once. Many files may share headers.
-ghost use Rattle.std.specs.Prelude.{◌≡◌, ◌⊎◌, ◌+◌, ◌<◌, ◌==◌, [], ◌∷◌, ◌++◌, ℕ, not, length, IfOk, IfSome, OnOk, MatchOption};
+ghost use Rattle.std.specs.Prelude.{◌≡◌, ◌≢◌, ◌⊎◌, ◌+◌, ◌<◌, ◌==◌, [], ◌∷◌, ◌++◌, ℕ, not, length, IfOk, IfSome, OnOk, MatchOption};
 ghost use Rattle.std.specs.List.{Contains};
 ghost use Rattle.ods_header.specs.Header.{blocks_of, next_number_of, segment_of};
 ghost use Rattle.ods_remains.specs.Chains.{named_at};
@@ -24,6 +24,8 @@ pub(crate) struct Left {
     pub blocks: u32,
     /// How many of them are used again.
     pub used: u32,
+    /// The first of them, where there is one.
+    pub first: u32,
 }
 
 /// The headers of a deleted file.
@@ -70,6 +72,13 @@ fn next_or_zero(disk: &Disk<'_>, number: u16) -> u16
     }
 }
 
+/// The first of these LBNs, where there is one.
+fn first_of(lbns: &[u32]) -> u32
+    ensures { length lbns.now ≢ 0 → Contains lbns.now result }
+{
+    if lbns.is_empty() { 0 } else { lbns[0] }
+}
+
 /// What is kept of the deleted header with this number, where there is one.
 fn left_of(alloc: Global, disk: &Disk<'_>, number: u16) -> Result<Left, AllocError>
     ensures { IfOk result (λ left. on IsDeleted disk.now number → on IsLeft disk.now number left) }
@@ -80,6 +89,7 @@ fn left_of(alloc: Global, disk: &Disk<'_>, number: u16) -> Result<Left, AllocErr
             names_next: false,
             blocks: 0,
             used: 0,
+            first: 0,
         });
     };
     let mut blocks = Vec::new(alloc);
@@ -89,6 +99,7 @@ fn left_of(alloc: Global, disk: &Disk<'_>, number: u16) -> Result<Left, AllocErr
         names_next: next_number(&header) != 0,
         blocks: counted(blocks.len()),
         used: counted(used_again(disk, &blocks)),
+        first: first_of(&blocks),
     })
 }
 
@@ -105,7 +116,7 @@ pub(crate) fn all_left(alloc: Global, disk: &Disk<'_>) -> Result<Vec<Left>, Allo
 }
 
 /// What is kept of this deleted header.
-fn left_at(disk: &Disk<'_>, all: &[Left], number: u16) -> Left
+pub(crate) fn left_at(disk: &Disk<'_>, all: &[Left], number: u16) -> Left
     requires all { on AreLeft disk.now all.now }
     requires deleted { on IsDeleted disk.now number }
     ensures { on IsLeft disk.now number result }

@@ -8,7 +8,7 @@ ghost use Rattle.ods_space.specs.Disks.{on};
 use crate::Summary;
 use crate::deletions::is_deleted_file;
 use crate::fronts::{follow_front, mark_all, reach};
-use crate::left::{Chain, Left, all_left, chain_by, named_by, sum_headers};
+use crate::left::{Chain, Left, all_left, chain_by, left_at, named_by, sum_headers};
 use crate::twice::names_twice;
 use ods_space::{Disk, last_number};
 use std::alloc::{AllocError, Global};
@@ -36,7 +36,8 @@ impl<'a> Model for Shares<'a> {
 }
 
 impl<'a> Shares<'a> {
-    ghost use Rattle.std.specs.Prelude.{◌≡◌, ℕ, IfOk};
+    ghost use Rattle.std.specs.Prelude.{◌≡◌, ℕ, Some, IfOk, IfSome};
+    ghost use Rattle.ods_header.specs.Header.{blocks_of};
     ghost use Rattle.std.specs.List.{Contains};
     ghost use Rattle.ods_remains.specs.{Chains.named_at, Deleted.IsDeleted, Deleted.IsDeletedFile, Deleted.former, Shared.IsSharer, Shared.IsSharerAt, Summary.HasSummary, Summary.IsSharerOrSelf};
 
@@ -101,6 +102,9 @@ impl<'a> Shares<'a> {
     {
         let mut named = Vec::new(alloc);
         for header in headers {
+            if let Some(other) = self.sharer_by_first(number, *header) {
+                return Ok(Some(other));
+            }
             let blocks = named_by(alloc, &self.disk, &self.left, *header)?;
             if let Some(other) = self.sharer(number, &blocks) {
                 return Ok(Some(other));
@@ -112,6 +116,18 @@ impl<'a> Shares<'a> {
             return Ok(Some(number));
         }
         Ok(None)
+    }
+
+    /// Another deleted file than this one that names the first block of this header. Where another one has the header, that names the block.
+    fn sharer_by_first(&self, number: u16, header: u16) -> Option<u16>
+        requires { IsDeleted self.now.image self.now.layout header }
+        ensures { IfSome result (λ m. IsSharer self.now.image self.now.layout number (blocks_of (former self.now.image self.now.layout header)) (Some m)) }
+    {
+        let left = left_at(&self.disk, &self.left, header);
+        if left.blocks == 0 {
+            return None;
+        }
+        self.sharer_at(number, left.first)
     }
 
     /// Another deleted file than this one that names this block, if there is one.

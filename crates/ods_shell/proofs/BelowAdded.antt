@@ -14,7 +14,7 @@ use Rattle.ods_base.specs.Name.{RadName}
 use Rattle.ods_walk.specs.declared.tables.Entered.{Entered}
 use Rattle.ods_walk.specs.Paths.{path_to, number_at}
 use Rattle.ods_walk.specs.Steps.{AreEntered}
-use Rattle.ods_walk.proofs.Going.{entered_more}
+use Rattle.ods_walk.proofs.Flagged.{entered_more}
 use Rattle.ods_shell.specs.declared.folders.Directory.{Directory}
 
 -- ---- the numbers of directories

@@ -11,6 +11,7 @@ mod GotContents
 mod Listed
 mod Named
 mod NoneAlone
+mod Noted
 mod Numbered
 mod Objects
 mod OneName

@@ -85,24 +85,24 @@ module _ (I : List (List ℕ)) (L : VolumeLayout) (columns : Columns) (directori
       (subst (λ s. AreListedUnder I L columns directories [] 0 (take n lines ++ line ∷ []) (with_headings directories text (places_before columns.empty headed line.directory) ++ entry_line line.entry adds.0 columns) (headed_by headed line.directory) s) (sym adds.2) all)))
 
 -- the objects of some lines, and one more
-module _ (I : List (List ℕ)) (L : VolumeLayout) (directories : List Directory) where
-  objects_more : (lines : List Line) (line : Line) (text : List ℕ) (known : Option Facts) → IsKnown I L line.entry.file known → AreObjects I L directories lines text
-      → AreObjects I L directories (lines ++ line ∷ []) (text ++ object_line (entry_members (line_path directories line) line.entry.file known))
+module _ (I : List (List ℕ)) (L : VolumeLayout) (image : List ℕ) (directories : List Directory) where
+  objects_more : (lines : List Line) (line : Line) (text : List ℕ) (known : Option Facts) → IsKnown I L line.entry.file known → AreObjects I L image directories lines text
+      → AreObjects I L image directories (lines ++ line ∷ []) (text ++ object_line (entry_members image (line_path directories line) line.entry.file known))
   objects_more [] line text known is are =
-      let last = object_line (entry_members (line_path directories line) line.entry.file known) in (known, [], is, refl, ap (λ t. t ++ last) are ∙ sym (append-nil last))
+      let last = object_line (entry_members image (line_path directories line) line.entry.file known) in (known, [], is, refl, ap (λ t. t ++ last) are ∙ sym (append-nil last))
   objects_more (first ∷ lines) line text known is are =
-      let last = object_line (entry_members (line_path directories line) line.entry.file known) in (
+      let last = object_line (entry_members image (line_path directories line) line.entry.file known) in (
         are.0,
         are.1 ++ last,
         are.2,
         objects_more lines line are.1 known is are.3,
-        ap (λ t. t ++ last) are.4 ∙ append_assoc (object_line (entry_members (line_path directories first) first.entry.file are.0)) are.1 last,
+        ap (λ t. t ++ last) are.4 ∙ append_assoc (object_line (entry_members image (line_path directories first) first.entry.file are.0)) are.1 last,
       )
 
   pub objects_next : (lines : List Line) (n : ℕ) (line : Line) (text new : List ℕ) (seen : List Directory) → slice_get lines n ≡ Some line → seen ≡ directories
-      → ((known : Option Facts) × IsKnown I L line.entry.file known × (new ≡ text ++ object_line (entry_members (line_path seen line) line.entry.file known)))
-      → AreObjects I L directories (take n lines) text → AreObjects I L directories (take (n + 1) lines) new
+      → ((known : Option Facts) × IsKnown I L line.entry.file known × (new ≡ text ++ object_line (entry_members image (line_path seen line) line.entry.file known)))
+      → AreObjects I L image directories (take n lines) text → AreObjects I L image directories (take (n + 1) lines) new
   objects_next lines n line text new seen at same said are =
       let took : take (n + 1) lines ≡ take n lines ++ line ∷ [] = take_more lines n line (slice_get_within lines n line at) ∙ ap (λ y. take n lines ++ y ∷ []) (get_or_from_slice_get lines n line line at) in
-      let adds = subst (λ ds. (known : Option Facts) × IsKnown I L line.entry.file known × (new ≡ text ++ object_line (entry_members (line_path ds line) line.entry.file known))) same said in
-      subst (λ ls. AreObjects I L directories ls new) (sym took) (subst (AreObjects I L directories (take n lines ++ line ∷ [])) (sym adds.2) (objects_more (take n lines) line text adds.0 adds.1 are))
+      let adds = subst (λ ds. (known : Option Facts) × IsKnown I L line.entry.file known × (new ≡ text ++ object_line (entry_members image (line_path ds line) line.entry.file known))) same said in
+      subst (λ ls. AreObjects I L image directories ls new) (sym took) (subst (AreObjects I L image directories (take n lines ++ line ∷ [])) (sym adds.2) (objects_more (take n lines) line text adds.0 adds.1 are))

@@ -142,5 +142,5 @@ module _ (I : List (List ℕ)) (L : VolumeLayout) where
       );
     }
 
-  pub unreached_same : (P Q : ℕ → Type 0) (json : Bool) (text : List ℕ) → ((n : ℕ) → IsSame (P n) (Q n)) → AreUnreached I L P json text → AreUnreached I L Q json text
-  unreached_same P Q json text same are = (are.0, those_same P Q (range_with_len 1 (last_number L)) are.0 same are.1, are.2)
+  pub unreached_same : (P Q : ℕ → Type 0) (json : Bool) (image text : List ℕ) → ((n : ℕ) → IsSame (P n) (Q n)) → AreUnreached I L P json image text → AreUnreached I L Q json image text
+  unreached_same P Q json image text same are = (are.0, those_same P Q (range_with_len 1 (last_number L)) are.0 same are.1, are.2)

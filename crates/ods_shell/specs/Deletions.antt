@@ -4,9 +4,9 @@ use Rattle.std.specs.Fmt.{decimal}
 use Rattle.std.specs.List.{flat_map}
 use Rattle.ods_base.specs.declared.file_id.FileId.{FileId}
 use Rattle.ods_header.specs.Text.{file_id_text, ident_text}
-use Rattle.serde_json.specs.Data.{Members, no_members}
+use Rattle.serde_json.specs.Data.{Members}
 use Rattle.ods_shell.specs.Facts.{created_in}
-use Rattle.ods_shell.specs.Json.{object_line, with_number, with_text}
+use Rattle.ods_shell.specs.Json.{object_line, of_image, with_number, with_text}
 use Rattle.ods_shell.specs.Lines.{column, size_columns}
 use Rattle.ods_shell.specs.Texts.{shown_date, shown_id}
 use Rattle.ods_shell.specs.declared.deleted.Deletion.{Deletion}
@@ -74,16 +74,16 @@ abbrev pub state_word : Bool → List ℕ
 state_word whole = if whole then codes "whole" else codes "not whole"
 
 -- what is known of a deleted file
-abbrev pub deletion_members : Deletion → Members
-deletion_members d =
+abbrev pub deletion_members : List ℕ → Deletion → Members
+deletion_members image d =
     with_sharer d.sharer (with_missing d.missing (with_number (codes "used_again") d.used (with_text (codes "state") (state_word d.whole)
     (with_text (codes "created") (shown_date (created_in d.ident)) (with_number (codes "bytes") d.bytes (with_number (codes "blocks") d.blocks
-    (with_text (codes "name") (ident_text d.ident) (with_text (codes "id") (file_id_text d.file) no_members))))))))
+    (with_text (codes "name") (ident_text d.ident) (with_text (codes "id") (file_id_text d.file) (of_image image)))))))))
 
 -- their lines
 abbrev pub deletion_lines : Bool → List Deletion → List ℕ
 deletion_lines long all = flat_map (deletion_line long) all
 
 -- their objects
-abbrev pub deletion_objects : List Deletion → List ℕ
-deletion_objects all = flat_map (λ d. object_line (deletion_members d)) all
+abbrev pub deletion_objects : List ℕ → List Deletion → List ℕ
+deletion_objects image all = flat_map (λ d. object_line (deletion_members image d)) all

@@ -9,8 +9,8 @@ use Rattle.ods_header.specs.Home.{IsHomeAt}
 use Rattle.ods_header.specs.Text.{octal}
 use Rattle.ods_space.specs.Free.{free_numbers}
 use Rattle.ods_space.specs.Layout.{VolumeLayout}
-use Rattle.serde_json.specs.Data.{Members, no_members}
-use Rattle.ods_shell.specs.Json.{with_number, with_text}
+use Rattle.serde_json.specs.Data.{Members}
+use Rattle.ods_shell.specs.Json.{of_image, with_number, with_text}
 use Rattle.ods_shell.specs.Stat.{blocks_line, owner_line, runs_text}
 use Rattle.ods_shell.specs.Texts.{shown_byte, shown_date, shown_rights, shown_user}
 use Rattle.ods_shell.specs.declared.info.Info.{Info}
@@ -137,7 +137,7 @@ unfoldable pub with_answer : ℕ → List ℕ → Members → Members
 with_answer behind answer ms = with_text (codes "answer") answer (with_number (codes "bytes_behind") behind ms)
 
 -- all of this in one object
-abbrev pub info_members : Info → ℕ → List ℕ → Members
-info_members i behind answer =
+abbrev pub info_members : List ℕ → Info → ℕ → List ℕ → Members
+info_members image i behind answer =
     with_answer behind answer (with_index (i.bitmap + i.bitmap_blocks) i.index_blocks (with_bitmap i.bitmap i.bitmap_blocks (with_number (codes "home_block") i.home
-    (with_limits i.blocks i.most i.ready (with_said i no_members)))))
+    (with_limits i.blocks i.most i.ready (with_said i (of_image image))))))

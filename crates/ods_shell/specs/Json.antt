@@ -40,6 +40,10 @@ with_facts facts ms =
     (with_text (codes "protection") (shown_rights facts.protection) (with_text (codes "owner") (shown_user facts.owner)
     (with_text (codes "kind") (kind_word facts.kind) (with_number (codes "bytes") facts.bytes (with_number (codes "blocks") facts.blocks ms)))))))
 
+-- the one member that says which image an object is of
+abbrev pub of_image : List ℕ → Members
+of_image image = with_text (codes "image") image no_members
+
 -- what is known of a file that a path names
 abbrev pub stat_members : List ℕ → Facts → Members
 stat_members path facts =
@@ -64,5 +68,5 @@ with_known None ms = ms
 with_known (Some facts) ms = with_facts facts ms
 
 -- the path of an entry, the ID that it names, and what is known of that file
-abbrev pub entry_members : List ℕ → FileId → Option Facts → Members
-entry_members path file known = with_known known (with_text (codes "id") (file_id_text file) (with_text (codes "path") path no_members))
+abbrev pub entry_members : List ℕ → List ℕ → FileId → Option Facts → Members
+entry_members image path file known = with_known known (with_text (codes "id") (file_id_text file) (with_text (codes "path") path (of_image image)))

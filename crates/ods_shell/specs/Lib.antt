@@ -1,3 +1,4 @@
+pub mod ByNumber
 pub mod Choosing
 pub mod Compared
 pub mod Contents

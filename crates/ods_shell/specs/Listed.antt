@@ -57,7 +57,7 @@ IsListingUnder I L columns directories lines files text = (listed : List ℕ) ×
     × (text ≡ with_headings directories listed (places_from columns.empty top (length directories)) ++ total_line files blocks)
 
 -- an object for each line that was found in these directories: its path, the ID that it names, and what is known of that file
-abbrev pub AreObjects : List (List ℕ) → VolumeLayout → List Directory → List Line → List ℕ → Type 0
-AreObjects I L directories [] text = text ≡ []
-AreObjects I L directories (line ∷ lines) text = (known : Option Facts) × (rest : List ℕ) × IsKnown I L line.entry.file known × AreObjects I L directories lines rest
-    × (text ≡ object_line (entry_members (line_path directories line) line.entry.file known) ++ rest)
+abbrev pub AreObjects : List (List ℕ) → VolumeLayout → List ℕ → List Directory → List Line → List ℕ → Type 0
+AreObjects I L image directories [] text = text ≡ []
+AreObjects I L image directories (line ∷ lines) text = (known : Option Facts) × (rest : List ℕ) × IsKnown I L line.entry.file known × AreObjects I L image directories lines rest
+    × (text ≡ object_line (entry_members image (line_path directories line) line.entry.file known) ++ rest)

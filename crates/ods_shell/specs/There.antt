@@ -10,9 +10,8 @@ use Rattle.ods_space.specs.Files.{IsFile}
 use Rattle.ods_mount.specs.Faults.{IsDirectoryFile}
 use Rattle.ods_walk.specs.Complete.{HasEntry}
 use Rattle.ods_walk.specs.declared.tables.Line.{Line}
-use Rattle.serde_json.specs.Data.{no_members}
 use Rattle.ods_shell.specs.Choosing.{AreThose}
-use Rattle.ods_shell.specs.Json.{object_line, with_text}
+use Rattle.ods_shell.specs.Json.{object_line, of_image, with_text}
 use Rattle.ods_shell.specs.Named.{id_of}
 use Rattle.ods_shell.specs.Texts.{shown_id, shown_path}
 use Rattle.ods_shell.specs.declared.folders.Directory.{Directory}
@@ -38,9 +37,9 @@ line_path directories line = path_in (slice_get directories line.directory) line
 abbrev pub found_line : List Directory → Line → List ℕ
 found_line directories line = shown_id line.entry.file ++ codes "  " ++ line_path directories line ++ 10 ∷ []
 
--- the same, or an object with the ID
-abbrev pub unreached_text : Bool → FileId → List ℕ
-unreached_text json file = if json then object_line (with_text (codes "id") (file_id_text file) no_members) else unreached_line file
+-- the same, or an object of this image with the ID
+abbrev pub unreached_text : Bool → List ℕ → FileId → List ℕ
+unreached_text json image file = if json then object_line (with_text (codes "id") (file_id_text file) (of_image image)) else unreached_line file
 
 -- the IDs that lines name
 abbrev pub ids_in : List Line → List FileId
@@ -73,6 +72,6 @@ pub record AreFlags (P : ℕ → Type 0) (flags : List Bool) : Type 0 where
   pub each : (n : ℕ) → n < 65536 → MatchBool (slice_index_or flags n false) (P n) (¬ P n)
 
 -- the text has a line, or an object, for just those files of which P holds, in the order of their numbers
-abbrev pub AreUnreached : List (List ℕ) → VolumeLayout → (ℕ → Type 0) → Bool → List ℕ → Type 0
-AreUnreached I L P json text =
-    (numbers : List ℕ) × AreThose P (range_with_len 1 (last_number L)) numbers × (text ≡ flat_map (λ n. unreached_text json (id_of I L n)) numbers)
+abbrev pub AreUnreached : List (List ℕ) → VolumeLayout → (ℕ → Type 0) → Bool → List ℕ → List ℕ → Type 0
+AreUnreached I L P json image text =
+    (numbers : List ℕ) × AreThose P (range_with_len 1 (last_number L)) numbers × (text ≡ flat_map (λ n. unreached_text json image (id_of I L n)) numbers)

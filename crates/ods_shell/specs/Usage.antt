@@ -3,10 +3,9 @@ use Rattle.std.specs.Prelude.{◌≡◌, ◌≤◌, ◌⊎◌, ℕ, ◌-◌, ◌
 use Rattle.std.specs.List.{AllPairs, Contains, flat_map, range_with_len, sum_by}
 use Rattle.ods_base.specs.declared.file_id.FileId.{FileId}
 use Rattle.ods_space.specs.Layout.{VolumeLayout}
-use Rattle.serde_json.specs.Data.{no_members}
 use Rattle.ods_walk.specs.declared.tables.Line.{Line}
 use Rattle.ods_shell.specs.Facts.{AreFacts}
-use Rattle.ods_shell.specs.Json.{object_line, with_number, with_text}
+use Rattle.ods_shell.specs.Json.{object_line, of_image, with_number, with_text}
 use Rattle.ods_shell.specs.Lines.{usage_line}
 use Rattle.ods_shell.specs.Named.{IsKnown, id_of}
 use Rattle.ods_shell.specs.Texts.{shown_directory}
@@ -39,29 +38,29 @@ blocks_for place used = if used.line.directory == place then used.blocks else 0
 abbrev pub blocks_at : List Use → ℕ → ℕ
 blocks_at uses place = min (sum_by (blocks_for place) uses) (2 ^ 64 - 1)
 
--- how many blocks something has, as a line or an object
-abbrev pub use_text : Bool → List ℕ → List ℕ → ℕ → List ℕ
-use_text json what name blocks = if json then object_line (with_number (codes "blocks") blocks (with_text what name no_members)) else usage_line name blocks
+-- how many blocks something has, as a line or an object of this image
+abbrev pub use_text : Bool → List ℕ → List ℕ → List ℕ → ℕ → List ℕ
+use_text json image what name blocks = if json then object_line (with_number (codes "blocks") blocks (with_text what name (of_image image))) else usage_line name blocks
 
 -- the blocks of a directory; nothing where there is none
-abbrev pub directory_use : Bool → Option Directory → ℕ → List ℕ
-directory_use json None blocks = []
-directory_use json (Some d) blocks = use_text json (codes "directory") (shown_directory d.names.items) blocks
+abbrev pub directory_use : Bool → List ℕ → Option Directory → ℕ → List ℕ
+directory_use json image None blocks = []
+directory_use json image (Some d) blocks = use_text json image (codes "directory") (shown_directory d.names.items) blocks
 
 -- Each directory has its line, with the blocks that these lines count in it.
-abbrev pub AreUsage : List (List ℕ) → VolumeLayout → List Directory → List Line → Bool → List ℕ → Type 0
-AreUsage I L directories lines json text = (uses : List Use) × AreUses I L [] lines uses
-    × (text ≡ flat_map (λ place. directory_use json (slice_get directories place) (blocks_at uses place)) (range_with_len 0 (length directories)))
+abbrev pub AreUsage : List (List ℕ) → VolumeLayout → List Directory → List Line → Bool → List ℕ → List ℕ → Type 0
+AreUsage I L directories lines json image text = (uses : List Use) × AreUses I L [] lines uses
+    × (text ≡ flat_map (λ place. directory_use json image (slice_get directories place) (blocks_at uses place)) (range_with_len 0 (length directories)))
 
 -- the blocks of a file, and its path
-abbrev pub file_use : Bool → List Directory → Use → List ℕ
-file_use json directories used = use_text json (codes "path") (line_path directories used.line) used.blocks
+abbrev pub file_use : Bool → List ℕ → List Directory → Use → List ℕ
+file_use json image directories used = use_text json image (codes "path") (line_path directories used.line) used.blocks
 
 -- the most blocks stand first
 abbrev pub AreFalling : List Use → Type 0
 AreFalling uses = AllPairs (λ a b. b.blocks ≤ a.blocks) uses
 
 -- The largest of the files that these lines name, at most so many, have their line.
-abbrev pub AreLargest : List (List ℕ) → VolumeLayout → List Directory → List Line → ℕ → Bool → List ℕ → Type 0
-AreLargest I L directories lines most json text = (uses : List Use) × (sorted : List Use) × AreUses I L [] lines uses × IsPermutation uses sorted × AreFalling sorted
-    × (text ≡ flat_map (file_use json directories) (take most sorted))
+abbrev pub AreLargest : List (List ℕ) → VolumeLayout → List Directory → List Line → ℕ → Bool → List ℕ → List ℕ → Type 0
+AreLargest I L directories lines most json image text = (uses : List Use) × (sorted : List Use) × AreUses I L [] lines uses × IsPermutation uses sorted × AreFalling sorted
+    × (text ≡ flat_map (file_use json image directories) (take most sorted))

@@ -10,7 +10,7 @@ ghost use Rattle.serde_json.specs.View.{members_view};
 ghost use Rattle.serde_json.specs.Written.{members_have_float};
 
 use crate::deleted::Deletion;
-use crate::json::{add_number, add_text, no_fields, push_object};
+use crate::json::{add_number, add_text, fields_of_image, push_object};
 use crate::ls::{push_column, push_sizes};
 use crate::texts::{date_text, push_id};
 use ods_base::FileId;
@@ -180,12 +180,12 @@ fn before_sharer() -> &'static str
 }
 
 /// An object for each of these deleted files.
-pub fn deletion_objects(alloc: Global, all: &[Deletion]) -> Result<String, AllocError>
-    ensures { IfOk result (λ text. string_bytes text ≡ objects_of_all all.now) }
+pub fn deletion_objects(alloc: Global, image: &str, all: &[Deletion]) -> Result<String, AllocError>
+    ensures { IfOk result (λ text. string_bytes text ≡ objects_of_all image.now all.now) }
 {
     let mut text = String::new(alloc);
     for deletion in all {
-        push_deletion_object(alloc, &mut text, deletion)?;
+        push_deletion_object(alloc, &mut text, image, deletion)?;
     }
     Ok(text)
 }
@@ -194,11 +194,12 @@ pub fn deletion_objects(alloc: Global, all: &[Deletion]) -> Result<String, Alloc
 fn push_deletion_object(
     alloc: Global,
     text: &mut String,
+    image: &str,
     deletion: &Deletion,
 ) -> Result<(), AllocError>
-    ensures { OnOk result (string_bytes text.new ≡ string_bytes text.old ++ object_line (deletion_members deletion.now)) }
+    ensures { OnOk result (string_bytes text.new ≡ string_bytes text.old ++ object_line (deletion_members image.now deletion.now)) }
 {
-    let mut members = no_fields(alloc);
+    let mut members = fields_of_image(alloc, image)?;
     let id = format!(in alloc; "{},{}", deletion.file.number, deletion.file.sequence)?;
     add_text(alloc, &mut members, "id", id.as_str())?;
     add_text(

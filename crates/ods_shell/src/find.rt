@@ -14,7 +14,7 @@ ghost use Rattle.ods_space.specs.Disks.{on, seen};
 
 use crate::finding::FoundLines;
 use crate::folders::{Directory, is_directory_file, lines_of};
-use crate::json::text_object;
+use crate::json::pair_object;
 use crate::texts::{push_id, push_path};
 use ods_base::{FileId, Listed};
 use ods_header::file_sequence;
@@ -70,27 +70,33 @@ pub fn unreached_lines(
     disk: &Disk<'_>,
     found: &FoundLines,
     json: bool,
+    image: &str,
 ) -> Result<String, AllocError>
     ensures { IfOk result (λ text. on AreUnreached disk.now
-        (on IsNotAmong disk.now (ids_in found.now.lines.items)) json (string_bytes text)) }
+        (on IsNotAmong disk.now (ids_in found.now.lines.items)) json image.now (string_bytes text)) }
 {
     let mut is_reached = vec![in alloc; false; 65_536]?;
     for line in &found.lines {
         note(disk, &line.entry, &mut is_reached);
     }
-    unnamed_lines(alloc, disk, &is_reached, json)
+    unnamed_lines(alloc, disk, &is_reached, json, image)
 }
 
 /// A line for each file that no line of any directory names, whether a walk reaches that or not.
-pub fn lost_lines(alloc: Global, disk: &Disk<'_>, json: bool) -> Result<String, AllocError>
+pub fn lost_lines(
+    alloc: Global,
+    disk: &Disk<'_>,
+    json: bool,
+    image: &str,
+) -> Result<String, AllocError>
     ensures { IfOk result (λ text. on AreUnreached disk.now
-        (on IsNamedByNone disk.now) json (string_bytes text)) }
+        (on IsNamedByNone disk.now) json image.now (string_bytes text)) }
 {
     let mut is_named = vec![in alloc; false; 65_536]?;
     for before in 0..last_number(disk.layout) {
         note_names(alloc, disk, before + 1, &mut is_named)?;
     }
-    unnamed_lines(alloc, disk, &is_named, json)
+    unnamed_lines(alloc, disk, &is_named, json, image)
 }
 
 /// Notes the numbers of the files that the directory with this number names, where it is one.
@@ -152,14 +158,15 @@ fn unnamed_lines(
     disk: &Disk<'_>,
     is_named: &[bool],
     json: bool,
+    image: &str,
 ) -> Result<String, AllocError>
     ensures text { IfOk result (λ text. on AreUnreached disk.now
-        (on IsUnnoted disk.now is_named.now) json (string_bytes text)) }
+        (on IsUnnoted disk.now is_named.now) json image.now (string_bytes text)) }
     ensures few { last_of disk.now.layout.now < 65536 }
 {
     let mut text = String::new(alloc);
     for before in 0..last_number(disk.layout) {
-        push_if_unnoted(alloc, &mut text, disk, before + 1, is_named, json)?;
+        push_if_unnoted(alloc, &mut text, disk, before + 1, is_named, json, image)?;
     }
     Ok(text)
 }
@@ -172,13 +179,14 @@ fn push_if_unnoted(
     number: u16,
     is_named: &[bool],
     json: bool,
+    image: &str,
 ) -> Result<(), AllocError>
     ensures { OnOk result ((on IsUnnoted disk.now is_named.now number
-        × (string_bytes text.new ≡ string_bytes text.old ++ unreached_text json (seen id_of disk.now number)))
+        × (string_bytes text.new ≡ string_bytes text.old ++ unreached_text json image.now (seen id_of disk.now number)))
         ⊎ ((¬ on IsUnnoted disk.now is_named.now number) × (string_bytes text.new ≡ string_bytes text.old))) }
 {
     match unnoted(disk, number, is_named) {
-        Some(file) => push_unreached(alloc, text, file, json),
+        Some(file) => push_unreached(alloc, text, file, json, image),
         None => Ok(()),
     }
 }
@@ -240,22 +248,28 @@ fn push_unreached(
     text: &mut String,
     file: FileId,
     json: bool,
+    image: &str,
 ) -> Result<(), AllocError>
-    ensures { OnOk result (string_bytes text.new ≡ string_bytes text.old ++ unreached_text json file) }
+    ensures { OnOk result (string_bytes text.new ≡ string_bytes text.old ++ unreached_text json image.now file) }
 {
     if json {
-        push_unreached_object(alloc, text, file)
+        push_unreached_object(alloc, text, file, image)
     } else {
         push_unreached_line(text, file)
     }
 }
 
 /// An object for a file that has no path.
-fn push_unreached_object(alloc: Global, text: &mut String, file: FileId) -> Result<(), AllocError>
-    ensures { OnOk result (string_bytes text.new ≡ string_bytes text.old ++ unreached_text true file) }
+fn push_unreached_object(
+    alloc: Global,
+    text: &mut String,
+    file: FileId,
+    image: &str,
+) -> Result<(), AllocError>
+    ensures { OnOk result (string_bytes text.new ≡ string_bytes text.old ++ unreached_text true image.now file) }
 {
     let id = format!(in alloc; "{},{}", file.number, file.sequence)?;
-    text.push_str(text_object(alloc, "id", id.as_str())?.as_str())
+    text.push_str(pair_object(alloc, "image", image, "id", id.as_str())?.as_str())
 }
 
 /// A line for a file that has no path.

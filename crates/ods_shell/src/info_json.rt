@@ -8,21 +8,22 @@ ghost use Rattle.ods_shell.specs.Json.{object_line};
 
 use crate::info::Info;
 use crate::info_texts::{behind_bitmap, label_text};
-use crate::json::{add_number, add_text, no_fields, push_object};
+use crate::json::{add_number, add_text, fields_of_image, push_object};
 use crate::texts::{date_text, push_user, rights_text};
 use serde_json::{Map, Value};
 use std::alloc::{AllocError, Global};
 
-/// An object of what is known of a volume. So many bytes of the image stand behind the volume, and this is what a mount answers.
+/// An object of what is known of the volume in this image. So many bytes of the image stand behind the volume, and this is what a mount answers.
 pub fn info_object(
     alloc: Global,
+    image: &str,
     info: &Info,
     behind: u64,
     answer: &str,
 ) -> Result<String, AllocError>
-    ensures { IfOk result (λ line. string_bytes line ≡ object_line (info_members info.now behind answer.now)) }
+    ensures { IfOk result (λ line. string_bytes line ≡ object_line (info_members image.now info.now behind answer.now)) }
 {
-    let mut members = no_fields(alloc);
+    let mut members = fields_of_image(alloc, image)?;
     add_said(alloc, info, &mut members)?;
     add_limits(alloc, &mut members, info.blocks, info.most, info.ready)?;
     add_number(alloc, &mut members, "home_block", u64::from(info.home))?;

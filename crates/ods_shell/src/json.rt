@@ -4,7 +4,7 @@ ghost use Rattle.std.specs.String.{string_bytes};
 ghost use Rattle.serde_json.specs.Data.{no_members, object, put};
 ghost use Rattle.serde_json.specs.View.{members_view, view};
 ghost use Rattle.serde_json.specs.Written.{compact_text, members_have_float};
-ghost use Rattle.ods_shell.specs.Json.{entry_members, object_line, space_members, stat_members, text_line, with_block_counts, with_condition, with_facts, with_file_numbers, with_known, with_number, with_text};
+ghost use Rattle.ods_shell.specs.Json.{of_image, entry_members, object_line, space_members, stat_members, text_line, with_block_counts, with_condition, with_facts, with_file_numbers, with_known, with_number, with_text};
 ghost use Rattle.ods_shell.specs.Listed.{AreObjects};
 ghost use Rattle.ods_shell.specs.Named.{IsKnown};
 ghost use Rattle.ods_shell.specs.There.{line_path};
@@ -31,6 +31,16 @@ pub(crate) fn no_fields(alloc: Global) -> Map<String, Value>
     ensures plain { members_have_float (members_view result.entries) ≡ false }
 {
     Map::new(alloc)
+}
+
+/// The one member that says which image an object is of.
+pub(crate) fn fields_of_image(alloc: Global, image: &str) -> Result<Map<String, Value>, AllocError>
+    ensures members { IfOk result (λ members. members_view members.entries ≡ of_image image.now) }
+    ensures plain { IfOk result (λ members. members_have_float (members_view members.entries) ≡ false) }
+{
+    let mut members = no_fields(alloc);
+    add_text(alloc, &mut members, "image", image)?;
+    Ok(members)
 }
 
 /// Adds a member to an object.
@@ -126,17 +136,18 @@ pub fn number_object(alloc: Global, name: &str, number: u64) -> Result<String, A
     Ok(line)
 }
 
-/// An object with a text and a number of blocks.
+/// An object of an image with a text and a number of blocks.
 pub(crate) fn push_blocks(
     alloc: Global,
     text: &mut String,
+    image: &str,
     name: &str,
     value: &str,
     blocks: u64,
 ) -> Result<(), AllocError>
-    ensures { OnOk result (string_bytes text.new ≡ string_bytes text.old ++ object_line (with_number (codes "blocks") blocks (with_text name.now value.now no_members))) }
+    ensures { OnOk result (string_bytes text.new ≡ string_bytes text.old ++ object_line (with_number (codes "blocks") blocks (with_text name.now value.now (of_image image.now)))) }
 {
-    let mut members = no_fields(alloc);
+    let mut members = fields_of_image(alloc, image)?;
     add_text(alloc, &mut members, name, value)?;
     add_number(alloc, &mut members, "blocks", blocks)?;
     push_object(alloc, text, members)
@@ -182,13 +193,18 @@ pub fn trio_object(
 }
 
 /// An object for each line that was found: its path, the ID that it names, and what is known of the file.
-pub fn ls_objects(alloc: Global, disk: &Disk<'_>, found: &FoundLines) -> Result<String, AllocError>
+pub fn ls_objects(
+    alloc: Global,
+    disk: &Disk<'_>,
+    found: &FoundLines,
+    image: &str,
+) -> Result<String, AllocError>
     requires { on IsLayoutOf disk.now }
-    ensures { IfOk result (λ text. on AreObjects disk.now found.now.directories.items found.now.lines.items (string_bytes text)) }
+    ensures { IfOk result (λ text. on AreObjects disk.now image.now found.now.directories.items found.now.lines.items (string_bytes text)) }
 {
     let mut text = String::new(alloc);
     for line in &found.lines {
-        push_found_object(alloc, &mut text, disk, &found.directories, line)?;
+        push_found_object(alloc, &mut text, disk, &found.directories, line, image)?;
     }
     Ok(text)
 }
@@ -200,28 +216,30 @@ fn push_found_object(
     disk: &Disk<'_>,
     directories: &[Directory],
     line: &Line,
+    image: &str,
 ) -> Result<(), AllocError>
     requires { on IsLayoutOf disk.now }
     ensures { OnOk result ((known : Option KnownFacts) × on IsKnown disk.now line.now.entry.file known
-        × (string_bytes text.new ≡ string_bytes text.old ++ object_line (entry_members (line_path directories.now line.now) line.now.entry.file known))) }
+        × (string_bytes text.new ≡ string_bytes text.old ++ object_line (entry_members image.now (line_path directories.now line.now) line.now.entry.file known))) }
 {
     let mut path = String::new(alloc);
     push_path_of(&mut path, directories, line)?;
     let known = facts_by_id(disk, line.entry.file);
-    push_entry(alloc, text, path.as_str(), line.entry.file, &known)
+    push_entry(alloc, text, image, path.as_str(), line.entry.file, &known)
 }
 
 /// Appends an object of the path of an entry, the ID that it names, and what is known of the file.
 fn push_entry(
     alloc: Global,
     text: &mut String,
+    image: &str,
     path: &str,
     file: FileId,
     known: &Option<Facts>,
 ) -> Result<(), AllocError>
-    ensures { OnOk result (string_bytes text.new ≡ string_bytes text.old ++ object_line (entry_members path.now file known.now)) }
+    ensures { OnOk result (string_bytes text.new ≡ string_bytes text.old ++ object_line (entry_members image.now path.now file known.now)) }
 {
-    let mut members = no_fields(alloc);
+    let mut members = fields_of_image(alloc, image)?;
     add_text(alloc, &mut members, "path", path)?;
     let id = format!(in alloc; "{},{}", file.number, file.sequence)?;
     add_text(alloc, &mut members, "id", id.as_str())?;

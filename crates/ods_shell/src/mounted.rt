@@ -152,11 +152,16 @@ pub fn ls_lines(
 }
 
 /// An object for each line that was found: its path, the ID that it names, and what is known of the file.
-pub fn ls_objects(alloc: Global, volume: &Mounted, found: &FoundLines) -> Result<String, AllocError>
-    ensures { IfOk result (λ text. AreObjects volume.now.image volume.now.layout found.now.directories.items found.now.lines.items (string_bytes text)) }
+pub fn ls_objects(
+    alloc: Global,
+    volume: &Mounted,
+    found: &FoundLines,
+    image: &str,
+) -> Result<String, AllocError>
+    ensures { IfOk result (λ text. AreObjects volume.now.image volume.now.layout image.now found.now.directories.items found.now.lines.items (string_bytes text)) }
 {
     let disk = volume.disk();
-    crate::json::ls_objects(alloc, &disk, found)
+    crate::json::ls_objects(alloc, &disk, found, image)
 }
 
 /// A line for each file of which no line that was found has the ID: the ID, and `-`.
@@ -165,21 +170,27 @@ pub fn unreached_lines(
     volume: &Mounted,
     found: &FoundLines,
     json: bool,
+    image: &str,
 ) -> Result<String, AllocError>
     ensures { IfOk result (λ text. AreUnreached volume.now.image volume.now.layout
-        (IsNotAmong volume.now.image volume.now.layout (ids_in found.now.lines.items)) json (string_bytes text)) }
+        (IsNotAmong volume.now.image volume.now.layout (ids_in found.now.lines.items)) json image.now (string_bytes text)) }
 {
     let disk = volume.disk();
-    crate::find::unreached_lines(alloc, &disk, found, json)
+    crate::find::unreached_lines(alloc, &disk, found, json, image)
 }
 
 /// A line for each file that no line of any directory names.
-pub fn lost_lines(alloc: Global, volume: &Mounted, json: bool) -> Result<String, AllocError>
+pub fn lost_lines(
+    alloc: Global,
+    volume: &Mounted,
+    json: bool,
+    image: &str,
+) -> Result<String, AllocError>
     ensures { IfOk result (λ text. AreUnreached volume.now.image volume.now.layout
-        (IsNamedByNone volume.now.image volume.now.layout) json (string_bytes text)) }
+        (IsNamedByNone volume.now.image volume.now.layout) json image.now (string_bytes text)) }
 {
     let disk = volume.disk();
-    crate::find::lost_lines(alloc, &disk, json)
+    crate::find::lost_lines(alloc, &disk, json, image)
 }
 
 /// A line for each directory: the blocks of its files, and its name.
@@ -188,11 +199,12 @@ pub fn usage_lines(
     volume: &Mounted,
     found: &FoundLines,
     json: bool,
+    image: &str,
 ) -> Result<String, AllocError>
-    ensures { IfOk result (λ text. AreUsage volume.now.image volume.now.layout found.now.directories.items found.now.lines.items json (string_bytes text)) }
+    ensures { IfOk result (λ text. AreUsage volume.now.image volume.now.layout found.now.directories.items found.now.lines.items json image.now (string_bytes text)) }
 {
     let disk = volume.disk();
-    crate::usage::usage_lines(alloc, &disk, found, json)
+    crate::usage::usage_lines(alloc, &disk, found, json, image)
 }
 
 /// A line for each of the largest files, at most so many: its blocks, and its path.
@@ -202,9 +214,10 @@ pub fn largest_lines(
     found: &FoundLines,
     most: usize,
     json: bool,
+    image: &str,
 ) -> Result<String, AllocError>
-    ensures { IfOk result (λ text. AreLargest volume.now.image volume.now.layout found.now.directories.items found.now.lines.items most json (string_bytes text)) }
+    ensures { IfOk result (λ text. AreLargest volume.now.image volume.now.layout found.now.directories.items found.now.lines.items most json image.now (string_bytes text)) }
 {
     let disk = volume.disk();
-    crate::usage::largest_lines(alloc, &disk, found, most, json)
+    crate::usage::largest_lines(alloc, &disk, found, most, json, image)
 }

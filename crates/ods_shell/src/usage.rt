@@ -86,12 +86,13 @@ pub fn usage_lines(
     disk: &Disk<'_>,
     found: &FoundLines,
     json: bool,
+    image: &str,
 ) -> Result<String, AllocError>
     requires { on IsLayoutOf disk.now }
-    ensures { IfOk result (λ text. on AreUsage disk.now found.now.directories.items found.now.lines.items json (string_bytes text)) }
+    ensures { IfOk result (λ text. on AreUsage disk.now found.now.directories.items found.now.lines.items json image.now (string_bytes text)) }
 {
     let all = uses(alloc, disk, found)?;
-    directory_lines(alloc, &found.directories, &all, json)
+    directory_lines(alloc, &found.directories, &all, json, image)
 }
 
 /// A line for each of these directories.
@@ -100,14 +101,15 @@ fn directory_lines(
     directories: &[Directory],
     uses: &[Use],
     json: bool,
+    image: &str,
 ) -> Result<String, AllocError>
-    ensures { IfOk result (λ text. string_bytes text ≡ flat_map (λ place. directory_use json (slice_get directories.now place) (blocks_at uses.now place)) (range_with_len 0 (length directories.now))) }
+    ensures { IfOk result (λ text. string_bytes text ≡ flat_map (λ place. directory_use json image.now (slice_get directories.now place) (blocks_at uses.now place)) (range_with_len 0 (length directories.now))) }
 {
     let sums = sums_of(alloc, uses, directories.len())?;
     let mut text = String::new(alloc);
     for place in 0..directories.len() {
         let blocks = sum_at(&sums, place);
-        push_directory_use(alloc, &mut text, directories, place, blocks, json)?;
+        push_directory_use(alloc, &mut text, directories, place, blocks, json, image)?;
     }
     Ok(text)
 }
@@ -150,11 +152,12 @@ fn push_directory_use(
     place: usize,
     blocks: u64,
     json: bool,
+    image: &str,
 ) -> Result<(), AllocError>
-    ensures { OnOk result (string_bytes text.new ≡ string_bytes text.old ++ directory_use json (slice_get directories.now place) blocks) }
+    ensures { OnOk result (string_bytes text.new ≡ string_bytes text.old ++ directory_use json image.now (slice_get directories.now place) blocks) }
 {
     match directories.get(place) {
-        Some(directory) => push_one_directory(alloc, text, directory, blocks, json),
+        Some(directory) => push_one_directory(alloc, text, directory, blocks, json, image),
         None => Ok(()),
     }
 }
@@ -166,12 +169,13 @@ fn push_one_directory(
     directory: &Directory,
     blocks: u64,
     json: bool,
+    image: &str,
 ) -> Result<(), AllocError>
-    ensures { OnOk result (string_bytes text.new ≡ string_bytes text.old ++ directory_use json (Some directory.now) blocks) }
+    ensures { OnOk result (string_bytes text.new ≡ string_bytes text.old ++ directory_use json image.now (Some directory.now) blocks) }
 {
     let mut name = String::new(alloc);
     push_directory(&mut name, &directory.names)?;
-    push_use(alloc, text, "directory", name.as_str(), blocks, json)
+    push_use(alloc, text, "directory", name.as_str(), blocks, json, image)
 }
 
 /// Appends how many blocks something has: a line, or an object.
@@ -182,11 +186,12 @@ fn push_use(
     name: &str,
     blocks: u64,
     json: bool,
+    image: &str,
 ) -> Result<(), AllocError>
-    ensures { OnOk result (string_bytes text.new ≡ string_bytes text.old ++ use_text json what.now name.now blocks) }
+    ensures { OnOk result (string_bytes text.new ≡ string_bytes text.old ++ use_text json image.now what.now name.now blocks) }
 {
     if json {
-        push_blocks(alloc, text, what, name, blocks)
+        push_blocks(alloc, text, image, what, name, blocks)
     } else {
         push_usage_line(text, name, blocks)
     }
@@ -214,13 +219,20 @@ pub fn largest_lines(
     found: &FoundLines,
     most: usize,
     json: bool,
+    image: &str,
 ) -> Result<String, AllocError>
     requires { on IsLayoutOf disk.now }
-    ensures { IfOk result (λ text. on AreLargest disk.now found.now.directories.items found.now.lines.items most json (string_bytes text)) }
+    ensures { IfOk result (λ text. on AreLargest disk.now found.now.directories.items found.now.lines.items most json image.now (string_bytes text)) }
 {
     let mut all = uses(alloc, disk, found)?;
     sort_uses(&mut all)?;
-    file_lines(alloc, &found.directories, first_uses(&all, most), json)
+    file_lines(
+        alloc,
+        &found.directories,
+        first_uses(&all, most),
+        json,
+        image,
+    )
 }
 
 /// Puts files with more blocks before those with fewer.
@@ -255,12 +267,13 @@ fn file_lines(
     directories: &[Directory],
     uses: &[Use],
     json: bool,
+    image: &str,
 ) -> Result<String, AllocError>
-    ensures { IfOk result (λ text. string_bytes text ≡ flat_map (file_use json directories.now) uses.now) }
+    ensures { IfOk result (λ text. string_bytes text ≡ flat_map (file_use json image.now directories.now) uses.now) }
 {
     let mut text = String::new(alloc);
     for used in uses {
-        push_file_use(alloc, &mut text, directories, used, json)?;
+        push_file_use(alloc, &mut text, directories, used, json, image)?;
     }
     Ok(text)
 }
@@ -272,11 +285,12 @@ fn push_file_use(
     directories: &[Directory],
     used: &Use,
     json: bool,
+    image: &str,
 ) -> Result<(), AllocError>
-    ensures { OnOk result (string_bytes text.new ≡ string_bytes text.old ++ file_use json directories.now used.now) }
+    ensures { OnOk result (string_bytes text.new ≡ string_bytes text.old ++ file_use json image.now directories.now used.now) }
 {
     let mut path = String::new(alloc);
     push_path_of(&mut path, directories, &used.line)?;
     let blocks = u64::from(used.blocks);
-    push_use(alloc, text, "path", path.as_str(), blocks, json)
+    push_use(alloc, text, "path", path.as_str(), blocks, json, image)
 }

@@ -13,7 +13,7 @@ use Rattle.ods_base.specs.Names.{lines_of}
 use Rattle.ods_header.specs.Header.{attributes_of, is_directory_header}
 use Rattle.ods_space.specs.Layout.{VolumeLayout, header_at}
 use Rattle.ods_space.specs.Chain.{IsSegment, index_for, known, most}
-use Rattle.ods_space.specs.Reach.{Begins}
+use Rattle.ods_space.specs.Reach.{Begins, ReachesBy}
 use Rattle.ods_space.specs.Files.{IsFile, HasBlocks, AreInside}
 use Rattle.ods_space.specs.Faults.{IsChainFault}
 use Rattle.ods_space.specs.declared.fault.ChainFault.{ChainFault}
@@ -67,6 +67,23 @@ module _ {I : List (List ℕ)} {L : VolumeLayout} (sound : IsSoundBy I L) {n : �
 pub same_there : (I : List (List ℕ)) (L : VolumeLayout) (n : ℕ) (xs ys : List ℕ) → AreThere I L n xs → AreThere I L n ys → xs ≡ ys
 same_there I L n xs ys f g =
     f.front ∙ ap (up_to_end (length I)) (reached_is_one I L.home (index_for L n) n f.blocks g.blocks f.whole g.whole f.reached g.reached).0 ∙ sym g.front
+
+-- the blocks at hand are those of directory n that are there, and the mark at hand is its mark
+pub record IsAtHand (I : List (List ℕ)) (L : VolumeLayout) (n : ℕ) (lbns : List ℕ) (blocks : List (List ℕ)) (mark : ℕ) : Type 0 where
+  pub there : AreThere I L n lbns
+  pub blocks_are : blocks ≡ contents_of I lbns
+  pub mark_is : mark ≡ mark_at I L n lbns
+
+pub at_hand : (I : List (List ℕ)) (L : VolumeLayout) (n : ℕ) (J : List (List ℕ)) (lbns reached : List ℕ) (whole : Bool) (len : ℕ) (header attributes : List ℕ) (count mark : ℕ) → ReachesBy I L n reached whole
+    → lbns ≡ up_to_end len reached → len ≡ length I → J ≡ I → header ≡ header_at I L n → attributes ≡ attributes_of header → count ≡ length (map (block_at J) lbns) → mark ≡ mark_in attributes count
+    → IsAtHand I L n lbns (map (block_at J) lbns) mark
+at_hand I L n J lbns reached whole len header attributes count mark by front same_len same header_is attributes_are count_is mark_is =
+    let size : count ≡ length lbns = count_is ∙ length-map lbns (block_at J) in
+    record {
+      there = record { blocks = reached; whole = whole; reached = by; front = front ∙ ap (λ k. up_to_end k reached) same_len };
+      blocks_are = ap (λ K. map (block_at K) lbns) same;
+      mark_is = mark_is ∙ (λ i. mark_in ((attributes_are ∙ ap attributes_of header_is) i) (size i));
+    }
 
 -- the first header of a directory is there
 pub begins : (I : List (List ℕ)) (L : VolumeLayout) (n : ℕ) → IsDirectoryFile I L n → Begins I L n

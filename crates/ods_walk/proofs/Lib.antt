@@ -4,3 +4,5 @@ pub mod Going
 pub mod Reaching
 pub mod Ways
 pub mod Covered
+pub mod TableGrows
+pub mod Flagged

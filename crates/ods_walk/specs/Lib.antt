@@ -1,4 +1,5 @@
 pub mod Complete
+pub mod Entering
 pub mod Listing
 pub mod Paths
 pub mod Steps

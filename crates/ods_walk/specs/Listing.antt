@@ -1,5 +1,5 @@
 -- The lines of a directory as people are shown them.
-use Rattle.std.specs.Prelude.{◌≡◌, ℕ, Bool, List, length, nat_le, IsPermutation, IsSortedByKey}
+use Rattle.std.specs.Prelude.{◌≡◌, ℕ, ◌+◌, Bool, List, length, nat_le, IsPermutation, IsSortedByKey}
 use Rattle.std.specs.List.{before_first}
 use Rattle.ods_base.specs.Name.{title, type_text}
 use Rattle.ods_base.specs.Names.{lines_of}
@@ -34,6 +34,11 @@ pub record AreEntries (I : List (List ℕ)) (L : VolumeLayout) (n : ℕ) (entrie
   pub lbns : List ℕ
   pub there : AreThere I L n lbns
   pub all : entries ≡ good_lines (used_entries (contents_of I lbns) (mark_at I L n lbns))
+
+-- So many entries directory n passes over: in its blocks that are there, before its mark, the used ones that are not good.
+abbrev pub ArePassedOver : List (List ℕ) → VolumeLayout → ℕ → ℕ → Type 0
+ArePassedOver I L n bad = (lbns : List ℕ) × AreThere I L n lbns
+    × (length (good_lines (used_entries (contents_of I lbns) (mark_at I L n lbns))) + bad ≡ length (used_entries (contents_of I lbns) (mark_at I L n lbns)))
 
 -- these are the entries that directory n shows, in the order of a listing
 pub record IsListing (I : List (List ℕ)) (L : VolumeLayout) (n : ℕ) (lines : List Listed) : Type 0 where

@@ -1,12 +1,14 @@
 //! The directories of a volume, sound or refused, as people are shown them: the lines of one in the order of a listing, and the walk over all below one.
 #![tactic(auto)]
 
+mod entering;
 mod laws;
 mod ordering;
 mod tables;
 mod walking;
 
+pub use entering::enter_all;
 pub use laws::{lists_the_names, walks_are_complete};
-pub use ordering::listing;
+pub use ordering::{count_bad, listing};
 pub use tables::{Entered, Line, Walk};
 pub use walking::{names_directory, walk_from, walk_past};

@@ -5,7 +5,7 @@ ghost use Rattle.ods_text.specs.Cuts.{IsFirst};
 ghost use Rattle.ods_mount.specs.Faults.{IsDirectoryFile};
 ghost use Rattle.ods_base.specs.Name.{title as title_of, type_text};
 ghost use Rattle.ods_paths.specs.{Order.listing_cmp, Lines.line};
-ghost use Rattle.ods_walk.specs.Listing.{IsListing, AreEntries, shown, up_to_end};
+ghost use Rattle.ods_walk.specs.Listing.{IsListing, AreEntries, ArePassedOver, shown, up_to_end};
 ghost use Rattle.ods_space.specs.Disks.{on};
 
 use arrayvec::ArrayString;
@@ -24,14 +24,28 @@ pub fn listing(alloc: Global, disk: &Disk<'_>, number: u16) -> Result<Vec<Listed
     requires { on IsDirectoryFile disk.now number }
     ensures { IfOk result (λ lines. on IsListing disk.now number lines.items) }
 {
-    let entries = read_entries(alloc, disk, number)?;
+    let (entries, _) = read_entries(alloc, disk, number)?;
     in_order(alloc, &entries)
 }
 
-/// The entries that a directory shows.
-fn read_entries(alloc: Global, disk: &Disk<'_>, number: u16) -> Result<Vec<Listed>, AllocError>
+/// How many entries of a directory a listing passes over, since they are bad. On a sound volume there are none.
+pub fn count_bad(alloc: Global, disk: &Disk<'_>, number: u16) -> Result<usize, AllocError>
     requires { on IsDirectoryFile disk.now number }
-    ensures { IfOk result (λ lines. on AreEntries disk.now number lines.items) }
+    ensures { IfOk result (on ArePassedOver disk.now number) }
+{
+    let (_, bad) = read_entries(alloc, disk, number)?;
+    Ok(bad)
+}
+
+/// The entries that a directory shows, and how many it passes over.
+fn read_entries(
+    alloc: Global,
+    disk: &Disk<'_>,
+    number: u16,
+) -> Result<(Vec<Listed>, usize), AllocError>
+    requires { on IsDirectoryFile disk.now number }
+    ensures shown { IfOk result (λ r. on AreEntries disk.now number r.0.items) }
+    ensures bad { IfOk result (λ r. on ArePassedOver disk.now number r.1) }
 {
     let Some(header) = primary_header(disk, number) else {
         unreachable!()
@@ -42,8 +56,8 @@ fn read_entries(alloc: Global, disk: &Disk<'_>, number: u16) -> Result<Vec<Liste
     let there = up_to_end(disk.image.len(), &reached.blocks);
     let blocks = FileBlocks::new(disk.image, there);
     let mark = mark_of(&attributes(header), blocks.count());
-    let (lines, _) = good_entries(alloc, &blocks, mark)?;
-    Ok(lines)
+    let (lines, bad) = good_entries(alloc, &blocks, mark)?;
+    Ok((lines, bad))
 }
 
 /// The first of these LBNs, up to one past an image of so many blocks.

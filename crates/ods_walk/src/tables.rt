@@ -1,5 +1,5 @@
 //! What a walk found: its lines, and the table of the directories that were entered, by which each line has its path.
-ghost use Rattle.std.specs.Prelude.{◌≡◌, ◌++◌, IfOk, OnOk, reverse, slice_get};
+ghost use Rattle.std.specs.Prelude.{◌≡◌, ◌++◌, IfOk, OnOk, length, reverse, slice_get};
 ghost use Rattle.std.specs.Option.{option_copied};
 ghost use Rattle.ods_walk.specs.Paths.{path_to};
 
@@ -43,6 +43,13 @@ impl Walk {
         ensures { result.now ≡ self.now.lines }
     {
         self.lines.as_slice()
+    }
+
+    /// How many directories were entered.
+    pub fn count(&self) -> usize
+        ensures { result ≡ length self.now.directories }
+    {
+        self.directories.len()
     }
 
     /// The directory at this place.

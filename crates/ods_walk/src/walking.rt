@@ -57,7 +57,7 @@ pub fn walk_past(
 }
 
 /// The flags of all numbers, of which these are set.
-fn flags_of(alloc: Global, numbers: &[u16]) -> Result<Vec<bool>, AllocError>
+pub(crate) fn flags_of(alloc: Global, numbers: &[u16]) -> Result<Vec<bool>, AllocError>
     ensures { IfOk result (λ flags. AreEntered flags.items numbers.now) }
 {
     let mut flags = vec![in alloc; false; 65_536]?;
@@ -90,7 +90,7 @@ fn next_directory(
 }
 
 /// Whether an entry is walked into: it names a directory that is not entered yet.
-fn is_walked_into(disk: &Disk<'_>, is_entered: &[bool], entry: &Listed) -> bool
+pub(crate) fn is_walked_into(disk: &Disk<'_>, is_entered: &[bool], entry: &Listed) -> bool
     requires { length is_entered.now ≡ 65536 }
     ensures { (entered : List ℕ) → AreEntered is_entered.now entered
         → MatchBool result (on IsWalkedInto disk.now entered entry.now) (¬ on IsWalkedInto disk.now entered entry.now) }

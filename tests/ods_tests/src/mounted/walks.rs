@@ -6,7 +6,7 @@ use crate::volumes::{
 };
 use ods_base::{Image, Listed, Name, print_name};
 use ods_mount::Mounted;
-use ods_walk::{Walk, listing, walk_from};
+use ods_walk::{Walk, enter_all, listing, walk_from};
 use std::alloc::Global;
 use std::test::Fail;
 
@@ -181,6 +181,32 @@ fn two_directories_that_name_each_other(rt: HostRuntime) -> Result<(), Fail> {
     assert!(rt; is_walk(&below, wanted));
     assert!(rt; below.path(alloc, 1)?.as_slice() == [name_of(A, DIR)].as_slice());
     assert!(rt; below.directory(0).map(|entered| entered.number) == Some(7));
+    Ok(())
+}
+
+/// The directories that were entered, by their numbers, in that order.
+fn are_entered(walk: &Walk, wanted: &[u16]) -> bool {
+    walk.count() == wanted.len()
+        && wanted.iter().enumerate().all(|(place, number)| {
+            walk.directory(place).map(|entered| entered.number) == Some(*number)
+        })
+}
+
+/// A.DIR names B.DIR, and the master directory both: each is entered once, B.DIR from the master directory, which is nearer. No line is kept.
+#[test]
+fn nearer_directories_are_entered_first(rt: HostRuntime) -> Result<(), Fail> {
+    let alloc = rt.alloc();
+    let (six, seven) = (entry(6, 1, A, DIR, 1), entry(7, 1, B, DIR, 1));
+    let below = [six, entry(4, 4, C, DIR, 1)];
+    let volume = mounted(alloc, with_directories(alloc, &[seven, six], &[seven], &below)?)?;
+    let all = enter_all(alloc, &volume.disk())?;
+    assert!(rt; are_entered(&all, &[4, 6, 7]) && all.lines().is_empty());
+    assert!(rt; all.path(alloc, 2)?.as_slice() == [name_of(B, DIR)].as_slice());
+    let volume = mounted(alloc, with_directories(alloc, &[seven], &[], &below)?)?;
+    let all = enter_all(alloc, &volume.disk())?;
+    assert!(rt; are_entered(&all, &[4, 7, 6]));
+    let way = [name_of(B, DIR), name_of(A, DIR)];
+    assert!(rt; all.path(alloc, 2)?.as_slice() == way.as_slice());
     Ok(())
 }
 

@@ -1,8 +1,8 @@
-//! A record that is longer than its file says, its path, and an object of three texts.
+//! A record that is longer than its file says, the file's path by its number, and an object of three texts.
 use super::{asked, filing_for, put, the, volume_of};
 use ods_paths::{Folder, Versions, no_steps};
 use ods_request::Request;
-use ods_shell::{find_open, long_record, push_path_of, trio_object};
+use ods_shell::{FileNames, find_open, long_record, push_path_of, trio_object};
 use std::test::Fail;
 
 #[test]
@@ -34,6 +34,12 @@ fn a_record_is_longer_than_the_file_says(rt: HostRuntime) -> Result<(), Fail> {
         }
     }
     assert!(rt; text.as_str() == "[0,0]A.TXT;1");
+    let names = FileNames::of(alloc, &disk)?.ok_or("a master directory")?;
+    let path = names.path(alloc, number)?.ok_or("a path")?;
+    assert!(rt; path.as_str() == "[0,0]A.TXT;1");
+    assert!(rt; names.path(alloc, number + 1)?.is_none());
+    let master = names.path(alloc, 4)?.ok_or("its own name")?;
+    assert!(rt; master.as_str() == "[0,0]000000.DIR;1");
     Ok(())
 }
 

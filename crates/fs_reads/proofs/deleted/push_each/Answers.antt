@@ -7,7 +7,7 @@ use Rattle.fs_reads.proofs.deleted.push_each.Goals as goal
 
 pub loop-path-init : goal.loop-path-init
 loop-path-init c = (
-  shown_none c.args.disk.now.image.now c.args.disk.now.layout.now c.args.json c.args.long c.args.paths.now (string_bytes c.args.text.now),
+  shown_none c.args.disk.now.image.now c.args.disk.now.layout.now c.args.json c.args.image.now c.args.long c.args.paths.now (string_bytes c.args.text.now),
   extends_same (string_bytes c.args.text.now),
 )
 
@@ -17,7 +17,7 @@ loop-path-preserved c =
     let start = string_bytes c.args.text.now in
     let old = string_bytes c.loop-path.text in
     let new = string_bytes c.push_path.new.text in (
-      shown_next c.args.disk.now.image.now c.args.disk.now.layout.now c.args.json c.args.long paths c.loop-path.path-index _ start old new c.loop-path-test.true c.in_ok-push_path.ensures.ok
+      shown_next c.args.disk.now.image.now c.args.disk.now.layout.now c.args.json c.args.image.now c.args.long paths c.loop-path.path-index _ start old new c.loop-path-test.true c.in_ok-push_path.ensures.ok
           c.loop-path.invariant.0,
       extends_on start old new c.loop-path.invariant.1 c.push_path.ensures.extends,
     )
@@ -29,4 +29,4 @@ returns-clause-ok c =
     let start = string_bytes c.args.text.now in
     let now = string_bytes c.loop-path.text in
     let past : length c.args.paths.now ≤ c.loop-path.path-index = search rules in
-    subst (λ ps. (more : List ℕ) × ShowsPaths I L c.args.json c.args.long ps more × (now ≡ start ++ more)) (take_all c.loop-path.path-index c.args.paths.now past) c.loop-path.invariant.0
+    subst (λ ps. (more : List ℕ) × ShowsPaths I L c.args.json c.args.image.now c.args.long ps more × (now ≡ start ++ more)) (take_all c.loop-path.path-index c.args.paths.now past) c.loop-path.invariant.0

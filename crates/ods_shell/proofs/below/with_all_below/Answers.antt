@@ -1,6 +1,6 @@
 use Rattle.std.proofs.Common.{◌≡◌, false, ◌∙◌, refl}
 use Rattle.std.specs.Prelude.{replicate}
-use Rattle.ods_walk.proofs.Going.{entered_none}
+use Rattle.ods_walk.proofs.Flagged.{entered_none}
 use Rattle.ods_shell.proofs.below.with_all_below.Goals as goal
 
 pub gather-requires : goal.gather-requires

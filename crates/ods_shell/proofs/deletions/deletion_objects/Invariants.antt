@@ -7,4 +7,4 @@ use Rattle.ods_shell.specs.Json.{object_line}
 use Rattle.ods_shell.proofs.deletions.deletion_objects.Given as goal
 
 abbrev pub invariant-loop-deletion : goal.invariant-loop-deletion
-invariant-loop-deletion l = string_bytes l.text ≡ flat_map (λ d. object_line (deletion_members d)) (take l.deletion-index l.all)
+invariant-loop-deletion l = string_bytes l.text ≡ flat_map (λ d. object_line (deletion_members l.image d)) (take l.deletion-index l.all)

@@ -26,5 +26,5 @@ returns c =
     let all : last_number L ≤ c.loop-before.before = omega (arith, bound, c.loop-before-test.false) in
     let flags : c.deref.result.now ≡ c.loop-before.is_named.items = c.deref.ensures.value in
     let noted = subst (AreNoted I L c.loop-before.before) (sym flags) c.loop-before.invariant in
-    IfOk-weaker c.unnamed_lines.result _ _ (λ text are. unreached_same I L (IsUnnoted I L c.deref.result.now) (IsNamedByNone I L) c.args.json (string_bytes text)
+    IfOk-weaker c.unnamed_lines.result _ _ (λ text are. unreached_same I L (IsUnnoted I L c.deref.result.now) (IsNamedByNone I L) c.args.json c.args.image.now (string_bytes text)
     (unnoted_by_none I L c.unnamed_lines.ensures.few c.deref.result.now c.loop-before.before all noted) are) c.unnamed_lines.ensures.text

@@ -9,5 +9,5 @@ use Rattle.ods_shell.proofs.find.unnamed_lines.Given as goal
 
 abbrev pub invariant-loop-before : goal.invariant-loop-before
 invariant-loop-before l =
-    AreTexts (IsUnnoted l.disk.image.now l.disk.layout.now l.is_named) (λ n. unreached_text l.json (id_of l.disk.image.now l.disk.layout.now n)) l.before (string_bytes l.text)
+    AreTexts (IsUnnoted l.disk.image.now l.disk.layout.now l.is_named) (λ n. unreached_text l.json l.image (id_of l.disk.image.now l.disk.layout.now n)) l.before (string_bytes l.text)
     × (l.before ≤ last_number l.disk.layout.now)

@@ -30,5 +30,5 @@ returns c =
     let whole : take c.loop-line.line-index c.deref-line-items.result.now ≡ c.args.found.now.lines.items = take_all c.loop-line.line-index c.deref-line-items.result.now past ∙ c.deref-line-items.ensures.value in
     let same : c.deref.result.now ≡ c.loop-line.is_reached.items = c.deref.ensures.value in
     let flags = subst (AreFlags (IsAmong I L ids)) (sym same) (subst (λ (ls : List Line). AreFlags (IsAmong I L (ids_in ls)) c.loop-line.is_reached.items) whole c.loop-line.invariant) in
-    IfOk-weaker c.unnamed_lines.result _ _ (λ text are. unreached_same I L (IsUnnoted I L c.deref.result.now) (IsNotAmong I L ids) c.args.json (string_bytes text)
+    IfOk-weaker c.unnamed_lines.result _ _ (λ text are. unreached_same I L (IsUnnoted I L c.deref.result.now) (IsNotAmong I L ids) c.args.json c.args.image.now (string_bytes text)
     (unnoted_not_among I L c.unnamed_lines.ensures.few c.deref.result.now ids flags) are) c.unnamed_lines.ensures.text

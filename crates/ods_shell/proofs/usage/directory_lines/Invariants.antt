@@ -7,4 +7,4 @@ use Rattle.ods_shell.specs.Usage.{blocks_at, directory_use}
 use Rattle.ods_shell.proofs.usage.directory_lines.Given as goal
 
 abbrev pub invariant-loop-place : goal.invariant-loop-place
-invariant-loop-place l = string_bytes l.text ≡ flat_map (λ place. directory_use l.json (slice_get l.directories place) (blocks_at l.uses place)) (range_with_len 0 l.place)
+invariant-loop-place l = string_bytes l.text ≡ flat_map (λ place. directory_use l.json l.image (slice_get l.directories place) (blocks_at l.uses place)) (range_with_len 0 l.place)

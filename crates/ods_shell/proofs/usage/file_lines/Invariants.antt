@@ -6,4 +6,4 @@ use Rattle.ods_shell.specs.Usage.{file_use}
 use Rattle.ods_shell.proofs.usage.file_lines.Given as goal
 
 abbrev pub invariant-loop-used : goal.invariant-loop-used
-invariant-loop-used l = string_bytes l.text ≡ flat_map (file_use l.json l.directories) (take l.used-index l.uses)
+invariant-loop-used l = string_bytes l.text ≡ flat_map (file_use l.json l.image l.directories) (take l.used-index l.uses)

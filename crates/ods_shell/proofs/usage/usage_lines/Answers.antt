@@ -11,5 +11,5 @@ returns c =
     IfOk-weaker c.directory_lines.result _ _ (λ text is. (
       c.in_ok-all.all.items,
       c.in_ok-all.ensures,
-      is ∙ (λ i. flat_map (λ place. directory_use c.args.json (slice_get (directories i) place) (blocks_at (uses i) place)) (range_with_len 0 (length (directories i)))),
+      is ∙ (λ i. flat_map (λ place. directory_use c.args.json c.args.image.now (slice_get (directories i) place) (blocks_at (uses i) place)) (range_with_len 0 (length (directories i)))),
     )) c.directory_lines.ensures

@@ -2,7 +2,7 @@ use Rattle.std.proofs.Common.{rules, ◌≡◌, ◌<◌, refl, ◌∙◌, sym, a
 use Rattle.std.specs.Prelude.{replicate}
 use Rattle.std.proofs.lemmas.List.{nil_from_length}
 use Rattle.ods_walk.specs.Steps.{AreEntered}
-use Rattle.ods_walk.proofs.Going.{entered_more, entered_none}
+use Rattle.ods_walk.proofs.Flagged.{entered_more, entered_none}
 use Rattle.ods_walk.proofs.walking.flags_of.Goals as goal
 
 pub numbers-init : goal.numbers-init

@@ -2,7 +2,8 @@ use Rattle.std.proofs.Common.{rules, ◌≡◌, ◌<◌, sym, ap, ◌∙◌, sub
 use Rattle.std.specs.Prelude.{IfSome, IfNone, None}
 use Rattle.std.proofs.lemmas.List.{append-nil}
 use Rattle.ods_walk.specs.Steps.{AreEntered, IsPast, IsStop, from_top, placed}
-use Rattle.ods_walk.proofs.Going.{IsUnderWay, entered_more, fewer_left, arrived, entering, begins}
+use Rattle.ods_walk.proofs.Flagged.{entered_more, fewer_left}
+use Rattle.ods_walk.proofs.Going.{IsUnderWay, arrived, entering, begins}
 use Rattle.ods_walk.proofs.Reaching.{reaches_all}
 use Rattle.ods_walk.proofs.walking.walk_past.Goals as goal
 use Rattle.ods_walk.proofs.walking.walk_past.Goals.{In-Some, In_default}

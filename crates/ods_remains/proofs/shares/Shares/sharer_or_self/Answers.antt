@@ -23,16 +23,29 @@ named_by-requires-clause-deleted c =
     let h = get_or headers i 0 in
     subst (λ d. IsDeleted d.image d.layout h) (sym c.self.view_is) (c.requires h (Contains-get_or headers i 0 c.loop-header-test.true))
 
+pub sharer_by_first-requires : goal.sharer_by_first-requires
+sharer_by_first-requires c =
+    let headers = c.args.headers.now in
+    let i = c.loop-header.header-index in
+    c.requires (get_or headers i 0) (Contains-get_or headers i 0 c.loop-header-test.true)
+
 pub returns-in-Some : goal.returns-in-Some
 returns-in-Some c =
+    let J = c.args.self.now in
+    let headers = c.args.headers.now in
+    let i = c.loop-header.header-index in
+    sharer_found J.image J.layout c.args.number headers (get_or headers i 0) c.in-Some.other (Contains-get_or headers i 0 c.loop-header-test.true) c.in-Some.ensures
+
+pub returns-in-Some-sharer : goal.returns-in-Some-sharer
+returns-in-Some-sharer c =
     let J = c.args.self.now in
     let n = c.args.number in
     let headers = c.args.headers.now in
     let i = c.loop-header.header-index in
     let h = get_or headers i 0 in
-    let other = c.in-Some.other in
+    let other = c.in-Some-sharer.other in
     let there = c.deref-in-loop-header.ensures.value ∙ c.in_ok-blocks.ensures ∙ ap (λ d. blocks_of (former d.image d.layout h)) c.self.view_is in
-    sharer_found J.image J.layout n headers h other (Contains-get_or headers i 0 c.loop-header-test.true) (subst (λ xs. IsSharer J.image J.layout n xs (Some other)) there c.in-Some.ensures)
+    sharer_found J.image J.layout n headers h other (Contains-get_or headers i 0 c.loop-header-test.true) (subst (λ xs. IsSharer J.image J.layout n xs (Some other)) there c.in-Some-sharer.ensures)
 
 pub loop-header-preserved : goal.loop-header-preserved
 loop-header-preserved c =
@@ -46,7 +59,7 @@ loop-header-preserved c =
     let blocks = c.in_ok-blocks.blocks.items in
     let new = c.extend_from_slice.new.self.items in
     let here : blocks ≡ blocks_of (former J.image J.layout h) = c.in_ok-blocks.ensures ∙ ap (λ d. blocks_of (former d.image d.layout h)) c.self.view_is in
-    let none : IsSharer J.image J.layout n (blocks_of (former J.image J.layout h)) None = subst (λ xs. IsSharer J.image J.layout n xs None) (c.deref-in-loop-header.ensures.value ∙ here) c.in_default.ensures in
+    let none : IsSharer J.image J.layout n (blocks_of (former J.image J.layout h)) None = subst (λ xs. IsSharer J.image J.layout n xs None) (c.deref-in-loop-header.ensures.value ∙ here) c.in_default-sharer.ensures in
     let more : new ≡ named ++ blocks = c.in_ok-extend_from_slice.ensures.items ∙ ap (λ xs. named ++ xs) c.deref-in-loop-header-2.ensures.value in
     let on = sym (take_more headers i 0 c.loop-header-test.true) in (
       subst (λ xs. new ≡ named_at (former J.image J.layout) xs) on (named_on J.image J.layout (take i headers) named blocks new h so.0 here more),

@@ -1,0 +1,67 @@
+//! The entries of a refused volume that are passed over, since they are bad: which directories have some, and how many.
+ghost use Rattle.std.specs.Prelude.{◌≡◌, ◌⊎◌, IfOk, string_bytes};
+ghost use Rattle.fs_reads.specs.Told.{bad_entries_text};
+ghost use Rattle.ods_mount.specs.Faults.{IsDirectoryFile};
+ghost use Rattle.ods_walk.specs.Listing.{ArePassedOver};
+ghost use Rattle.ods_space.specs.Disks.{on};
+
+use crate::stop::say_about;
+use ods_shell::is_directory_file;
+use ods_space::{Disk, last_number, sequence};
+use ods_walk::count_bad;
+use std::alloc::{AllocError, Global};
+
+/// Of so many directories a line is said. A hostile volume has 65,535.
+const MOST_DIRECTORIES: u32 = 100;
+
+/// Says of each directory of the image at this path how many of its entries are passed over, where there are some.
+/// No clause covers what it says; `tests/fs` checks that on the built program.
+pub(crate) fn say_passed_over<R: AllocGlobal + Eprint>(
+    rt: &R,
+    path: &str,
+    disk: &Disk<'_>,
+) -> Result<(), AllocError> {
+    let mut told = 0u32;
+    for before in 0..last_number(disk.layout) {
+        let number = before + 1;
+        let bad = bad_in(rt.alloc(), disk, number)?;
+        if bad > 0 {
+            told = told.saturating_add(1);
+            if told <= MOST_DIRECTORIES {
+                let why = bad_text(rt.alloc(), number, sequence(disk, number), bad)?;
+                say_about(rt, path, why.as_str());
+            }
+        }
+    }
+    let more = told.saturating_sub(MOST_DIRECTORIES);
+    if more > 0 {
+        let why = format!(in rt.alloc(); "{more} more directories have bad entries")?;
+        say_about(rt, path, why.as_str());
+    }
+    Ok(())
+}
+
+/// How many entries of the directory with this number are bad; none where it is no directory.
+fn bad_in(alloc: Global, disk: &Disk<'_>, number: u16) -> Result<usize, AllocError>
+    ensures { IfOk result (λ bad. (on IsDirectoryFile disk.now number × on ArePassedOver disk.now number bad) ⊎ ((¬ on IsDirectoryFile disk.now number) × (bad ≡ 0))) }
+{
+    if !is_directory_file(disk, number) {
+        return Ok(0);
+    }
+    count_bad(alloc, disk, number)
+}
+
+/// What is said of a directory of which so many entries are bad.
+fn bad_text(
+    alloc: Global,
+    number: u16,
+    sequence: u16,
+    bad: usize,
+) -> Result<String, AllocError>
+    ensures { IfOk result (λ text. string_bytes text ≡ bad_entries_text number sequence bad) }
+{
+    if bad == 1 {
+        return format!(in alloc; "directory {number},{sequence}: a bad entry is passed over");
+    }
+    format!(in alloc; "directory {number},{sequence}: {bad} bad entries are passed over")
+}
