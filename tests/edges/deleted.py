@@ -56,7 +56,7 @@ def a_removed_file_is_whole(room: Room) -> None:
 def an_object_of_a_removed_file(room: Room) -> None:
     done(room, "rm", NOTES)
     status, out, err = room.run("disk", "--json", "find", "--deleted")
-    wanted = {"id": "9,1", "name": "NOTES.TXT;1", "blocks": 1, "bytes": 8, "created": "01-JAN-80 10:30:00", "state": "whole", "used_again": 0}
+    wanted = {"image": "disk", "id": "9,1", "name": "NOTES.TXT;1", "blocks": 1, "bytes": 8, "created": "01-JAN-80 10:30:00", "state": "whole", "used_again": 0}
     equal((status, json.loads(out), err), (0, wanted, b""), "find --deleted --json")
 
 

@@ -77,7 +77,7 @@ def reads_as_plain(room: Room, order: str) -> None:
         wanted = room.run("plain", *words)
         for said in ([], ["--order", order]):
             found = room.run(*said, "disk", *words)
-            equal(found, (wanted[0], wanted[1], wanted[2].replace(b"plain", b"disk")), f"{said} {words}")
+            equal(found, (wanted[0], *(text.replace(b"plain", b"disk") for text in wanted[1:])), f"{said} {words}")
     equal(room.run("disk", "cmp", "plain"), (0, b"", b""), "cmp with the plain image")
     equal(room.run("plain", "cmp", "disk"), (0, b"", b""), "cmp of the plain image")
     equal(room.run("--order", order, "disk", "rescue", "out")[0], 0, "rescue")

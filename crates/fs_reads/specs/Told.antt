@@ -1,12 +1,12 @@
 -- The lines of `check` about files, behind which their paths stand; and what is said of directories that are read in part.
 use Rattle.std.specs.Prelude.{ℕ, ◌==◌, if◌then◌else◌, Bool, true, false, List, ◌∷◌, ◌++◌, [], codes, Option, Some, None}
 use Rattle.std.specs.Fmt.{decimal}
-use Rattle.ods_shell.specs.ByNumber.{Names, path_noted}
+use Rattle.ods_shell.specs.ByNumber.{NamedFiles, path_noted}
 use Rattle.ods_shell.specs.Json.{object_line, with_text}
 use Rattle.serde_json.specs.Data.{Members, no_members}
 
 -- the path of the file that a line is of, where one is said, and names lead to it
-abbrev pub path_told : Option Names → Option ℕ → Option (List ℕ)
+abbrev pub path_told : Option NamedFiles → Option ℕ → Option (List ℕ)
 path_told None file = None
 path_told (Some names) None = None
 path_told (Some names) (Some n) = path_noted names n

@@ -26,13 +26,13 @@ pub record IsNoting (I : List (List ℕ)) (L : VolumeLayout) (directories : List
   pub each : (n : ℕ) → n < 65536 → MatchOption (slice_index_or first n None) (AreWithout I L directories place n × AreOthers I L n (take many entries)) (IsNameOf I L directories n)
 
 -- what is said of a value that is there, and what of none
-match_on : {X : Type 0} (P R : Type 0) (Q : X → Type 0) (o : Option X) → (P → R) → MatchOption o P Q → MatchOption o R Q
-match_on P R Q None on is = on is
-match_on P R Q (Some x) on is = is
+noted_on : {X : Type 0} (P R : Type 0) (Q : X → Type 0) (o : Option X) → (P → R) → MatchOption o P Q → MatchOption o R Q
+noted_on P R Q None on is = on is
+noted_on P R Q (Some x) on is = is
 
-match_some : {X : Type 0} (P R : Type 0) (Q : X → Type 0) (o : Option X) → o ≢ None → MatchOption o P Q → MatchOption o R Q
-match_some P R Q None some is = absurd (some refl)
-match_some P R Q (Some x) some is = is
+noted_already : {X : Type 0} (P R : Type 0) (Q : X → Type 0) (o : Option X) → o ≢ None → MatchOption o P Q → MatchOption o R Q
+noted_already P R Q None some is = absurd (some refl)
+noted_already P R Q (Some x) some is = is
 
 none_at : {X : Type 0} (P : Type 0) (Q : X → Type 0) (o : Option X) → o ≡ None → P → MatchOption o P Q
 none_at P Q o none is = subst (λ q. MatchOption q P Q) (sym none) is
@@ -49,8 +49,8 @@ nothing_at (suc count) (suc n) = nothing_at count n
 pub all_none : (xs : List (Option Line)) (count : ℕ) → xs ≡ replicate count None → (n : ℕ) → slice_index_or xs n None ≡ None
 all_none xs count none n = ap (λ (l : List (Option Line)). slice_index_or l n None) none ∙ nothing_at count n
 
-nothing_in : (I : List (List ℕ)) (L : VolumeLayout) (n : ℕ) → AreOthers I L n []
-nothing_in I L n e none = let none_below : none.0 < 0 = none.1 in absurd (omega arith)
+none_seen : (I : List (List ℕ)) (L : VolumeLayout) (n : ℕ) → AreOthers I L n []
+none_seen I L n e none = let none_below : none.0 < 0 = none.1 in absurd (omega arith)
 
 -- names lead to directories alone
 leads_to_directory : (I : List (List ℕ)) (L : VolumeLayout) (shut : List ℕ) (n : ℕ) (names : List RadName) (m : ℕ) → IsDirectoryFile I L n → LeadsPast I L shut n names m → IsDirectoryFile I L m
@@ -70,7 +70,7 @@ module _ {I : List (List ℕ)} {L : VolumeLayout} where
 
   module _ {directories : List Entered} {place : ℕ} where
     pub begin_noting : (entries : List Listed) (first : List (Option Line)) → AreNoted I L directories place first → IsNoting I L directories place entries 0 first
-    begin_noting entries first so = record { size = so.size; each = λ n low. match_on _ _ _ (slice_index_or first n None) (λ without. (without, nothing_in I L n)) (so.each n low) }
+    begin_noting entries first so = record { size = so.size; each = λ n low. noted_on _ _ _ (slice_index_or first n None) (λ without. (without, none_seen I L n)) (so.each n low) }
 
     module _ {entries : List Listed} {many : ℕ} {first : List (Option Line)} (so : IsNoting I L directories place entries many first) where
       -- an entry that does not name file n
@@ -103,16 +103,16 @@ module _ {I : List (List ℕ)} {L : VolumeLayout} where
           | inr other ↦
               let value : slice_index_or new n None ≡ slice_index_or first n None = ap (λ l. slice_index_or l n None) put.2 ∙ get_or-set_other first e.file.number n (Some (placed place e)) None other in
               subst (λ o. MatchOption o (AreWithout I L directories place n × AreOthers I L n (take (many + 1) entries)) (IsNameOf I L directories n)) (sym value)
-              (match_on _ _ _ (slice_index_or first n None) (other_on n e here (λ is. other (sym is.1))) (so.each n low))
+              (noted_on _ _ _ (slice_index_or first n None) (other_on n e here (λ is. other (sym is.1))) (so.each n low))
         ];
       }
       noting_on e new here has within small (inr kept) = record {
         size = ap length kept.1 ∙ so.size;
         each = λ n low. subst (λ l. MatchOption (slice_index_or l n None) (AreWithout I L directories place n × AreOthers I L n (take (many + 1) entries)) (IsNameOf I L directories n)) (sym kept.1) (elim kept.0 [
-          | inl none ↦ match_on _ _ _ (slice_index_or first n None) (other_on n e here (λ is. none is.0)) (so.each n low)
+          | inl none ↦ noted_on _ _ _ (slice_index_or first n None) (other_on n e here (λ is. none is.0)) (so.each n low)
           | inr some ↦ elim (cases_eq n e.file.number) [
-            | inl same ↦ match_some _ _ _ (slice_index_or first n None) (λ empty. some (ap (λ k. slice_index_or first k None) (sym same) ∙ empty)) (so.each n low)
-            | inr other ↦ match_on _ _ _ (slice_index_or first n None) (other_on n e here (λ is. other (sym is.1))) (so.each n low)
+            | inl same ↦ noted_already _ _ _ (slice_index_or first n None) (λ empty. some (ap (λ k. slice_index_or first k None) (sym same) ∙ empty)) (so.each n low)
+            | inr other ↦ noted_on _ _ _ (slice_index_or first n None) (other_on n e here (λ is. other (sym is.1))) (so.each n low)
           ]
         ]);
       }
@@ -121,7 +121,7 @@ module _ {I : List (List ℕ)} {L : VolumeLayout} where
       pub directory_noted : IsListing I L (number_at directories place) entries → length entries ≤ many → AreNoted I L directories (place + 1) first
       directory_noted listing past = record {
         size = so.size;
-        each = λ n low. match_on _ _ _ (slice_index_or first n None)
+        each = λ n low. noted_on _ _ _ (slice_index_or first n None)
             (λ are p e below has. elim (cases_lt p place) [
               | inl before ↦ are.0 p e before has
               | inr not_before ↦ (

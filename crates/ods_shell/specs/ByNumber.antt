@@ -12,7 +12,7 @@ use Rattle.ods_shell.specs.Texts.{shown_path}
 use Rattle.ods_shell.specs.There.{IsThere}
 
 -- the directories to which names lead from the master directory, and of each number the line of an entry that names its file, or none
-pub record Names : Type 0 where
+pub record NamedFiles : Type 0 where
   pub directories : List Entered
   pub first : List (Option Line)
 
@@ -40,7 +40,7 @@ pub record AreNoted (I : List (List ℕ)) (L : VolumeLayout) (directories : List
   pub each : (n : ℕ) → n < 65536 → MatchOption (slice_index_or first n None) (AreWithout I L directories many n) (IsNameOf I L directories n)
 
 -- These are the names of a volume: its directories are all to which names lead from the master directory, and nothing in all of them is passed over.
-pub record AreNames (I : List (List ℕ)) (L : VolumeLayout) (names : Names) : Type 0 where
+pub record AreNames (I : List (List ℕ)) (L : VolumeLayout) (names : NamedFiles) : Type 0 where
   pub reached : AreReached I L 4 (4 ∷ []) names.directories
   pub noted : AreNoted I L names.directories (length names.directories) names.first
 
@@ -49,5 +49,5 @@ abbrev pub path_by : List Entered → Line → List ℕ
 path_by directories line = shown_path (path_to directories line.directory) line.entry
 
 -- the path of file n, where one is noted
-abbrev pub path_noted : Names → ℕ → Option (List ℕ)
+abbrev pub path_noted : NamedFiles → ℕ → Option (List ℕ)
 path_noted names n = option_map (path_by names.directories) (slice_index_or names.first n None)

@@ -24,9 +24,9 @@ pub struct FileNames {
 }
 
 impl Model for FileNames {
-    ghost use Rattle.ods_shell.specs.ByNumber.{Names};
+    ghost use Rattle.ods_shell.specs.ByNumber.{NamedFiles};
 
-    ghost Value = { Names };
+    ghost Value = { NamedFiles };
 
     ghost view = { λ f. record { directories = f.walk.directories; first = f.first.items } };
 }
@@ -46,7 +46,7 @@ impl FileNames {
         }
         let walk = enter_all(alloc, disk)?;
         let mut first = none_noted(alloc)?;
-        note_all(alloc, disk, &walk, &mut first)?;
+        note_walk(alloc, disk, &walk, &mut first)?;
         Ok(Some(FileNames { walk, first }))
     }
 
@@ -84,7 +84,7 @@ fn none_noted(alloc: Global) -> Result<Vec<Option<Line>>, AllocError>
 }
 
 /// Notes of each number the first entry of the directories of a walk that names its file.
-fn note_all(
+fn note_walk(
     alloc: Global,
     disk: &Disk<'_>,
     walk: &Walk,
@@ -96,7 +96,7 @@ fn note_all(
     requires reached { on AreReached disk.now 4 (4 ∷ []) walk.now.directories }
     ensures { OnOk result (on AreNoted disk.now walk.now.directories (length walk.now.directories) first.new.items) }
 {
-    for place in 0..walk.count() {
+    for place in 0..walk.directory_count() {
         note_directory(alloc, disk, walk, place, first)?;
     }
     Ok(())
@@ -119,12 +119,12 @@ fn note_directory(
         unreachable!()
     };
     let entries = lines_of(alloc, disk, entered.number)?;
-    note_entries(disk, walk, place, &entries, first);
+    note_listing(disk, walk, place, &entries, first);
     Ok(())
 }
 
 /// Notes of each number the first of these entries that names its file, where none is noted. They are those of the directory at this place.
-fn note_entries(
+fn note_listing(
     disk: &Disk<'_>,
     walk: &Walk,
     place: usize,

@@ -46,7 +46,7 @@ impl Walk {
     }
 
     /// How many directories were entered.
-    pub fn count(&self) -> usize
+    pub fn directory_count(&self) -> usize
         ensures { result ≡ length self.now.directories }
     {
         self.directories.len()

@@ -186,7 +186,7 @@ fn two_directories_that_name_each_other(rt: HostRuntime) -> Result<(), Fail> {
 
 /// The directories that were entered, by their numbers, in that order.
 fn are_entered(walk: &Walk, wanted: &[u16]) -> bool {
-    walk.count() == wanted.len()
+    walk.directory_count() == wanted.len()
         && wanted.iter().enumerate().all(|(place, number)| {
             walk.directory(place).map(|entered| entered.number) == Some(*number)
         })

@@ -1,4 +1,4 @@
 use Rattle.ods_shell.proofs.file_names.FileNames.of.Goals as goal
 
 pub returns : goal.returns
-returns c = record { reached = c.in_ok-walk.ensures.reached; noted = c.in_ok-note_all.ensures }
+returns c = record { reached = c.in_ok-walk.ensures.reached; noted = c.in_ok-note_walk.ensures }

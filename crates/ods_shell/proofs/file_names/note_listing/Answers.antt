@@ -1,7 +1,7 @@
 use Rattle.std.proofs.Common.{rules, ◌≤◌, length, refl}
 use Rattle.std.proofs.lemmas.Option.{slice_get_read, slice_get_within, get_or_from_slice_get}
 use Rattle.ods_shell.proofs.Noted.{begin_noting, noting_on, directory_noted}
-use Rattle.ods_shell.proofs.file_names.note_entries.Goals as goal
+use Rattle.ods_shell.proofs.file_names.note_listing.Goals as goal
 
 pub loop-entry-init : goal.loop-entry-init
 loop-entry-init c = begin_noting c.args.entries.now c.args.first.now.items c.requires.so

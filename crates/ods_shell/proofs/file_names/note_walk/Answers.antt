@@ -1,6 +1,6 @@
 use Rattle.std.proofs.Common.{rules, ◌<◌, length}
 use Rattle.ods_shell.proofs.Noted.{are_directories, none_noted}
-use Rattle.ods_shell.proofs.file_names.note_all.Goals as goal
+use Rattle.ods_shell.proofs.file_names.note_walk.Goals as goal
 
 pub loop-place-init : goal.loop-place-init
 loop-place-init c = none_noted c.args.walk.now.directories c.args.first.now.items c.requires.size c.requires.none
