@@ -30,8 +30,12 @@ abbrev pub told_line : Bool → List ℕ → List ℕ → Option (List ℕ) → 
 told_line false name line first second = line ++ (paths_behind first second ++ 10 ∷ [])
 told_line true name line first second = object_line (with_paths first second (with_text name line no_members))
 
--- what is said of a directory, by its ID, of which so many entries are passed over
+-- what is said of a directory, by its ID, of which one entry is passed over, or more
+abbrev pub one_bad_entry : ℕ → ℕ → List ℕ
+one_bad_entry number sequence = codes "directory " ++ (decimal number ++ (codes "," ++ (decimal sequence ++ codes ": a bad entry is passed over")))
+
+abbrev pub more_bad_entries : ℕ → ℕ → ℕ → List ℕ
+more_bad_entries number sequence bad = codes "directory " ++ (decimal number ++ (codes "," ++ (decimal sequence ++ (codes ": " ++ (decimal bad ++ codes " bad entries are passed over")))))
+
 abbrev pub bad_entries_text : ℕ → ℕ → ℕ → List ℕ
-bad_entries_text number sequence bad =
-    if bad == 1 then codes "directory " ++ decimal number ++ codes "," ++ decimal sequence ++ codes ": a bad entry is passed over"
-    else codes "directory " ++ decimal number ++ codes "," ++ decimal sequence ++ codes ": " ++ decimal bad ++ codes " bad entries are passed over"
+bad_entries_text number sequence bad = if bad == 1 then one_bad_entry number sequence else more_bad_entries number sequence bad

@@ -1,6 +1,6 @@
 //! The entries of a refused volume that are passed over, since they are bad: which directories have some, and how many.
 ghost use Rattle.std.specs.Prelude.{◌≡◌, ◌⊎◌, IfOk, string_bytes};
-ghost use Rattle.fs_reads.specs.Told.{bad_entries_text};
+ghost use Rattle.fs_reads.specs.Told.{bad_entries_text, more_bad_entries, one_bad_entry};
 ghost use Rattle.ods_mount.specs.Faults.{IsDirectoryFile};
 ghost use Rattle.ods_walk.specs.Listing.{ArePassedOver};
 ghost use Rattle.ods_space.specs.Disks.{on};
@@ -52,16 +52,35 @@ fn bad_in(alloc: Global, disk: &Disk<'_>, number: u16) -> Result<usize, AllocErr
 }
 
 /// What is said of a directory of which so many entries are bad.
-fn bad_text(
+fn bad_text(alloc: Global, number: u16, sequence: u16, bad: usize) -> Result<String, AllocError>
+    ensures { IfOk result (λ text. string_bytes text ≡ bad_entries_text number sequence bad) }
+{
+    if bad == 1 {
+        one_bad_text(alloc, number, sequence)
+    } else {
+        more_bad_text(alloc, number, sequence, bad)
+    }
+}
+
+/// What is said of a directory of which one entry is bad.
+fn one_bad_text(alloc: Global, number: u16, sequence: u16) -> Result<String, AllocError>
+    ensures { IfOk result (λ text. string_bytes text ≡ one_bad_entry number sequence) }
+{
+    let text = format!(in alloc; "directory {number},{sequence}: a bad entry is passed over")?;
+    Ok(text)
+}
+
+/// What is said of a directory of which so many entries are bad.
+fn more_bad_text(
     alloc: Global,
     number: u16,
     sequence: u16,
     bad: usize,
 ) -> Result<String, AllocError>
-    ensures { IfOk result (λ text. string_bytes text ≡ bad_entries_text number sequence bad) }
+    ensures { IfOk result (λ text. string_bytes text ≡ more_bad_entries number sequence bad) }
 {
-    if bad == 1 {
-        return format!(in alloc; "directory {number},{sequence}: a bad entry is passed over");
-    }
-    format!(in alloc; "directory {number},{sequence}: {bad} bad entries are passed over")
+    let text = format!(in alloc;
+        "directory {number},{sequence}: {bad} bad entries are passed over"
+    )?;
+    Ok(text)
 }
