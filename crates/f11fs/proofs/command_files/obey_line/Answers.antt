@@ -5,23 +5,11 @@ use Rattle.fs_words.specs.Parts.{IsLineOf}
 use Rattle.f11fs.proofs.Leading.{line_done, line_left}
 use Rattle.f11fs.proofs.command_files.obey_line.Goals as goal
 
-pub returns-in-Err-Open-clause-done : goal.returns-in-Err-Open-clause-done
-returns-in-Err-Open-clause-done g c = λ _. line_left c.args.run.now.outer.now.image c.args.run.now.asker.stamp c.args.run.now.asker.user c.args.line.now c.say_wrong.result c.args.filing.now
-
-pub returns-in-Err-NoMemory-clause-done : goal.returns-in-Err-NoMemory-clause-done
-returns-in-Err-NoMemory-clause-done g c = λ _. line_left c.args.run.now.outer.now.image c.args.run.now.asker.stamp c.args.run.now.asker.user c.args.line.now c.say_no_memory.result c.args.filing.now
-
 pub returns-in-Ok-None-clause-done : goal.returns-in-Ok-None-clause-done
 returns-in-Ok-None-clause-done g c = λ _. line_left c.args.run.now.outer.now.image c.args.run.now.asker.stamp c.args.run.now.asker.user c.args.line.now Done c.args.filing.now
 
-pub returns-in-Err-Help-clause-done : goal.returns-in-Err-Help-clause-done
-returns-in-Err-Help-clause-done g c = λ _. line_left c.args.run.now.outer.now.image c.args.run.now.asker.stamp c.args.run.now.asker.user c.args.line.now c.match-print.status c.args.filing.now
-
-pub returns-in-Err-Wrong-clause-done : goal.returns-in-Err-Wrong-clause-done
-returns-in-Err-Wrong-clause-done g c = λ _. line_left c.args.run.now.outer.now.image c.args.run.now.asker.stamp c.args.run.now.asker.user c.args.line.now c.say_wrong-in-Err-Wrong.result c.args.filing.now
-
 pub returns-clause-done : goal.returns-clause-done
-returns-clause-done g c = λ _. line_left c.args.run.now.outer.now.image c.args.run.now.asker.stamp c.args.run.now.asker.user c.args.line.now c.say_no_memory-in-Err-NoMemory-parse_line.result c.args.filing.now
+returns-clause-done g c = λ _. line_left c.args.run.now.outer.now.image c.args.run.now.asker.stamp c.args.run.now.asker.user c.args.line.now c.say_bad_words.result c.args.filing.now
 
 pub returns-in-Ok-Some-clause-done : goal.returns-in-Ok-Some-clause-done
 returns-in-Ok-Some-clause-done g c = λ stands.
