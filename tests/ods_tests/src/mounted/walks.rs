@@ -198,7 +198,10 @@ fn nearer_directories_are_entered_first(rt: HostRuntime) -> Result<(), Fail> {
     let alloc = rt.alloc();
     let (six, seven) = (entry(6, 1, A, DIR, 1), entry(7, 1, B, DIR, 1));
     let below = [six, entry(4, 4, C, DIR, 1)];
-    let volume = mounted(alloc, with_directories(alloc, &[seven, six], &[seven], &below)?)?;
+    let volume = mounted(
+        alloc,
+        with_directories(alloc, &[seven, six], &[seven], &below)?,
+    )?;
     let all = enter_all(alloc, &volume.disk())?;
     assert!(rt; are_entered(&all, &[4, 6, 7]) && all.lines().is_empty());
     assert!(rt; all.path(alloc, 2)?.as_slice() == [name_of(B, DIR)].as_slice());
