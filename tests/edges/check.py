@@ -52,7 +52,7 @@ def files_that_name_one_block_take_little_memory(room: Room) -> None:
 def directories_over_the_same_blocks_take_little_memory(room: Room) -> None:
     equal(room.run("disk", "check", preexec_fn=limited)[0], 7, "check")
     status, output, _ = room.run("disk", "check", "--all", preexec_fn=limited)
-    equal((status, output.count(b", and that is no file\n")), (7, 10_000), "check --all")
+    equal((status, output.count(b", and that is no file  [0,0]")), (7, 10_000), "check --all")
 
 
 def marked(names: int) -> bytes:
