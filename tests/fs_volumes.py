@@ -208,6 +208,7 @@ def more_images() -> dict[str, bytes]:
         "nomap": lacks[1],
         "nomaster": lacks[2],
         "badentry": changed(plain, 46, 14, b"\0", has_sum=False),
+        "nodirectory": changed(changed(changed(plain, 46, 14, b"\0", has_sum=False), 46, 30, b"\0", has_sum=False), 46, 46, b"\0", has_sum=False),
         "outside": changed(plain, 2 + 9, 104, b"\xc8\0"),
         "later": changed(later.bytes(), 2 + 26, 92, b"\1"),
         "doubly": doubly.bytes(),

@@ -56,7 +56,7 @@ def home_block_that_says_nothing(room: Room) -> None:
 @row(image=labelled)
 def object_of_all(room: Room) -> None:
     object_line = (
-        b'{"answer":"sound","blocks":80,"bytes_behind":0,"home_block":1,"image":"disk","index_bitmap":2,"index_bitmap_blocks":1,"index_blocks":43,"index_header":3,'
+        b'{"answer":"sound","blocks":80,"bytes_behind":0,"home_block":1,"image":"disk","index_bitmap":2,"index_bitmap_blocks":1,"index_blocks":43,"index_header":3,"index_runs":[{"blocks":43,"lbn":0}],'
         b'"label":"DISK?ONE","level":"402","made":"05-JUN-82 09:15:00","numbers":40,"numbers_ready":31,"owner":"[2,15]",'
         b'"protection":"[RWED,RWED,RWED,R]"}\n'
     )

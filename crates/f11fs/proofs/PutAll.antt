@@ -4,12 +4,13 @@ use Rattle.std.proofs.Math.Seq.{take-length, take-suc}
 use Rattle.std.specs.Borrow.{Bor}
 use Rattle.fs_words.specs.declared.actions.PutWords.{PutWords}
 use Rattle.ods_filing.specs.Filed.{Filed, HasGrown, lacking}
+use Rattle.ods_upkeep.specs.declared.asked.Placing.{Placing}
 use Rattle.ods_upkeep.specs.declared.asked.PutForm.{PutForm}
 use Rattle.ods_upkeep.specs.Begun.{AreNames, IsBegun}
 use Rattle.ods_upkeep.specs.HostPut.{IsHostPut}
 use Rattle.ods_upkeep.specs.Left.{InPut}
 use Rattle.f11fs.specs.Changed.{ArePut, ArePutNext, MayBeReady, hosts_among, path_among}
-use Rattle.f11fs.specs.Forms.{form_said}
+use Rattle.f11fs.specs.Forms.{form_said, placing_said}
 use Rattle.f11fs.specs.Readings.{IsLastPart}
 
 -- one file more
@@ -39,17 +40,18 @@ made_ready I L false names count old new counted (inl is) same = inl is
 made_ready I L false names count old new counted (inr grown) same = inr (refl, grown)
 
 -- all files
-pub put_all : (how : PutWords) (words hosts : List (Bor (List ℕ))) (to : Option (Bor (List ℕ))) (form : PutForm) (stamp : List ℕ) (p q : InPut) (i : ℕ) (old ready new : Filed)
-    → IsBegun old.image old.layout stamp to (nat_lt 1 (length hosts)) form how.like how.replace how.owner p
-    → to ≡ path_among words → hosts ≡ hosts_among words → form ≡ form_said how
+pub put_all : (how : PutWords) (words hosts : List (Bor (List ℕ))) (to : Option (Bor (List ℕ))) (form : PutForm) (placing : Option Placing) (stamp : List ℕ) (p q : InPut) (i : ℕ) (old ready new : Filed)
+    → IsBegun old.image old.layout stamp to (nat_lt 1 (length hosts)) form how.like placing how.replace how.owner p
+    → to ≡ path_among words → hosts ≡ hosts_among words → form ≡ form_said how → placing ≡ placing_said how
     → (ready ≡ old) ⊎ HasGrown old (lacking old (min (length hosts) 65535)) ready → (is_some p.names ≡ true → ready ≡ old)
     → i ≡ length hosts → ArePutNext p (take i hosts) ready q new → ArePut how words stamp old new
-put_all how words hosts to form stamp p q i old ready new begun goes are said either same end all = record {
+put_all how words hosts to form placing stamp p q i old ready new begun goes are said places either same end all = record {
   begun = p;
   begins =
-      subst (λ (o : Option (Bor (List ℕ))). IsBegun old.image old.layout stamp o (nat_lt 1 (length (hosts_among words))) (form_said how) how.like how.replace how.owner p) goes
-      (subst (λ (hs : List (Bor (List ℕ))). IsBegun old.image old.layout stamp to (nat_lt 1 (length hs)) (form_said how) how.like how.replace how.owner p) are
-      (subst (λ (f : PutForm). IsBegun old.image old.layout stamp to (nat_lt 1 (length hosts)) f how.like how.replace how.owner p) said begun));
+      subst (λ (g : Option Placing). IsBegun old.image old.layout stamp (path_among words) (nat_lt 1 (length (hosts_among words))) (form_said how) how.like g how.replace how.owner p) places
+      (subst (λ (o : Option (Bor (List ℕ))). IsBegun old.image old.layout stamp o (nat_lt 1 (length (hosts_among words))) (form_said how) how.like placing how.replace how.owner p) goes
+      (subst (λ (hs : List (Bor (List ℕ))). IsBegun old.image old.layout stamp to (nat_lt 1 (length hs)) (form_said how) how.like placing how.replace how.owner p) are
+      (subst (λ (f : PutForm). IsBegun old.image old.layout stamp to (nat_lt 1 (length hosts)) f how.like placing how.replace how.owner p) said begun)));
   ready = ready;
   made_ready = subst (λ (hs : List (Bor (List ℕ))). MayBeReady how.replace (length hs) old ready) are
       (made_ready old.image old.layout how.replace p.names (length hosts) old ready begun.named either same);

@@ -31,7 +31,8 @@ use Rattle.ods_upkeep.specs.Purged.{IsPurged}
 use Rattle.ods_upkeep.specs.Removed.{IsRemoved}
 use Rattle.ods_upkeep.specs.HostPut.{IsHostPut}
 use Rattle.ods_upkeep.specs.Left.{InPut}
-use Rattle.f11fs.specs.Forms.{form_said}
+use Rattle.ods_upkeep.specs.declared.asked.Placing.{Placing}
+use Rattle.f11fs.specs.Forms.{form_said, placing_for, placing_said}
 use Rattle.f11fs.specs.Readings.{IsLastPart}
 
 -- of so many words of a put, how many name host files: all but the last, where there are several
@@ -62,7 +63,7 @@ MayBeReady replaces count old new = (new ≡ old) ⊎ ((replaces ≡ false) × H
 pub record ArePut (how : PutWords) (words : List (Bor (List ℕ))) (stamp : List ℕ) (old new : Filed) : Type 0 where
   -- what is looked up before the first
   pub begun : InPut
-  pub begins : IsBegun old.image old.layout stamp (path_among words) (nat_lt 1 (length (hosts_among words))) (form_said how) how.like how.replace how.owner begun
+  pub begins : IsBegun old.image old.layout stamp (path_among words) (nat_lt 1 (length (hosts_among words))) (form_said how) how.like (placing_said how) how.replace how.owner begun
   pub ready : Filed
   pub made_ready : MayBeReady how.replace (length (hosts_among words)) old ready
   pub known : InPut
@@ -72,9 +73,9 @@ pub record ArePut (how : PutWords) (words : List (Bor (List ℕ))) (stamp : List
 abbrev pub MovesToLast : List (Bor (List ℕ)) → Filed → Filed → Type 0
 MovesToLast words old new = (from : List (Bor (List ℕ))) × ((to : Bor (List ℕ)) × (words ≡ from ++ to ∷ []) × IsMoved from to.now old new)
 
--- the files of these words are copied to the last one
-abbrev pub CopiesToLast : List (Bor (List ℕ)) → List ℕ → Filed → Filed → Type 0
-CopiesToLast words stamp old new = (from : List (Bor (List ℕ))) × ((to : Bor (List ℕ)) × (words ≡ from ++ to ∷ []) × IsCopiedTo stamp from to.now old new)
+-- the files of these words are copied to the last one, their blocks placed so
+abbrev pub CopiesToLast : Placing → List (Bor (List ℕ)) → List ℕ → Filed → Filed → Type 0
+CopiesToLast placing words stamp old new = (from : List (Bor (List ℕ))) × ((to : Bor (List ℕ)) × (words ≡ from ++ to ∷ []) × IsCopiedTo placing stamp from to.now old new)
 
 -- the file of the first word has so many bytes
 abbrev pub CutsFirst : List (Bor (List ℕ)) → ℕ → Filed → Filed → Type 0
@@ -91,7 +92,7 @@ IsNoLabel text = ¬ IsTrue (is_label_text text)
 -- What a change leaves that is made whole, by the words behind its name, and by the time that new files get.
 abbrev pub IsChanged : Change → List (Bor (List ℕ)) → List ℕ → Filed → Filed → Type 0
 IsChanged (change.Put how) words stamp old new = ArePut how words stamp old new
-IsChanged change.Cp words stamp old new = CopiesToLast words stamp old new
+IsChanged (change.Cp contiguous) words stamp old new = CopiesToLast (placing_for contiguous) words stamp old new
 IsChanged change.Mv words stamp old new = MovesToLast words old new
 IsChanged (change.Rm entry_alone newest) words stamp old new = IsRemoved entry_alone newest words old new
 IsChanged (change.Purge keep) words stamp old new = IsPurged keep words old new
@@ -114,7 +115,7 @@ SomeGot owner protection old new = (files : List FileId) × HaveGot owner protec
 -- what some changes leave, refused or not: nothing but what requests of theirs leave, or some of what they give
 abbrev pub KeepsTo : Change → Filed → Filed → Type 0
 KeepsTo (change.Put how) old new = Unit {0}
-KeepsTo change.Cp old new = Unit {0}
+KeepsTo (change.Cp contiguous) old new = Unit {0}
 KeepsTo change.Mv old new = IsLed Renames old new
 KeepsTo (change.Rm entry_alone newest) old new = IsLed (Removes entry_alone) old new
 KeepsTo (change.Purge keep) old new = IsLed (Removes false) old new

@@ -1,6 +1,9 @@
--- The form that the words of a put say.
-use Rattle.std.specs.Prelude.{ℕ, List, Option, Some, None, if◌then◌else◌}
+-- The form and the places of files that the words of a command say.
+use Rattle.std.specs.Prelude.{ℕ, Bool, List, Option, Some, None, if◌then◌else◌}
+use Rattle.std.specs.Option.{option_map}
 use Rattle.fs_words.specs.declared.actions.PutWords.{PutWords}
+use Rattle.ods_upkeep.specs.declared.asked.Placing.{Placing}
+use Rattle.ods_upkeep.specs.declared.asked.Placing.TheVariants.{Anywhere, InOnePiece}
 use Rattle.ods_upkeep.specs.declared.asked.PutForm.{PutForm}
 use Rattle.ods_upkeep.specs.declared.asked.PutForm.TheVariants as form
 
@@ -12,3 +15,11 @@ form_or how None = if how.text then form.Text else if how.binary then form.Binar
 -- the form that is said before the others is meant
 abbrev pub form_said : PutWords → PutForm
 form_said how = form_or how how.form
+
+-- where the blocks of new files stand: one behind another, or anywhere
+abbrev pub placing_for : Bool → Placing
+placing_for contiguous = if contiguous then InOnePiece else Anywhere
+
+-- and where that is said
+abbrev pub placing_said : PutWords → Option Placing
+placing_said how = option_map placing_for how.contiguous

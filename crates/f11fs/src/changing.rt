@@ -11,7 +11,7 @@ ghost use Rattle.f11fs.specs.{Changed.IsChanged, Changed.IsLabelled, Changed.IsN
 use crate::early::Early;
 use crate::host::Host;
 use crate::orders::layers_of;
-use crate::putting::put;
+use crate::putting::{placing_for, put};
 use crate::telling::plan_text;
 use fs_host::{Locked, Shown, Unfinished, stamp_of_now};
 use fs_reads::{Stop, WordFault, say_extent, send, stop_about, volume_of};
@@ -239,8 +239,11 @@ pub fn change_volume<'a, R: Files<File = File> + AllocGlobal + Eprint>(
     let paths = words.paths.as_slice();
     match change {
         Change::Put(how) => put(rt, filing, stamp, words, how, early),
-        Change::Cp => match paths.split_last() {
-            Some((to, paths)) => end_change(alloc, copy_files(alloc, filing, stamp, paths, *to)),
+        Change::Cp { contiguous } => match paths.split_last() {
+            Some((to, paths)) => end_change(
+                alloc,
+                copy_files(alloc, filing, stamp, placing_for(contiguous), paths, *to),
+            ),
             None => Err(Stop::Lines(String::new(alloc), Status::Words)),
         },
         Change::Mv => match paths.split_last() {

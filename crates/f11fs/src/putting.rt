@@ -1,6 +1,6 @@
 //! `put`: files of the host, put into a volume.
 ghost use Rattle.std.specs.Prelude.{◌≡◌, ◌≤◌, ◌⊎◌, ℕ, List, Ok, Some, IfErr, IfOk, OnOk, slice_get, vec_len};
-ghost use Rattle.f11fs.specs.{Changed.ArePut, Changed.IsRefusal, Changed.path_among, Forms.form_said, Readings.IsLastPart, Readings.IsTooLarge, Readings.IsUnread, Readings.first_at};
+ghost use Rattle.f11fs.specs.{Changed.ArePut, Changed.IsRefusal, Changed.path_among, Forms.form_said, Forms.placing_for as placing_by, Forms.placing_said, Readings.IsLastPart, Readings.IsTooLarge, Readings.IsUnread, Readings.first_at};
 ghost use Rattle.f11fs.specs.declared.early.Taken.{Taken as Read};
 ghost use Rattle.ods_upkeep.specs.HostPut.{IsHostPut};
 
@@ -11,7 +11,7 @@ use fs_reads::{Stop, WordFault};
 use fs_words::{PutWords, Words};
 use ods_filing::Filing;
 use ods_request::Stamp;
-use ods_upkeep::{HostFile, PutForm, Putting};
+use ods_upkeep::{HostFile, Placing, PutForm, Putting};
 use std::fs;
 use std::fs::File;
 use std::rt::Files;
@@ -43,6 +43,7 @@ pub fn put<'a, R: Files<File = File> + AllocGlobal + Eprint>(
         hosts.len() > 1,
         form_of(&how),
         how.like,
+        placing_of(&how),
         how.replace,
         how.owner,
     );
@@ -88,6 +89,27 @@ fn form_of(how: &PutWords<'_>) -> PutForm
         PutForm::Binary
     } else {
         PutForm::ByContents
+    }
+}
+
+/// Where the blocks of new files stand, where the words say it.
+fn placing_of(how: &PutWords<'_>) -> Option<Placing>
+    ensures { result ≡ placing_said how.now }
+{
+    match how.contiguous {
+        Some(contiguous) => Some(placing_for(contiguous)),
+        None => None,
+    }
+}
+
+/// Where the blocks of files stand that are to be in one piece, or not.
+pub(crate) fn placing_for(contiguous: bool) -> Placing
+    ensures { result ≡ placing_by contiguous }
+{
+    if contiguous {
+        Placing::InOnePiece
+    } else {
+        Placing::Anywhere
     }
 }
 

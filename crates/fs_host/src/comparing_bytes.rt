@@ -10,7 +10,7 @@ use ods_base::{Block, Image};
 use std::io::{Read, Seek, SeekFrom};
 
 /// How many bytes are compared at once: some whole blocks.
-const PIECE: usize = 4096;
+const PIECE: usize = 65_536;
 
 /// Whether the file has the bytes of this image, with these behind them, and no more; where `ends_in_zeros` it may lack zeros at the end.
 pub fn has_bytes<F: Read + Seek>(

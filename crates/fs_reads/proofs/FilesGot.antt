@@ -80,13 +80,18 @@ module _ (user : Option Uic) (Gives : ℕ → List ℕ → Option Remark → Typ
   unread_ends (Ok s) why known e so said = inr (said.0, refused_for why known e said.1 so)
   unread_ends (Err stop) why known e so said = tt
 
+  pub unread_got : {E : Type 0} (r : Result Status E) (why : Unread) (known : Option Facts) → found.facts ≡ known → IfSome known (λ facts. IsUnread user facts (Lacks facts.file.number) why)
+      → IfOk r (λ s. (s ≡ status.Refused) × (why ≢ unread.Form NoMemory)) → IfOk r (EndsGet user Gives Lacks found)
+  unread_got (Ok s) why known e so said = inl (inr (said.0, refused_for why known e said.1 so))
+  unread_got (Err stop) why known e so said = tt
+
 module _ (I : List (List ℕ)) (L : VolumeLayout) (user : Option Uic) (closed : List ℕ) where
   -- what is added with nothing wrong is all that the path names
   pub named_alone : (path : List ℕ) (old new : List Found) (s : Status) → AddsNamed I L user closed path old new s → s ≡ status.Done
       → (found : List Found) × (new ≡ old ++ found) × AddsNamed I L user closed path [] found status.Done
   named_alone path old new s adds done = elim adds [
     | inl (met, files, shut) ↦ (files.0, files.1, inl (met, (files.0, refl, files.2), subst (IsClosedStatus user met) done shut))
-    | inr (same, none) ↦ absurd (path_fault none.0 s none.3 done)
+    | inr refused ↦ elim refused [ inl twins ↦ absurd (let clash : status.Refused ≡ status.Done = sym twins.2 ∙ done in cc) | inr (same, none) ↦ absurd (path_fault none.0 s none.3 done) ]
   ]
 
   -- files stay among more

@@ -1,3 +1,4 @@
+mod AddedFiles
 mod Closing
 mod DeletedShown
 mod FilesGot
@@ -12,3 +13,4 @@ mod PathsKnown
 mod Saying
 mod Statuses
 mod Undeleting
+pub mod PassedOver

@@ -52,6 +52,10 @@ EndsWith (Err why) s = StopsWith why s
 abbrev pub about_line : List ℕ → List ℕ → List ℕ
 about_line what why = shown_text what ++ (codes ": " ++ why)
 
+-- what is said of a path that two entries of one directory fit, with one name and version
+abbrev pub two_entries : List ℕ
+two_entries = codes "two entries have this name; 'find' lists their IDs, and '#N,S' says which is meant"
+
 -- where the command ends with a line of its own, this is the line
 abbrev pub SaysLine : List ℕ → Stop → Type 0
 SaysLine line (stop.Lines lines own) = string_bytes lines ≡ line

@@ -20,7 +20,7 @@ bytes_behind (Some (extent.Shorter blocks all)) = 0
 -- what is shown of the volume in the image at this path, as an object or as lines
 abbrev pub ShowsInfo : List (List ℕ) → VolumeLayout → Bool → List ℕ → ℕ → List ℕ → List ℕ → Type 0
 ShowsInfo I L json path behind answer text = (info : Info) × IsInfoOf I L info
-    × (text ≡ (if json then object_line (info_members path info behind answer) else info_text info L.index behind answer))
+    × (text ≡ (if json then object_line (info_members path info L.index behind answer) else info_text info L.index behind answer))
 
 -- the status: the volume is sound, or the image is refused
 abbrev pub EndsInfo : Type 0 → Status → Type 0

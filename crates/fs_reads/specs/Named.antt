@@ -6,6 +6,7 @@ use Rattle.ods_paths.specs.Paths.{Files, Folder, Said, Says, Within}
 use Rattle.ods_paths.specs.declared.versions.Versions.TheVariants as versions
 use Rattle.ods_shell.specs.Found.{AreFound, HasPathStatus}
 use Rattle.ods_shell.specs.Named.{AreNamedBy, IsPathFault, highest}
+use Rattle.ods_shell.specs.Twins.{HaveTwins}
 use Rattle.ods_shell.specs.Ways.{AreMeant, CountAsClosed}
 use Rattle.ods_shell.specs.declared.alone.Alone.{Alone}
 use Rattle.ods_shell.specs.declared.alone.Alone.TheVariants as alone
@@ -15,6 +16,7 @@ use Rattle.ods_shell.specs.declared.found.Found.{Found}
 use Rattle.ods_shell.specs.declared.path_fault.PathFault.{PathFault}
 use Rattle.ods_shell.specs.declared.path_fault.PathFault.TheVariants.{NoMemory}
 use Rattle.ods_shell.specs.declared.status.Status.{Status}
+use Rattle.ods_shell.specs.declared.status.Status.TheVariants.{Refused}
 use Rattle.ods_space.specs.Layout.{VolumeLayout}
 use Rattle.fs_reads.specs.Denied.{IsClosedStatus}
 
@@ -44,8 +46,14 @@ abbrev pub AddsFiles : List (List ℕ) → VolumeLayout → List ℕ → List �
 AddsFiles I L closed path met old new =
     (found : List Found) × (new ≡ old ++ found) × ((shut : List ℕ) → CountAsClosed closed met shut → AreOfPath I L alone.Files shut path found)
 
--- The files that a path names come behind the others, and the status says whether a closed directory was met; or the path names none, and the status says why.
+-- a path names entries of one directory with one name and version, past the closed directories that are met
+abbrev pub NamesTwins : List (List ℕ) → VolumeLayout → List ℕ → List ℕ → Type 0
+NamesTwins I L closed path =
+    (met : List Met) × ((found : List Found) × HaveTwins found × ((shut : List ℕ) → CountAsClosed closed met shut → AreOfPath I L alone.Files shut path found))
+
+-- The files that a path names come behind the others, and the status says whether a closed directory was met; or the path names twins and is refused; or it names none, and the status says why.
 abbrev pub AddsNamed : List (List ℕ) → VolumeLayout → Option Uic → List ℕ → List ℕ → List Found → List Found → Status → Type 0
 AddsNamed I L user closed path old new s =
     ((met : List Met) × AddsFiles I L closed path met old new × IsClosedStatus user met s)
+    ⊎ ((new ≡ old) × NamesTwins I L closed path × (s ≡ Refused))
     ⊎ ((new ≡ old) × ((why : PathFault) × (why ≢ NoMemory) × IsPathFault I L path (highest alone.Files) why × HasPathStatus why s))

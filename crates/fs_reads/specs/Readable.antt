@@ -2,7 +2,7 @@
 use Rattle.std.specs.Prelude.{◌≡◌, ◌⊎◌, ℕ, Bool, List, MatchBool, if◌then◌else◌}
 use Rattle.ods_mount.specs.Faults.{FaultIsTrue, IsSound}
 use Rattle.ods_mount.specs.declared.fault.MountFault.{MountFault}
-use Rattle.ods_space.specs.Files.{IsLayoutOf}
+use Rattle.ods_space.specs.Files.{FindsFiles, IsReadable}
 use Rattle.ods_space.specs.Layout.{VolumeLayout}
 use Rattle.ods_shell.specs.declared.status.Status.{Status}
 use Rattle.ods_shell.specs.declared.status.Status.TheVariants as status
@@ -20,10 +20,10 @@ pub record Opened : Type 0 where
 abbrev pub end_of : Bool → Status → Status
 end_of sound done = if sound then done else status.Image
 
--- it is this image, and sound, or one of its faults is known
+-- it is this image with a layout by which it is read, and sound, or one of its faults is known
 abbrev pub IsJudged : List (List ℕ) → Opened → Type 0
-IsJudged I r = (r.image ≡ I) × MatchBool r.sound (IsSound I) ((fault : MountFault) × FaultIsTrue I fault)
+IsJudged I r = (r.image ≡ I) × IsReadable I r.layout × MatchBool r.sound (IsSound I) ((fault : MountFault) × FaultIsTrue I fault)
 
--- why a command does not go on: memory is wanting, or the image has no layout
+-- why a command does not go on: memory is wanting, or no layout leads to the files of the image
 abbrev pub LacksLayout : List (List ℕ) → Stop → Type 0
-LacksLayout I s = (s ≡ stop.NoMemory) ⊎ ((L : VolumeLayout) → ¬ IsLayoutOf I L)
+LacksLayout I s = (s ≡ stop.NoMemory) ⊎ ((L : VolumeLayout) → ¬ FindsFiles I L)

@@ -1,6 +1,10 @@
 -- The lines of `check` about files, behind which their paths stand; and what is said of directories that are read in part.
-use Rattle.std.specs.Prelude.{ℕ, ◌==◌, if◌then◌else◌, Bool, true, false, List, ◌∷◌, ◌++◌, [], codes, Option, Some, None}
+use Rattle.std.specs.Prelude.{◌≡◌, ℕ, ◌==◌, ◌&&◌, not, if◌then◌else◌, Bool, true, false, List, ◌∷◌, ◌++◌, [], codes, length, Option, Some, None}
 use Rattle.std.specs.Fmt.{decimal}
+use Rattle.ods_base.specs.declared.listed.Listed.{Listed}
+use Rattle.ods_shell.specs.Named.{id_of}
+use Rattle.ods_space.specs.Layout.{VolumeLayout}
+use Rattle.ods_walk.specs.Listing.{IsListing}
 use Rattle.ods_shell.specs.ByNumber.{NamedFiles, path_noted}
 use Rattle.ods_shell.specs.Json.{object_line, with_text}
 use Rattle.serde_json.specs.Data.{Members, no_members}
@@ -39,3 +43,16 @@ more_bad_entries number sequence bad = codes "directory " ++ (decimal number ++ 
 
 abbrev pub bad_entries_text : ℕ → ℕ → ℕ → List ℕ
 bad_entries_text number sequence bad = if bad == 1 then one_bad_entry number sequence else more_bad_entries number sequence bad
+
+-- what is said of a file with the type of a directory, by its ID, of which no entry is good
+abbrev pub no_directory_text : ℕ → ℕ → ℕ → List ℕ
+no_directory_text number sequence bad = codes "file " ++ (decimal number ++ (codes "," ++ (decimal sequence ++ (codes ": not a directory: it has no good entry, and " ++ (decimal bad ++ codes " bad")))))
+
+-- Number n is that of no directory, whatever its type says: it shows none of these lines, and is not the master directory.
+abbrev pub is_no_directory : ℕ → List Listed → Bool
+is_no_directory n lines = not (n == 4) && (length lines == 0)
+
+-- what is said of directory n, which has so many bad entries
+abbrev pub SaysPassed : List (List ℕ) → VolumeLayout → ℕ → ℕ → List ℕ → Type 0
+SaysPassed I L n bad text = (lines : List Listed) × IsListing I L n lines
+    × (text ≡ (if is_no_directory n lines then no_directory_text n (id_of I L n).sequence bad else bad_entries_text n (id_of I L n).sequence bad))

@@ -5,7 +5,7 @@ ghost use Rattle.fs_reads.specs.Ends.{SaysLine, StopsWith};
 ghost use Rattle.ods_shell.specs.Texts.{shown_directory};
 ghost use Rattle.fs_reads.specs.declared.stop.Stop.{Stop as End};
 ghost use Rattle.ods_shell.specs.declared.status.Status.{Status as Code};
-ghost use Rattle.ods_space.specs.Files.{IsLayoutOf};
+ghost use Rattle.ods_space.specs.Files.{FindsFiles};
 ghost use Rattle.ods_space.specs.Disks.{on};
 
 use crate::stop::{Stop, say_lines};
@@ -21,7 +21,7 @@ pub(crate) fn closed_to(
     disk: &Disk<'_>,
     user: Option<Uic>,
 ) -> Result<Vec<u16>, AllocError>
-    requires { on IsLayoutOf disk.now }
+    requires { on FindsFiles disk.now }
     ensures { IfOk result (λ closed. on AreClosedTo disk.now user closed.items) }
 {
     let mut closed = Vec::new(alloc);
@@ -41,7 +41,7 @@ fn push_closed(
     user: Uic,
     closed: &mut Vec<u16>,
 ) -> Result<(), AllocError>
-    requires { on IsLayoutOf disk.now }
+    requires { on FindsFiles disk.now }
     ensures { OnOk result (on AddsClosed disk.now user number closed.old.items closed.new.items) }
 {
     if is_closed(disk, number, user) {
@@ -52,7 +52,7 @@ fn push_closed(
 
 /// Whether the number is that of a directory that this user may not read.
 fn is_closed(disk: &Disk<'_>, number: u16, user: Uic) -> bool
-    requires { on IsLayoutOf disk.now }
+    requires { on FindsFiles disk.now }
     ensures { MatchBool result (on IsClosedTo disk.now user number) (¬ on IsClosedTo disk.now user number) }
 {
     match facts_of(disk, number) {

@@ -9,7 +9,7 @@ ghost use Rattle.fs_reads.specs.Paths.{AreAllPaths, AreInOrder, LacksPath, path_
 ghost use Rattle.ods_shell.specs.{Texts.shown_path, There.path_in};
 ghost use Rattle.fs_reads.specs.declared.stop.Stop.{Stop as End};
 ghost use Rattle.ods_shell.specs.declared.status.Status.{Status as Code};
-ghost use Rattle.ods_space.specs.Files.{IsLayoutOf};
+ghost use Rattle.ods_space.specs.Files.{FindsFiles};
 ghost use Rattle.ods_space.specs.Disks.{on};
 
 use crate::closed::{closed_to, stop_at_closed};
@@ -48,7 +48,7 @@ pub(crate) fn compare_all<'a, R: Files<File = File> + Clock + AllocGlobal + Prin
     all: bool,
     progress: &mut Progress,
 ) -> Result<Status, Stop<'a>>
-    requires { on IsLayoutOf disk.now }
+    requires { on FindsFiles disk.now }
     ensures { IfOk result EndsCompare }
 {
     let Some(path) = words.paths.first() else {
@@ -126,7 +126,7 @@ pub fn all_known<'a>(
 
 /// All paths of a volume, in the order of their bytes.
 fn all_paths<'a>(alloc: Global, disk: &Disk<'_>, user: Option<Uic>) -> Result<Vec<Known>, Stop<'a>>
-    requires { on IsLayoutOf disk.now }
+    requires { on FindsFiles disk.now }
     ensures all { IfOk result (λ all. on AreAllPaths disk.now all.items) }
     ensures err { IfErr result (λ stop. StopsWith stop Code.Refused ⊎ (stop ≡ End.NoMemory)) }
 {
@@ -226,8 +226,8 @@ fn push_difference<'a>(
     all: bool,
     text: &mut String,
 ) -> Result<(), Stop<'a>>
-    requires one { on IsLayoutOf disk.now }
-    requires other { on IsLayoutOf other.now }
+    requires one { on FindsFiles disk.now }
+    requires other { on FindsFiles other.now }
     ensures { OnOk result (Extends (string_bytes text.old) (string_bytes text.new)) }
 {
     if one.file.number <= 2 && file.number <= 2 {
@@ -251,8 +251,8 @@ fn check_rights<'a>(
     file: FileId,
     user: Option<Uic>,
 ) -> Result<(), Stop<'a>>
-    requires one { on IsLayoutOf disk.now }
-    requires other { on IsLayoutOf other.now }
+    requires one { on FindsFiles disk.now }
+    requires other { on FindsFiles other.now }
     ensures { IfErr result (λ stop. StopsWith stop Code.Refused ⊎ (stop ≡ End.NoMemory)) }
 {
     let (Some(facts), Some(others)) = (facts_by_id(disk, one.file), facts_by_id(other, file)) else {
@@ -274,8 +274,8 @@ fn push_word<'a>(
     file: FileId,
     text: &mut String,
 ) -> Result<(), Stop<'a>>
-    requires one { on IsLayoutOf disk.now }
-    requires other { on IsLayoutOf other.now }
+    requires one { on FindsFiles disk.now }
+    requires other { on FindsFiles other.now }
     ensures { OnOk result (Extends (string_bytes text.old) (string_bytes text.new)) }
 {
     match difference_of(alloc, disk, one.file, other, file)? {
@@ -296,8 +296,8 @@ fn push_facts(
     file: FileId,
     text: &mut String,
 ) -> Result<(), AllocError>
-    requires one { on IsLayoutOf disk.now }
-    requires other { on IsLayoutOf other.now }
+    requires one { on FindsFiles disk.now }
+    requires other { on FindsFiles other.now }
     ensures { OnOk result (Extends (string_bytes text.old) (string_bytes text.new)) }
 {
     match (facts_by_id(disk, one.file), facts_by_id(other, file)) {
@@ -359,8 +359,8 @@ fn difference_of<'a>(
     other: &Disk<'_>,
     file: FileId,
 ) -> Result<Option<&'static str>, Stop<'a>>
-    requires one { on IsLayoutOf disk.now }
-    requires other { on IsLayoutOf other.now }
+    requires one { on FindsFiles disk.now }
+    requires other { on FindsFiles other.now }
     ensures { IfOk result (λ word. AreCompared (held disk.now) one (held other.now) file (option_copied word)) }
 {
     match (facts_by_id(disk, one), facts_by_id(other, file)) {
@@ -378,8 +378,8 @@ fn difference<'a>(
     other: &Disk<'_>,
     others: &Facts,
 ) -> Result<Option<&'static str>, Stop<'a>>
-    requires one { on IsLayoutOf disk.now }
-    requires other { on IsLayoutOf other.now }
+    requires one { on FindsFiles disk.now }
+    requires other { on FindsFiles other.now }
     ensures { IfOk result (λ word. IsTold (held disk.now) facts.now (held other.now) others.now (option_copied word)) }
 {
     if facts.kind == Kind::Directory && others.kind == Kind::Directory {

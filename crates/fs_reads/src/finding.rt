@@ -3,7 +3,7 @@ ghost use Rattle.std.specs.Prelude.{◌≡◌, ℕ, List, None, IfErr, IfOk, str
 ghost use Rattle.ods_paths.specs.Views.{folder as said_folder};
 ghost use Rattle.ods_shell.specs.{Found.AreFound, Ways.AreMeant, Ways.CountAsClosed};
 ghost use Rattle.fs_reads.specs.{Ends.EndsPath, Named.AreFoundBy, Named.everywhere as all_directories, Named.names_no_directory, Named.searched, Shown.Extends};
-ghost use Rattle.ods_space.specs.Files.{IsLayoutOf};
+ghost use Rattle.ods_space.specs.Files.{FindsFiles};
 ghost use Rattle.ods_space.specs.Disks.{on};
 
 use crate::closed::{closed_to, stop_at_closed, stop_at_numbers};
@@ -27,7 +27,7 @@ pub(crate) fn push_paths<'a>(
     lost: bool,
     text: &mut String,
 ) -> Result<(), Stop<'a>>
-    requires { on IsLayoutOf disk.now }
+    requires { on FindsFiles disk.now }
     ensures { Extends (string_bytes text.old) (string_bytes text.new) }
 {
     let closed = closed_to(alloc, disk, words.user)?;
@@ -62,7 +62,7 @@ fn push_found(
     words: &Words<'_>,
     text: &mut String,
 ) -> Result<(), AllocError>
-    requires { on IsLayoutOf disk.now }
+    requires { on FindsFiles disk.now }
     ensures { Extends (string_bytes text.old) (string_bytes text.new) }
 {
     let lines = if words.json {
@@ -142,7 +142,7 @@ pub(crate) fn push_usage(
     words: &Words<'_>,
     text: &mut String,
 ) -> Result<(), AllocError>
-    requires { on IsLayoutOf disk.now }
+    requires { on FindsFiles disk.now }
     ensures { Extends (string_bytes text.old) (string_bytes text.new) }
 {
     let all = find_all(alloc, disk, &[])?;

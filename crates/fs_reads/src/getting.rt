@@ -10,7 +10,7 @@ ghost use Rattle.fs_reads.specs.Written.{status_written};
 ghost use Rattle.fs_reads.specs.declared.stop.Stop.{Stop as End};
 ghost use Rattle.ods_shell.specs.Contents.{IsGot, IsNotGot};
 ghost use Rattle.ods_shell.specs.declared.status.Status.{Status as Code};
-ghost use Rattle.ods_space.specs.Files.{IsLayoutOf};
+ghost use Rattle.ods_space.specs.Files.{FindsFiles};
 ghost use Rattle.ods_space.specs.Disks.{on};
 
 use crate::closed::closed_to;
@@ -68,7 +68,7 @@ pub(crate) fn get<'a, R: Files<File = File> + Clock + AllocGlobal + Print + Epri
     wanted: Wanted,
     progress: &mut Progress,
 ) -> Result<Status, Stop<'a>>
-    requires { on IsLayoutOf disk.now }
+    requires { on FindsFiles disk.now }
     ensures status { IfOk result (λ s. may_name s ≡ true) }
     ensures done { IfOk result (λ s. s ≡ Code.Done → (paths : List (Bor (List ℕ))) × ((target : Option (Bor (List ℕ))) × AreSaid words.now.paths.items said.entry paths target
         × on AreGot disk.now words.now.user (λ n. on IsGot disk.now n wanted) paths)) }
@@ -143,7 +143,7 @@ fn add_paths<'a, R: AllocGlobal + Eprint>(
     user: Option<Uic>,
     all: &mut Vec<Found>,
 ) -> Result<Status, Stop<'a>>
-    requires { on IsLayoutOf disk.now }
+    requires { on FindsFiles disk.now }
     ensures status { IfOk result (λ s. may_name s ≡ true) }
     ensures done { IfOk result (λ s. s ≡ Code.Done → All (λ path. on IsAmong disk.now user closed.now all.new.items path.now) paths.now) }
 {
@@ -205,7 +205,7 @@ fn get_all<'a, R: Files<File = File> + Clock + AllocGlobal + Print + Eprint>(
     how: How<'_>,
     progress: &mut Progress,
 ) -> Result<Status, Stop<'a>>
-    requires { on IsLayoutOf disk.now }
+    requires { on FindsFiles disk.now }
     ensures status { IfOk result (λ s. may_name s ≡ true) }
     ensures done { IfOk result (λ s. s ≡ Code.Done → All (IsGettable how.entry.reader.user (λ n. on IsGot disk.now n how.entry.wanted)) files.now) }
 {
@@ -226,7 +226,7 @@ pub(crate) fn get_each<'a, R: Files<File = File> + Clock + AllocGlobal + Print +
     how: How<'_>,
     progress: &mut Progress,
 ) -> Result<Status, Stop<'a>>
-    requires { on IsLayoutOf disk.now }
+    requires { on FindsFiles disk.now }
     ensures status { IfOk result (λ s. may_name s ≡ true) }
     ensures done { IfOk result (λ s. s ≡ Code.Done → All (IsGettable how.entry.reader.user (λ n. on IsGot disk.now n how.entry.wanted)) files.now) }
 {
@@ -255,7 +255,7 @@ fn get_one<'a, R: Files<File = File> + AllocGlobal + Print + Eprint>(
     versions: &Versioned,
     written: &mut BTreeSet<String>,
 ) -> Result<Status, Stop<'a>>
-    requires { on IsLayoutOf disk.now }
+    requires { on FindsFiles disk.now }
     ensures { IfOk result (EndsGet how.entry.reader.user (λ n. on IsGot disk.now n how.entry.wanted) (λ n. on IsNotGot disk.now n how.entry.wanted) found.now) }
 {
     match to {
@@ -280,7 +280,7 @@ fn get_into<'a, R: Files<File = File> + AllocGlobal + Print + Eprint>(
     how: How<'_>,
     written: &mut BTreeSet<String>,
 ) -> Result<Status, Stop<'a>>
-    requires { on IsLayoutOf disk.now }
+    requires { on FindsFiles disk.now }
     ensures { IfOk result (EndsGet how.entry.reader.user (λ n. on IsGot disk.now n how.entry.wanted) (λ n. on IsNotGot disk.now n how.entry.wanted) found.now) }
 {
     let path = path_within(rt.alloc(), folder, name.as_str())?;
@@ -311,7 +311,7 @@ fn get_file<'a, R: Files<File = File> + AllocGlobal + Print + Eprint>(
     host: &str,
     how: How<'_>,
 ) -> Result<Status, Stop<'a>>
-    requires { on IsLayoutOf disk.now }
+    requires { on FindsFiles disk.now }
     ensures { IfOk result (EndsGet how.entry.reader.user (λ n. on IsGot disk.now n how.entry.wanted) (λ n. on IsNotGot disk.now n how.entry.wanted) found.now) }
 {
     let path = found.path.as_str();

@@ -9,7 +9,7 @@ ghost use Rattle.ods_shell.specs.{Contents.IsGot, Named.IsEntryOf, Passed.is_pas
 ghost use Rattle.ods_shell.specs.declared.folders.Directory.{Directory as Holder};
 ghost use Rattle.ods_shell.specs.declared.found.Found.{Found as One};
 ghost use Rattle.ods_shell.specs.declared.status.Status.{Status as Code};
-ghost use Rattle.ods_space.specs.Files.{IsLayoutOf};
+ghost use Rattle.ods_space.specs.Files.{FindsFiles};
 ghost use Rattle.ods_space.specs.Disks.{on};
 
 use crate::closed::{closed_to, say_closed};
@@ -42,7 +42,7 @@ pub(crate) fn get_tree<'a, R: Files<File = File> + Clock + AllocGlobal + Print +
     wanted: Wanted,
     progress: &mut Progress,
 ) -> Result<Status, Stop<'a>>
-    requires { on IsLayoutOf disk.now }
+    requires { on FindsFiles disk.now }
     ensures status { IfOk result (λ s. may_name s ≡ true) }
     ensures done { IfOk result (λ s. s ≡ Code.Done → (path : Bor (List ℕ)) × ((target : Option (Bor (List ℕ))) × AreSaid words.now.paths.items said.entry (path ∷ []) target
         × on IsTreeGot disk.now words.now.user (λ n. on IsGot disk.now n wanted) path.now)) }
@@ -155,7 +155,7 @@ fn get_directories<'a, R: Files<File = File> + Clock + AllocGlobal + Print + Epr
     how: How<'_>,
     progress: &mut Progress,
 ) -> Result<Status, Stop<'a>>
-    requires { on IsLayoutOf disk.now }
+    requires { on FindsFiles disk.now }
     ensures status { IfOk result (λ s. may_name s ≡ true) }
     ensures done { IfOk result (λ s. s ≡ Code.Done → All (on IsDirectoryGot disk.now how.entry.reader.user (λ n. on IsGot disk.now n how.entry.wanted)) directories.now) }
 {
@@ -176,7 +176,7 @@ fn get_directory<'a, R: Files<File = File> + Clock + AllocGlobal + Print + Eprin
     how: How<'_>,
     progress: &mut Progress,
 ) -> Result<Status, Stop<'a>>
-    requires { on IsLayoutOf disk.now }
+    requires { on FindsFiles disk.now }
     ensures status { IfOk result (λ s. may_name s ≡ true) }
     ensures done { IfOk result (λ s. s ≡ Code.Done → on IsDirectoryGot disk.now how.entry.reader.user (λ n. on IsGot disk.now n how.entry.wanted) directory.now) }
 {
@@ -218,7 +218,7 @@ fn make_folder<'a, R: Files + AllocGlobal>(rt: &R, folder: &str) -> Result<(), S
 
 /// The files of a directory that are got: all but those that are passed over.
 fn files_in(alloc: Global, disk: &Disk<'_>, directory: &Directory) -> Result<Vec<Found>, AllocError>
-    requires { on IsLayoutOf disk.now }
+    requires { on FindsFiles disk.now }
     ensures { IfOk result (λ files. on AreFilesIn disk.now directory.now files.items) }
 {
     let entries = lines_of(alloc, disk, directory.number)?;
@@ -237,7 +237,7 @@ fn add_file(
     entry: &Listed,
     files: &mut Vec<Found>,
 ) -> Result<(), AllocError>
-    requires { on IsLayoutOf disk.now }
+    requires { on FindsFiles disk.now }
     ensures { OnOk result ((found : One) × on IsEntryOf disk.now directory.now entry.now found
         × (files.new.items ≡ (if is_passed_over found.facts then files.old.items else files.old.items ++ found ∷ []))) }
 {

@@ -4,13 +4,13 @@ ghost use Rattle.fs_reads.specs.Infos.{EndsInfo, ShowsInfo, bytes_behind};
 ghost use Rattle.ods_mount.specs.Faults.{IsSound};
 ghost use Rattle.ods_shell.specs.declared.status.Status.{Status as Code};
 ghost use Rattle.ods_space.specs.Disks.{on};
-ghost use Rattle.ods_space.specs.Files.{IsLayoutOf};
+ghost use Rattle.ods_space.specs.Files.{FindsFiles};
 
 use crate::stop::{Stop, say_refused, send, stop_at_own_output};
 use crate::volume::{VolumeFault, no_volume, not_mounted, open_image, say_extent};
 use fs_host::{Extent, Layers};
 use ods_base::Image;
-use ods_mount::{MountFault, check_image, read_layout};
+use ods_mount::{check_image, readable_layout};
 use ods_shell::{Status, info_lines, info_object, volume_info};
 use ods_space::Disk;
 use std::alloc::{AllocError, Global};
@@ -73,7 +73,7 @@ pub fn info_image<'a, R: Files<File = File> + AllocGlobal + Print + Eprint>(
     }
 }
 
-/// `info` of an image that a mount refuses: the refusal comes first. An image without a layout has nothing to show.
+/// `info` of an image that a mount refuses: the refusal comes first. Where INDEXF.SYS has no whole chain there is nothing to show.
 fn info_refused<'a, R: AllocGlobal + Print + Eprint>(
     rt: &R,
     path: &'a str,
@@ -84,8 +84,8 @@ fn info_refused<'a, R: AllocGlobal + Print + Eprint>(
 ) -> Result<Status, Stop<'a>>
     ensures { IfOk result (λ s. s ≡ Code.Image) }
 {
-    match read_layout(rt.alloc(), image) {
-        Ok((_, layout)) => {
+    match readable_layout(rt.alloc(), image)? {
+        Some(layout) => {
             let disk = Disk {
                 image,
                 layout: &layout,
@@ -95,8 +95,7 @@ fn info_refused<'a, R: AllocGlobal + Print + Eprint>(
             tell_info(rt, path, &disk, behind, answer.as_str(), json)?;
             Ok(Status::Image)
         }
-        Err(MountFault::NoMemory) => Err(Stop::NoMemory),
-        Err(_) => Err(no_volume(path, *why)),
+        None => Err(no_volume(path, *why)),
     }
 }
 
@@ -109,7 +108,7 @@ fn tell_info<'a, R: AllocGlobal + Print>(
     answer: &str,
     json: bool,
 ) -> Result<Status, Stop<'a>>
-    requires { on IsLayoutOf disk.now }
+    requires { on FindsFiles disk.now }
     ensures { IfOk result (λ s. s ≡ Code.Done) }
 {
     let text = info_shown(rt.alloc(), path, disk, behind, answer, json)?;
@@ -125,12 +124,12 @@ fn info_shown(
     answer: &str,
     json: bool,
 ) -> Result<String, AllocError>
-    requires { on IsLayoutOf disk.now }
+    requires { on FindsFiles disk.now }
     ensures { IfOk result (λ text. on ShowsInfo disk.now json path.now behind answer.now (string_bytes text)) }
 {
     let info = volume_info(disk);
     if json {
-        info_object(alloc, path, &info, behind, answer)
+        info_object(alloc, path, &info, disk.layout.index(), behind, answer)
     } else {
         info_lines(alloc, &info, disk.layout.index(), behind, answer)
     }

@@ -1,7 +1,7 @@
 //! `ls`: the names in directories.
 ghost use Rattle.std.specs.Prelude.{◌≡◌, ◌&&◌, ◌||◌, ◌==◌, string_bytes, vec_len};
 ghost use Rattle.fs_reads.specs.Shown.{Extends};
-ghost use Rattle.ods_space.specs.Files.{IsLayoutOf};
+ghost use Rattle.ods_space.specs.Files.{FindsFiles};
 ghost use Rattle.ods_space.specs.Disks.{on};
 
 use crate::closed::{closed_to, stop_at_closed};
@@ -22,7 +22,7 @@ pub(crate) fn push_listings<'a>(
     below: bool,
     text: &mut String,
 ) -> Result<(), Stop<'a>>
-    requires { on IsLayoutOf disk.now }
+    requires { on FindsFiles disk.now }
     ensures { Extends (string_bytes text.old) (string_bytes text.new) }
 {
     if words.paths.is_empty() {
@@ -45,7 +45,7 @@ fn push_listing<'a>(
     words: &Words<'_>,
     text: &mut String,
 ) -> Result<(), Stop<'a>>
-    requires { on IsLayoutOf disk.now }
+    requires { on FindsFiles disk.now }
     ensures { Extends (string_bytes text.old) (string_bytes text.new) }
 {
     match parse_path(path.as_bytes()) {
@@ -78,7 +78,7 @@ fn push_lines(
     words: &Words<'_>,
     text: &mut String,
 ) -> Result<(), AllocError>
-    requires { on IsLayoutOf disk.now }
+    requires { on FindsFiles disk.now }
     ensures { Extends (string_bytes text.old) (string_bytes text.new) }
 {
     if found.directories.is_empty() {

@@ -1,7 +1,7 @@
 //! The commands that read a volume, sound or not, and leave it as it is; and `df`, which wants a sound one.
 ghost use Rattle.std.specs.Prelude.{string_bytes};
 ghost use Rattle.fs_reads.specs.Shown.{Extends};
-ghost use Rattle.ods_space.specs.Files.{IsLayoutOf};
+ghost use Rattle.ods_space.specs.Files.{FindsFiles};
 ghost use Rattle.ods_space.specs.Disks.{on};
 
 use crate::comparing::compare_all;
@@ -32,7 +32,7 @@ pub fn obey<'a, R: Files<File = File> + Clock + AllocGlobal + Print + Eprint>(
     words: &Words<'a>,
     progress: &mut Progress,
 ) -> Result<Status, Stop<'a>>
-    requires { on IsLayoutOf disk.now }
+    requires { on FindsFiles disk.now }
 {
     stop_at_own_output(rt, words.image)?;
     match words.action {
@@ -77,7 +77,7 @@ fn push_shown<'a>(
     words: &Words<'a>,
     text: &mut String,
 ) -> Result<(), Stop<'a>>
-    requires { on IsLayoutOf disk.now }
+    requires { on FindsFiles disk.now }
     ensures { Extends (string_bytes text.old) (string_bytes text.new) }
 {
     match words.action {

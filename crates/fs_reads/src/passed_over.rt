@@ -1,12 +1,12 @@
 //! The entries of a refused volume that are passed over, since they are bad: which directories have some, and how many.
-ghost use Rattle.std.specs.Prelude.{◌≡◌, ◌⊎◌, IfOk, string_bytes};
-ghost use Rattle.fs_reads.specs.Told.{bad_entries_text, more_bad_entries, one_bad_entry};
+ghost use Rattle.std.specs.Prelude.{◌≡◌, IfOk, string_bytes};
+ghost use Rattle.fs_reads.specs.Told.{SaysPassed, bad_entries_text, is_no_directory as is_none, more_bad_entries, no_directory_text as none_text, one_bad_entry};
 ghost use Rattle.ods_mount.specs.Faults.{IsDirectoryFile};
-ghost use Rattle.ods_walk.specs.Listing.{ArePassedOver};
 ghost use Rattle.ods_space.specs.Disks.{on};
 
 use crate::stop::say_about;
-use ods_shell::is_directory_file;
+use ods_base::Listed;
+use ods_shell::{MASTER, is_directory_file, lines_of};
 use ods_space::{Disk, last_number, sequence};
 use ods_walk::count_bad;
 use std::alloc::{AllocError, Global};
@@ -24,11 +24,14 @@ pub(crate) fn say_passed_over<R: AllocGlobal + Eprint>(
     let mut told = 0u32;
     for before in 0..last_number(disk.layout) {
         let number = before + 1;
-        let bad = bad_in(rt.alloc(), disk, number)?;
+        if !is_directory_file(disk, number) {
+            continue;
+        }
+        let bad = count_bad(rt.alloc(), disk, number)?;
         if bad > 0 {
             told = told.saturating_add(1);
             if told <= MOST_DIRECTORIES {
-                let why = bad_text(rt.alloc(), number, sequence(disk, number), bad)?;
+                let why = passed_text(rt.alloc(), disk, number, bad)?;
                 say_about(rt, path, why.as_str());
             }
         }
@@ -41,14 +44,44 @@ pub(crate) fn say_passed_over<R: AllocGlobal + Eprint>(
     Ok(())
 }
 
-/// How many entries of the directory with this number are bad; none where it is no directory.
-fn bad_in(alloc: Global, disk: &Disk<'_>, number: u16) -> Result<usize, AllocError>
-    ensures { IfOk result (λ bad. (on IsDirectoryFile disk.now number × on ArePassedOver disk.now number bad) ⊎ ((¬ on IsDirectoryFile disk.now number) × (bad ≡ 0))) }
+/// What is said of the file with this number, which has the type of a directory, and so many bad entries.
+fn passed_text(
+    alloc: Global,
+    disk: &Disk<'_>,
+    number: u16,
+    bad: usize,
+) -> Result<String, AllocError>
+    requires { on IsDirectoryFile disk.now number }
+    ensures { IfOk result (λ text. on SaysPassed disk.now number bad (string_bytes text)) }
 {
-    if !is_directory_file(disk, number) {
-        return Ok(0);
+    let lines = lines_of(alloc, disk, number)?;
+    if is_no_directory(number, &lines) {
+        no_directory_text(alloc, number, sequence(disk, number), bad)
+    } else {
+        bad_text(alloc, number, sequence(disk, number), bad)
     }
-    count_bad(alloc, disk, number)
+}
+
+/// Whether a file with the type of a directory is none: it shows none of these lines, and is not the master directory.
+fn is_no_directory(number: u16, lines: &[Listed]) -> bool
+    ensures { result ≡ is_none number lines.now }
+{
+    number != MASTER && lines.is_empty()
+}
+
+/// What is said of a file with the type of a directory that has so many bad entries, and no good one.
+fn no_directory_text(
+    alloc: Global,
+    number: u16,
+    sequence: u16,
+    bad: usize,
+) -> Result<String, AllocError>
+    ensures { IfOk result (λ text. string_bytes text ≡ none_text number sequence bad) }
+{
+    let text = format!(in alloc;
+        "file {number},{sequence}: not a directory: it has no good entry, and {bad} bad"
+    )?;
+    Ok(text)
 }
 
 /// What is said of a directory of which so many entries are bad.

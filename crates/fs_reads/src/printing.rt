@@ -1,20 +1,23 @@
 //! `cat`: files of a volume, written to standard output.
-ghost use Rattle.std.specs.Prelude.{◌≡◌, ◌≢◌, true, IfErr, IfOk};
+ghost use Rattle.std.specs.Prelude.{◌≡◌, ◌≢◌, ◌++◌, true, IfErr, IfOk, OnOk};
 ghost use Rattle.std.specs.List.{All};
-ghost use Rattle.fs_reads.specs.{Ends.EndsPrinting, Ends.may_name, Gets.AreGot, Gets.EndsFile, Gets.IsGettable, Gets.IsPathGot, Named.AddsNamed};
+ghost use Rattle.fs_reads.specs.{Denied.IsClosedStatus, Ends.EndsPrinting, Ends.may_name, Gets.AreGot, Gets.EndsFile, Gets.IsGettable, Gets.IsPathGot, Named.AddsNamed};
 ghost use Rattle.ods_shell.specs.{Contents.IsGot, Contents.IsNotGot};
 ghost use Rattle.fs_reads.specs.declared.stop.Stop.{Stop as End};
 ghost use Rattle.ods_shell.specs.declared.status.Status.{Status as Code};
-ghost use Rattle.ods_space.specs.Files.{IsLayoutOf};
+ghost use Rattle.ods_space.specs.Files.{FindsFiles};
 ghost use Rattle.ods_space.specs.Disks.{on};
 
 use crate::closed::{closed_to, say_closed};
 use crate::pouring::pour;
 use crate::reading::{Unread, open_found};
-use crate::stop::{Stop, say_about};
+use crate::stop::{Stop, say_about, say_twins};
 use fs_words::Words;
 use ods_base::Uic;
-use ods_shell::{Alone, FormFault, Found, PathFault, Remark, Status, Unsaid, Wanted, find_path};
+use ods_shell::{
+    Alone, Directory, FormFault, Found, PathFault, Remark, Status, Unsaid, Wanted, find_path,
+    have_twins,
+};
 use ods_space::Disk;
 use std::io;
 
@@ -44,7 +47,7 @@ pub(crate) fn cat<'a, R: AllocGlobal + Print + Eprint>(
     words: &Words<'a>,
     wanted: Wanted,
 ) -> Result<Status, Stop<'a>>
-    requires { on IsLayoutOf disk.now }
+    requires { on FindsFiles disk.now }
     ensures status { IfOk result (λ s. may_name s ≡ true) }
     ensures done { IfOk result (λ s. s ≡ Code.Done → on AreGot disk.now words.now.user (λ n. on IsGot disk.now n wanted) words.now.paths.items) }
     ensures err { IfErr result EndsPrinting }
@@ -66,7 +69,7 @@ fn cat_path<'a, R: AllocGlobal + Print + Eprint>(
     wanted: Wanted,
     reader: Reader,
 ) -> Result<Status, Stop<'a>>
-    requires { on IsLayoutOf disk.now }
+    requires { on FindsFiles disk.now }
     ensures status { IfOk result (λ s. may_name s ≡ true) }
     ensures done { IfOk result (λ s. s ≡ Code.Done → on IsPathGot disk.now reader.user (λ n. on IsGot disk.now n wanted) closed.now path.now) }
     ensures err { IfErr result EndsPrinting }
@@ -85,7 +88,7 @@ fn cat_files<'a, R: AllocGlobal + Print + Eprint>(
     wanted: Wanted,
     reader: Reader,
 ) -> Result<Status, Stop<'a>>
-    requires { on IsLayoutOf disk.now }
+    requires { on FindsFiles disk.now }
     ensures status { IfOk result (λ s. may_name s ≡ true) }
     ensures done { IfOk result (λ s. s ≡ Code.Done → All (IsGettable reader.user (λ n. on IsGot disk.now n wanted)) files.now) }
     ensures err { IfErr result EndsPrinting }
@@ -97,7 +100,25 @@ fn cat_files<'a, R: AllocGlobal + Print + Eprint>(
     Ok(status)
 }
 
-/// Adds the files that a path names; a path that names none and a closed directory are said, and no fault of the command.
+/// Adds the files that a path names, past these closed directories, which are said.
+fn add_found<'a, R: AllocGlobal + Eprint>(
+    rt: &R,
+    found: Vec<Found>,
+    closed: &[Directory],
+    user: Option<Uic>,
+    all: &mut Vec<Found>,
+) -> Result<Status, Stop<'a>>
+    ensures all { OnOk result (all.new.items ≡ all.old.items ++ found.items) }
+    ensures status { IfOk result (IsClosedStatus user closed.now) }
+    ensures err { IfErr result (λ stop. stop ≡ End.NoMemory) }
+{
+    let mut found = found;
+    all.append(&mut found)?;
+    say_closed(rt, closed, user)
+}
+
+/// Adds the files that a path names; a path that names none, or two entries of one name, and a closed directory are said, and no
+/// fault of the command.
 #[tactic(auto, using(crate::proofs::Statuses::closed_may, crate::proofs::Statuses::path_may, crate::proofs::Statuses::path_fault))]
 pub(crate) fn add_named<'a, R: AllocGlobal + Eprint>(
     rt: &R,
@@ -107,7 +128,7 @@ pub(crate) fn add_named<'a, R: AllocGlobal + Eprint>(
     user: Option<Uic>,
     all: &mut Vec<Found>,
 ) -> Result<Status, Stop<'a>>
-    requires { on IsLayoutOf disk.now }
+    requires { on FindsFiles disk.now }
     ensures named { IfOk result (on AddsNamed disk.now user closed.now path.now all.old.items all.new.items) }
     ensures status { IfOk result (λ s. may_name s ≡ true) }
     ensures err { IfErr result (λ stop. stop ≡ End.NoMemory) }
@@ -120,9 +141,11 @@ pub(crate) fn add_named<'a, R: AllocGlobal + Eprint>(
         closed,
     ) {
         Ok((found, met)) => {
-            let mut found = found;
-            all.append(&mut found)?;
-            say_closed(rt, &met, user)
+            if have_twins(&found) {
+                say_twins(rt, path);
+                return Ok(Status::Refused);
+            }
+            add_found(rt, found, &met, user, all)
         }
         Err(PathFault::NoMemory) => Err(Stop::NoMemory),
         Err(fault) => {
@@ -140,7 +163,7 @@ pub(crate) fn cat_file<'a, R: AllocGlobal + Print + Eprint>(
     wanted: Wanted,
     reader: Reader,
 ) -> Result<Status, Stop<'a>>
-    requires { on IsLayoutOf disk.now }
+    requires { on FindsFiles disk.now }
     ensures ok { IfOk result (EndsFile reader.user (λ n. on IsGot disk.now n wanted) (λ n. on IsNotGot disk.now n wanted) found.now) }
     ensures err { IfErr result EndsPrinting }
 {

@@ -1,7 +1,6 @@
-//! The volume of an image that is read, sound or not: a command goes on where there is a layout, by the home block and a whole INDEXF.SYS.
-ghost use Rattle.std.specs.Prelude.{◌≡◌, ◌≢◌, IfErr, IfOk, MatchOption};
+//! The volume of an image that is read, sound or not: a command goes on where the home block and INDEXF.SYS lead to files.
+ghost use Rattle.std.specs.Prelude.{◌≡◌, ◌≢◌, IfErr, IfOk};
 ghost use Rattle.ods_mount.specs.Faults.{FaultIsTrue};
-ghost use Rattle.ods_space.specs.{Files.IsLayoutOf, Layout.VolumeLayout};
 ghost use Rattle.fs_reads.specs.{Readable.IsJudged, Readable.LacksLayout, Readable.Opened, Volumes.IsNoVolume};
 ghost use Rattle.fs_reads.specs.declared.volume.VolumeFault.{VolumeFault as Fault};
 
@@ -11,10 +10,9 @@ use crate::stop::{Stop, say_end};
 use crate::volume::{VolumeFault, no_volume, not_mounted, open_image, say_extent};
 use fs_host::Layers;
 use ods_base::Image;
-use ods_mount::{MountFault, Mounted, mount, read_layout};
+use ods_mount::{MountFault, Mounted, mount, readable_layout};
 use ods_shell::Status;
 use ods_space::{Disk, Layout};
-use std::alloc::{AllocError, Global};
 use std::fs::File;
 use std::marker::Model;
 use std::rt::Files;
@@ -29,25 +27,26 @@ pub struct Readable {
 }
 
 impl Model for Readable {
-    ghost use Rattle.ods_space.specs.Files.{IsLayoutOf};
+    ghost use Rattle.ods_space.specs.Files.{FindsFiles};
     ghost use Rattle.fs_reads.specs.Readable.{Opened};
 
     ghost Value = { Opened };
 
     ghost view = { λ r. record { image = r.image; layout = r.layout; sound = r.is_sound; behind = r.behind } };
 
-    ghost invariant = { λ r. IsLayoutOf r.image r.layout };
+    ghost invariant = { λ r. FindsFiles r.image r.layout };
 }
 
 impl Readable {
     ghost use Rattle.std.specs.Prelude.{true};
-    ghost use Rattle.ods_space.specs.Files.{IsLayoutOf};
+    ghost use Rattle.ods_space.specs.Files.{FindsFiles, IsReadable};
     ghost use Rattle.ods_space.specs.Disks.{on};
     ghost use Rattle.fs_reads.specs.Readable.{end_of};
 
     /// The volume that was mounted.
     fn of_sound(volume: Mounted) -> Readable
-        ensures { (result.image ≡ volume.image) × (result.layout ≡ volume.layout) × (result.sound ≡ true) }
+        ensures fields { (result.image ≡ volume.image) × (result.layout ≡ volume.layout) × (result.sound ≡ true) }
+        ensures readable { IsReadable result.image result.layout }
     {
         let (image, layout) = volume.into_parts();
         Readable {
@@ -62,7 +61,7 @@ impl Readable {
     pub fn disk(&self) -> Disk<'_>
         ensures image { result.image.now ≡ self.now.image }
         ensures layout { result.layout.now ≡ self.now.layout }
-        ensures laid_out { on IsLayoutOf result }
+        ensures laid_out { on FindsFiles result }
     {
         Disk {
             image: &self.image,
@@ -86,7 +85,7 @@ impl Readable {
 }
 
 /// The volume of the image at this path, of so many blocks where a number is given. Why a mount refuses it is said first, and which directories have
-/// entries that are passed over. Where there is a layout the command goes on.
+/// entries that are passed over. Where INDEXF.SYS has a whole chain the command goes on, and BITMAP.SYS is not asked.
 pub fn open_readable<'a, R: Files<File = File> + AllocGlobal + Eprint>(
     rt: &R,
     path: &'a str,
@@ -148,7 +147,7 @@ fn refused<'a, R: Files<File = File> + AllocGlobal + Eprint>(
     }
 }
 
-/// The volume of an image that a mount refuses, which is said; there is none where there is no layout.
+/// The volume of an image that a mount refuses, which is said; there is none where nothing leads to files.
 #[tactic(auto, using(crate::proofs::Opening::judged_refused))]
 fn laid_out<'a, R: Files<File = File> + AllocGlobal + Eprint>(
     rt: &R,
@@ -161,7 +160,7 @@ fn laid_out<'a, R: Files<File = File> + AllocGlobal + Eprint>(
     ensures err { IfErr result (λ stop. (why : Fault) × IsNoVolume path.entry why stop) }
     ensures none { IfErr result (LacksLayout image) }
 {
-    match layout_of(rt.alloc(), &image) {
+    match readable_layout(rt.alloc(), &image) {
         Ok(Some(layout)) => {
             let _ = say_end(rt, Err(not_taken(rt, path, fault)));
             Ok(Readable {
@@ -185,15 +184,4 @@ fn not_taken<'a, R: Files<File = File> + AllocGlobal>(
     ensures { (why : Fault) × IsNoVolume path.entry why result }
 {
     no_volume(path, not_mounted(rt, path, fault))
-}
-
-/// The layout of an image; `None` where it has none.
-fn layout_of(alloc: Global, image: &Image) -> Result<Option<Layout>, AllocError>
-    ensures { IfOk result (λ found. MatchOption found ((L : VolumeLayout) → ¬ IsLayoutOf image.now L) (IsLayoutOf image.now)) }
-{
-    match read_layout(alloc, image) {
-        Ok((_, layout)) => Ok(Some(layout)),
-        Err(MountFault::NoMemory) => Err(AllocError),
-        Err(_) => Ok(None),
-    }
 }

@@ -2,7 +2,7 @@
 ghost use Rattle.std.specs.Prelude.{ℕ, List, IfErr, IfOk, IfSome, IsSome, OnOk};
 ghost use Rattle.ods_shell.specs.{Contents.IsGot, Contents.IsNotGot, Shown.ContentsAre};
 ghost use Rattle.fs_reads.specs.Denied.{IsDenied, IsUnread, MayRead};
-ghost use Rattle.ods_space.specs.Files.{IsLayoutOf};
+ghost use Rattle.ods_space.specs.Files.{FindsFiles};
 ghost use Rattle.ods_space.specs.Disks.{on};
 
 use ods_base::Uic;
@@ -45,7 +45,7 @@ pub(crate) fn open_found<'a>(
     wanted: Wanted,
     user: Option<Uic>,
 ) -> Result<Got<'a>, Unread>
-    requires { on IsLayoutOf disk.now }
+    requires { on FindsFiles disk.now }
     ensures ok { IfOk result (λ got. IfSome found.now.facts (λ facts. MayRead user facts × ((bytes : List ℕ) × ContentsAre got.contents bytes × on IsGot disk.now facts.file.number wanted bytes got.remark))) }
     ensures some { OnOk result (IsSome found.now.facts) }
     ensures err { IfErr result (λ fault. IfSome found.now.facts (λ facts. IsUnread user facts (on IsNotGot disk.now facts.file.number wanted) fault)) }

@@ -1,8 +1,9 @@
 //! `rescue`: each file whose own chain is whole, copied out of an image that may be refused.
-ghost use Rattle.std.specs.Prelude.{◌≡◌, ◌⊎◌, IfOk};
+ghost use Rattle.std.specs.Prelude.{◌≡◌, ◌⊎◌, IfNone, IfOk, IfSome};
 ghost use Rattle.fs_reads.specs.Ends.{StopsWith};
 ghost use Rattle.ods_shell.specs.declared.status.Status.{Status as Code};
-ghost use Rattle.ods_space.specs.Files.{IsLayoutOf};
+ghost use Rattle.ods_space.specs.Files.{FindsFiles, IsLayoutOf};
+ghost use Rattle.ods_space.specs.Layout.{VolumeLayout};
 ghost use Rattle.ods_space.specs.Disks.{on};
 
 use crate::finding::find_all;
@@ -15,14 +16,15 @@ use crate::scanning::rescue_scanned;
 use crate::stop::{Stop, send, stop_about, stop_at_own_output};
 use fs_host::{HostFault, Layers, SaveFault, Shown};
 use fs_words::Words;
-use ods_base::{FileId, Listed, print_name};
+use ods_base::{FileId, Image, Listed, print_name};
 use ods_check::{Finding, bad_headers, check_first};
+use ods_mount::readable_layout;
 use ods_shell::{
     Contents, Directory, Rescued, Status, facts_by_id, open_rescued, open_rescued_part,
     pair_object, text_object,
 };
-use ods_space::{Disk, last_number};
-use std::alloc::Global;
+use ods_space::{Disk, Layout, last_number};
+use std::alloc::{AllocError, Global};
 use std::collections::BTreeSet;
 use std::fs::File;
 use std::rt::Files;
@@ -82,7 +84,8 @@ pub fn rescue<'a, R: Files<File = File> + Clock + AllocGlobal + Print + Eprint>(
         say_fault(rt, path, fault.as_str(), how.json)?;
     }
     if !scan {
-        if let Some(layout) = &first.layout {
+        let found = layout_for(rt.alloc(), &image, first.layout)?;
+        if let Some(layout) = &found {
             take_folder(rt, how.folder, how.only_tells)?;
             let disk = Disk {
                 image: &image,
@@ -94,6 +97,22 @@ pub fn rescue<'a, R: Files<File = File> + Clock + AllocGlobal + Print + Eprint>(
     Ok(status.or(rescue_scanned(rt, path, &image, how, progress)?))
 }
 
+/// The layout by which files are found: the one that is known, or what INDEXF.SYS alone says.
+fn layout_for(
+    alloc: Global,
+    image: &Image,
+    known: Option<Layout>,
+) -> Result<Option<Layout>, AllocError>
+    requires { IfSome known (IsLayoutOf image.now) }
+    ensures some { IfOk result (λ found. IfSome found (FindsFiles image.now)) }
+    ensures none { IfOk result (λ found. IfNone found ((L : VolumeLayout) → ¬ FindsFiles image.now L)) }
+{
+    match known {
+        Some(layout) => Ok(Some(layout)),
+        None => readable_layout(alloc, image),
+    }
+}
+
 /// Copies each file, and says of which numbers there is no header: first those that a walk reaches, each under the first path that names it,
 /// and then the others.
 fn rescue_all<'a, R: Files<File = File> + Clock + AllocGlobal + Print + Eprint>(
@@ -102,7 +121,7 @@ fn rescue_all<'a, R: Files<File = File> + Clock + AllocGlobal + Print + Eprint>(
     how: How<'_>,
     progress: &mut Progress,
 ) -> Result<Status, Stop<'a>>
-    requires { on IsLayoutOf disk.now }
+    requires { on FindsFiles disk.now }
     ensures { IfOk result (λ s. (s ≡ Code.Done) ⊎ (s ≡ Code.Found)) }
 {
     let mut kept = Kept {
@@ -123,7 +142,7 @@ fn rescue_named<'a, R: Files<File = File> + Clock + AllocGlobal + Print + Eprint
     kept: &mut Kept,
     progress: &mut Progress,
 ) -> Result<Status, Stop<'a>>
-    requires { on IsLayoutOf disk.now }
+    requires { on FindsFiles disk.now }
     ensures { IfOk result (λ s. (s ≡ Code.Done) ⊎ (s ≡ Code.Found)) }
 {
     let found = find_all(rt.alloc(), disk, &[])?;
@@ -149,7 +168,7 @@ fn rescue_line<'a, R: Files<File = File> + AllocGlobal + Print + Eprint>(
     how: How<'_>,
     kept: &mut Kept,
 ) -> Result<Status, Stop<'a>>
-    requires { on IsLayoutOf disk.now }
+    requires { on FindsFiles disk.now }
     ensures { IfOk result (λ s. (s ≡ Code.Done) ⊎ (s ≡ Code.Found)) }
 {
     if entry.file.number < FIRST || facts_by_id(disk, entry.file).is_none() {
@@ -180,7 +199,7 @@ fn rescue_lost<'a, R: Files<File = File> + Clock + AllocGlobal + Print + Eprint>
     kept: &mut Kept,
     progress: &mut Progress,
 ) -> Result<Status, Stop<'a>>
-    requires { on IsLayoutOf disk.now }
+    requires { on FindsFiles disk.now }
     ensures { IfOk result (λ s. (s ≡ Code.Done) ⊎ (s ≡ Code.Found)) }
 {
     let mut status = Status::Done;
@@ -200,7 +219,7 @@ fn rescue_number<'a, R: Files<File = File> + AllocGlobal + Print + Eprint>(
     how: How<'_>,
     kept: &mut Kept,
 ) -> Result<Status, Stop<'a>>
-    requires { on IsLayoutOf disk.now }
+    requires { on FindsFiles disk.now }
     ensures { IfOk result (λ s. (s ≡ Code.Done) ⊎ (s ≡ Code.Found)) }
 {
     if !kept.takes(number) {
@@ -215,7 +234,7 @@ fn say_bad_headers<'a, R: AllocGlobal + Print>(
     disk: &Disk<'_>,
     how: How<'_>,
 ) -> Result<Status, Stop<'a>>
-    requires { on IsLayoutOf disk.now }
+    requires { on FindsFiles disk.now }
     ensures { IfOk result (λ s. (s ≡ Code.Done) ⊎ (s ≡ Code.Found)) }
 {
     let mut status = Status::Done;
@@ -335,7 +354,7 @@ fn rescue_file<'a, R: Files<File = File> + AllocGlobal + Print + Eprint>(
     way: Way<'_>,
     kept: &mut Kept,
 ) -> Result<Status, Stop<'a>>
-    requires { on IsLayoutOf disk.now }
+    requires { on FindsFiles disk.now }
     ensures { IfOk result (λ s. (s ≡ Code.Done) ⊎ (s ≡ Code.Found)) }
 {
     match open_rescued(rt.alloc(), disk, number, how.text)? {

@@ -1,16 +1,17 @@
 //! `stat`: what is known of files.
-ghost use Rattle.std.specs.Prelude.{ℕ, List, IfErr, IfOk, string_bytes};
+ghost use Rattle.std.specs.Prelude.{ℕ, List, ◌⊎◌, IfErr, IfOk, string_bytes};
+ghost use Rattle.ods_shell.specs.declared.status.Status.{Status as Code};
 ghost use Rattle.ods_shell.specs.Ways.{CountAsClosed};
-ghost use Rattle.fs_reads.specs.{Ends.EndsPath, Named.AreOfPath, Shown.Extends};
-ghost use Rattle.ods_space.specs.Files.{IsLayoutOf};
+ghost use Rattle.fs_reads.specs.{Ends.EndsPath, Ends.StopsWith, Named.AreOfPath, Shown.Extends};
+ghost use Rattle.ods_space.specs.Files.{FindsFiles};
 ghost use Rattle.ods_space.specs.Disks.{on};
 
 use crate::closed::{closed_to, stop_at_closed};
-use crate::stop::{Stop, stop_about};
+use crate::stop::{Stop, stop_about, stop_twins};
 use fs_words::Words;
 use ods_shell::{
-    Alone, Directory, FormFault, Found, PathFault, Status, Unsaid, find_path, stat_lines,
-    stat_object,
+    Alone, Directory, FormFault, Found, PathFault, Status, Unsaid, find_path, have_twins,
+    stat_lines, stat_object,
 };
 use ods_space::{Disk, reach_blocks};
 use std::alloc::Global;
@@ -23,7 +24,7 @@ pub(crate) fn push_stats<'a>(
     words: &Words<'a>,
     text: &mut String,
 ) -> Result<(), Stop<'a>>
-    requires { on IsLayoutOf disk.now }
+    requires { on FindsFiles disk.now }
     ensures { Extends (string_bytes text.old) (string_bytes text.new) }
 {
     let closed = closed_to(alloc, disk, words.user)?;
@@ -44,10 +45,10 @@ fn found_at<'a>(
     path: &'a str,
     closed: &[u16],
 ) -> Result<(Vec<Found>, Vec<Directory>), Stop<'a>>
-    requires { on IsLayoutOf disk.now }
+    requires { on FindsFiles disk.now }
     ensures ok { IfOk result (λ r. (shut : List ℕ) → CountAsClosed closed.now r.1.items shut
         → on AreOfPath disk.now Alone.Themselves shut path.entry.now r.0.items) }
-    ensures err { IfErr result (EndsPath path.entry) }
+    ensures err { IfErr result (λ stop. EndsPath path.entry stop ⊎ StopsWith stop Code.Refused) }
 {
     match find_path(
         alloc,
@@ -56,7 +57,12 @@ fn found_at<'a>(
         Unsaid::highest(Alone::Themselves),
         closed,
     ) {
-        Ok(found) => Ok(found),
+        Ok((all, met)) => {
+            if have_twins(&all) {
+                return Err(stop_twins(alloc, path));
+            }
+            Ok((all, met))
+        }
         Err(PathFault::NoMemory) => Err(Stop::NoMemory),
         Err(fault) => Err(Stop::Path(path, fault)),
     }
@@ -71,7 +77,7 @@ fn push_stat<'a>(
     json: bool,
     text: &mut String,
 ) -> Result<(), Stop<'a>>
-    requires { on IsLayoutOf disk.now }
+    requires { on FindsFiles disk.now }
     ensures { Extends (string_bytes text.old) (string_bytes text.new) }
 {
     let path = found.path.as_str();

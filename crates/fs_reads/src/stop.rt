@@ -1,6 +1,6 @@
 //! Why a command ends before it is done: what is said of that on standard error, and the exit status. `say_end` alone says it.
 ghost use Rattle.std.specs.Prelude.{◌≡◌, ◌⊎◌, IfOk, IfErr, IfSome};
-ghost use Rattle.fs_reads.specs.Ends.{EndsPrinting, EndsWith, HasWordStatus, SaysLine, StopsWith, about_line};
+ghost use Rattle.fs_reads.specs.Ends.{EndsPrinting, EndsWith, HasWordStatus, SaysLine, StopsWith, about_line, two_entries};
 ghost use Rattle.fs_reads.specs.declared.stop.Stop.{Stop as End};
 ghost use Rattle.fs_reads.specs.declared.stop.Stop.TheVariants as ends;
 ghost use Rattle.ods_shell.specs.declared.status.Status.{Status as Code};
@@ -46,6 +46,10 @@ impl<'a> From<AllocError> for Stop<'a> {
         Stop::NoMemory
     }
 }
+
+/// What is said of a path that two entries of one directory fit, with one name and version, as a refused volume may have them.
+const TWO_ENTRIES: &str =
+    "two entries have this name; 'find' lists their IDs, and '#N,S' says which is meant";
 
 /// What is wrong with a word of a command.
 #[derive(Clone, Copy, Debug, PartialEq, Eq, Error)]
@@ -218,6 +222,19 @@ fn say_unwritten<R: Eprint>(rt: &R, why: HostFault) {
     if why != HostFault::NoReader {
         let _ = eprintln!(rt; "f11fs: writing failed: {why}");
     }
+}
+
+/// Says that two entries of one directory fit a path.
+pub(crate) fn say_twins<R: Eprint>(rt: &R, path: &str) {
+    say_about(rt, path, TWO_ENTRIES);
+}
+
+/// The end of a command whose path two entries of one directory fit.
+pub(crate) fn stop_twins<'a>(alloc: Global, path: &str) -> Stop<'a>
+    ensures status { StopsWith result Code.Refused ⊎ (result ≡ End.NoMemory) }
+    ensures line { SaysLine (about_line path.now two_entries) result }
+{
+    stop_about(alloc, path, TWO_ENTRIES, Status::Refused)
 }
 
 /// Says of an image that is refused the name of the refusal, why it comes, and what one can do, or what the bytes look like.

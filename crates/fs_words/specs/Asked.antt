@@ -65,16 +65,26 @@ IsRescue m a = (text scan partial : Bool) × IsSet m (codes "--text") text × Is
 abbrev pub IsCmp : ArgMatches → Action → Type 0
 IsCmp m a = (all : Bool) × IsSet m (codes "--all") all × (a ≡ action.Cmp all)
 
+-- whether new files are to be in one piece, by the one of two options that is set
+abbrev pub IsContiguity : ArgMatches → Option Bool → Type 0
+IsContiguity m (Some true) = IsSet m (codes "--contiguous") true
+IsContiguity m (Some false) = IsSet m (codes "--contiguous") false × IsSet m (codes "--no-contiguous") true
+IsContiguity m None = IsSet m (codes "--contiguous") false × IsSet m (codes "--no-contiguous") false
+
 pub record IsPutSo (m : ArgMatches) (p : PutWords) : Type 0 where
   pub text : IsSet m (codes "-t") p.text
   pub binary : IsSet m (codes "-b") p.binary
   pub form : IsValue IsForm (text_of m (codes "--form")) p.form
   pub like : value_of p.like ≡ text_of m (codes "--like")
+  pub contiguous : IsContiguity m p.contiguous
   pub replace : IsSet m (codes "--replace") p.replace
   pub owner : IsValue IsSaid (text_of m (codes "--owner")) p.owner
 
 abbrev pub IsPut : ArgMatches → Action → Type 0
 IsPut m a = (p : PutWords) × IsPutSo m p × (a ≡ action.Change (change.Put p))
+
+abbrev pub IsCp : ArgMatches → Action → Type 0
+IsCp m a = (contiguous : Bool) × IsSet m (codes "--contiguous") contiguous × (a ≡ action.Change (change.Cp contiguous))
 
 abbrev pub IsRm : ArgMatches → Action → Type 0
 IsRm m a = (alone newest : Bool) × IsSet m (codes "--entry") alone × IsSet m (codes "--newest") newest × (a ≡ action.Change (change.Rm alone newest))
@@ -120,7 +130,7 @@ Asks verb.Check m out a = IsCheck m a
 Asks verb.Rescue m out a = IsRescue m a
 Asks verb.Cmp m out a = IsCmp m a
 Asks verb.Put m out a = IsPut m a
-Asks verb.Cp m out a = a ≡ action.Change change.Cp
+Asks verb.Cp m out a = IsCp m a
 Asks verb.Mv m out a = a ≡ action.Change change.Mv
 Asks verb.Rm m out a = IsRm m a
 Asks verb.Purge m out a = IsPurge m a

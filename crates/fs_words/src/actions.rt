@@ -74,8 +74,10 @@ pub enum Action<'a> {
 pub enum Change<'a> {
     /// Puts files of the host.
     Put(PutWords<'a>),
-    /// Copies files.
-    Cp,
+    /// Copies files, in one piece where `contiguous`.
+    Cp {
+        contiguous: bool,
+    },
     /// Moves names, or gives files other names.
     Mv,
     /// Removes names with their files: the entry alone where `entry_alone`, the highest version where `newest`.
@@ -123,6 +125,8 @@ pub struct PutWords<'a> {
     pub form: Option<[u8; 4]>,
     /// The path of the file whose attributes the new ones get.
     pub like: Option<&'a str>,
+    /// Whether the new files are to be in one piece, where that is said.
+    pub contiguous: Option<bool>,
     /// The file of that name is replaced.
     pub replace: bool,
     /// Whose the new files are, where an owner is said.

@@ -101,7 +101,7 @@ pub(crate) fn action_of<'a>(
         Verb::Rescue => Ok(rescue::action(own)),
         Verb::Cmp => Ok(cmp::action(own)),
         Verb::Put => put::action(alloc, own),
-        Verb::Cp => Ok(Action::Change(Change::Cp)),
+        Verb::Cp => Ok(cp::action(own)),
         Verb::Mv => Ok(Action::Change(Change::Mv)),
         Verb::Rm => Ok(rm::action(own)),
         Verb::Purge => purge::action(alloc, own),

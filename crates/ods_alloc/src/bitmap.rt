@@ -53,7 +53,7 @@ fn number_bit(layout: &Layout, number: u16) -> Option<(u32, u32)>
 }
 
 /// Marks blocks as free or as taken, as far as the storage bitmap covers them.
-pub(crate) fn mark_blocks(
+pub fn mark_blocks(
     disk: &Disk<'_>,
     blocks: &[u32],
     free: bool,

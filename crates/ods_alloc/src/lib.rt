@@ -19,6 +19,7 @@ mod runs;
 mod words;
 mod zero;
 
+pub use bitmap::mark_blocks;
 pub use counts::FreeCounts;
 pub use end::{CHAIN_HEADERS, ChainEnd};
 pub use extend::{extend_chain, extend_from};

@@ -1,7 +1,7 @@
 //! Free file numbers: tested, counted and picked for new headers. Numbers in use are passed over 64 at a time.
 ghost use Rattle.std.specs.Prelude.{◌≡◌, ◌≤◌, true, length, take, IfOk, IfErr, IfSome, IfNone};
 ghost use Rattle.std.specs.List.{filter, range_with_len};
-ghost use Rattle.ods_space.specs.{Files.IsLayoutOf, Free.is_free_number, Free.free_numbers, Free.is_open_number, Free.open_numbers, Layout.greatest_number as greatest_of};
+ghost use Rattle.ods_space.specs.{Files.FindsFiles, Free.is_free_number, Free.free_numbers, Free.is_open_number, Free.open_numbers, Layout.greatest_number as greatest_of};
 ghost use Rattle.ods_alloc.specs.{Scan.IsNext, Scan.NoneIsNext, Scan.NonePasses, Scan.is_clear, Faults.IsShort, Counts.ShowsNone, Counts.clear_in, Counts.counts_of};
 ghost use Rattle.ods_space.specs.Disks.{on, seen};
 
@@ -14,7 +14,7 @@ use std::alloc::Global;
 
 /// Whether a number may be given to a new header.
 pub fn is_number_free(disk: &Disk<'_>, number: u16) -> bool
-    requires { on IsLayoutOf disk.now }
+    requires { on FindsFiles disk.now }
     ensures { result ≡ seen is_free_number disk.now number }
 {
     is_number_open(disk, last_number(disk.layout), number)
@@ -22,7 +22,7 @@ pub fn is_number_free(disk: &Disk<'_>, number: u16) -> bool
 
 /// Whether a number may be given to a new header, where this is the greatest that may be.
 fn is_number_open(disk: &Disk<'_>, most: u16, number: u16) -> bool
-    requires { on IsLayoutOf disk.now }
+    requires { on FindsFiles disk.now }
     ensures { result ≡ seen is_open_number disk.now most number }
 {
     if number < 6 || most < number {
@@ -33,7 +33,7 @@ fn is_number_open(disk: &Disk<'_>, most: u16, number: u16) -> bool
 
 /// The number of free numbers.
 pub fn number_count(disk: &Disk<'_>) -> u32
-    requires { on IsLayoutOf disk.now }
+    requires { on FindsFiles disk.now }
     ensures { result ≡ length (seen free_numbers disk.now) }
 {
     let last = last_number(disk.layout);
@@ -48,7 +48,7 @@ pub fn number_count(disk: &Disk<'_>) -> u32
 
 /// The least number from `from` on that is open up to this one.
 fn next_open_number(disk: &Disk<'_>, counts: &[u32], most: u16, from: u32) -> Option<u16>
-    requires layout { on IsLayoutOf disk.now }
+    requires layout { on FindsFiles disk.now }
     requires counts { ShowsNone counts.now (clear_in disk.now.image.now disk.now.layout.now.home) }
     ensures some { IfSome result (IsNext (seen is_open_number disk.now most) from) }
     ensures none { IfNone result (NoneIsNext (seen is_open_number disk.now most) from) }
@@ -96,7 +96,7 @@ pub fn pick_numbers(
     counts: &FreeCounts,
     count: u32,
 ) -> Result<Vec<u16>, SpaceFault>
-    requires layout { on IsLayoutOf disk.now }
+    requires layout { on FindsFiles disk.now }
     requires counts { counts.now ≡ seen counts_of disk.now }
     ensures ok { IfOk result (λ numbers. (numbers.items ≡ take count (seen free_numbers disk.now)) × (count ≤ length (seen free_numbers disk.now))) }
     ensures err { IfErr result (IsShort SpaceFault.HeadersFull (length (seen free_numbers disk.now)) count) }
@@ -112,7 +112,7 @@ pub fn pick_open_numbers(
     counts: &FreeCounts,
     count: u32,
 ) -> Result<Vec<u16>, SpaceFault>
-    requires layout { on IsLayoutOf disk.now }
+    requires layout { on FindsFiles disk.now }
     requires counts { counts.now ≡ seen counts_of disk.now }
     ensures ok { IfOk result (λ numbers. (numbers.items ≡ take count (seen open_numbers disk.now)) × (count ≤ length (seen open_numbers disk.now))) }
     ensures err { IfErr result (IsShort SpaceFault.HeadersFull (length (seen open_numbers disk.now)) count) }
@@ -137,7 +137,7 @@ fn pick_up_to(
     most: u16,
     count: u32,
 ) -> Result<Vec<u16>, SpaceFault>
-    requires layout { on IsLayoutOf disk.now }
+    requires layout { on FindsFiles disk.now }
     requires counts { counts.now ≡ seen counts_of disk.now }
     ensures ok { IfOk result (λ numbers. (numbers.items ≡ take count (filter (seen is_open_number disk.now most) (range_with_len 1 most)))
         × (count ≤ length (filter (seen is_open_number disk.now most) (range_with_len 1 most)))) }

@@ -26,11 +26,11 @@ use Rattle.ods_state.proofs.HeaderShown.{header_is_shown}
 use Rattle.ods_state.proofs.OneHeader.{header_here}
 use Rattle.ods_state.proofs.OtherFront.{links_turned}
 use Rattle.ods_look.proofs.FilesFound.{found_there}
-use Rattle.ods_amend.specs.Access.{Gives, IsGiven, IsNotGiven, IsWithAccess, MayBeGiven, put_access, with_access}
+use Rattle.ods_amend.specs.Access.{GivesAll, IsGiven, IsNotGiven, IsWithAccess, MayBeGiven, put_access, with_access}
 use Rattle.ods_amend.proofs.OtherAccess.{attributes_kept, file_given, kind_kept, links_alike, stays_valid}
 
-module _ {I : List (List ℕ)} {L : VolumeLayout} (S : IsSoundBy I L) {who : Uic} {id : FileId} (m : MayBeGiven I L who id) {owner : Option Uic} {protection : Option ℕ}
-    (x : ℕ) (b : List ℕ) (place : place_of L id.number ≡ Some x) (w : IsWithAccess (header_at I L id.number) owner protection b) where
+module _ {I : List (List ℕ)} {L : VolumeLayout} (S : IsSoundBy I L) {who : Uic} {id : FileId} (m : MayBeGiven I L who id) {owner : Option Uic} {protection flags : Option ℕ}
+    (x : ℕ) (b : List ℕ) (place : place_of L id.number ≡ Some x) (w : IsWithAccess (header_at I L id.number) owner protection flags b) where
   abbrev n : ℕ
   n = id.number
 
@@ -65,22 +65,22 @@ module _ {I : List (List ℕ)} {L : VolumeLayout} (S : IsSoundBy I L) {who : Uic
     there : file_at C id ≡ file_of n old (contents_of I whole.0)
     there = ap (λ f. unwrap_or f no_file) (found_there shown id m.file whole)
 
-    here : IsFileIn J L id (with_access (file_at C id) owner protection)
+    here : IsFileIn J L id (with_access (file_at C id) owner protection flags)
     here = record {
       blocks = whole.0;
       held = change.has_blocks I L S n x b place to back n whole.0 whole.1;
       sequence = ap sequence_of header_is ∙ to.sequence ∙ m.file.1;
       shown = (λ i. file_of n (header_is i) (change.contents_stay I L S n x b place n whole.0 whole.1 not_index i))
-          ∙ file_given w n m.file.0.valid (contents_of I whole.0) ∙ ap (λ f. with_access f owner protection) (sym there);
+          ∙ file_given w n m.file.0.valid (contents_of I whole.0) ∙ ap (λ f. with_access f owner protection flags) (sym there);
     }
 
-    given_shown : ShowsBy J L (put_access C id owner protection)
-    given_shown = header_is_shown I L S id x b place to back m.file.1 C (with_access (file_at C id) owner protection) shown here
+    given_shown : ShowsBy J L (put_access C id owner protection flags)
+    given_shown = header_is_shown I L S id x b place to back m.file.1 C (with_access (file_at C id) owner protection flags) shown here
 
   still_spent : (C : Catalogue) → PastIsSpent I L C → PastIsSpent J L C
   still_spent C spent q known = let s = spent q known in let t = change.sequences_stay I L S n x b place to back q.number in omega arith
 
-  pub is_given : IsGiven I L who id owner protection J
+  pub is_given : IsGiven I L who id owner protection flags J
   is_given = record {
     allowed = m.allowed;
     sound = change.header_is_sound I L S n x b place to back (stays_valid w n m.file.0.valid).format still_directory;
@@ -88,23 +88,23 @@ module _ {I : List (List ℕ)} {L : VolumeLayout} (S : IsSoundBy I L) {who : Uic
     past = still_spent;
     moves = change.nothing_moves I L S n x b place to back;
     long = length-set I x b;
-    header = subst (IsWithAccess old owner protection) (sym header_is) w;
+    header = subst (IsWithAccess old owner protection flags) (sym header_is) w;
     elsewhere = λ y other. get_or-set_other I x y b [] (λ e. other (place ∙ ap Some (sym e)));
   }
 
 -- the draft of that one block makes it
-pub draft_gives : {I : List (List ℕ)} {L : VolumeLayout} {who : Uic} {id : FileId} {owner : Option Uic} {protection : Option ℕ} {d : Changes} → IsSoundBy I L → MayBeGiven I L who id
-    → (x : ℕ) (b : List ℕ) → place_of L id.number ≡ Some x → IsWithAccess (header_at I L id.number) owner protection b → d ≡ (x, b) ∷ [] → IsGiven I L who id owner protection (applied I d)
-draft_gives {I = I} {L = L} {who = who} {id = id} {owner = owner} {protection = protection} S m x b place w is =
-    subst (IsGiven I L who id owner protection) (applied_set I x b ∙ ap (applied I) (sym is)) (is_given S m x b place w)
+pub draft_gives : {I : List (List ℕ)} {L : VolumeLayout} {who : Uic} {id : FileId} {owner : Option Uic} {protection flags : Option ℕ} {d : Changes} → IsSoundBy I L → MayBeGiven I L who id
+    → (x : ℕ) (b : List ℕ) → place_of L id.number ≡ Some x → IsWithAccess (header_at I L id.number) owner protection flags b → d ≡ (x, b) ∷ [] → IsGiven I L who id owner protection flags (applied I d)
+draft_gives {I = I} {L = L} {who = who} {id = id} {owner = owner} {protection = protection} {flags = flags} S m x b place w is =
+    subst (IsGiven I L who id owner protection flags) (applied_set I x b ∙ ap (applied I) (sym is)) (is_given S m x b place w)
 
 -- and the volume that comes of it, whose blocks and layout were lent
-pub volume_gives : {I : List (List ℕ)} {L : VolumeLayout} {D E : Disk} {who : Uic} {id : FileId} {owner : Option Uic} {protection : Option ℕ} (d : Changes)
-    → record { image = I; layout = L } ≡ D → IsGiven I L who id owner protection (applied I d)
-    → E ≡ record { image = applied D.image d; layout = with_places D.layout [] } → Gives D who id owner protection E
-volume_gives {D = D} {who = who} {id = id} {owner = owner} {protection = protection} d lent g is =
-    let here : IsGiven D.image D.layout who id owner protection (applied D.image d) = subst (λ (F : Disk). IsGiven F.image F.layout who id owner protection (applied F.image d)) lent g in
-    (subst (IsGiven D.image D.layout who id owner protection) (sym (ap (λ (F : Disk). F.image) is)) here, ap (λ (F : Disk). F.layout) is ∙ no_places D.layout [] refl)
+pub volume_gives : {I : List (List ℕ)} {L : VolumeLayout} {D E : Disk} {who : Uic} {id : FileId} {owner : Option Uic} {protection flags : Option ℕ} (d : Changes)
+    → record { image = I; layout = L } ≡ D → IsGiven I L who id owner protection flags (applied I d)
+    → E ≡ record { image = applied D.image d; layout = with_places D.layout [] } → GivesAll D who id owner protection flags E
+volume_gives {D = D} {who = who} {id = id} {owner = owner} {protection = protection} {flags = flags} d lent g is =
+    let here : IsGiven D.image D.layout who id owner protection flags (applied D.image d) = subst (λ (F : Disk). IsGiven F.image F.layout who id owner protection flags (applied F.image d)) lent g in
+    (subst (IsGiven D.image D.layout who id owner protection flags) (sym (ap (λ (F : Disk). F.image) is)) here, ap (λ (F : Disk). F.layout) is ∙ no_places D.layout [] refl)
 
 -- the volume that comes of it is sound
 pub lent_sound : {I : List (List ℕ)} {L : VolumeLayout} {D : Disk} (d : Changes) → record { image = I; layout = L } ≡ D → IsSoundBy (applied I d) L → IsSoundBy (applied D.image d) (with_places D.layout [])

@@ -4,3 +4,8 @@ pub mod OtherAccess
 pub mod GivenAccess
 pub mod LabelSet
 pub mod LabelSound
+pub mod BitsSound
+pub mod Marked
+pub mod RunsFound
+pub mod HiddenFree
+pub mod InRun

@@ -1,4 +1,4 @@
--- A header that changes only in its owner, its protection and its sum stays valid, links as it did, and keeps every other field.
+-- A header that changes only in its owner, its protection, its user's characteristics and its sum stays valid, links as it did, and keeps every other field.
 use Rattle.std.proofs.Common.{◌≡◌, ℕ, ◌+◌, ◌-◌, ◌*◌, ◌<◌, ◌≤◌, List, length, inl, inr, ap, ◌∙◌, arith, Option}
 use Rattle.std.specs.Prelude.{◌||◌, ◌&&◌, ◌==◌, nat_le, nat_lt, slice_range, if◌then◌else◌}
 use Rattle.std.specs.List.{flat_map}
@@ -15,20 +15,20 @@ use Rattle.ods_state.specs.Contents.{body_of, file_of}
 use Rattle.ods_state.specs.Links.{SameLinks}
 use Rattle.ods_amend.specs.Access.{IsWithAccess, with_access}
 
-module _ {b c : List ℕ} {owner : Option Uic} {protection : Option ℕ} (w : IsWithAccess b owner protection c) (n : ℕ) (v : IsValidHeader b n) where
+module _ {b c : List ℕ} {owner : Option Uic} {protection flags : Option ℕ} (w : IsWithAccess b owner protection flags c) (n : ℕ) (v : IsValidHeader b n) where
   laid : IsLaidOut b
   laid = v.header.layout
 
   head : (i : ℕ) → i < 8 → byte c i ≡ byte b i
   head i low = w.others i (inl low)
 
-  tail : (i : ℕ) → 12 ≤ i → i < 510 → byte c i ≡ byte b i
+  tail : (i : ℕ) → 13 ≤ i → i < 510 → byte c i ≡ byte b i
   tail i low high = w.others i (inr (low, high))
 
   word_head : (k : ℕ) → k < 4 → word c k ≡ word b k
   word_head k low = λ i. head (2 * k) (omega arith) i + 256 * head (2 * k + 1) (omega arith) i
 
-  word_tail : (k : ℕ) → 6 ≤ k → k < 255 → word c k ≡ word b k
+  word_tail : (k : ℕ) → 7 ≤ k → k < 255 → word c k ≡ word b k
   word_tail k low high = λ i. tail (2 * k) (omega arith) (omega arith) i + 256 * tail (2 * k + 1) (omega arith) (omega arith) i
 
   ident_word_is : ident_word c ≡ ident_word b
@@ -88,7 +88,7 @@ module _ {b c : List ℕ} {owner : Option Uic} {protection : Option ℕ} (w : Is
     blocks = ap (λ rs. flat_map run_blocks rs) runs_kept;
   }
 
-  range_kept : (f t : ℕ) → 12 ≤ f → t < 510 → slice_range c f t ≡ slice_range b f t
+  range_kept : (f t : ℕ) → 13 ≤ f → t < 510 → slice_range c f t ≡ slice_range b f t
   range_kept f t low high = same_range b c f (t - f) w.size (λ j below. tail (f + j) (omega arith) (omega arith))
 
   pub attributes_kept : attributes_of c ≡ attributes_of b
@@ -115,13 +115,13 @@ module _ {b c : List ℕ} {owner : Option Uic} {protection : Option ℕ} (w : Is
       else if kind_kept i then Directory (names_of blocks (mark_in (attributes_kept i) (length blocks)))
       else Plain (attributes_kept i) blocks
 
-  -- with the new header the file has that owner and that protection, and all else of it stays
-  pub file_given : (blocks : List (List ℕ)) → file_of n c blocks ≡ with_access (file_of n b blocks) owner protection
+  -- with the new header the file has that owner, that protection and those characteristics, and all else of it stays
+  pub file_given : (blocks : List (List ℕ)) → file_of n c blocks ≡ with_access (file_of n b blocks) owner protection flags
   unfolding file_of
   file_given blocks = λ i. record {
     owner = w.owner i;
     protection = w.protection i;
-    user_char = tail 12 (omega arith) (omega arith) i;
+    user_char = w.flags i;
     system_char = tail 13 (omega arith) (omega arith) i;
     ident = ident_kept i;
     body = body_kept blocks i;

@@ -1,11 +1,11 @@
--- Another owner or another protection of a file: who may give it, what it makes of the catalogue, and of the blocks.
+-- Another owner, another protection or other characteristics of a file: who may give them, what that makes of the catalogue, and of the blocks.
 use Rattle.std.specs.Prelude.{◌≡◌, ◌≢◌, ℕ, ◌<◌, ◌≤◌, ◌⊎◌, Bool, not, ◌||◌, List, [], ◌∷◌, length, MatchOption, Option, Some, None, unwrap_or}
 use Rattle.std.specs.FinMap as map
 use Rattle.ods_base.specs.Block.{byte, word, sum_of}
 use Rattle.ods_base.specs.Image.{block_at}
 use Rattle.ods_base.specs.declared.file_id.FileId.{FileId}
 use Rattle.ods_base.specs.declared.file_id.Uic.{Uic}
-use Rattle.ods_header.specs.Header.{owner_of, protection_of}
+use Rattle.ods_header.specs.Header.{owner_of, protection_of, user_char_of}
 use Rattle.ods_space.specs.Layout.{Disk, VolumeLayout, header_at, place_of}
 use Rattle.ods_mount.specs.Sound.{IsSoundBy}
 use Rattle.ods_request.specs.declared.refusals.Refusal.{Refusal}
@@ -31,41 +31,46 @@ access_checks who id f = (is_reserved id, refusal.Reserved) ∷ (not (may_give w
 abbrev pub access_fault : Catalogue → Uic → FileId → Option Refusal
 access_fault C who id = on_file (map.get C.files id) (access_checks who id)
 
--- the file with another owner and another protection, where these are given; all else of it stays
-abbrev pub with_access : File → Option Uic → Option ℕ → File
-with_access f owner protection = record f { owner = unwrap_or owner f.owner; protection = unwrap_or protection f.protection }
+-- the file with another owner, another protection and other characteristics of the user's, where these are given; all else of it stays
+abbrev pub with_access : File → Option Uic → Option ℕ → Option ℕ → File
+with_access f owner protection flags = record f { owner = unwrap_or owner f.owner; protection = unwrap_or protection f.protection; user_char = unwrap_or flags f.user_char }
 
 -- the catalogue with that file in the place of the one that it had under this ID; its past stays
-abbrev pub put_access : Catalogue → FileId → Option Uic → Option ℕ → Catalogue
-put_access C id owner protection = put C id (with_access (file_at C id) owner protection)
+abbrev pub put_access : Catalogue → FileId → Option Uic → Option ℕ → Option ℕ → Catalogue
+put_access C id owner protection flags = put C id (with_access (file_at C id) owner protection flags)
 
--- c is the header block b with this owner in bytes 8 and 9 and this protection in bytes 10 and 11, where they are given, and its sum made anew; every other byte stays
-pub record IsWithAccess (b : List ℕ) (user : Option Uic) (word_given : Option ℕ) (c : List ℕ) : Type 0 where
+-- c is the header block b with this owner in bytes 8 and 9, this protection in bytes 10 and 11 and these characteristics in byte 12, where they are given, and its sum made anew; every other byte stays
+pub record IsWithAccess (b : List ℕ) (user : Option Uic) (word_given flags_given : Option ℕ) (c : List ℕ) : Type 0 where
   pub size : length c ≡ length b
   pub owner : owner_of c ≡ unwrap_or user (owner_of b)
   pub protection : protection_of c ≡ unwrap_or word_given (protection_of b)
+  pub flags : user_char_of c ≡ unwrap_or flags_given (user_char_of b)
   pub checksum : word c 255 ≡ sum_of c 255
-  pub others : (i : ℕ) → (i < 8) ⊎ ((12 ≤ i) × (i < 510)) → byte c i ≡ byte b i
+  pub others : (i : ℕ) → (i < 8) ⊎ ((13 ≤ i) × (i < 510)) → byte c i ≡ byte b i
 
--- the blocks J are the blocks I where the user gave file `id` this owner and this protection, each where it is given
-pub record IsGiven (I : List (List ℕ)) (L : VolumeLayout) (who : Uic) (id : FileId) (owner : Option Uic) (protection : Option ℕ) (J : List (List ℕ)) : Type 0 where
+-- the blocks J are the blocks I where the user gave file `id` this owner, this protection and these characteristics, each where it is given
+pub record IsGiven (I : List (List ℕ)) (L : VolumeLayout) (who : Uic) (id : FileId) (owner : Option Uic) (protection flags : Option ℕ) (J : List (List ℕ)) : Type 0 where
   -- it was not to be refused
   pub allowed : (C : Catalogue) → ShowsBy I L C → access_fault C who id ≡ None
   -- the image is sound, and shows the catalogue with that file
   pub sound : IsSoundBy J L
-  pub shown : (C : Catalogue) → ShowsBy I L C → ShowsBy J L (put_access C id owner protection)
+  pub shown : (C : Catalogue) → ShowsBy I L C → ShowsBy J L (put_access C id owner protection flags)
   -- no ID of the past can be given again
   pub past : (C : Catalogue) → PastIsSpent I L C → PastIsSpent J L C
   -- what files hold and what is free stays
   pub moves : NothingMoves (record { image = I; layout = L }) (record { image = J; layout = L })
   -- the file's first header block changes so, and no other block
   pub long : length J ≡ length I
-  pub header : IsWithAccess (header_at I L id.number) owner protection (header_at J L id.number)
+  pub header : IsWithAccess (header_at I L id.number) owner protection flags (header_at J L id.number)
   pub elsewhere : (x : ℕ) → place_of L id.number ≢ Some x → block_at J x ≡ block_at I x
 
 -- the volume E is the volume D where the user gave the file these; the layout stays
+abbrev pub GivesAll : Disk → Uic → FileId → Option Uic → Option ℕ → Option ℕ → Disk → Type 0
+GivesAll D who id owner protection flags E = IsGiven D.image D.layout who id owner protection flags E.image × (E.layout ≡ D.layout)
+
+-- and its characteristics stay
 abbrev pub Gives : Disk → Uic → FileId → Option Uic → Option ℕ → Disk → Type 0
-Gives D who id owner protection E = IsGiven D.image D.layout who id owner protection E.image × (E.layout ≡ D.layout)
+Gives D who id owner protection E = GivesAll D who id owner protection None E
 
 -- the file is there, it is none of the system's, and no check refuses
 pub record MayBeGiven (I : List (List ℕ)) (L : VolumeLayout) (who : Uic) (id : FileId) : Type 0 where

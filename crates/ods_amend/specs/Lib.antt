@@ -1,2 +1,4 @@
 pub mod Access
 pub mod Label
+pub mod Bits
+pub mod Runs

@@ -1,4 +1,4 @@
-//! Another owner or another protection of a file of a sound volume.
+//! Another owner, another protection or other characteristics of a file of a sound volume.
 ghost use Rattle.std.specs.Prelude.{◌≡◌, Some, None, MatchResult};
 ghost use Rattle.ods_mount.specs.Sound.{IsSoundBy};
 ghost use Rattle.ods_space.specs.{Disks.on, Draft.applied};
@@ -12,8 +12,8 @@ use ods_request::Refusal;
 use ods_space::{Disk, Draft};
 use std::alloc::Global;
 
-/// The draft that gives a file this owner, H.FOWN, and this protection, H.FPRO, each where it is given: its first header, with the sum made anew. The volume
-/// stays as it is. Refused as `set_protection` is.
+/// The draft that gives a file this owner, H.FOWN, this protection, H.FPRO, and these characteristics, H.UCHA, each where it is given: its first header, with the
+/// sum made anew. The volume stays as it is. Refused as `set_protection` is.
 pub fn draft_access(
     alloc: Global,
     disk: &Disk<'_>,
@@ -21,17 +21,18 @@ pub fn draft_access(
     file: FileId,
     owner: Option<Uic>,
     protection: Option<u16>,
+    flags: Option<u8>,
 ) -> Result<Draft, Refusal>
     requires { on IsSoundBy disk.now }
     ensures { MatchResult result
-        (λ draft. on IsGiven disk.now who file owner protection (applied disk.now.image.now draft))
+        (λ draft. on IsGiven disk.now who file owner protection flags (applied disk.now.image.now draft))
         (on IsNotGiven disk.now who file) }
 {
     let first = match open_to_give(disk, who, file) {
         Ok(first) => first,
         Err(refusal) => return Err(refusal),
     };
-    let header = with_access(first, owner, protection);
+    let header = with_access(first, owner, protection, flags);
     let lbn = disk.layout.place(file.number).unwrap();
     let mut draft = Draft::new(alloc);
     match draft.set(lbn, header) {
@@ -53,7 +54,7 @@ fn set_access(
         (λ _. Gives volume.old who file owner protection volume.new)
         (λ f. IsNotGiven volume.old.image volume.old.layout who file f × (volume.new ≡ volume.old)) }
 {
-    match draft_access(alloc, &volume.disk(), who, file, owner, protection) {
+    match draft_access(alloc, &volume.disk(), who, file, owner, protection, None) {
         Ok(draft) => {
             volume.apply(draft, &[]);
             Ok(())

@@ -1,10 +1,10 @@
-//! Header blocks with another owner or another protection, and sums made anew.
+//! Header blocks with another owner, another protection or other characteristics, and sums made anew.
 ghost use Rattle.std.specs.Prelude.{◌≡◌, ◌<◌, ◌/◌, ◌%◌, [], ◌∷◌};
 ghost use Rattle.ods_base.specs.Block.{IsBlock, sum_of, with_word};
 ghost use Rattle.ods_amend.specs.Access.{IsWithAccess};
 
 use ods_base::{Block, Uic, set_word, sum};
-use ods_header::{owner, protection};
+use ods_header::{owner, protection, user_char};
 
 /// Makes word `place` the sum of the words before it. Every other byte stays.
 pub(crate) fn renew_sum(block: &mut Block, place: usize)
@@ -16,23 +16,35 @@ pub(crate) fn renew_sum(block: &mut Block, place: usize)
     set_word(block, place, total);
 }
 
-/// Bytes 8 to 11 of a header, H.FOWN and H.FPRO.
-fn access_bytes(owner: Uic, protection: u16) -> [u8; 4]
-    ensures { result ≡ owner.member ∷ owner.group ∷ (protection % 256) ∷ (protection / 256) ∷ [] }
+/// Bytes 8 to 12 of a header, H.FOWN, H.FPRO and H.UCHA.
+fn access_bytes(owner: Uic, protection: u16, flags: u8) -> [u8; 5]
+    ensures { result ≡ owner.member ∷ owner.group ∷ (protection % 256) ∷ (protection / 256) ∷ flags ∷ [] }
 {
     let protection = protection.to_le_bytes();
-    [owner.member, owner.group, protection[0], protection[1]]
+    [
+        owner.member,
+        owner.group,
+        protection[0],
+        protection[1],
+        flags,
+    ]
 }
 
-/// The block of a header with this owner, H.FOWN, and this protection word, H.FPRO, each where it is given, and with its
+/// The block of a header with this owner, H.FOWN, this protection word, H.FPRO, and these characteristics, H.UCHA, each where it is given, and with its
 /// sum made anew. Every other byte stays.
-pub(crate) fn with_access(block: &Block, user: Option<Uic>, word: Option<u16>) -> Block
-    ensures { IsWithAccess block.now user word result }
+pub(crate) fn with_access(
+    block: &Block,
+    user: Option<Uic>,
+    word: Option<u16>,
+    flags: Option<u8>,
+) -> Block
+    ensures { IsWithAccess block.now user word flags result }
 {
     let _ = block.bytes();
     let new_owner = user.unwrap_or(owner(block));
     let new_protection = word.unwrap_or(protection(block));
-    let bytes = access_bytes(new_owner, new_protection);
+    let new_flags = flags.unwrap_or(user_char(block));
+    let bytes = access_bytes(new_owner, new_protection, new_flags);
     let mut changed = *block;
     changed.set_bytes(8, &bytes);
     renew_sum(&mut changed, 255);

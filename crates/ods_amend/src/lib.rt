@@ -1,10 +1,14 @@
-//! Changes of a sound volume that no request makes: another owner or protection of a file, another label of the volume.
+//! Changes of a sound volume that no request makes: another owner, protection or characteristics of a file, another label of the volume, bits of the storage bitmap.
 #![tactic(auto)]
 
 mod access;
+mod bits;
 mod header;
 mod label;
 mod opening;
+mod runs;
 
 pub use access::{draft_access, set_owner, set_protection};
+pub use bits::draft_marks;
 pub use label::{draft_label, set_label};
+pub use runs::{free_below, lowest_run};

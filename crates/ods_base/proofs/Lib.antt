@@ -1,5 +1,6 @@
 pub mod BitWords
 pub mod Blocks
+pub mod Filters
 pub mod Images
 pub mod NameCodes
 pub mod NameCuts

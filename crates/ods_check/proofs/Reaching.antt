@@ -57,7 +57,7 @@ reached_of I L n others blocks old new image layout chain s =
       | inl m ↦ inl m
       | inr (j, at) ↦
           let P : List ℕ → Type 0 = λ ys. slice_get ys j ≡ Some x in
-          inr (j, record { file = file_of_chain I L n others blocks layout chain; others = others; blocks = blocks; chain = chain; named = subst P seen.numbers at })
+          inr (j, record { file = file_of_chain I L n others blocks (record { home = layout.home; index = layout.index }) chain; others = others; blocks = blocks; chain = chain; named = subst P seen.numbers at })
     ])
     (λ x o. elim o [
       | inl m ↦ inl m

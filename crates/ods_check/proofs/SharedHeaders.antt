@@ -34,7 +34,7 @@ module _ (I : List (List ℕ)) (L : VolumeLayout) (n : ℕ) (others blocks xs : 
   chain_headers_are j x = (
     λ at.
         let P : List ℕ → Type 0 = λ ys. slice_get ys j ≡ Some x in
-        record { file = file_of_chain I L n others blocks layout chain; others = others; blocks = blocks; chain = chain; named = subst P (same_numbers others blocks chain) at },
+        record { file = file_of_chain I L n others blocks (record { home = layout.home; index = layout.index }) chain; others = others; blocks = blocks; chain = chain; named = subst P (same_numbers others blocks chain) at },
     λ h. let P : List ℕ → Type 0 = λ ys. slice_get ys j ≡ Some x in subst P (sym (same_numbers h.others h.blocks h.chain)) h.named,
   )
 

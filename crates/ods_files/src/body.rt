@@ -1,7 +1,7 @@
 //! The body of a file: its blocks where they stand in the image, and how far its bytes go.
 ghost use Rattle.std.specs.Prelude.{◌≡◌, ◌⊎◌, ◌*◌, ◌≤◌, length, ℕ, List, Some, None, IfSome, IfNone, IfOk, IfErr, OnOk};
 ghost use Rattle.std.specs.Io.KnownBytes.{Appends};
-ghost use Rattle.ods_space.specs.Files.{IsFile, IsLayoutOf};
+ghost use Rattle.ods_space.specs.Files.{FindsFiles, IsFile};
 ghost use Rattle.ods_space.specs.Chain.{chain_blocks};
 ghost use Rattle.ods_files.specs.Body.{HasBody, HasPart, IsFileFault, are_zeros, body_at, size_in, bytes_in, IsCopyFault};
 
@@ -42,7 +42,7 @@ impl<'a> FileBody<'a> {
     /// INDEXF.SYS and directories have bodies too.
     /// A number that is no file is refused with `NoSuchFile`, and else the fault is that of its chain.
     pub fn open(alloc: Global, disk: &Disk<'a>, number: u16) -> Result<FileBody<'a>, FileFault>
-        requires { on IsLayoutOf disk.now }
+        requires { on FindsFiles disk.now }
         ensures ok { IfOk result (on HasBody disk.now number) }
         ensures err { IfErr result (on IsFileFault disk.now number) }
     {

@@ -39,7 +39,7 @@ twice C id f g q =
     by true = refl
     by false = refl
 
-shown_once : (J : List (List ℕ)) (M : VolumeLayout) (C : Catalogue) (id : FileId) (f g : File) → ShowsBy J M (put (created C id f) id g) → ShowsBy J M (created C id g)
+pub shown_once : (J : List (List ℕ)) (M : VolumeLayout) (C : Catalogue) (id : FileId) (f g : File) → ShowsBy J M (put (created C id f) id g) → ShowsBy J M (created C id g)
 shown_once J M C id f g s = record {
   there = λ q h e. s.there q h (twice C id f g q ∙ e);
   all = λ q h i. sym (twice C id f g q) ∙ s.all q h i;
@@ -47,7 +47,7 @@ shown_once J M C id f g s = record {
 }
 
 -- the new file is there
-there : (C : Catalogue) (id : FileId) (f : File) → file_at (created C id f) id ≡ f
+pub there : (C : Catalogue) (id : FileId) (f : File) → file_at (created C id f) id ≡ f
 there C id f = ap (λ o. unwrap_or o no_file) (get_put C id f)
 
 module _ (old mid new : Filed) (h : Heading) (id : FileId) (a : Answer) where

@@ -1,5 +1,5 @@
 -- A request on a volume, by the catalogues that its blocks show.
-use Rattle.std.proofs.Common.{◌≡◌, ℕ, refl, ap, sym, ◌∙◌, subst, List, is_some, Option}
+use Rattle.std.proofs.Common.{◌≡◌, ℕ, refl, ap, sym, ◌∙◌, subst, Bool, List, is_some, Option, Some, None}
 use Rattle.std.specs.Prelude.{Result, Ok, Err, IfOk, OnOk, OnErr}
 use Rattle.std.specs.FinSet as set
 use Rattle.std.specs.FinMap as map
@@ -17,9 +17,11 @@ use Rattle.ods_volume.proofs.OtherPast.{with_past, other_past}
 use Rattle.ods_volume.proofs.Stepped.{stepped}
 use Rattle.ods_mount.specs.Sound.{IsSoundBy}
 use Rattle.ods_base.specs.declared.file_id.FileId.{FileId}
-use Rattle.ods_amend.specs.Access.{Gives}
+use Rattle.ods_amend.specs.Access.{Gives, GivesAll}
+use Rattle.ods_amend.specs.Bits.{MarksAs}
 use Rattle.ods_amend.specs.Label.{Relabels}
 use Rattle.ods_filing.specs.Amended.{HasGiven, HasGotLabel}
+use Rattle.ods_filing.specs.Contiguous.{HasCharacterised, HasMarked}
 use Rattle.ods_filing.specs.Filed.{Filed, HasGrown, IsDone}
 
 -- blocks that show a catalogue show each one with the same files and the same protection
@@ -71,6 +73,16 @@ has_grown D E who count (Err f) more = tt
 pub has_given : (D E : Disk) (who : Uic) (id : FileId) (owner : Option Uic) (protection : Option ℕ) {A : Type 0} (result : Result A Refusal) → OnOk result (Gives D who id owner protection E) → OnOk result (HasGiven (filed D who) id owner protection (filed E who))
 has_given D E who id owner protection (Ok a) gives = record { given = gives; user = refl }
 has_given D E who id owner protection (Err f) gives = tt
+
+-- a user has given a file other characteristics
+pub has_characterised : (D E : Disk) (who : Uic) (id : FileId) (flags : ℕ) {A : Type 0} (result : Result A Refusal) → OnOk result (GivesAll D who id None None (Some flags) E) → OnOk result (HasCharacterised (filed D who) id flags (filed E who))
+has_characterised D E who id flags (Ok a) gives = record { given = gives; user = refl }
+has_characterised D E who id flags (Err f) gives = tt
+
+-- blocks of a user's volume are marked
+pub has_marked : (D E : Disk) (who : Uic) (blocks : List ℕ) (free : Bool) {A X : Type 0} (result : Result A X) → OnOk result (MarksAs D blocks free E) → OnOk result (HasMarked (filed D who) blocks free (filed E who))
+has_marked D E who blocks free (Ok a) marks = record { marked = marks; user = refl }
+has_marked D E who blocks free (Err f) marks = tt
 
 -- a user's volume has got another label
 pub has_got_label : (D E : Disk) (who : Uic) (label : List ℕ) {A X : Type 0} (result : Result A X) → OnOk result (Relabels D label E) → OnOk result (HasGotLabel (filed D who) label (filed E who))

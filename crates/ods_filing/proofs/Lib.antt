@@ -4,3 +4,4 @@ pub mod Added
 pub mod ComeBack
 pub mod Led
 pub mod Parts
+pub mod InOnePiece

@@ -1,4 +1,5 @@
 pub mod Amended
+pub mod Contiguous
 pub mod Filed
 pub mod Led
 pub mod Put

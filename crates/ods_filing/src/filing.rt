@@ -1,9 +1,12 @@
 //! Requests of a user on a sound volume.
-ghost use Rattle.std.specs.Prelude.{◌≡◌, length, IfOk, IfErr, OnOk, OnErr};
+ghost use Rattle.std.specs.Prelude.{◌≡◌, length, true, IfOk, IfErr, OnOk, OnErr};
+ghost use Rattle.std.specs.List.{All};
 ghost use Rattle.ods_space.specs.{Disks.on, Free.free_blocks};
 ghost use Rattle.ods_mount.specs.Sound.{IsSoundBy};
 ghost use Rattle.ods_state.specs.{Outcome.CanBeAsked, Served.IsRefusalOf};
+ghost use Rattle.ods_amend.specs.Bits.{IsLoose};
 ghost use Rattle.ods_filing.specs.Amended.{HasGiven, HasGotLabel, IsWhyNotGiven};
+ghost use Rattle.ods_filing.specs.Contiguous.{HasCharacterised, HasMarked};
 ghost use Rattle.ods_filing.specs.Filed.{for_another, HasGrown, IsDone, IsWhyNotGrown, lacking};
 
 use ods_base::{FileId, Uic};
@@ -81,6 +84,25 @@ impl Filing {
         ensures unchanged { OnErr result (self.new ≡ self.old) }
     {
         self.sound.set_access(self.user, file, owner, protection)
+    }
+
+    /// The user gives a file other characteristics of the user's, H.UCHA. Refused, it changes nothing.
+    pub fn set_characteristics(&mut self, file: FileId, flags: u8) -> Result<(), Refusal>
+        ensures given { OnOk result (HasCharacterised self.old file flags self.new) }
+        ensures refused { IfErr result (IsWhyNotGiven self.old file) }
+        ensures unchanged { OnErr result (self.new ≡ self.old) }
+    {
+        self.sound.set_characteristics(self.user, file, flags)
+    }
+
+    /// Has the storage bitmap say of blocks that they are free, or that they are taken. Those that it frees no file may hold, and no home block may be looked
+    /// for there. It fails for want of memory alone, and then changes nothing.
+    pub fn mark_blocks(&mut self, blocks: &[u32], free: bool) -> Result<(), AllocError>
+        requires { free ≡ true → All (IsLoose self.old.image self.old.layout) blocks.now }
+        ensures marked { OnOk result (HasMarked self.old blocks.now free self.new) }
+        ensures unchanged { OnErr result (self.new ≡ self.old) }
+    {
+        self.sound.mark_blocks(blocks, free)
     }
 
     /// The volume gets another label. It fails for want of memory alone, and then changes nothing.

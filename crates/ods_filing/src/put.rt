@@ -3,6 +3,8 @@ ghost use Rattle.std.specs.Prelude.{◌≡◌, ◌≢◌, ◌≤◌, replicate, 
 ghost use Rattle.ods_base.specs.{declared.file_id.FileId.FileId, Name.directory_type, Name.RadName};
 ghost use Rattle.ods_request.specs.{declared.refusals.Refusal.Refusal, Catalogue.Plain, Steps.zero_blocks};
 ghost use Rattle.ods_request.specs.declared.answers.Answer.{Answer};
+ghost use Rattle.ods_request.specs.declared.answers.Answer.TheVariants as answer;
+ghost use Rattle.ods_filing.specs.Contiguous.{IsWrittenShort, KeepsBlocks};
 ghost use Rattle.ods_state.specs.Outcome.{IsVersionNumber, CanBeAsked};
 ghost use Rattle.ods_filing.specs.Filed.{Filed, IsDone, IsRefusedFor};
 ghost use Rattle.ods_filing.specs.Led.{Fills, IsLed};
@@ -29,11 +31,16 @@ pub struct NewFile<'a> {
 const MOST: usize = 65_535;
 
 /// Makes a file of the user, of this many blocks of zeros, of which one request asks for.
-fn make(filing: &mut Filing, file: &NewFile<'_>, blocks: usize) -> Result<FileId, Refusal>
+pub(crate) fn make(
+    filing: &mut Filing,
+    file: &NewFile<'_>,
+    blocks: usize,
+) -> Result<FileId, Refusal>
     requires version { IsVersionNumber file.now.version }
     requires plain { file.now.name.ext ≢ directory_type }
     requires few { blocks ≤ MOST }
     ensures ok { IfOk result (λ id. IsAdded filing.old (heading_of file.now) id (Plain (replicate 32 0) (zero_blocks blocks)) filing.new) }
+    ensures done { IfOk result (λ id. IsDone filing.old (Request.Create file.now.name file.now.version blocks file.now.stamp) (answer.Created id) filing.new) }
     ensures led { OnOk result (IsLed Fills filing.old filing.new) }
     ensures err { IfErr result (IsRefusedFor filing.old (Request.Create file.now.name file.now.version blocks file.now.stamp)) }
     ensures unchanged { OnErr result (filing.new ≡ filing.old) }
@@ -53,7 +60,7 @@ fn make(filing: &mut Filing, file: &NewFile<'_>, blocks: usize) -> Result<FileId
 }
 
 /// One request whose answer is not wanted.
-fn obey(filing: &mut Filing, request: Request) -> Result<(), Refusal>
+pub(crate) fn obey(filing: &mut Filing, request: Request) -> Result<(), Refusal>
     requires { CanBeAsked request }
     ensures ok { OnOk result ((a : Answer) × IsDone filing.old request a filing.new) }
     ensures err { IfErr result (IsRefusedFor filing.old request) }
@@ -86,11 +93,14 @@ fn extend_to(filing: &mut Filing, id: FileId, first: usize, count: usize) -> Res
 }
 
 /// Writes the bytes into the blocks of a new file, which has as many as they take.
-fn fill(filing: &mut Filing, id: FileId, bytes: &[u8]) -> Result<(), Refusal>
+pub(crate) fn fill(filing: &mut Filing, id: FileId, bytes: &[u8]) -> Result<(), Refusal>
     requires { block_count bytes.now ≤ MAX_BLOCKS }
     ensures ok { OnOk result ((old : Filed) (heading : Heading) → IsAdded old heading id (Plain (replicate 32 0) (zero_blocks (block_count bytes.now))) filing.old
         → IsAdded old heading id (Plain (replicate 32 0) (blocks_with bytes.now)) filing.new) }
     ensures led { OnOk result (IsLed Fills filing.old filing.new) }
+    ensures kept { OnOk result (KeepsBlocks filing.old filing.new) }
+    ensures stops { IfErr result (λ f. (old : Filed) (heading : Heading) → IsAdded old heading id (Plain (replicate 32 0) (zero_blocks (block_count bytes.now))) filing.old
+        → IsWrittenShort old heading id bytes.now filing.new f) }
     // Refused, it has the bytes of some blocks, and those of the next one are refused.
     ensures err { IfErr result (λ f. (old : Filed) (heading : Heading) → IsInPart old heading id (zero_blocks (block_count bytes.now)) filing.old
         → IsNotFilled old heading id bytes.now filing.new f) }
@@ -102,6 +112,7 @@ fn fill(filing: &mut Filing, id: FileId, bytes: &[u8]) -> Result<(), Refusal>
             block: block_of(bytes, k),
         };
         obey(filing, request)?;
+        let _ = filing.disk();
     }
     Ok(())
 }

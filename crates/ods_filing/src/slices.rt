@@ -5,7 +5,7 @@ ghost use Rattle.ods_filing.specs.Put.{block_with, block_count};
 use ods_base::Block;
 
 /// How many blocks these bytes take, 512 each.
-pub(crate) fn blocks_for(bytes: &[u8]) -> usize
+pub fn blocks_for(bytes: &[u8]) -> usize
     ensures { result ≡ block_count bytes.now }
 {
     bytes.len().div_ceil(512)

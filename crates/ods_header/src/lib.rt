@@ -22,7 +22,7 @@ mod sum;
 mod write;
 
 pub use append::{append_runs, grown_last, with_next};
-pub use contiguous::without_contiguous;
+pub use contiguous::{CONTIGUOUS, without_contiguous};
 pub use cut::cut_header;
 pub use delete::deleted_header;
 pub use extension::extension_block;
@@ -33,7 +33,7 @@ pub use fields::{
 };
 pub use find::find_home;
 pub use first::first_block;
-pub use header::{HEADER_POINTERS, HEADER_ROOM, Header, HeaderFault, Run};
+pub use header::{HEADER_BLOCKS, HEADER_POINTERS, HEADER_ROOM, Header, HeaderFault, Run};
 pub use home::{Home, HomeFault};
 pub use line::{header_line, print_ident, push_owner};
 pub use map_area::{

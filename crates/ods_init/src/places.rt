@@ -3,9 +3,10 @@ ghost use Rattle.std.specs.Prelude.{◌≡◌, ◌≤◌, ◌^◌, MatchOption};
 ghost use Rattle.ods_init.specs.Places.{HasRoom, places};
 
 use crate::NewVolume;
+use ods_header::HEADER_BLOCKS;
 
-/// The blocks that the one header of INDEXF.SYS can map: 102 pointers, of 256 blocks each.
-const MOST_INDEX_BLOCKS: u32 = 26_112;
+/// The blocks that the one header of INDEXF.SYS can map.
+const MOST_INDEX_BLOCKS: u32 = HEADER_BLOCKS as u32;
 
 /// Where the structures of a new volume lie. INDEXF.SYS has the blocks from LBN 0 on, the index bitmap from LBN 2 on.
 #[derive(Clone, Copy)]

@@ -1,5 +1,5 @@
 -- Why there is no layout is a fault of the image.
-use Rattle.std.proofs.Common.{◌≡◌, ◌≢◌, ℕ, ◌+◌, ◌<◌, List, [], length, None, inl, inr, refl, sym, ap, subst, arith}
+use Rattle.std.proofs.Common.{◌≡◌, ◌≢◌, ℕ, ◌+◌, ◌<◌, List, [], length, None, inl, inr, refl, sym, ap, ◌∙◌, subst, arith}
 use Rattle.std.proofs.lemmas.Bool.{cases_lt}
 use Rattle.std.proofs.lemmas.List.Elements.{All-contains}
 use Rattle.ods_base.specs.Image.{IsImage}
@@ -7,8 +7,8 @@ use Rattle.ods_header.specs.declared.home.Home.{Home}
 use Rattle.ods_header.specs.Home.{IsHomeOf}
 use Rattle.ods_space.specs.Layout.{VolumeLayout, last_number}
 use Rattle.ods_space.specs.Chain.{IsIndex, index_for}
-use Rattle.ods_space.specs.Files.{IsFile, AreInside, HasBlocks, HasIndexHeader, IsLayoutOf}
-use Rattle.ods_space.specs.Faults.{IsLayoutFault, IsChainFault, layout_with}
+use Rattle.ods_space.specs.Files.{IsFile, AreInside, FindsFiles, HasBlocks, HasIndexHeader, IsLayoutOf}
+use Rattle.ods_space.specs.Faults.{IsLayoutFault, IsChainFault, IsOfIndex, layout_with}
 use Rattle.ods_space.specs.declared.fault.ChainFault.TheVariants as chain
 use Rattle.ods_space.specs.declared.fault.LayoutFault.{LayoutFault}
 use Rattle.ods_space.specs.declared.fault.LayoutFault.TheVariants.{NoFile, Chain, NoMemory as NoLayout}
@@ -86,11 +86,11 @@ module _ (I : List (List ℕ)) (h : Home) (home : IsHomeOf I h) where
   fault_is_true NoLayout image fault some = absurd (some refl)
 
   -- INDEXF.SYS of a layout, by this home block
-  index_of : (L : VolumeLayout) → IsLayoutOf I L → IsIndex I h L.index
+  index_of : (L : VolumeLayout) → FindsFiles I L → IsIndex I h L.index
   index_of L x = let P : Home → Type 0 = λ g. IsIndex I g L.index in subst P (same_home I L.home h x.home home) (x.index.others, x.index.whole.chain)
 
   -- the blocks of a file of a layout are those by this home block and this index
-  near : (L : VolumeLayout) → IsLayoutOf I L → (index : List ℕ) → IsIndex I h index → (n : ℕ) (xs : List ℕ) → HasBlocks I L n xs → HasBlocks I (layout_with h index) n xs
+  near : (L : VolumeLayout) → FindsFiles I L → (index : List ℕ) → IsIndex I h index → (n : ℕ) (xs : List ℕ) → HasBlocks I L n xs → HasBlocks I (layout_with h index) n xs
   near L x index found n xs has =
       let p : L.home ≡ h = same_home I L.home h x.home home in
       let q : L.index ≡ index = same_index I h L.index index (index_of L x) found in
@@ -99,7 +99,7 @@ module _ (I : List (List ℕ)) (h : Home) (home : IsHomeOf I h) where
       subst Q e (with_bitmap I L [] n xs has)
 
   -- a file of a layout names no block that the image lacks
-  all_inside : (L : VolumeLayout) → IsLayoutOf I L → (index : List ℕ) (n lbn : ℕ) (xs : List ℕ) → IsIndex I h index → HasBlocks I L n xs → IsChainFault I (layout_with h index) n (chain.OutsideVolume lbn) → ⊥
+  all_inside : (L : VolumeLayout) → FindsFiles I L → (index : List ℕ) (n lbn : ℕ) (xs : List ℕ) → IsIndex I h index → HasBlocks I L n xs → IsChainFault I (layout_with h index) n (chain.OutsideVolume lbn) → ⊥
   all_inside L x index n lbn xs found has fault =
       let there = near L x index found n xs has in
       let same : xs ≡ fault.1 = (same_chain I h (index_for (layout_with h index) n) [] 0 n there.others xs fault.0 fault.1 there.whole.chain fault.2).1 in
@@ -107,18 +107,36 @@ module _ (I : List (List ℕ)) (h : Home) (home : IsHomeOf I h) where
       let below : lbn < length I = All-contains (λ b. b < length I) fault.1 lbn (subst R same there.whole.inside) fault.3 in
       omega (arith, below, fault.4)
 
-  -- where there is this reason, there is no layout
-  pub has_no_layout : (fault : LayoutFault) → IsLayoutFault I h fault → mount_fault_of fault ≢ NoMemory → (L : VolumeLayout) → IsLayoutOf I L → ⊥
-  has_no_layout (NoFile n) (inl (one, inl none)) some L x = none (index_header I h L.index (index_of L x))
-  has_no_layout (NoFile n) (inl (one, inr (index, found, none))) some L x = let there = near L x index found 1 L.index x.index in none there.file
-  has_no_layout (NoFile n) (inr (two, index, found, none)) some L x = let there = near L x index found 2 L.bitmap x.bitmap in none there.file
-  has_no_layout (Chain n chain.BadChain) (inl (one, header, none)) some L x = none L.index (index_of L x)
-  has_no_layout (Chain n chain.BadChain) (inr (two, index, found, file, none)) some L x = let there = near L x index found 2 L.bitmap x.bitmap in none there.others L.bitmap there.whole.chain
-  has_no_layout (Chain n (chain.OutsideVolume lbn)) (inl one, index, found, file, fault) some L x =
+  -- where this reason is one of INDEXF.SYS, no layout finds files
+  pub finds_none : (fault : LayoutFault) → IsLayoutFault I h fault → IsOfIndex fault → fault ≢ NoLayout → (L : VolumeLayout) → FindsFiles I L → ⊥
+  finds_none (NoFile n) (inl (one, inl none)) of some L x = none (index_header I h L.index (index_of L x))
+  finds_none (NoFile n) (inl (one, inr (index, found, none))) of some L x = let there = near L x index found 1 L.index x.index in none there.file
+  finds_none (NoFile n) (inr (two, index, found, none)) of some L x = absurd (let clash : ◌≡◌ {A = ℕ} 1 2 = sym of ∙ two in cc)
+  finds_none (Chain n chain.BadChain) (inl (one, header, none)) of some L x = none L.index (index_of L x)
+  finds_none (Chain n chain.BadChain) (inr (two, index, found, file, none)) of some L x = absurd (let clash : ◌≡◌ {A = ℕ} 1 2 = sym of ∙ two in cc)
+  finds_none (Chain n (chain.OutsideVolume lbn)) (inl one, index, found, file, fault) of some L x =
       let P : ℕ → Type 0 = λ m. IsChainFault I (layout_with h index) m (chain.OutsideVolume lbn) in
       all_inside L x index 1 lbn L.index found x.index (subst P one fault)
+  finds_none (Chain n (chain.OutsideVolume lbn)) (inr two, index, found, file, fault) of some L x = absurd (let clash : ◌≡◌ {A = ℕ} 1 2 = sym of ∙ two in cc)
+  finds_none (Chain n chain.NoMemory) fault of some L x = absurd fault
+  finds_none NoLayout fault of some L x = absurd (some refl)
+
+  -- what BITMAP.SYS has nothing to do with
+  finding : (L : VolumeLayout) → IsLayoutOf I L → FindsFiles I L
+  finding L x = record { home = x.home; index = x.index }
+
+  -- where there is this reason, there is no layout
+  pub has_no_layout : (fault : LayoutFault) → IsLayoutFault I h fault → mount_fault_of fault ≢ NoMemory → (L : VolumeLayout) → IsLayoutOf I L → ⊥
+  has_no_layout (NoFile n) (inl (one, inl none)) some L x = none (index_header I h L.index (index_of L (finding L x)))
+  has_no_layout (NoFile n) (inl (one, inr (index, found, none))) some L x = let there = near L (finding L x) index found 1 L.index x.index in none there.file
+  has_no_layout (NoFile n) (inr (two, index, found, none)) some L x = let there = near L (finding L x) index found 2 L.bitmap x.bitmap in none there.file
+  has_no_layout (Chain n chain.BadChain) (inl (one, header, none)) some L x = none L.index (index_of L (finding L x))
+  has_no_layout (Chain n chain.BadChain) (inr (two, index, found, file, none)) some L x = let there = near L (finding L x) index found 2 L.bitmap x.bitmap in none there.others L.bitmap there.whole.chain
+  has_no_layout (Chain n (chain.OutsideVolume lbn)) (inl one, index, found, file, fault) some L x =
+      let P : ℕ → Type 0 = λ m. IsChainFault I (layout_with h index) m (chain.OutsideVolume lbn) in
+      all_inside L (finding L x) index 1 lbn L.index found x.index (subst P one fault)
   has_no_layout (Chain n (chain.OutsideVolume lbn)) (inr two, index, found, file, fault) some L x =
       let P : ℕ → Type 0 = λ m. IsChainFault I (layout_with h index) m (chain.OutsideVolume lbn) in
-      all_inside L x index 2 lbn L.bitmap found x.bitmap (subst P two fault)
+      all_inside L (finding L x) index 2 lbn L.bitmap found x.bitmap (subst P two fault)
   has_no_layout (Chain n chain.NoMemory) fault some L x = absurd fault
   has_no_layout NoLayout fault some L x = absurd (some refl)

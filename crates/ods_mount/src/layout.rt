@@ -1,14 +1,14 @@
 //! Where the volume's structures lie, or why that cannot be found.
-ghost use Rattle.std.specs.Prelude.{◌≡◌, ◌≢◌, IfOk, IfErr};
+ghost use Rattle.std.specs.Prelude.{◌≡◌, ◌≢◌, IfOk, IfErr, IfNone, IfSome};
 ghost use Rattle.ods_header.specs.Home.{IsHomeAt};
-ghost use Rattle.ods_space.specs.{Files.IsLayoutOf, Layout.VolumeLayout};
+ghost use Rattle.ods_space.specs.{Files.FindsFiles, Files.IsLayoutOf, Files.IsReadable, Layout.VolumeLayout};
 ghost use Rattle.ods_mount.specs.{Faults.FaultIsTrue, Checks.mount_fault_of};
 
 use crate::MountFault;
 use ods_base::Image;
 use ods_header::find_home;
 use ods_space::{ChainFault, Layout, LayoutFault};
-use std::alloc::Global;
+use std::alloc::{AllocError, Global};
 
 /// The LBN of the home block, and the layout of the volume. An image without a layout is answered with one of its faults.
 /// NoMemory says nothing of the image.
@@ -27,6 +27,35 @@ pub fn read_layout(alloc: Global, image: &Image) -> Result<(u32, Layout), MountF
     match Layout::read(alloc, image, home) {
         Ok(layout) => Ok((lbn, layout)),
         Err(fault) => Err(mount_fault(fault)),
+    }
+}
+
+/// The layout by which an image is read, be it sound or not: BITMAP.SYS has its blocks in it where its chain is whole, and else none. There is no
+/// layout where INDEXF.SYS has no whole chain, since nothing else leads to headers.
+pub fn readable_layout(alloc: Global, image: &Image) -> Result<Option<Layout>, AllocError>
+    ensures some { IfOk result (λ found. IfSome found (IsReadable image.now)) }
+    ensures none { IfOk result (λ found. IfNone found ((L : VolumeLayout) → ¬ FindsFiles image.now L)) }
+{
+    match read_layout(alloc, image) {
+        Ok((_, layout)) => Ok(Some(layout)),
+        Err(MountFault::NoMemory) => Err(AllocError),
+        Err(_) => index_layout(alloc, image),
+    }
+}
+
+/// The layout that INDEXF.SYS alone gives, where it has a whole chain; of an image whose BITMAP.SYS has none.
+fn index_layout(alloc: Global, image: &Image) -> Result<Option<Layout>, AllocError>
+    requires { (L : VolumeLayout) → ¬ IsLayoutOf image.now L }
+    ensures some { IfOk result (λ found. IfSome found (IsReadable image.now)) }
+    ensures none { IfOk result (λ found. IfNone found ((L : VolumeLayout) → ¬ FindsFiles image.now L)) }
+{
+    let Ok((_, home)) = find_home(image) else {
+        return Ok(None);
+    };
+    match Layout::read_index(alloc, image, home) {
+        Ok(layout) => Ok(Some(layout)),
+        Err(LayoutFault::NoMemory) => Err(AllocError),
+        Err(_) => Ok(None),
     }
 }
 

@@ -25,7 +25,7 @@ pub use fault::MountFault;
 pub use formats::has_other_format;
 pub use index::{check_index, first_misplaced, is_index_short, is_other_home};
 pub use laws::sound_has_no_fault;
-pub use layout::{chain_fault, read_layout};
+pub use layout::{chain_fault, read_layout, readable_layout};
 pub use mounted::Mounted;
 pub use places::{is_home_place, is_loose_place};
 pub use set::NumberSet;

@@ -1,11 +1,12 @@
 -- The LBNs that keys have: those of all candidates, and those of first headers.
-use Rattle.std.proofs.Common.{◌≡◌, ℕ, ◌+◌, ◌/◌, ◌%◌, ◌<◌, Bool, true, cond, refl, sym, ap, subst, List, [], ◌∷◌, ◌++◌, map, take, drop, get_or, arith, ◌∙◌}
+use Rattle.std.proofs.Common.{◌≡◌, ℕ, ◌/◌, ◌%◌, ◌<◌, true, refl, sym, ap, subst, List, [], ◌∷◌, map, get_or, arith, ◌∙◌}
 use Rattle.std.specs.List.{All, Contains, filter}
 use Rattle.std.specs.List.Sorted.{IsStrictlyIncreasing}
 use Rattle.std.proofs.lemmas.Bool.{eqb-true, eq-eqb}
-use Rattle.std.proofs.lemmas.List.{get_or-map, length-map, take-append-drop}
-use Rattle.std.proofs.lemmas.List.Elements.{All-contains, All-contains_itself, All-filter, All-map, All-head, All-tail, filter_passes, filter_more, filter-append, Contains-push, Contains-append_left}
+use Rattle.std.proofs.lemmas.List.{get_or-map, length-map}
+use Rattle.std.proofs.lemmas.List.Elements.{All-contains, All-contains_itself, All-filter, All-map, All-head, All-tail, filter_passes}
 use Rattle.std.proofs.lemmas.List.Kept.{IsStrictlyIncreasing-filter}
+use Rattle.ods_base.proofs.Filters.{contains_filter}
 use Rattle.ods_base.specs.Image.{IsImage, block_at}
 use Rattle.ods_header.specs.Header.{segment_of}
 use Rattle.ods_remains.specs.Candidates.{HasCandidate, HasFirst}
@@ -15,15 +16,6 @@ use Rattle.ods_remains.proofs.Going.{low_lbn, segment_small}
 
 contains_map : (f : ℕ → ℕ) (xs : List ℕ) (x : ℕ) → Contains xs x → Contains (map f xs) (f x)
 contains_map f xs x has = (has.0, subst (λ n. has.0 < n) (sym (length-map xs f)) has.1, get_or-map f xs has.0 x (f x) has.1 ∙ ap f has.2)
-
-pub contains_filter : (p : ℕ → Bool) (xs : List ℕ) (x : ℕ) → Contains xs x → p x ≡ true → Contains (filter p xs) x
-contains_filter p xs x has passes =
-    let k = has.0 in
-    let more : filter p (take (k + 1) xs) ≡ filter p (take k xs) ++ cond (p (get_or xs k x)) (get_or xs k x ∷ []) [] = filter_more p xs k x has.1 in
-    let here : cond (p (get_or xs k x)) (get_or xs k x ∷ []) [] ≡ x ∷ [] = ap (λ y. cond (p y) (y ∷ []) []) has.2 ∙ ap (λ b. cond b (x ∷ []) []) passes in
-    let front : Contains (filter p (take (k + 1) xs)) x = subst (λ ys. Contains ys x) (sym (more ∙ ap (λ ys. filter p (take k xs) ++ ys) here)) (Contains-push (filter p (take k xs)) x) in
-    let both : filter p (take (k + 1) xs) ++ filter p (drop (k + 1) xs) ≡ filter p xs = sym (filter-append p (take (k + 1) xs) (drop (k + 1) xs)) ∙ ap (filter p) (take-append-drop (k + 1) xs) in
-    subst (λ ys. Contains ys x) both (Contains-append_left (filter p (take (k + 1) xs)) (filter p (drop (k + 1) xs)) x front)
 
 module _ (I : List (List ℕ)) (image : IsImage I) (keys : List ℕ) (index : IsIndexOf I keys) where
   -- a candidate's key has its LBN, and says whether it is a first one

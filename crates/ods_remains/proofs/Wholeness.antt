@@ -4,12 +4,12 @@ use Rattle.std.specs.Prelude.{nat_eq, MatchBool}
 use Rattle.std.specs.List.{All, Contains, IsDistinct, filter}
 use Rattle.std.proofs.lemmas.Bool.{cases_lt}
 use Rattle.std.proofs.lemmas.List.Elements.{All-filter, Contains-get_or, filter_passes}
+use Rattle.ods_base.proofs.Filters.{contains_filter}
 use Rattle.ods_space.specs.Free.{is_free_block}
 use Rattle.ods_space.specs.Layout.{VolumeLayout}
 use Rattle.ods_remains.specs.Deleted.{counted, used_again}
 use Rattle.ods_remains.specs.Shared.{IsSharer, IsWhole}
 use Rattle.ods_remains.specs.Summary.{IsSharerOrSelf}
-use Rattle.ods_remains.proofs.ListedKeys.{contains_filter}
 
 -- none fails a test where the list of those that fail it is empty
 none_fails : (p : ℕ → Bool) (xs : List ℕ) → length (filter (λ x. not (p x)) xs) ≡ 0 → (k d : ℕ) → k < length xs → (b : Bool) → p (get_or xs k d) ≡ b → p (get_or xs k d) ≡ true

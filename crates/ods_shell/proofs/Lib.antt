@@ -17,10 +17,12 @@ mod Objects
 mod OneName
 mod Places
 mod Runs
+mod RunObjects
 mod RunTexts
 pub mod Reached
 mod RowsFound
 mod SoughtFiles
+mod TwinsFound
 mod Unreached
 mod Uses
 mod WaysLists

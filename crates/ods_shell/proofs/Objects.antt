@@ -12,7 +12,7 @@ use Rattle.serde_json.proofs.Views.{Entry, members_view-insert_entry, view-Objec
 use Rattle.ods_shell.specs.Json.{with_file_numbers, with_number, with_text}
 use Rattle.ods_shell.specs.declared.space.Space.{Space}
 
-neither : (a b : Bool) → a ≡ false → b ≡ false → (a || b) ≡ false
+pub neither : (a b : Bool) → a ≡ false → b ≡ false → (a || b) ≡ false
 neither false b first second = second
 neither true b first second = absurd (cc)
 
@@ -29,7 +29,7 @@ either_way Less a b c x y z = x
 either_way Equal a b c x y z = y
 either_way Greater a b c x y z = z
 
-put_plain : (k : List ℕ) (d : Data) (ms : Members) → has_float d ≡ false → members_have_float ms ≡ false → members_have_float (put k d ms) ≡ false
+pub put_plain : (k : List ℕ) (d : Data) (ms : Members) → has_float d ≡ false → members_have_float ms ≡ false → members_have_float (put k d ms) ≡ false
 put_plain k d no_members one all = neither (has_float d) false one refl
 put_plain k d (member l e ms) one all =
     let rest : members_have_float ms ≡ false = second_false (has_float e) (members_have_float ms) all in
@@ -58,6 +58,10 @@ number_put name n v old new is put_there = put_there ∙ ap (λ d. put name d ol
 
 pub number_put_plain : (name : List ℕ) (n : ℕ) (v : Value) (old new : Members) → view v ≡ number (unsigned n) → new ≡ put name (view v) old → members_have_float old ≡ false → members_have_float new ≡ false
 number_put_plain name n v old new is put_there plain = ap members_have_float put_there ∙ put_plain name (view v) old (ap has_float is) plain
+
+pub number_plain : (name : List ℕ) (n : ℕ) (ms : Members) → members_have_float ms ≡ false → members_have_float (with_number name n ms) ≡ false
+unfolding with_number
+number_plain name n ms plain = put_plain name (number (unsigned n)) ms refl plain
 
 pub compact_is : (m : BTreeMap (String Global) Value) (text : List ℕ) → (has_float (view (Object m)) ≡ false → text ≡ compact_text (view (Object m))) → members_have_float (members_view m.entries) ≡ false → text ≡ compact_text (object (members_view m.entries))
 compact_is m text said plain = let is = view-Object m in said (ap has_float is ∙ plain) ∙ ap compact_text is

@@ -6,7 +6,7 @@ use Rattle.std.proofs.lemmas.Bool.{eqb-true}
 use Rattle.std.proofs.lemmas.List.Elements.{All-contains}
 use Rattle.ods_space.specs.Layout.{VolumeLayout, header_at}
 use Rattle.ods_space.specs.Chain.{IsIndex, IsSegment, index_for, known, most}
-use Rattle.ods_space.specs.Files.{AreInside, HasBlocks, IsFile, IsLayoutOf}
+use Rattle.ods_space.specs.Files.{AreInside, FindsFiles, HasBlocks, IsFile}
 use Rattle.ods_space.specs.Reach.{Begins, Reaches}
 use Rattle.ods_space.specs.declared.fault.ChainFault.TheVariants.{BadChain, OutsideVolume}
 use Rattle.ods_space.proofs.AsFar.{reached_is_one, whole_is_chain}
@@ -21,11 +21,11 @@ use Rattle.ods_shell.specs.declared.facts.Condition.TheVariants.{Whole, Broken, 
 use Rattle.ods_shell.specs.declared.facts.Facts.{Facts}
 
 -- a layout has the blocks that INDEXF.SYS maps by its own chain
-pub index_of_layout : {I : List (List ℕ)} {L : VolumeLayout} → IsLayoutOf I L → IsIndex I L.home L.index
+pub index_of_layout : {I : List (List ℕ)} {L : VolumeLayout} → FindsFiles I L → IsIndex I L.home L.index
 index_of_layout layout = (layout.index.others, layout.index.whole.chain)
 
 -- the chain of a file begins
-pub begins : (I : List (List ℕ)) (L : VolumeLayout) (n : ℕ) → IsLayoutOf I L → IsFile I L n → Begins I L n
+pub begins : (I : List (List ℕ)) (L : VolumeLayout) (n : ℕ) → FindsFiles I L → IsFile I L n → Begins I L n
 begins I L n layout file = by (nat_eq n 1) refl
   where
     by : (b : Bool) → nat_eq n 1 ≡ b → Begins I L n

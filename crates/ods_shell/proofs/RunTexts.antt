@@ -17,7 +17,7 @@ low false at from next below is = let here : next ≡ from = is in omega (arith,
 pub start_low : (lbns : List ℕ) (at from next : ℕ) → from ≤ at → next ≡ cond (is_run_end lbns at) (at + 1) from → next ≤ at + 1
 start_low lbns at from next below is = low (is_run_end lbns at) at from next below is
 
-range_more : (n : ℕ) → range_with_len 0 (n + 1) ≡ range_with_len 0 n ++ n ∷ []
+pub range_more : (n : ℕ) → range_with_len 0 (n + 1) ≡ range_with_len 0 n ++ n ∷ []
 range_more n = sym (map-id (range_with_len 0 (n + 1))) ∙ map-range_with_len_more (λ x. x) 0 n n (omega arith) ∙ ap (λ l. l ++ n ∷ []) (map-id (range_with_len 0 n))
 
 pub runs_more : (lbns : List ℕ) (at from : ℕ) (init old new : List ℕ) → from ≡ run_start lbns at → old ≡ init ++ flat_map (run_text lbns) (range_with_len 0 at) → new ≡ old ++ text_if (is_run_end lbns at) (run_line lbns from at)

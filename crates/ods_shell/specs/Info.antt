@@ -1,6 +1,6 @@
 -- What `info` shows of a volume: the fields of its home block, and where its structures lie.
-use Rattle.std.specs.Prelude.{◌≡◌, ◌+◌, ◌-◌, ◌==◌, ◌||◌, ℕ, Bool, List, [], ◌∷◌, ◌++◌, codes, length, map, take, slice_range}
-use Rattle.std.specs.List.{suffix_len}
+use Rattle.std.specs.Prelude.{◌≡◌, ◌+◌, ◌-◌, ◌==◌, ◌||◌, ℕ, Bool, List, [], ◌∷◌, ◌++◌, codes, length, map, take, slice_index, slice_range, if◌then◌else◌}
+use Rattle.std.specs.List.{flat_map, range_with_len, suffix_len}
 use Rattle.std.specs.Fmt.{decimal}
 use Rattle.ods_base.specs.Block.{byte, word}
 use Rattle.ods_base.specs.Image.{block_at}
@@ -9,9 +9,10 @@ use Rattle.ods_header.specs.Home.{IsHomeAt}
 use Rattle.ods_header.specs.Text.{octal}
 use Rattle.ods_space.specs.Free.{free_numbers}
 use Rattle.ods_space.specs.Layout.{VolumeLayout}
-use Rattle.serde_json.specs.Data.{Members}
+use Rattle.serde_json.specs.Data.{Data, Members, array, no_members, object, put}
+use Rattle.serde_json.specs.View.{items_of}
 use Rattle.ods_shell.specs.Json.{of_image, with_number, with_text}
-use Rattle.ods_shell.specs.Stat.{blocks_line, owner_line, runs_text}
+use Rattle.ods_shell.specs.Stat.{blocks_line, is_run_end, owner_line, run_start, runs_text}
 use Rattle.ods_shell.specs.Texts.{shown_byte, shown_date, shown_rights, shown_user}
 use Rattle.ods_shell.specs.declared.info.Info.{Info}
 
@@ -132,12 +133,28 @@ with_bitmap bitmap blocks ms = with_number (codes "index_bitmap_blocks") blocks 
 unfoldable pub with_index : ℕ → ℕ → Members → Members
 with_index header blocks ms = with_number (codes "index_blocks") blocks (with_number (codes "index_header") header ms)
 
+-- the object of a run, which begins at the first place and ends at the second: the LBN of its first block, and how many it has
+abbrev pub run_members : List ℕ → ℕ → ℕ → Members
+run_members lbns from at = with_number (codes "lbn") (slice_index lbns at - (at - from)) (with_number (codes "blocks") (at + 1 - from) no_members)
+
+-- the object of a run that ends with this block, where one does
+abbrev pub run_ended : List ℕ → ℕ → ℕ → List Data
+run_ended lbns from at = if is_run_end lbns at then object (run_members lbns from at) ∷ [] else []
+
+-- the run that ends with this block, where one does
+abbrev pub run_item : List ℕ → ℕ → List Data
+run_item lbns at = run_ended lbns (run_start lbns at) at
+
+-- the members, and the runs of INDEXF.SYS in order
+unfoldable pub with_runs : List ℕ → Members → Members
+with_runs lbns ms = put (codes "index_runs") (array (items_of (flat_map (run_item lbns) (range_with_len 0 (length lbns))))) ms
+
 -- the members, the bytes behind the volume, and what a mount answers
 unfoldable pub with_answer : ℕ → List ℕ → Members → Members
 with_answer behind answer ms = with_text (codes "answer") answer (with_number (codes "bytes_behind") behind ms)
 
 -- all of this in one object
-abbrev pub info_members : List ℕ → Info → ℕ → List ℕ → Members
-info_members image i behind answer =
-    with_answer behind answer (with_index (i.bitmap + i.bitmap_blocks) i.index_blocks (with_bitmap i.bitmap i.bitmap_blocks (with_number (codes "home_block") i.home
-    (with_limits i.blocks i.most i.ready (with_said i (of_image image))))))
+abbrev pub info_members : List ℕ → Info → List ℕ → ℕ → List ℕ → Members
+info_members image i index behind answer =
+    with_answer behind answer (with_runs index (with_index (i.bitmap + i.bitmap_blocks) i.index_blocks (with_bitmap i.bitmap i.bitmap_blocks (with_number (codes "home_block") i.home
+    (with_limits i.blocks i.most i.ready (with_said i (of_image image)))))))

@@ -24,6 +24,7 @@ pub mod Statuses
 pub mod Remedies
 pub mod Texts
 pub mod There
+pub mod Twins
 pub mod Ways
 pub mod Usage
 pub mod Versioned

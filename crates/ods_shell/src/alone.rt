@@ -5,7 +5,7 @@ ghost use Rattle.ods_shell.specs.Choosing.{AreThose};
 ghost use Rattle.ods_shell.specs.Named.{AreAlone, AreInside, AreNamed, AreNotNamed, AreThemselves, IsNoDirectory, IsNoneAlone, highest, master_file};
 ghost use Rattle.ods_shell.specs.Ways.{AreMet, CountAsClosed};
 ghost use Rattle.ods_shell.specs.declared.found.Found.{Found as One};
-ghost use Rattle.ods_space.specs.Files.{IsLayoutOf};
+ghost use Rattle.ods_space.specs.Files.{FindsFiles};
 ghost use Rattle.ods_space.specs.Disks.{on};
 
 use crate::facts::Kind;
@@ -60,7 +60,7 @@ pub(crate) fn find_alone(
     unsaid: Unsaid,
     closed: &[u16],
 ) -> Result<(Vec<Found>, Vec<Directory>), PathFault>
-    requires { on IsLayoutOf disk.now }
+    requires { on FindsFiles disk.now }
     ensures named { IfOk result (λ r. (shut : List ℕ) → CountAsClosed closed.now r.1.items shut
         → on AreAlone disk.now shut (said_folder folder.now) unsaid.versions unsaid.alone r.0.items) }
     ensures met { IfOk result (λ r. AreMet closed.now [] r.1.items) }
@@ -82,7 +82,7 @@ fn find_inside(
     versions: Option<Versions>,
     closed: &[u16],
 ) -> Result<(Vec<Found>, Vec<Directory>), PathFault>
-    requires { on IsLayoutOf disk.now }
+    requires { on FindsFiles disk.now }
     ensures named { IfOk result (λ r. (shut : List ℕ) → CountAsClosed closed.now r.1.items shut
         → on AreInside disk.now shut (said_folder folder.now) versions r.0.items) }
     ensures met { IfOk result (λ r. AreMet closed.now [] r.1.items) }
@@ -139,7 +139,7 @@ fn find_themselves(
     folder: &Folder<'_>,
     closed: &[u16],
 ) -> Result<(Vec<Found>, Vec<Directory>), PathFault>
-    requires { on IsLayoutOf disk.now }
+    requires { on FindsFiles disk.now }
     ensures named { IfOk result (λ r. (shut : List ℕ) → CountAsClosed closed.now r.1.items shut
         → on AreThemselves disk.now shut (said_folder folder.now) r.0.items) }
     ensures met { IfOk result (λ r. AreMet closed.now [] r.1.items) }
@@ -165,7 +165,7 @@ fn find_master(
     folder: &Folder<'_>,
     closed: &[u16],
 ) -> Result<(Vec<Found>, Vec<Directory>), PathFault>
-    requires { on IsLayoutOf disk.now }
+    requires { on FindsFiles disk.now }
     ensures named { IfOk result (λ r. (shut : List ℕ) → CountAsClosed closed.now r.1.items shut
         → on AreNamed disk.now shut (said_folder folder.now) master_file None r.0.items) }
     ensures met { IfOk result (λ r. AreMet closed.now [] r.1.items) }

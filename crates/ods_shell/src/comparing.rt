@@ -1,7 +1,7 @@
 //! Whether files of two volumes have the same bytes.
 ghost use Rattle.std.specs.Prelude.{◌≡◌, ◌↔◌, ◌⊎◌, ℕ, List, IsTrue, IfOk, IfErr};
 ghost use Rattle.ods_shell.specs.Compared.{AreCompared, HasCompared, HasNone};
-ghost use Rattle.ods_space.specs.Files.{IsLayoutOf};
+ghost use Rattle.ods_space.specs.Files.{FindsFiles};
 ghost use Rattle.ods_space.specs.Disks.{on};
 
 use crate::FormFault;
@@ -19,8 +19,8 @@ pub fn have_same_bytes(
     other: &Disk<'_>,
     other_number: u16,
 ) -> Result<bool, FormFault>
-    requires one { on IsLayoutOf one.now }
-    requires other { on IsLayoutOf other.now }
+    requires one { on FindsFiles one.now }
+    requires other { on FindsFiles other.now }
     ensures ok { IfOk result (λ same. (x : List ℕ) × (y : List ℕ) × on HasCompared one.now number x
         × on HasCompared other.now other_number y × (IsTrue same ↔ (x ≡ y))) }
     ensures err { IfErr result (λ fault. on HasNone one.now number fault ⊎ on HasNone other.now other_number fault) }

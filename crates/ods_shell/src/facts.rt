@@ -3,7 +3,7 @@ ghost use Rattle.std.specs.Prelude.{◌≡◌, ◌≢◌, ◌≤◌, ◌+◌, �
 ghost use Rattle.ods_header.specs.Header.{IsLaidOut};
 ghost use Rattle.ods_files.specs.Body.{are_zeros as all_zeros};
 ghost use Rattle.ods_shell.specs.Facts.{AreFacts, HasCondition, condition_word, facts_in as facts_shown, kind_by as kind_shown, kind_word, bytes_by, created_in, revised_in, revision_in};
-ghost use Rattle.ods_space.specs.Files.{IsFile, IsLayoutOf};
+ghost use Rattle.ods_space.specs.Files.{FindsFiles, IsFile};
 ghost use Rattle.ods_space.specs.Reach.{IsReachOf};
 ghost use Rattle.ods_space.specs.Disks.{on};
 
@@ -87,7 +87,7 @@ pub struct Facts {
 
 /// What is known of the file with this number; `None` where it is no file.
 pub fn facts_of(disk: &Disk<'_>, number: u16) -> Option<Facts>
-    requires { on IsLayoutOf disk.now }
+    requires { on FindsFiles disk.now }
     ensures { MatchOption result (¬ on IsFile disk.now number) (on AreFacts disk.now number) }
 {
     let Some(header) = primary_header(disk, number) else {
@@ -114,7 +114,7 @@ fn condition_in(reach: &Reach) -> Condition
 
 /// What is known of the file with this ID; `None` where it is that of no file.
 pub fn facts_by_id(disk: &Disk<'_>, file: FileId) -> Option<Facts>
-    requires { on IsLayoutOf disk.now }
+    requires { on FindsFiles disk.now }
     ensures { MatchOption result ((facts : Facts) → on AreFacts disk.now file.number facts → facts.file ≢ file)
         (λ facts. on AreFacts disk.now file.number facts × (facts.file ≡ file)) }
 {

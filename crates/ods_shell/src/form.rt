@@ -8,7 +8,7 @@ ghost use Rattle.ods_files.specs.Body.{HasBody, bytes_in};
 ghost use Rattle.ods_files.specs.declared.form.Form.TheVariants as forms;
 ghost use Rattle.ods_records.specs.Attributes.{kind_in, text_form_in};
 ghost use Rattle.ods_records.specs.declared.kind.TextForm.TheVariants as texts;
-ghost use Rattle.ods_space.specs.Files.{IsLayoutOf};
+ghost use Rattle.ods_space.specs.Files.{FindsFiles};
 ghost use Rattle.ods_space.specs.Disks.{on};
 
 use ods_base::{WriteFault, write_bytes};
@@ -116,7 +116,7 @@ pub fn open_contents<'a>(
     number: u16,
     wanted: Wanted,
 ) -> Result<Got<'a>, FormFault>
-    requires { on IsLayoutOf disk.now }
+    requires { on FindsFiles disk.now }
     ensures ok { IfOk result (λ got. (bytes : List ℕ) × ContentsAre got.contents bytes × on IsGot disk.now number wanted bytes got.remark) }
     ensures err { IfErr result (on IsNotGot disk.now number wanted) }
 {
@@ -135,7 +135,7 @@ pub(crate) fn body_of<'a>(
     disk: &Disk<'a>,
     number: u16,
 ) -> Result<FileBody<'a>, FormFault>
-    requires { on IsLayoutOf disk.now }
+    requires { on FindsFiles disk.now }
     ensures ok { IfOk result (on HasBody disk.now number) }
     ensures err { IfErr result (on HasNone disk.now number) }
 {

@@ -8,7 +8,7 @@ ghost use Rattle.ods_shell.specs.declared.found.Found.{Found as One};
 ghost use Rattle.ods_shell.specs.Named.{AreLines, AreNamed, AreNamedBy, AreNotNamed, AreWithin, IsEntryOf, IsFileOf, IsPathFault};
 ghost use Rattle.ods_shell.specs.Passed.{is_passed_over};
 ghost use Rattle.ods_shell.specs.Ways.{AreMet, CountAsClosed};
-ghost use Rattle.ods_space.specs.Files.{IsLayoutOf};
+ghost use Rattle.ods_space.specs.Files.{FindsFiles};
 ghost use Rattle.ods_space.specs.Disks.{on};
 
 use crate::alone::{Unsaid, find_alone};
@@ -79,7 +79,7 @@ pub fn find_path(
     unsaid: Unsaid,
     closed: &[u16],
 ) -> Result<(Vec<Found>, Vec<Directory>), PathFault>
-    requires { on IsLayoutOf disk.now }
+    requires { on FindsFiles disk.now }
     ensures named { IfOk result (λ r. (says : Said) × Says path.now says
         × ((shut : List ℕ) → CountAsClosed closed.now r.1.items shut → on AreNamedBy disk.now shut says unsaid r.0.items)) }
     ensures met { IfOk result (λ r. AreMet closed.now [] r.1.items) }
@@ -98,7 +98,7 @@ pub fn find_path(
 
 /// The file with this ID.
 fn find_file(alloc: Global, disk: &Disk<'_>, file: FileId) -> Result<Vec<Found>, PathFault>
-    requires { on IsLayoutOf disk.now }
+    requires { on FindsFiles disk.now }
     ensures ok { IfOk result (λ found. on IsFileOf disk.now file found.items) }
     ensures err { IfErr result (λ fault. (fault ≡ PathFault.NoMemory)
         ⊎ ((fault ≡ PathFault.NoSuchFile) × ((facts : Known) → on AreFacts disk.now file.number facts → facts.file ≢ file))) }
@@ -136,7 +136,7 @@ pub fn find_names(
     unsaid: Option<Versions>,
     closed: &[u16],
 ) -> Result<(Vec<Found>, Vec<Directory>), PathFault>
-    requires { on IsLayoutOf disk.now }
+    requires { on FindsFiles disk.now }
     ensures named { IfOk result (λ r. (shut : List ℕ) → CountAsClosed closed.now r.1.items shut
         → on AreNamed disk.now shut (said_folder folder.now) (said_files files.entry) unsaid r.0.items) }
     ensures met { IfOk result (λ r. AreMet closed.now [] r.1.items) }
@@ -166,7 +166,7 @@ fn files_of(
     directories: &[Directory],
     lines: &[Line],
 ) -> Result<Vec<Found>, AllocError>
-    requires { on IsLayoutOf disk.now }
+    requires { on FindsFiles disk.now }
     ensures { IfOk result (λ found. AreWithin directories.now lines.now → on AreLines disk.now directories.now lines.now found.items) }
 {
     let mut all = Vec::new(alloc);
@@ -184,7 +184,7 @@ fn add_line(
     line: &Line,
     all: &mut Vec<Found>,
 ) -> Result<(), AllocError>
-    requires { on IsLayoutOf disk.now }
+    requires { on FindsFiles disk.now }
     ensures { OnOk result ((directory : Holder) → slice_get directories.now line.now.directory ≡ Some directory
         → (one : One) × (all.new.items ≡ all.old.items ++ one ∷ []) × on IsEntryOf disk.now directory line.now.entry one) }
 {
@@ -202,7 +202,7 @@ pub fn file_at(
     directory: &Directory,
     entry: &Listed,
 ) -> Result<Found, AllocError>
-    requires { on IsLayoutOf disk.now }
+    requires { on FindsFiles disk.now }
     ensures { IfOk result (on IsEntryOf disk.now directory.now entry.now) }
 {
     let mut path = String::new(alloc);

@@ -2,7 +2,7 @@
 ghost use Rattle.std.specs.Prelude.{◌≡◌, ◌≤◌, ◌+◌, ◌<◌, length, slice_range};
 ghost use Rattle.ods_base.specs.Image.{block_at};
 ghost use Rattle.ods_space.specs.Disks.{on, seen};
-ghost use Rattle.ods_space.specs.Files.{IsLayoutOf};
+ghost use Rattle.ods_space.specs.Files.{FindsFiles};
 ghost use Rattle.ods_shell.specs.Info.{IsInfoOf, info_at as known_at, label_in as label_of, made_in as made_of, owner_in as owner_of};
 
 use ods_alloc::number_count;
@@ -41,7 +41,7 @@ pub struct Info {
 
 /// What is known of the volume on this disk.
 pub fn volume_info(disk: &Disk<'_>) -> Info
-    requires { on IsLayoutOf disk.now }
+    requires { on FindsFiles disk.now }
     ensures { on IsInfoOf disk.now result }
 {
     match find_home(disk.image) {
@@ -52,7 +52,7 @@ pub fn volume_info(disk: &Disk<'_>) -> Info
 
 /// What is known of a volume whose home block stands at this LBN.
 fn info_at(disk: &Disk<'_>, lbn: u32) -> Info
-    requires layout { on IsLayoutOf disk.now }
+    requires layout { on FindsFiles disk.now }
     requires inside { lbn < length disk.now.image.now }
     ensures { result ≡ seen known_at disk.now lbn }
 {

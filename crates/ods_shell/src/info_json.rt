@@ -7,21 +7,23 @@ ghost use Rattle.ods_shell.specs.Info.{info_members, with_answer, with_bitmap, w
 ghost use Rattle.ods_shell.specs.Json.{object_line};
 
 use crate::info::Info;
+use crate::info_runs::add_runs;
 use crate::info_texts::{behind_bitmap, label_text};
 use crate::json::{add_number, add_text, fields_of_image, push_object};
 use crate::texts::{date_text, push_user, rights_text};
 use serde_json::{Map, Value};
 use std::alloc::{AllocError, Global};
 
-/// An object of what is known of the volume in this image. So many bytes of the image stand behind the volume, and this is what a mount answers.
+/// An object of what is known of the volume in this image, whose INDEXF.SYS has these blocks. So many bytes of the image stand behind the volume, and this is what a mount answers.
 pub fn info_object(
     alloc: Global,
     image: &str,
     info: &Info,
+    index: &[u32],
     behind: u64,
     answer: &str,
 ) -> Result<String, AllocError>
-    ensures { IfOk result (λ line. string_bytes line ≡ object_line (info_members image.now info.now behind answer.now)) }
+    ensures { IfOk result (λ line. string_bytes line ≡ object_line (info_members image.now info.now index.now behind answer.now)) }
 {
     let mut members = fields_of_image(alloc, image)?;
     add_said(alloc, info, &mut members)?;
@@ -29,6 +31,7 @@ pub fn info_object(
     add_number(alloc, &mut members, "home_block", u64::from(info.home))?;
     add_bitmap(alloc, &mut members, info.bitmap, info.bitmap_blocks)?;
     add_index(alloc, &mut members, behind_bitmap(info), info.index_blocks)?;
+    add_runs(alloc, &mut members, index)?;
     add_answer(alloc, &mut members, behind, answer)?;
     let mut text = String::new(alloc);
     push_object(alloc, &mut text, members)?;

@@ -9,7 +9,7 @@ ghost use Rattle.ods_shell.specs.Listed.{AreObjects};
 ghost use Rattle.ods_shell.specs.Named.{IsKnown};
 ghost use Rattle.ods_shell.specs.There.{line_path};
 ghost use Rattle.ods_shell.specs.declared.facts.Facts.{Facts as KnownFacts};
-ghost use Rattle.ods_space.specs.Files.{IsLayoutOf};
+ghost use Rattle.ods_space.specs.Files.{FindsFiles};
 ghost use Rattle.ods_space.specs.Disks.{on};
 
 use crate::facts::{Condition, Facts, facts_by_id};
@@ -45,7 +45,7 @@ pub(crate) fn fields_of_image(alloc: Global, image: &str) -> Result<Map<String, 
 
 /// Adds a member to an object.
 #[tactic(auto, using(crate::proofs::Objects::entries_put))]
-fn add(
+pub(crate) fn add(
     alloc: Global,
     members: &mut Map<String, Value>,
     name: &str,
@@ -199,7 +199,7 @@ pub fn ls_objects(
     found: &FoundLines,
     image: &str,
 ) -> Result<String, AllocError>
-    requires { on IsLayoutOf disk.now }
+    requires { on FindsFiles disk.now }
     ensures { IfOk result (λ text. on AreObjects disk.now image.now found.now.directories.items found.now.lines.items (string_bytes text)) }
 {
     let mut text = String::new(alloc);
@@ -218,7 +218,7 @@ fn push_found_object(
     line: &Line,
     image: &str,
 ) -> Result<(), AllocError>
-    requires { on IsLayoutOf disk.now }
+    requires { on FindsFiles disk.now }
     ensures { OnOk result ((known : Option KnownFacts) × on IsKnown disk.now line.now.entry.file known
         × (string_bytes text.new ≡ string_bytes text.old ++ object_line (entry_members image.now (line_path directories.now line.now) line.now.entry.file known))) }
 {

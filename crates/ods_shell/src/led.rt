@@ -5,7 +5,7 @@ ghost use Rattle.ods_shell.specs.declared.found.Found.{Found as One};
 ghost use Rattle.ods_shell.specs.Choosing.{AreEach};
 ghost use Rattle.ods_shell.specs.Named.{AreEntries, AreLed, AreLedBy};
 ghost use Rattle.ods_shell.specs.Ways.{AreMet, CountAsClosed};
-ghost use Rattle.ods_space.specs.Files.{IsLayoutOf};
+ghost use Rattle.ods_space.specs.Files.{FindsFiles};
 ghost use Rattle.ods_space.specs.Disks.{on};
 
 use crate::folders::{Closed, Directory};
@@ -24,7 +24,7 @@ pub(crate) fn find_led(
     step: &Step<'_>,
     closed: &[u16],
 ) -> Result<(Vec<Found>, Vec<Directory>), AllocError>
-    requires { on IsLayoutOf disk.now }
+    requires { on FindsFiles disk.now }
     ensures led { IfOk result (λ r. (shut : List ℕ) → CountAsClosed closed.now r.1.items shut
         → on AreLed disk.now shut (said_steps before.now) (said_step step.now) r.0.items) }
     ensures met { IfOk result (λ r. AreMet closed.now [] r.1.items) }
@@ -46,7 +46,7 @@ fn led_from(
     step: &Step<'_>,
     closed: &mut Closed<'_>,
 ) -> Result<Vec<Found>, AllocError>
-    requires { on IsLayoutOf disk.now }
+    requires { on FindsFiles disk.now }
     ensures found { IfOk result (λ found. (shut : List ℕ) → CountAsClosed closed.old.numbers.now closed.new.met.items shut
         → AreEach (on AreLedBy disk.now shut (said_step step.now)) from.now found.items) }
     ensures same { closed.new.numbers ≡ closed.old.numbers }
@@ -68,7 +68,7 @@ fn add_led(
     closed: &mut Closed<'_>,
     found: &mut Vec<Found>,
 ) -> Result<(), AllocError>
-    requires { on IsLayoutOf disk.now }
+    requires { on FindsFiles disk.now }
     ensures found { OnOk result ((next : List One) × (found.new.items ≡ found.old.items ++ next)
         × ((shut : List ℕ) → CountAsClosed closed.old.numbers.now closed.new.met.items shut → on AreLedBy disk.now shut (said_step step.now) from.now next)) }
     ensures same { closed.new.numbers ≡ closed.old.numbers }
@@ -87,7 +87,7 @@ fn add_entries(
     entries: &[Listed],
     found: &mut Vec<Found>,
 ) -> Result<(), AllocError>
-    requires { on IsLayoutOf disk.now }
+    requires { on FindsFiles disk.now }
     ensures { OnOk result ((more : List One) × (found.new.items ≡ found.old.items ++ more) × on AreEntries disk.now directory.now entries.now more) }
 {
     for entry in entries {

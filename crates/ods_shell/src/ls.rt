@@ -7,7 +7,7 @@ ghost use Rattle.ods_shell.specs.declared.facts.Facts.{Facts as KnownFacts};
 ghost use Rattle.ods_shell.specs.Listed.{IsListing, IsListingUnder, blocks_of, headed_by, places_before, places_from, total_line};
 ghost use Rattle.ods_shell.specs.Named.{IsKnown};
 ghost use Rattle.ods_shell.specs.Lines.{heading, column, columns_text, condition_column, counted_word, entry_line, facts_columns, kind_columns, known_columns, rights_columns, size_columns, with_headings};
-ghost use Rattle.ods_space.specs.Files.{IsLayoutOf};
+ghost use Rattle.ods_space.specs.Files.{FindsFiles};
 ghost use Rattle.ods_space.specs.Disks.{on};
 
 use crate::facts::{Condition, Facts, Kind, facts_by_id};
@@ -38,7 +38,7 @@ pub fn ls_lines(
     found: &FoundLines,
     columns: Columns,
 ) -> Result<String, AllocError>
-    requires { on IsLayoutOf disk.now }
+    requires { on FindsFiles disk.now }
     ensures plain { columns.headings ≡ false → IfOk result (λ text. on IsListing disk.now columns found.now.lines.items (length found.now.lines.items) (string_bytes text)) }
     ensures under { columns.headings ≡ true → IfOk result (λ text. on IsListingUnder disk.now columns found.now.directories.items found.now.lines.items (length found.now.lines.items) (string_bytes text)) }
 {
@@ -141,7 +141,7 @@ fn push_listed(
     columns: Columns,
     blocks: u64,
 ) -> Result<u64, AllocError>
-    requires { on IsLayoutOf disk.now }
+    requires { on FindsFiles disk.now }
     ensures { IfOk result (λ sum. (known : Option KnownFacts) × on IsKnown disk.now entry.now.file known
         × (sum ≡ min (blocks + blocks_of known) (2 ^ 64 - 1)) × (string_bytes text.new ≡ string_bytes text.old ++ entry_line entry.now known columns)) }
 {

@@ -1,6 +1,6 @@
 //! What is got out of an image that may be refused: each file whose own chain is whole.
 ghost use Rattle.std.specs.Prelude.{◌≡◌, ◌⊎◌, IfOk, IfSome, IfNone};
-ghost use Rattle.ods_space.specs.Files.{IsFile, IsLayoutOf};
+ghost use Rattle.ods_space.specs.Files.{FindsFiles, IsFile};
 ghost use Rattle.ods_space.specs.Disks.{on};
 ghost use Rattle.ods_shell.specs.Rescued.{HasText, IsKept, IsRescued, IsRescuedPart, LacksText};
 
@@ -30,7 +30,7 @@ pub fn open_rescued<'a>(
     number: u16,
     text: bool,
 ) -> Result<Rescued<'a>, AllocError>
-    requires { on IsLayoutOf disk.now }
+    requires { on FindsFiles disk.now }
     ensures { IfOk result (on IsRescued disk.now number text) }
 {
     let Some(header) = primary_header(disk, number) else {

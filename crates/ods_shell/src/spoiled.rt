@@ -1,6 +1,6 @@
 //! Files whose records are not whole, or longer than they say, on an image that may be refused.
 ghost use Rattle.std.specs.Prelude.{◌≡◌, ◌≢◌, ℕ, None, IfOk, IfSome, IfNone};
-ghost use Rattle.ods_space.specs.Files.{IsLayoutOf};
+ghost use Rattle.ods_space.specs.Files.{FindsFiles};
 ghost use Rattle.ods_records.specs.declared.faults.RecordFault.{RecordFault as Fault};
 ghost use Rattle.ods_shell.specs.Spoiled.{HasLongRecord, HasSpoiledRecords, IsSpoiled, IsTooLongIn};
 ghost use Rattle.ods_space.specs.Disks.{on};
@@ -17,7 +17,7 @@ pub fn spoiled_records(
     disk: &Disk<'_>,
     number: u16,
 ) -> Result<Option<RecordFault>, AllocError>
-    requires { on IsLayoutOf disk.now }
+    requires { on FindsFiles disk.now }
     ensures some { IfOk result (λ found. IfSome found (on HasSpoiledRecords disk.now number)) }
     ensures none { IfOk result (λ found. IfNone found ((fault : Fault) → ¬ on HasSpoiledRecords disk.now number fault)) }
 {
@@ -62,7 +62,7 @@ pub fn long_record(
     disk: &Disk<'_>,
     number: u16,
 ) -> Result<Option<LongRecord>, AllocError>
-    requires { on IsLayoutOf disk.now }
+    requires { on FindsFiles disk.now }
     ensures some { IfOk result (λ found. IfSome found (λ r. on HasLongRecord disk.now number r.at r.size)) }
     ensures none { IfOk result (λ found. IfNone found ((at : ℕ) (size : ℕ) → ¬ on HasLongRecord disk.now number at size)) }
 {

@@ -331,7 +331,7 @@ fn push_run(text: &mut String, lbns: &[u32], from: usize, at: usize) -> Result<u
 }
 
 /// Whether the next block does not follow this one in the image, or there is none.
-fn ends_run(lbns: &[u32], at: usize) -> bool
+pub(crate) fn ends_run(lbns: &[u32], at: usize) -> bool
     requires { at < length lbns.now }
     ensures { result ≡ is_run_end lbns.now at }
 {

@@ -10,7 +10,7 @@ ghost use Rattle.ods_shell.specs.There.{AreFlags, ids_in};
 ghost use Rattle.ods_shell.specs.Usage.{AreFalling, AreLargest, AreUsage, AreUses, IsCounted, IsUse, blocks_at, directory_use, file_use, use_text};
 ghost use Rattle.ods_shell.specs.declared.facts.Facts.{Facts as KnownFacts};
 ghost use Rattle.ods_shell.specs.declared.usage.Use.{Use as OneUse};
-ghost use Rattle.ods_space.specs.Files.{IsLayoutOf};
+ghost use Rattle.ods_space.specs.Files.{FindsFiles};
 ghost use Rattle.ods_space.specs.Disks.{on};
 
 use crate::facts::facts_by_id;
@@ -33,7 +33,7 @@ struct Use {
 
 /// The lines that name a file first, with its blocks.
 fn uses(alloc: Global, disk: &Disk<'_>, found: &FoundLines) -> Result<Vec<Use>, AllocError>
-    requires { on IsLayoutOf disk.now }
+    requires { on FindsFiles disk.now }
     ensures { IfOk result (λ uses. on AreUses disk.now [] found.now.lines.items uses.items) }
 {
     let mut is_seen = vec![in alloc; false; 65_536]?;
@@ -51,7 +51,7 @@ fn add_use(
     is_seen: &mut Vec<bool>,
     all: &mut Vec<Use>,
 ) -> Result<(), AllocError>
-    requires { on IsLayoutOf disk.now }
+    requires { on FindsFiles disk.now }
     ensures { OnOk result ((before : List OneLine) → AreFlags (on IsCounted disk.now (ids_in before)) is_seen.old.items
         → (known : Option KnownFacts) × ((counted : List OneUse) × on IsKnown disk.now line.now.entry.file known × IsUse before line.now known counted
         × (all.new.items ≡ all.old.items ++ counted) × AreFlags (on IsCounted disk.now (ids_in (before ++ line.now ∷ []))) is_seen.new.items)) }
@@ -88,7 +88,7 @@ pub fn usage_lines(
     json: bool,
     image: &str,
 ) -> Result<String, AllocError>
-    requires { on IsLayoutOf disk.now }
+    requires { on FindsFiles disk.now }
     ensures { IfOk result (λ text. on AreUsage disk.now found.now.directories.items found.now.lines.items json image.now (string_bytes text)) }
 {
     let all = uses(alloc, disk, found)?;
@@ -221,7 +221,7 @@ pub fn largest_lines(
     json: bool,
     image: &str,
 ) -> Result<String, AllocError>
-    requires { on IsLayoutOf disk.now }
+    requires { on FindsFiles disk.now }
     ensures { IfOk result (λ text. on AreLargest disk.now found.now.directories.items found.now.lines.items most json image.now (string_bytes text)) }
 {
     let mut all = uses(alloc, disk, found)?;

@@ -9,7 +9,7 @@ use Rattle.ods_header.specs.Header.{IsValidHeader}
 use Rattle.ods_header.specs.Home.{IsHomeOf}
 use Rattle.ods_space.specs.Layout.{VolumeLayout, header_by}
 use Rattle.ods_space.specs.Chain.{most, IsSegment, IsIndex}
-use Rattle.ods_space.specs.Files.{IsFile, AreInside, IsLayoutOf}
+use Rattle.ods_space.specs.Files.{IsFile, AreInside, FindsFiles, IsLayoutOf}
 use Rattle.ods_space.specs.Faults.{IsLayoutFault, layout_with}
 use Rattle.ods_space.specs.Walk.{Leads, IsDeadEnd, layout_fault_of}
 use Rattle.ods_space.specs.declared.fault.ChainFault.{ChainFault}
@@ -42,6 +42,10 @@ bitmap_fault I h index limit BadChain found is file none =
     inr (refl, index, found, subst P is file, λ others blocks chain. none blocks (others, chain))
 bitmap_fault I h index limit (OutsideVolume lbn) found is file none = absurd none
 bitmap_fault I h index limit NoMemory found is file none = tt
+
+-- INDEXF.SYS has a whole chain
+pub finds_files : (I : List (List ℕ)) (L : VolumeLayout) → IsHomeOf I L.home → IsIndex I L.home L.index → AreInside I L.index → IsFile I L 1 → FindsFiles I L
+finds_files I L home index inside file = record { home = home; index = record { file = file; others = index.0; whole = record { chain = index.1; inside = inside } } }
 
 -- both files have whole chains
 pub layout_of : (I : List (List ℕ)) (L : VolumeLayout) → IsHomeOf I L.home → IsIndex I L.home L.index → AreInside I L.index → IsFile I L 1 → Leads I L.home (Some L.index) 2 L.bitmap → AreInside I L.bitmap → IsLayoutOf I L

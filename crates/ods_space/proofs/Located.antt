@@ -73,7 +73,7 @@ held_there I L n vbn found blocks has first is = by found refl
 
 -- the first header of a chain is laid out
 pub laid_out : (I : List (List ℕ)) (L : VolumeLayout) (n : ℕ) (others blocks b : List ℕ) → IsLayoutOf I L → IsChain I L n others blocks → b ≡ header_at I L n → IsLaidOut b
-laid_out I L n others blocks b layout chain is = let file = file_of_chain I L n others blocks layout chain in subst IsLaidOut (sym is) file.valid.header.layout
+laid_out I L n others blocks b layout chain is = let file = file_of_chain I L n others blocks (record { home = layout.home; index = layout.index }) chain in subst IsLaidOut (sym is) file.valid.header.layout
 
 -- nothing is left behind the last pointer of a header
 pub none_behind : (b : List ℕ) (k : ℕ) (rest : List ℕ) → length (runs_of b) ≤ k → blocks_from b k ++ rest ≡ rest

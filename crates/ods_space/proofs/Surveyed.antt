@@ -6,7 +6,7 @@ use Rattle.std.proofs.lemmas.List.Elements.{All-push}
 use Rattle.std.proofs.lemmas.List.{take_more}
 use Rattle.ods_space.specs.Layout.{VolumeLayout}
 use Rattle.ods_space.specs.Chain.{Follows, IsChain, index_for}
-use Rattle.ods_space.specs.Files.{IsFile, AreInside, HasBlocks, Holds, IsLayoutOf}
+use Rattle.ods_space.specs.Files.{IsFile, AreInside, FindsFiles, HasBlocks, Holds}
 use Rattle.ods_space.specs.Faults.{IsChainFault}
 use Rattle.ods_space.specs.declared.fault.ChainFault.{ChainFault}
 use Rattle.ods_space.specs.declared.fault.ChainFault.TheVariants.{BadChain, OutsideVolume, NoMemory}
@@ -29,7 +29,7 @@ pub file_from : (I : List (List ℕ)) (L : VolumeLayout) (n : ℕ) (blocks : Lis
 file_from I L n blocks leads = head_of I L.home (Some L.index) [] 0 n leads.0 blocks leads.1
 
 -- the chain of a file of this layout starts with a file
-pub file_of_chain : (I : List (List ℕ)) (L : VolumeLayout) (n : ℕ) (others blocks : List ℕ) → IsLayoutOf I L → IsChain I L n others blocks → IsFile I L n
+pub file_of_chain : (I : List (List ℕ)) (L : VolumeLayout) (n : ℕ) (others blocks : List ℕ) → FindsFiles I L → IsChain I L n others blocks → IsFile I L n
 file_of_chain I L n others blocks layout chain = by (nat_eq n 1) refl
   where
     by : (b : Bool) → nat_eq n 1 ≡ b → IsFile I L n
@@ -53,7 +53,7 @@ not_held I L n vbn found blocks has is = by found refl
         absurd (let clash : None ≡ Some lbn = sym none ∙ some in cc)
 
 -- the blocks of INDEXF.SYS are those of the layout
-pub of_index : (I : List (List ℕ)) (L : VolumeLayout) (n wanted : ℕ) (index : List ℕ) (s : Survey) → IsLayoutOf I L → n ≡ 1 → index ≡ L.index → s.count ≡ length index → s.found ≡ slice_get index wanted → s.past ≡ None
+pub of_index : (I : List (List ℕ)) (L : VolumeLayout) (n wanted : ℕ) (index : List ℕ) (s : Survey) → FindsFiles I L → n ≡ 1 → index ≡ L.index → s.count ≡ length index → s.found ≡ slice_get index wanted → s.past ≡ None
     → (others : List ℕ) × (blocks : List ℕ) × IsChain I L n others blocks × IsSurveyOf (length I) wanted s blocks
 of_index I L n wanted index s layout one is count found past =
     let own = layout.index in
@@ -69,7 +69,7 @@ as_asked s blocks len n wanted m is same alike =
     subst Q alike (subst P same is)
 
 -- a whole chain, and one that names a block that the image lacks
-pub has_of_chain : (I : List (List ℕ)) (L : VolumeLayout) (n : ℕ) (others blocks : List ℕ) → IsLayoutOf I L → IsChain I L n others blocks → AreInside I blocks → HasBlocks I L n blocks
+pub has_of_chain : (I : List (List ℕ)) (L : VolumeLayout) (n : ℕ) (others blocks : List ℕ) → FindsFiles I L → IsChain I L n others blocks → AreInside I blocks → HasBlocks I L n blocks
 has_of_chain I L n others blocks layout chain inside = record { file = file_of_chain I L n others blocks layout chain; others = others; whole = record { chain = chain; inside = inside } }
 
 pub not_whole : (I : List (List ℕ)) (L : VolumeLayout) (n : ℕ) (others blocks : List ℕ) (lbn : ℕ) (held : List ℕ) → IsChain I L n others blocks → IsPast (length I) blocks (Some lbn) → ¬ HasBlocks I L n held

@@ -3,7 +3,7 @@ ghost use Rattle.std.specs.Prelude.{◌≡◌, ◌≢◌, ◌^◌, ◌≤◌, �
 ghost use Rattle.std.specs.Option.{option_map};
 ghost use Rattle.std.specs.List.{Contains};
 ghost use Rattle.ods_header.specs.Header.{header_of};
-ghost use Rattle.ods_space.specs.{Chain.IsChain, Chain.chain_blocks, Chain.index_for as index_of, Files.IsFile, Files.HasBlocks, Files.Holds, Files.IsLayoutOf, Files.AreInside, Faults.IsChainFault, Walk.IsSurveyOf};
+ghost use Rattle.ods_space.specs.{Chain.IsChain, Chain.chain_blocks, Chain.index_for as index_of, Files.IsFile, Files.HasBlocks, Files.Holds, Files.FindsFiles, Files.AreInside, Faults.IsChainFault, Walk.IsSurveyOf};
 ghost use Rattle.ods_space.specs.Disks.{header_on, on};
 
 use crate::bits::in_use;
@@ -18,7 +18,7 @@ use std::alloc::Global;
 
 /// The first header of a file. There is none where the number is no file.
 pub fn file_header(disk: &Disk<'_>, number: u16) -> Option<Header>
-    requires { on IsLayoutOf disk.now }
+    requires { on FindsFiles disk.now }
     ensures { SomeIff result (on IsFile disk.now number) (header_of (header_on disk.now number)) }
 {
     if number == 0 || last_number(disk.layout) < number || !in_use(disk, number) {
@@ -55,7 +55,7 @@ pub fn primary_header<'a>(disk: &Disk<'a>, number: u16) -> Option<&'a Block>
 
 /// All blocks of a file, in order. A number that is no file has no chain.
 pub fn chain(alloc: Global, disk: &Disk<'_>, number: u16) -> Result<Vec<u32>, ChainFault>
-    requires { on IsLayoutOf disk.now }
+    requires { on FindsFiles disk.now }
     ensures ok { IfOk result (λ blocks. on HasBlocks disk.now number blocks.items) }
     ensures err { IfErr result (on IsChainFault disk.now number) }
 {
@@ -99,7 +99,7 @@ pub(crate) fn outside(image: &Image, blocks: &[u32]) -> Option<u32>
 /// The chain of a file is whole, and all its blocks are of the image. A number that is no file has no chain. The check
 /// takes no memory.
 pub fn check_chain(disk: &Disk<'_>, number: u16) -> Result<(), ChainFault>
-    requires { on IsLayoutOf disk.now }
+    requires { on FindsFiles disk.now }
     ensures ok { OnOk result ((blocks : List ℕ) × on HasBlocks disk.now number blocks) }
     ensures err { IfErr result (on IsChainFault disk.now number) }
     ensures memory { IfErr result (λ e. e ≢ ChainFault.NoMemory) }
@@ -115,7 +115,7 @@ pub fn check_chain(disk: &Disk<'_>, number: u16) -> Result<(), ChainFault>
 
 /// One block of a file, counted from 1. There is none where the file has no whole chain.
 pub fn locate(disk: &Disk<'_>, number: u16, vbn: u32) -> Option<u32>
-    requires { on IsLayoutOf disk.now }
+    requires { on FindsFiles disk.now }
     ensures found { IfSome result (on Holds disk.now number vbn) }
     ensures none { IfNone result ((lbn : ℕ) → ¬ on Holds disk.now number vbn lbn) }
 {
@@ -127,7 +127,7 @@ pub fn locate(disk: &Disk<'_>, number: u16, vbn: u32) -> Option<u32>
 
 /// How many blocks a file has. There is no count where the file has no whole chain.
 pub fn block_count(disk: &Disk<'_>, number: u16) -> Option<u32>
-    requires { on IsLayoutOf disk.now }
+    requires { on FindsFiles disk.now }
     ensures count { IfSome result (λ count. (blocks : List ℕ) × on HasBlocks disk.now number blocks × (count ≡ length blocks)) }
     ensures none { IfNone result ((blocks : List ℕ) → ¬ on HasBlocks disk.now number blocks) }
 {
@@ -136,7 +136,7 @@ pub fn block_count(disk: &Disk<'_>, number: u16) -> Option<u32>
 
 /// What a file with a whole chain has: how many blocks, and the one with the index `wanted`, counted from 0.
 fn survey_whole(disk: &Disk<'_>, number: u16, wanted: u32) -> Option<Survey>
-    requires { on IsLayoutOf disk.now }
+    requires { on FindsFiles disk.now }
     ensures some { IfSome result (λ s. (blocks : List ℕ) × on HasBlocks disk.now number blocks × IsSurveyOf (length disk.now.image.now) wanted s blocks) }
     ensures none { IfNone result ((blocks : List ℕ) → ¬ on HasBlocks disk.now number blocks) }
 {
@@ -149,7 +149,7 @@ fn survey_whole(disk: &Disk<'_>, number: u16, wanted: u32) -> Option<Survey>
 
 /// What the chain of a file has: how many blocks, the one with the index `wanted`, counted from 0, and one that the image lacks.
 fn survey(disk: &Disk<'_>, number: u16, wanted: u32) -> Option<Survey>
-    requires { on IsLayoutOf disk.now }
+    requires { on FindsFiles disk.now }
     ensures some { IfSome result (λ s. (others : List ℕ) × (blocks : List ℕ)
         × on IsChain disk.now number others blocks × IsSurveyOf (length disk.now.image.now) wanted s blocks) }
     ensures none { IfNone result ((others blocks : List ℕ) → ¬ on IsChain disk.now number others blocks) }

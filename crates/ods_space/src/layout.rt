@@ -1,6 +1,8 @@
 //! Where a volume's structures lie.
-ghost use Rattle.std.specs.Prelude.{◌≡◌};
-ghost use Rattle.ods_space.specs.Layout.{place_of, with_places};
+ghost use Rattle.std.specs.Prelude.{◌≡◌, ◌≤◌, IfOk, IfErr};
+ghost use Rattle.std.specs.Vec.{vec_capacity};
+ghost use Rattle.ods_header.specs.Home.{IsHomeOf as IsHome};
+ghost use Rattle.ods_space.specs.{Faults.IsLayoutFault as IsFault, Faults.IsOfIndex as IsOfFirst, Faults.IsWholeIndex, Layout.most_index_blocks as most_blocks, Layout.place_of, Layout.with_places};
 
 use crate::LayoutFault;
 use crate::headers::{most_index_blocks, place};
@@ -33,9 +35,9 @@ impl Model for Layout {
 }
 
 impl Layout {
-    ghost use Rattle.std.specs.Prelude.{IfOk, IfErr};
+    ghost use Rattle.std.specs.Prelude.{[], IfOk, IfErr};
     ghost use Rattle.ods_header.specs.Home.{IsHomeOf};
-    ghost use Rattle.ods_space.specs.{Files.IsLayoutOf, Faults.IsLayoutFault};
+    ghost use Rattle.ods_space.specs.{Files.FindsFiles, Files.IsLayoutOf, Faults.IsLayoutFault, Faults.IsOfIndex};
 
     /// The home block's fields with the blocks of INDEXF.SYS and BITMAP.SYS, and room for the most blocks that INDEXF.SYS may ever have.
     /// The refusal is for want of memory, or the fault of file 1 or 2: it does not exist, or its chain is not whole.
@@ -44,19 +46,33 @@ impl Layout {
         ensures ok { IfOk result (λ layout. IsLayoutOf image.now layout × (layout.home ≡ home)) }
         ensures err { IfErr result (IsLayoutFault image.now home) }
     {
-        let mut index = match read_index(alloc, image, &home) {
+        let index = match roomy_index(alloc, image, &home) {
             Ok(index) => index,
             Err(fault) => return Err(fault),
         };
-        let room = most_index_blocks(&home).saturating_sub(index.len());
-        if index.reserve_exact(room).is_err() {
-            return Err(LayoutFault::NoMemory);
-        }
         match read_bitmap(alloc, image, &home, &index) {
             Ok(bitmap) => Ok(Layout {
                 home,
                 index,
                 bitmap,
+            }),
+            Err(fault) => Err(fault),
+        }
+    }
+
+    /// The home block's fields with the blocks of INDEXF.SYS, which find every file; there are none of BITMAP.SYS. The refusal is for want of
+    /// memory, or the fault of file 1.
+    pub fn read_index(alloc: Global, image: &Image, home: Home) -> Result<Layout, LayoutFault>
+        requires { IsHomeOf image.now home }
+        ensures ok { IfOk result (λ layout. FindsFiles image.now layout × (layout.home ≡ home) × (layout.bitmap ≡ [])) }
+        ensures err { IfErr result (IsLayoutFault image.now home) }
+        ensures first { IfErr result IsOfIndex }
+    {
+        match roomy_index(alloc, image, &home) {
+            Ok(index) => Ok(Layout {
+                home,
+                index,
+                bitmap: Vec::new(alloc),
             }),
             Err(fault) => Err(fault),
         }
@@ -120,4 +136,23 @@ impl Layout {
             None => None,
         }
     }
+}
+
+/// The blocks of INDEXF.SYS, with room for the most that it may ever have.
+fn roomy_index(alloc: Global, image: &Image, home: &Home) -> Result<Vec<u32>, LayoutFault>
+    requires { IsHome image.now home.now }
+    ensures ok { IfOk result (λ index. IsWholeIndex image.now home.now index.items) }
+    ensures room { IfOk result (λ index. most_blocks home.now ≤ vec_capacity index) }
+    ensures err { IfErr result (IsFault image.now home.now) }
+    ensures first { IfErr result IsOfFirst }
+{
+    let mut index = match read_index(alloc, image, home) {
+        Ok(index) => index,
+        Err(fault) => return Err(fault),
+    };
+    let room = most_index_blocks(home).saturating_sub(index.len());
+    if index.reserve_exact(room).is_err() {
+        return Err(LayoutFault::NoMemory);
+    }
+    Ok(index)
 }

@@ -1,7 +1,7 @@
 //! The blocks of INDEXF.SYS and BITMAP.SYS, by which all else is found.
-ghost use Rattle.std.specs.Prelude.{◌≡◌, ◌+◌, ◌≤◌, ◌^◌, List, [], Some, IfOk, IfErr};
+ghost use Rattle.std.specs.Prelude.{◌≡◌, Some, IfOk, IfErr};
 ghost use Rattle.ods_header.specs.Home.{IsHomeOf};
-ghost use Rattle.ods_space.specs.{Chain.IsIndex, Files.IsFile, Files.AreInside, Faults.IsLayoutFault, Faults.layout_with, Walk.Leads, Walk.layout_fault_of};
+ghost use Rattle.ods_space.specs.{Chain.IsIndex, Files.AreInside, Faults.IsLayoutFault, Faults.IsOfIndex, Faults.IsWholeIndex, Walk.Leads, Walk.layout_fault_of};
 
 use crate::collect::{collect, most};
 use crate::files::outside;
@@ -14,9 +14,9 @@ use std::alloc::Global;
 /// The blocks of INDEXF.SYS.
 pub(crate) fn read_index(alloc: Global, image: &Image, home: &Home) -> Result<Vec<u32>, LayoutFault>
     requires { IsHomeOf image.now home.now }
-    ensures ok { IfOk result (λ index. IsIndex image.now home.now index.items × AreInside image.now index.items
-        × IsFile image.now (layout_with home.now index.items) 1 × (home.now.index_bitmap_lbn + home.now.index_bitmap_size ≤ 2 ^ 20)) }
+    ensures ok { IfOk result (λ index. IsWholeIndex image.now home.now index.items) }
     ensures err { IfErr result (IsLayoutFault image.now home.now) }
+    ensures first { IfErr result IsOfIndex }
 {
     let Some(_) = segment_block(image, home, &[], most(home, None, &[]), 1, 0) else {
         return Err(LayoutFault::NoFile(1));

@@ -3,7 +3,8 @@ use Rattle.std.proofs.Common.{◌≡◌, ◌∙◌, refl, sym, subst, inl, inr, 
 use Rattle.std.specs.Prelude.{◌&&◌, not}
 use Rattle.std.specs.Borrow.{Bor}
 use Rattle.ods_space.specs.Layout.{VolumeLayout}
-use Rattle.ods_upkeep.specs.Begun.{AreLike, count_of, path_to}
+use Rattle.ods_shell.specs.declared.facts.Facts.{Facts}
+use Rattle.ods_upkeep.specs.Begun.{IsLike, count_of, path_to}
 use Rattle.ods_upkeep.specs.Refused.{HasPath, IsOutOfMemory}
 use Rattle.ods_upkeep.specs.Target.{IsNoTarget, IsTarget}
 use Rattle.ods_upkeep.specs.Unbegun.{IsNotBegun, IsNotLike}
@@ -30,10 +31,10 @@ module _ (I : List (List ℕ)) (L : VolumeLayout) (to : Option (Bor (List ℕ)))
   no_like target is none = inr (target, is_target target is, inl none)
 
   -- names are not counted
-  pub no_names : (target : Target) (own : Option (List ℕ)) → IsTarget I L count path target → AreLike I L like own → (replace ≡ true) × IsOutOfMemory failure → IsNotBegun I L to several like replace failure
-  no_names target own is liked none = inr (target, is_target target is, inr (own, liked, (inl none.0, none.1)))
+  pub no_names : (target : Target) (facts : Option Facts) → IsTarget I L count path target → IsLike I L like facts → (replace ≡ true) × IsOutOfMemory failure → IsNotBegun I L to several like replace failure
+  no_names target facts is liked none = inr (target, is_target target is, inr (facts, liked, (inl none.0, none.1)))
 
   -- highest versions are not counted
-  pub no_versions : (target : Target) (own : Option (List ℕ)) (wanted : Bool) → IsTarget I L count path target → AreLike I L like own → wanted ≡ (several && not replace) → (wanted ≡ true) × IsOutOfMemory failure
+  pub no_versions : (target : Target) (facts : Option Facts) (wanted : Bool) → IsTarget I L count path target → IsLike I L like facts → wanted ≡ (several && not replace) → (wanted ≡ true) × IsOutOfMemory failure
       → IsNotBegun I L to several like replace failure
-  no_versions target own wanted is liked are none = inr (target, is_target target is, inr (own, liked, (inr (several_are several replace (sym are ∙ none.0)), none.1)))
+  no_versions target facts wanted is liked are none = inr (target, is_target target is, inr (facts, liked, (inr (several_are several replace (sym are ∙ none.0)), none.1)))

@@ -24,6 +24,7 @@ use Rattle.ods_upkeep.specs.PutFor.{IsMadeFor}
 use Rattle.ods_upkeep.specs.Refused.{HasPath}
 use Rattle.ods_upkeep.specs.Uncopied.{IsFirstUncopyable, IsNotCopied, MayAllBeCopied, MayBeCopied, StopsCopying, uncopyable, unmade}
 use Rattle.ods_upkeep.specs.Unfiled.{IsUnfiled}
+use Rattle.ods_upkeep.specs.declared.asked.Placing.{Placing}
 use Rattle.ods_upkeep.specs.declared.failure.Failure.{Failure}
 use Rattle.ods_upkeep.specs.declared.failure.Why.{Why}
 use Rattle.ods_upkeep.specs.declared.target.Target.{Target}
@@ -48,11 +49,11 @@ unread I L n (Chain (OutsideVolume lbn)) told = inr (refl, λ body has. not_past
 unread I L n (Chain NoMemory) told = inl refl
 
 -- a file is copied
-pub is_copied : (to : Target) (stamp : List ℕ) (found : Found) (old mid new : Filed) (user : Uic) (facts : Facts) (name : RadName) (attributes bytes lent : List ℕ) (version : ℕ) (file : FileId)
+pub is_copied : (placing : Placing) (to : Target) (stamp : List ℕ) (found : Found) (old mid new : Filed) (user : Uic) (facts : Facts) (name : RadName) (attributes bytes lent : List ℕ) (version : ℕ) (file : FileId)
     → user ≡ old.user → IsCopyable user to found facts name → ((body : Body) × HasBody old.image old.layout facts.file.number body × (bytes_in Raw body ≡ Some bytes))
     → attributes ≡ true_for facts.attributes facts.blocks → IsNextVersion old to.directory name to.version version mid → lent ≡ bytes
-    → IsMadeFor user to.directory to.version (record { name = name; version = version; stamp = stamp }) attributes lent file mid new → IsCopied to stamp found old new
-is_copied to stamp found old mid new user facts name attributes bytes lent version file is copyable read are next same made = record {
+    → IsMadeFor placing user to.directory to.version (record { name = name; version = version; stamp = stamp }) attributes lent file mid new → IsCopied placing to stamp found old new
+is_copied placing to stamp found old mid new user facts name attributes bytes lent version file is copyable read are next same made = record {
   facts = facts;
   name = name;
   copyable = subst (λ u. IsCopyable u to found facts name) is copyable;
@@ -64,40 +65,40 @@ is_copied to stamp found old mid new user facts name attributes bytes lent versi
   mid = mid;
   next = next;
   file = file;
-  made = subst (λ u. IsMadeFor u to.directory to.version (record { name = name; version = version; stamp = stamp }) (true_for facts.attributes facts.blocks) bytes file mid new) is
-      (subst (λ a. IsMadeFor user to.directory to.version (record { name = name; version = version; stamp = stamp }) a bytes file mid new) are
-      (subst (λ b. IsMadeFor user to.directory to.version (record { name = name; version = version; stamp = stamp }) attributes b file mid new) same made));
+  made = subst (λ u. IsMadeFor placing u to.directory to.version (record { name = name; version = version; stamp = stamp }) (true_for facts.attributes facts.blocks) bytes file mid new) is
+      (subst (λ a. IsMadeFor placing user to.directory to.version (record { name = name; version = version; stamp = stamp }) a bytes file mid new) are
+      (subst (λ b. IsMadeFor placing user to.directory to.version (record { name = name; version = version; stamp = stamp }) attributes b file mid new) same made));
 }
 
 -- it may not be copied
-pub may_not : (why : Why) (to : Target) (stamp : List ℕ) (found : Found) (old : Filed) (user : Uic) → user ≡ old.user → IsUncopyable user to found why → IsNotCopied to stamp found old old why
-may_not why to stamp found old user is reason = uncopyable why (subst (λ u. IsUncopyable u to found why) is reason) refl
+pub may_not : (why : Why) (placing : Placing) (to : Target) (stamp : List ℕ) (found : Found) (old : Filed) (user : Uic) → user ≡ old.user → IsUncopyable user to found why → IsNotCopied placing to stamp found old old why
+may_not why placing to stamp found old user is reason = uncopyable why (subst (λ u. IsUncopyable u to found why) is reason) refl
 
 -- its copy is not made
-pub not_copied : (why : Why) (to : Target) (stamp : List ℕ) (found : Found) (old mid new : Filed) (user : Uic) (facts : Facts) (name : RadName) (attributes bytes lent : List ℕ) (version : ℕ)
+pub not_copied : (why : Why) (placing : Placing) (to : Target) (stamp : List ℕ) (found : Found) (old mid new : Filed) (user : Uic) (facts : Facts) (name : RadName) (attributes bytes lent : List ℕ) (version : ℕ)
     → user ≡ old.user → IsCopyable user to found facts name → ((body : Body) × HasBody old.image old.layout facts.file.number body × (bytes_in Raw body ≡ Some bytes))
     → attributes ≡ true_for facts.attributes facts.blocks → IsNextVersion old to.directory name to.version version mid → lent ≡ bytes
-    → IsUnfiled user to.directory to.version (record { name = name; version = version; stamp = stamp }) attributes lent mid new why → IsNotCopied to stamp found old new why
-not_copied why to stamp found old mid new user facts name attributes bytes lent version is copyable read are next same refused =
+    → IsUnfiled placing user to.directory to.version (record { name = name; version = version; stamp = stamp }) attributes lent mid new why → IsNotCopied placing to stamp found old new why
+not_copied why placing to stamp found old mid new user facts name attributes bytes lent version is copyable read are next same refused =
     unmade why facts name read.0 bytes version mid (subst (λ u. IsCopyable u to found facts name) is copyable) read.1 read.2 next
-    (subst (λ u. IsUnfiled u to.directory to.version (record { name = name; version = version; stamp = stamp }) (true_for facts.attributes facts.blocks) bytes mid new why) is
-    (subst (λ a. IsUnfiled user to.directory to.version (record { name = name; version = version; stamp = stamp }) a bytes mid new why) are
-    (subst (λ b. IsUnfiled user to.directory to.version (record { name = name; version = version; stamp = stamp }) attributes b mid new why) same refused)))
+    (subst (λ u. IsUnfiled placing u to.directory to.version (record { name = name; version = version; stamp = stamp }) (true_for facts.attributes facts.blocks) bytes mid new why) is
+    (subst (λ a. IsUnfiled placing user to.directory to.version (record { name = name; version = version; stamp = stamp }) a bytes mid new why) are
+    (subst (λ b. IsUnfiled placing user to.directory to.version (record { name = name; version = version; stamp = stamp }) attributes b mid new why) same refused)))
 
 -- where the others are copied after one more, all that are left are
-pub copied_on : (to : Target) (stamp : List ℕ) (all : List Found) (i : ℕ) (x : Found) (mid next new : Filed) → i < length all → x ≡ get_or all i x → IsCopied to stamp x mid next → AreCopied to stamp (drop (i + 1) all) next new
-    → AreCopied to stamp (drop i all) mid new
-copied_on to stamp all i x mid next new within is one copied = subst (λ l. AreCopied to stamp l mid new) (sym (left_from all i x within is)) (next, one, copied)
+pub copied_on : (placing : Placing) (to : Target) (stamp : List ℕ) (all : List Found) (i : ℕ) (x : Found) (mid next new : Filed) → i < length all → x ≡ get_or all i x → IsCopied placing to stamp x mid next → AreCopied placing to stamp (drop (i + 1) all) next new
+    → AreCopied placing to stamp (drop i all) mid new
+copied_on placing to stamp all i x mid next new within is one copied = subst (λ l. AreCopied placing to stamp l mid new) (sym (left_from all i x within is)) (next, one, copied)
 
 -- where they stop then, all that are left do
-pub stops_on : (to : Target) (stamp : List ℕ) (all : List Found) (i : ℕ) (x : Found) (mid next new : Filed) (failure : Failure) → i < length all → x ≡ get_or all i x → IsCopied to stamp x mid next
-    → StopsCopying to stamp (drop (i + 1) all) next new failure → StopsCopying to stamp (drop i all) mid new failure
-stops_on to stamp all i x mid next new failure within is one stop = subst (λ l. StopsCopying to stamp l mid new failure) (sym (left_from all i x within is)) (inr (next, one, stop))
+pub stops_on : (placing : Placing) (to : Target) (stamp : List ℕ) (all : List Found) (i : ℕ) (x : Found) (mid next new : Filed) (failure : Failure) → i < length all → x ≡ get_or all i x → IsCopied placing to stamp x mid next
+    → StopsCopying placing to stamp (drop (i + 1) all) next new failure → StopsCopying placing to stamp (drop i all) mid new failure
+stops_on placing to stamp all i x mid next new failure within is one stop = subst (λ l. StopsCopying placing to stamp l mid new failure) (sym (left_from all i x within is)) (inr (next, one, stop))
 
 -- and where one is not copied
-pub stops_here : (to : Target) (stamp : List ℕ) (all : List Found) (i : ℕ) (x : Found) (mid new : Filed) (failure : Failure) → i < length all → x ≡ get_or all i x → HasPath failure (string_bytes x.path)
-    → IsNotCopied to stamp x mid new failure.why → StopsCopying to stamp (drop i all) mid new failure
-stops_here to stamp all i x mid new failure within is said stays = subst (λ l. StopsCopying to stamp l mid new failure) (sym (left_from all i x within is)) (inl (said, stays))
+pub stops_here : (placing : Placing) (to : Target) (stamp : List ℕ) (all : List Found) (i : ℕ) (x : Found) (mid new : Filed) (failure : Failure) → i < length all → x ≡ get_or all i x → HasPath failure (string_bytes x.path)
+    → IsNotCopied placing to stamp x mid new failure.why → StopsCopying placing to stamp (drop i all) mid new failure
+stops_here placing to stamp all i x mid new failure within is said stays = subst (λ l. StopsCopying placing to stamp l mid new failure) (sym (left_from all i x within is)) (inl (said, stays))
 
 -- one more may be copied
 pub may_on : (user : Uic) (to : Target) (all : List Found) (i : ℕ) (x : Found) → i < length all → x ≡ get_or all i x → MayBeCopied user to x → MayAllBeCopied user to (drop (i + 1) all) → MayAllBeCopied user to (drop i all)

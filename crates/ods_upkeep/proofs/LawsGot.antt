@@ -16,10 +16,10 @@ use Rattle.ods_space.specs.declared.fault.ChainFault.TheVariants as chain
 use Rattle.ods_space.proofs.Chains.{same_chain}
 use Rattle.ods_mount.specs.Faults.{contents_of}
 use Rattle.ods_request.specs.declared.requests.Request.TheVariants.{Enter}
-use Rattle.ods_request.specs.Catalogue.{Catalogue, File, Plain}
+use Rattle.ods_request.specs.Catalogue.{Catalogue, File, Plain, is_directory}
 use Rattle.ods_request.specs.Steps.{created}
 use Rattle.ods_request.proofs.Orders.{file_cmp-total, file_cmp-antisymmetric}
-use Rattle.ods_state.specs.Contents.{IsFileIn}
+use Rattle.ods_state.specs.Contents.{IsFileIn, ShowsBy}
 use Rattle.ods_files.specs.Body.{Body, HasBody, are_zeros, bytes_in}
 use Rattle.ods_files.specs.declared.form.Form.TheVariants as form
 use Rattle.ods_records.specs.Attributes.{end_block, end_of}
@@ -30,10 +30,14 @@ use Rattle.ods_shell.specs.declared.form.FormFault.{FormFault}
 use Rattle.ods_shell.specs.declared.form.FormFault.TheVariants as fault
 use Rattle.ods_shell.specs.declared.form.Remark.{Remark}
 use Rattle.ods_filing.specs.Laws.{GivesBack, ShowsBytes}
-use Rattle.ods_filing.specs.Put.{blocks_with, file_with}
+use Rattle.ods_filing.specs.Contiguous.{contiguous_with}
+use Rattle.ods_filing.specs.Filed.{Filed, for_another}
+use Rattle.ods_filing.specs.Led.{IsObeyed}
+use Rattle.ods_filing.specs.Put.{Heading, block_count, blocks_with, file_with}
 use Rattle.ods_filing.proofs.Blocks.{bytes_of_blocks}
 use Rattle.ods_filing.proofs.ComeBack.{gives_back}
-use Rattle.ods_upkeep.specs.Laws.{GetGivesWhatWasPut}
+use Rattle.ods_upkeep.specs.Laws.{GetGivesWhatWasPut, IsGotBack}
+use Rattle.ods_upkeep.specs.declared.asked.Placing.TheVariants.{Anywhere, InOnePiece}
 use Rattle.ods_upkeep.proofs.LawsNames.{get_here, other_file}
 use Rattle.ods_upkeep.proofs.LawsShown.{plain_is, shown_body}
 use Rattle.ods_upkeep.proofs.LawsUndone.{makes_none}
@@ -105,18 +109,27 @@ module _ (I : List (List ℕ)) (L : VolumeLayout) (id : FileId) (a bytes : List 
   only_memory gives (fault.TooLongForBlock size) is = absurd (let wrong : Binary ≡ Text = is.2.0 in cc)
   only_memory gives fault.NoMemory is = refl
 
-pub get_gives_what_was_put : GetGivesWhatWasPut
-get_gives_what_was_put owner dir said heading attributes bytes file old new C shown put end =
-    let made : File = file_with owner C.default heading (Plain attributes (blocks_with bytes)) in
-    let first : Catalogue = created C file made in
-    let into = put.entered.1.steps first (put.added.shown C shown) (makes_none first (Enter dir heading.name said file) put.entered.0 refl) in
-    let there : map.get into.0.files file ≡ Some made = other_file first into.0 old.user dir file heading.name said put.entered.0 made into.1 (get_here file_cmp-total file_cmp-antisymmetric C.files file made) refl in
-    let shows : ShowsBytes new.image new.layout file attributes bytes = record { catalogue = into.0; shown = into.2; file = made; there = there; body = refl } in
+-- a file that is made and entered, with attributes whose end of file is the length of its bytes
+got_back : (made : Filed) (whole : File) (dir file : FileId) (said : Option ℕ) (heading : Heading) (attributes bytes : List ℕ) (old new : Filed) (C : Catalogue)
+    → whole.body ≡ Plain attributes (blocks_with bytes) → ShowsBy made.image made.layout (created C file whole) → IsObeyed (for_another made old.user) (Enter dir heading.name said file) new
+    → end_of attributes ≡ length bytes → IsGotBack new file attributes bytes
+got_back made whole dir file said heading attributes bytes old new C has there put end =
+    let first : Catalogue = created C file whole in
+    let into = put.1.steps first there (makes_none first (Enter dir heading.name said file) put.0 refl) in
+    let entry : map.get into.0.files file ≡ Some whole =
+    other_file first into.0 old.user dir file heading.name said put.0 whole into.1 (get_here file_cmp-total file_cmp-antisymmetric C.files file whole) (ap is_directory has) in
+    let shows : ShowsBytes new.image new.layout file attributes bytes = record { catalogue = into.0; shown = into.2; file = whole; there = entry; body = has } in
     let gives = comes_back new.image new.layout file attributes bytes shows end in
     record {
-      there = λ D s. (made, s.all file made (into.2.there file made there), refl);
+      there = λ D s. (whole, s.all file whole (into.2.there file whole entry), has);
       front = ap (λ n. take n (concat (blocks_with bytes))) end ∙ bytes_of_blocks bytes;
       gives = gives;
       got = just_these new.image new.layout file attributes bytes shows gives;
       fails = only_memory new.image new.layout file attributes bytes shows gives;
     }
+
+pub get_gives_what_was_put : GetGivesWhatWasPut
+get_gives_what_was_put Anywhere owner dir said heading attributes bytes file old new C shown put end =
+    got_back put.made (file_with owner C.default heading (Plain attributes (blocks_with bytes))) dir file said heading attributes bytes old new C refl (put.stored.1.shown C shown) put.entered end
+get_gives_what_was_put InOnePiece owner dir said heading attributes bytes file old new C shown put end =
+    got_back put.made (contiguous_with owner C.default heading (block_count bytes) (Plain attributes (blocks_with bytes))) dir file said heading attributes bytes old new C refl (put.stored.shown C shown) put.entered end

@@ -1,5 +1,5 @@
 -- Why two commands together leave what the blocks showed before.
-use Rattle.std.proofs.Common.{◌≡◌, ℕ, refl, sym, ap, ◌∙◌, subst, true, false, length, Option, Some, None}
+use Rattle.std.proofs.Common.{◌≡◌, ℕ, refl, sym, ap, ◌∙◌, subst, true, false, List, [], ◌∷◌, length, Option, Some, None}
 use Rattle.std.specs.FinMap as map
 use Rattle.ods_base.specs.declared.file_id.FileId.{FileId}
 use Rattle.ods_base.specs.declared.file_id.Uic.{Uic}
@@ -15,10 +15,14 @@ use Rattle.ods_request.specs.Table.{creates}
 use Rattle.ods_request.proofs.Orders.{file_cmp-total, file_cmp-antisymmetric}
 use Rattle.ods_request.proofs.StepLaws.{determined}
 use Rattle.ods_state.specs.Contents.{ShowsBy}
-use Rattle.ods_filing.specs.Filed.{Filed, IsOpenFor}
-use Rattle.ods_filing.specs.Put.{blocks_with, file_with}
+use Rattle.ods_filing.specs.Contiguous.{contiguous_with}
+use Rattle.ods_filing.specs.Filed.{Filed, IsOpenFor, for_another}
+use Rattle.ods_filing.specs.Led.{IsObeyed}
+use Rattle.ods_filing.specs.Put.{Heading, block_count, blocks_with, file_with}
 use Rattle.ods_filing.proofs.Done.{same_shown}
 use Rattle.ods_upkeep.specs.Laws.{MvThereAndBack, RmUndoesPut}
+use Rattle.ods_upkeep.specs.Removed.{Does}
+use Rattle.ods_upkeep.specs.declared.asked.Placing.TheVariants.{Anywhere, InOnePiece}
 use Rattle.ods_upkeep.proofs.LawsNames.{entered_and_removed, entered_there, entry_stays, removed_and_entered, taken_out}
 use Rattle.ods_upkeep.proofs.LawsShown.{three_words}
 
@@ -59,17 +63,27 @@ went_and_came C D E F G file from to name other version reached said who second 
     let same : F ≡ D = removed_and_entered D E F second third from file name version a b has left again in
     entered_and_removed C D G who fourth to file other said reached c three entered (ap (λ H. step H fourth (Remove to other (Exact reached)) c) (sym same) ∙ gone)
 
-pub rm_undoes_put : RmUndoesPut
-rm_undoes_put owner dir said heading attributes bytes file version old mid new put is rm C shown =
-    let made : File = file_with owner C.default heading (Plain attributes (blocks_with bytes)) in
-    let first : Catalogue = created C file made in
-    let into = put.entered.1.steps first (put.added.shown C shown) (makes_none first (Enter dir heading.name said file) put.entered.0 refl) in
+-- a file that is made, entered, and removed under the version by which it was entered
+undone : (made : Filed) (whole : File) (dir file : FileId) (said : Option ℕ) (heading : Heading) (version : ℕ) (old mid new : Filed) (C : Catalogue)
+    → map.get C.files file ≡ None → ShowsBy made.image made.layout (created C file whole) → (entered : IsObeyed (for_another made old.user) (Enter dir heading.name said file) mid)
+    → entered.0 ≡ Entered version → Does mid (Remove dir heading.name (Exact version) ∷ Delete file ∷ []) new → ShowsBy new.image new.layout C
+undone made whole dir file said heading version old mid new C free there put is rm =
+    let first : Catalogue = created C file whole in
+    let into = put.1.steps first there (makes_none first (Enter dir heading.name said file) put.0 refl) in
     let out = rm.1.1.steps into.0 into.2 (makes_none into.0 (Remove dir heading.name (Exact version)) rm.1.0 refl) in
     let gone = rm.2.1.1.steps out.0 out.2 (makes_none out.0 (Delete file) rm.2.1.0 refl) in
     let entered : step first old.user (Enter dir heading.name said file) (Entered version) ≡ Some into.0 = subst (λ a. step first old.user (Enter dir heading.name said file) a ≡ Some into.0) is into.1 in
     let three = three_words mid.image mid.layout into.0 dir heading.name version file into.2 (entered_there first into.0 old.user dir file heading.name said version entered) in
-    let left = came_and_went C into.0 out.0 gone.0 file made old.user mid.user rm.0.user dir heading.name said version rm.1.0 rm.2.1.0 three (put.added.free C shown) entered out.1 gone.1 in
+    let left = came_and_went C into.0 out.0 gone.0 file whole old.user mid.user rm.0.user dir heading.name said version rm.1.0 rm.2.1.0 three free entered out.1 gone.1 in
     same_shown new.image new.layout C gone.0 (shown_by gone.0 new rm.2.0 rm.2.2 gone.2) left.0 left.1
+
+pub rm_undoes_put : RmUndoesPut
+rm_undoes_put Anywhere owner dir said heading attributes bytes file version old mid new put is rm C shown =
+    undone put.made (file_with owner C.default heading (Plain attributes (blocks_with bytes))) dir file said heading version old mid new C
+    (put.stored.1.free C shown) (put.stored.1.shown C shown) put.entered is rm
+rm_undoes_put InOnePiece owner dir said heading attributes bytes file version old mid new put is rm C shown =
+    undone put.made (contiguous_with owner C.default heading (block_count bytes) (Plain attributes (blocks_with bytes))) dir file said heading version old mid new C
+    (put.stored.free C shown) (put.stored.shown C shown) put.entered is rm
 
 pub mv_there_and_back : MvThereAndBack
 mv_there_and_back file from to name other version reached said old mid new there is back C shown entry =

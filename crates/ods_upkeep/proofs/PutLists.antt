@@ -17,19 +17,22 @@ use Rattle.ods_filing.proofs.Led.{allows_more, led_to, obeyed, same_user, stays,
 use Rattle.ods_upkeep.specs.HostPut.{AreCountedOn, AreNotedOn, IsHostPut, IsPutAs, IsStill, IsVersionFor}
 use Rattle.ods_upkeep.specs.Kinds.{Copies, Puts}
 use Rattle.ods_upkeep.specs.Left.{InPut, replaces}
-use Rattle.ods_upkeep.specs.PutFor.{IsMadeFor, IsPut}
+use Rattle.ods_upkeep.specs.PutFor.{IsMadeFor, IsPut, IsStored}
 use Rattle.ods_upkeep.specs.Removed.{Does}
 use Rattle.ods_upkeep.specs.Rooms.{IsFreed, IsRoomMade, IsThere, counts_left, file_left, pick_for}
 use Rattle.ods_upkeep.specs.Versions.{Noted}
+use Rattle.ods_upkeep.specs.declared.asked.Placing.{Placing}
+use Rattle.ods_upkeep.specs.declared.asked.Placing.TheVariants.{Anywhere}
 use Rattle.ods_upkeep.proofs.Lists.{copies_puts, fills_copies}
 
 -- a file that the user makes for himself
-pub own_made : (dir : FileId) (version : Option ℕ) (heading : Heading) (attributes bytes : List ℕ) (file : FileId) (old new : Filed) (owner : Uic) → owner ≡ old.user
-    → IsMadeFor owner dir version heading attributes bytes file old new → IsLed Copies old new
-own_made dir version heading attributes bytes file old new owner is made =
-    let filled : IsLed Copies (for_another old owner) made.made = allows_more fills_copies made.filled in
+pub own_made : (dir : FileId) (version : Option ℕ) (heading : Heading) (attributes bytes : List ℕ) (file : FileId) (old new : Filed) (placing : Placing) (owner : Uic) → placing ≡ Anywhere → owner ≡ old.user
+    → IsMadeFor placing owner dir version heading attributes bytes file old new → IsLed Copies old new
+own_made dir version heading attributes bytes file old new placing owner anywhere is made =
+    let stored = subst (λ p. IsStored p heading attributes bytes file (for_another old owner) made.made) anywhere made.stored in
+    let filled : IsLed Copies (for_another old owner) made.made = allows_more fills_copies stored.0 in
     let first : IsLed Copies old made.made = subst (λ who. IsLed Copies (for_another old who) made.made) is filled in
-    let user : made.made.user ≡ old.user = same_user made.filled ∙ is in
+    let user : made.made.user ≡ old.user = same_user stored.0 ∙ is in
     then_obeyed (Enter dir heading.name version file) tt first (subst (λ u. IsObeyed (for_another made.made u) (Enter dir heading.name version file) new) (sym user) made.entered)
 
 -- requests of an allowed kind, each accepted
@@ -82,7 +85,7 @@ version_led replaces None old dir name None version new is = elim is [
 pub put_as : (p q : InPut) (name : RadName) (attributes bytes all : List ℕ) (old mid seen new : Filed) (free said : Option ℕ) (left : Option (List ℕ)) (version : ℕ) (user owner : Uic) (file : FileId)
     → IsRoomMade p.target.directory name p.target.version free p.names left old mid → said ≡ option_or free p.target.version
     → IsVersionFor p.highest mid p.target.directory name said version seen → user ≡ seen.user → owner ≡ unwrap_or p.owner user → bytes ≡ all
-    → IsMadeFor owner p.target.directory said (record { name = name; version = version; stamp = p.stamp }) attributes bytes file seen new
+    → IsMadeFor p.placing owner p.target.directory said (record { name = name; version = version; stamp = p.stamp }) attributes bytes file seen new
     → AreCountedOn left file q.names → AreNotedOn p.highest name version q.highest → IsStill p q → IsPutAs p name attributes all old q new
 put_as p q name attributes bytes all old mid seen new free said left version user owner file room is next asks owns same made counted noted still =
     let dir = p.target.directory in
@@ -99,15 +102,15 @@ put_as p q name attributes bytes all old mid seen new free said left version use
       seen = seen;
       next = subst (λ s. IsVersionFor p.highest mid dir name s version seen) is next;
       file = file;
-      made = subst (λ u. IsMadeFor u dir (option_or free p.target.version) heading attributes all file seen new) whose
-          (subst (λ s. IsMadeFor owner dir s heading attributes all file seen new) is (subst (λ b. IsMadeFor owner dir said heading attributes b file seen new) same made));
+      made = subst (λ u. IsMadeFor p.placing u dir (option_or free p.target.version) heading attributes all file seen new) whose
+          (subst (λ s. IsMadeFor p.placing owner dir s heading attributes all file seen new) is (subst (λ b. IsMadeFor p.placing owner dir said heading attributes b file seen new) same made));
       counted = counted;
       noted = noted;
       still = still;
     }
 
 -- it is what the user's requests leave, and then a file that is made for its owner
-pub put_is : (p q : InPut) (host bytes : List ℕ) (old new : Filed) → IsHostPut p host bytes old q new → IsPut (Puts (replaces p)) p.owner old new
+pub put_is : (p q : InPut) (host bytes : List ℕ) (old new : Filed) → IsHostPut p host bytes old q new → IsPut (Puts (replaces p)) p.placing p.owner old new
 put_is p q host bytes old new is =
     let put = is.put in
     let dir = p.target.directory in
@@ -124,8 +127,8 @@ put_is p q host bytes old new is =
       made = put.made;
     }
 
--- where no owner is said, all of it is asked for by the user
-pub own_put : (replaces : Bool) (said : Option Uic) (old new : Filed) → IsPut (Puts replaces) said old new → said ≡ None → IsLed (Puts replaces) old new
-own_put replaces said old new put none =
+-- where no owner is said, and blocks may stand anywhere, all of it is asked for by the user
+pub own_put : (replaces : Bool) (placing : Placing) (said : Option Uic) (old new : Filed) → IsPut (Puts replaces) placing said old new → said ≡ None → placing ≡ Anywhere → IsLed (Puts replaces) old new
+own_put replaces placing said old new put none anywhere =
     let is : unwrap_or said old.user ≡ put.mid.user = ap (λ s. unwrap_or s old.user) none ∙ sym (same_user put.before) in
-    then_led put.before (allows_more (copies_puts replaces) (own_made put.dir put.version put.heading put.attributes put.bytes put.file put.mid new (unwrap_or said old.user) is put.made))
+    then_led put.before (allows_more (copies_puts replaces) (own_made put.dir put.version put.heading put.attributes put.bytes put.file put.mid new placing (unwrap_or said old.user) anywhere is put.made))

@@ -50,14 +50,14 @@ module _ (p : InPut) (name : RadName) (attributes bytes all : List ℕ) (old mid
       owns ∙ ap (λ u. unwrap_or p.owner u) (asks ∙ same_user led)
 
   -- the file is not made, or not entered
-  pub storing_stops : (why : Why) → IsUnfiled owner p.target.directory said (heading_in p name version) attributes bytes seen new why → IsNotStored p name attributes all old new why
+  pub storing_stops : (why : Why) → IsUnfiled p.placing owner p.target.directory said (heading_in p name version) attributes bytes seen new why → IsNotStored p name attributes all old new why
   storing_stops why refused = unfiled why said version seen ready
-      (subst (λ u. IsUnfiled u p.target.directory said (heading_in p name version) attributes all seen new why) whose
-      (subst (λ b. IsUnfiled owner p.target.directory said (heading_in p name version) attributes b seen new why) same refused))
+      (subst (λ u. IsUnfiled p.placing u p.target.directory said (heading_in p name version) attributes all seen new why) whose
+      (subst (λ b. IsUnfiled p.placing owner p.target.directory said (heading_in p name version) attributes b seen new why) same refused))
 
   -- it is, and its version is not noted
-  pub noting_stops : (file : FileId) → IsMadeFor owner p.target.directory said (heading_in p name version) attributes bytes file seen new → (why : Why) → (why ≡ no_memory) × (is_some p.highest ≡ true) → IsNotStored p name attributes all old new why
+  pub noting_stops : (file : FileId) → IsMadeFor p.placing owner p.target.directory said (heading_in p name version) attributes bytes file seen new → (why : Why) → (why ≡ no_memory) × (is_some p.highest ≡ true) → IsNotStored p name attributes all old new why
   noting_stops file made why none = subst (IsNotStored p name attributes all old new) (sym none.0)
       (unnoted said version seen file ready
-      (subst (λ u. IsMadeFor u p.target.directory said (heading_in p name version) attributes all file seen new) whose
-      (subst (λ b. IsMadeFor owner p.target.directory said (heading_in p name version) attributes b file seen new) same made)) none.1)
+      (subst (λ u. IsMadeFor p.placing u p.target.directory said (heading_in p name version) attributes all file seen new) whose
+      (subst (λ b. IsMadeFor p.placing owner p.target.directory said (heading_in p name version) attributes b file seen new) same made)) none.1)

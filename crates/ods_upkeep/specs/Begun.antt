@@ -1,6 +1,7 @@
 -- What put looks up before the first file.
-use Rattle.std.specs.Prelude.{◌≡◌, ◌≢◌, ◌<◌, ℕ, Bool, true, false, not, ◌&&◌, if◌then◌else◌, List, [], ◌∷◌, codes, slice_index, Option, Some, None}
+use Rattle.std.specs.Prelude.{◌≡◌, ◌≢◌, ◌<◌, ℕ, nat_le, Bool, true, false, not, ◌&&◌, if◌then◌else◌, List, [], ◌∷◌, codes, slice_index, Option, Some, None}
 use Rattle.std.specs.Borrow.{Bor}
+use Rattle.std.specs.Option.{option_map}
 use Rattle.ods_base.specs.declared.file_id.FileId.{FileId}
 use Rattle.ods_base.specs.declared.file_id.Uic.{Uic}
 use Rattle.ods_space.specs.Layout.{VolumeLayout}
@@ -14,6 +15,8 @@ use Rattle.ods_upkeep.specs.Left.{InPut}
 use Rattle.ods_upkeep.specs.Sources.{AreOfPath}
 use Rattle.ods_upkeep.specs.Target.{IsTarget}
 use Rattle.ods_upkeep.specs.Versions.{AreHighest, Noted}
+use Rattle.ods_upkeep.specs.declared.asked.Placing.{Placing}
+use Rattle.ods_upkeep.specs.declared.asked.Placing.TheVariants.{Anywhere, InOnePiece}
 use Rattle.ods_upkeep.specs.declared.asked.PutForm.{PutForm}
 
 -- the path of the target: the one that is said, or that of the master directory
@@ -25,20 +28,28 @@ path_to (Some said) = said.now
 abbrev pub count_of : Bool → ℕ
 count_of several = if several then 2 else 1
 
--- These are the attributes of the one file that the path names, the highest version where it says none. It is no directory, and its number is above 2.
-pub record AreAttributesAt (I : List (List ℕ)) (L : VolumeLayout) (path attributes : List ℕ) : Type 0 where
+-- This is known of the one file that the path names, the highest version where it says none. It is no directory, and its number is above 2.
+pub record IsLikeable (I : List (List ℕ)) (L : VolumeLayout) (path : List ℕ) (facts : Facts) : Type 0 where
   pub found : Found
   pub one : AreOfPath I L (highest alone.Refused) path (found ∷ [])
-  pub facts : Facts
   pub known : found.facts ≡ Some facts
   pub plain : facts.kind ≢ Directory
   pub above : 2 < facts.file.number
-  pub are : attributes ≡ facts.attributes
 
--- the attributes of the file that the new ones are to be like, where one is said
-abbrev pub AreLike : List (List ℕ) → VolumeLayout → Option (Bor (List ℕ)) → Option (List ℕ) → Type 0
-AreLike I L None like = like ≡ None
-AreLike I L (Some path) like = (attributes : List ℕ) × (like ≡ Some attributes) × AreAttributesAt I L path.now attributes
+-- what is known of the file that the new ones are to be like, where one is said
+abbrev pub IsLike : List (List ℕ) → VolumeLayout → Option (Bor (List ℕ)) → Option Facts → Type 0
+IsLike I L None like = like ≡ None
+IsLike I L (Some path) like = (facts : Facts) × (like ≡ Some facts) × IsLikeable I L path.now facts
+
+-- the file is contiguous: bit 7 of H.UCHA is set
+abbrev pub is_contiguous : Facts → Bool
+is_contiguous facts = nat_le 128 facts.user_char
+
+-- Where the blocks of the new files stand: as it is said; else in one piece where the file that they are to be like is contiguous.
+abbrev pub placing_by : Option Placing → Option Facts → Placing
+placing_by (Some said) like = said
+placing_by None None = Anywhere
+placing_by None (Some facts) = if is_contiguous facts then InOnePiece else Anywhere
 
 -- where files are replaced, how often entries name each file
 abbrev pub AreNames : List (List ℕ) → VolumeLayout → Bool → Option (List ℕ) → Type 0
@@ -50,12 +61,15 @@ abbrev pub AreKept : List (List ℕ) → VolumeLayout → Bool → FileId → Op
 AreKept I L false dir kept = kept ≡ None
 AreKept I L true dir kept = (noted : Noted) × (kept ≡ Some noted) × AreHighest I L dir.number noted
 
--- What put looks up on a volume: the target, the attributes of the file that is to be like, and counts of names or highest versions. All else is as it is asked for.
-pub record IsBegun (I : List (List ℕ)) (L : VolumeLayout) (stamp : List ℕ) (to : Option (Bor (List ℕ))) (several : Bool) (form : PutForm) (like : Option (Bor (List ℕ))) (replace : Bool) (owner : Option Uic) (begun : InPut) : Type 0 where
+-- What put looks up on a volume: the target, the file that the new ones are to be like, and counts of names or highest versions. All else is as it is asked for.
+pub record IsBegun (I : List (List ℕ)) (L : VolumeLayout) (stamp : List ℕ) (to : Option (Bor (List ℕ))) (several : Bool) (form : PutForm) (like : Option (Bor (List ℕ))) (placing : Option Placing) (replace : Bool) (owner : Option Uic) (begun : InPut) : Type 0 where
   pub target : IsTarget I L (count_of several) (path_to to) begun.target
   pub stamped : begun.stamp ≡ stamp
   pub formed : begun.form ≡ form
-  pub liked : AreLike I L like begun.like
+  pub facts : Option Facts
+  pub liked : IsLike I L like facts
+  pub attributed : begun.like ≡ option_map (λ (f : Facts). f.attributes) facts
+  pub placed : begun.placing ≡ placing_by placing facts
   pub owned : begun.owner ≡ owner
   pub named : AreNames I L replace begun.names
   pub kept : AreKept I L (several && not replace) begun.target.directory begun.highest

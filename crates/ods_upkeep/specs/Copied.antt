@@ -30,6 +30,7 @@ use Rattle.ods_upkeep.specs.Pieces.{with_end}
 use Rattle.ods_upkeep.specs.PutFor.{IsMadeFor}
 use Rattle.ods_upkeep.specs.Sources.{AreSources}
 use Rattle.ods_upkeep.specs.Target.{IsTarget}
+use Rattle.ods_upkeep.specs.declared.asked.Placing.{Placing}
 use Rattle.ods_upkeep.specs.declared.failure.Why.{Why}
 use Rattle.ods_upkeep.specs.declared.failure.Why.TheVariants.{Path, Request, BadName, IsDirectory, DirectoryType}
 use Rattle.ods_upkeep.specs.declared.target.Target.{Target}
@@ -79,8 +80,8 @@ true_for own blocks =
     else if nat_lt (512 * blocks) (end_of own) then with_end own (512 * blocks)
     else take 4 own ++ block blocks ++ drop 8 own
 
--- A file is copied. What is known of it is as it was found at first; its bytes are those that all its blocks have when its turn comes. The user makes the copy and enters it, under the version that is said or the next one.
-pub record IsCopied (to : Target) (stamp : List ℕ) (found : Found) (old new : Filed) : Type 0 where
+-- A file is copied. What is known of it is as it was found at first; its bytes are those that all its blocks have when its turn comes. The user makes the copy, its blocks placed so, and enters it, under the version that is said or the next one.
+pub record IsCopied (placing : Placing) (to : Target) (stamp : List ℕ) (found : Found) (old new : Filed) : Type 0 where
   pub facts : Facts
   pub name : RadName
   pub copyable : IsCopyable old.user to found facts name
@@ -93,15 +94,15 @@ pub record IsCopied (to : Target) (stamp : List ℕ) (found : Found) (old new : 
   pub mid : Filed
   pub next : IsNextVersion old to.directory name to.version version mid
   pub file : FileId
-  pub made : IsMadeFor old.user to.directory to.version (record { name = name; version = version; stamp = stamp }) (true_for facts.attributes facts.blocks) bytes file mid new
+  pub made : IsMadeFor placing old.user to.directory to.version (record { name = name; version = version; stamp = stamp }) (true_for facts.attributes facts.blocks) bytes file mid new
 
 -- these files are copied, one after another
-abbrev pub AreCopied : Target → List ℕ → List Found → Filed → Filed → Type 0
-AreCopied to stamp [] old new = new ≡ old
-AreCopied to stamp (f ∷ found) old new = (mid : Filed) × IsCopied to stamp f old mid × AreCopied to stamp found mid new
+abbrev pub AreCopied : Placing → Target → List ℕ → List Found → Filed → Filed → Type 0
+AreCopied placing to stamp [] old new = new ≡ old
+AreCopied placing to stamp (f ∷ found) old new = (mid : Filed) × IsCopied placing to stamp f old mid × AreCopied placing to stamp found mid new
 
 -- Each file that these paths mean, the highest version where they say none, is copied to the target of the last path. Nothing else was done.
-abbrev pub IsCopiedTo : List ℕ → List (Bor (List ℕ)) → List ℕ → Filed → Filed → Type 0
-IsCopiedTo stamp paths to old new =
+abbrev pub IsCopiedTo : Placing → List ℕ → List (Bor (List ℕ)) → List ℕ → Filed → Filed → Type 0
+IsCopiedTo placing stamp paths to old new =
     (found : List Found) × ((target : Target) × AreSources old.image old.layout (highest alone.Files) paths found × IsTarget old.image old.layout (length found) to target
-    × AreCopied target stamp found old new)
+    × AreCopied placing target stamp found old new)

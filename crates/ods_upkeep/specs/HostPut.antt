@@ -35,6 +35,7 @@ pub record IsStill (p q : InPut) : Type 0 where
   pub stamp : q.stamp ≡ p.stamp
   pub form : q.form ≡ p.form
   pub like : q.like ≡ p.like
+  pub placing : q.placing ≡ p.placing
   pub owner : q.owner ≡ p.owner
   pub counts : replaces q ≡ replaces p
 
@@ -51,7 +52,7 @@ pub record IsPutAs (p : InPut) (name : RadName) (attributes bytes : List ℕ) (o
   pub next : IsVersionFor p.highest mid p.target.directory name (option_or free p.target.version) version seen
   -- the file is made by its owner, and entered under the version that is free or said, or the next one
   pub file : FileId
-  pub made : IsMadeFor (unwrap_or p.owner old.user) p.target.directory (option_or free p.target.version) (record { name = name; version = version; stamp = p.stamp }) attributes bytes file seen new
+  pub made : IsMadeFor p.placing (unwrap_or p.owner old.user) p.target.directory (option_or free p.target.version) (record { name = name; version = version; stamp = p.stamp }) attributes bytes file seen new
   -- it is counted, and its version is noted
   pub counted : AreCountedOn left file q.names
   pub noted : AreNotedOn p.highest name version q.highest

@@ -22,6 +22,7 @@ use Rattle.ods_shell.specs.declared.form.FormFault.TheVariants.{NoMemory}
 use Rattle.ods_shell.specs.declared.form.Remark.{Remark}
 use Rattle.ods_upkeep.specs.PutFor.{IsMadeFor}
 use Rattle.ods_upkeep.specs.Removed.{Does}
+use Rattle.ods_upkeep.specs.declared.asked.Placing.{Placing}
 
 -- The blocks now show each catalogue that they showed before. What blocks show has no past: the ID of a file that came and went may be used up.
 abbrev pub ShowsAgain : Filed → Filed → Type 0
@@ -29,8 +30,8 @@ ShowsAgain old new = (C : Catalogue) → ShowsBy old.image old.layout C → Show
 
 -- A file that is put, and then removed by the version under which it was entered, leaves what the blocks showed before.
 abbrev pub RmUndoesPut : Type 0
-RmUndoesPut = (owner : Uic) (dir : FileId) (said : Option ℕ) (heading : Heading) (attributes bytes : List ℕ) (file : FileId) (version : ℕ) (old mid new : Filed)
-    → (put : IsMadeFor owner dir said heading attributes bytes file old mid) → put.entered.0 ≡ Entered version
+RmUndoesPut = (placing : Placing) (owner : Uic) (dir : FileId) (said : Option ℕ) (heading : Heading) (attributes bytes : List ℕ) (file : FileId) (version : ℕ) (old mid new : Filed)
+    → (put : IsMadeFor placing owner dir said heading attributes bytes file old mid) → put.entered.0 ≡ Entered version
     → Does mid (Remove dir heading.name (Exact version) ∷ Delete file ∷ []) new → ShowsAgain old new
 
 -- in this directory of the catalogue the entry of this name and version is the file's
@@ -58,5 +59,5 @@ pub record IsGotBack (new : Filed) (id : FileId) (attributes bytes : List ℕ) :
 
 -- A file that is put with attributes whose end of file is the length of its bytes gives its bytes back. The blocks before show some catalogue, as those of each sound volume do.
 abbrev pub GetGivesWhatWasPut : Type 0
-GetGivesWhatWasPut = (owner : Uic) (dir : FileId) (said : Option ℕ) (heading : Heading) (attributes bytes : List ℕ) (file : FileId) (old new : Filed) (C : Catalogue)
-    → ShowsBy old.image old.layout C → IsMadeFor owner dir said heading attributes bytes file old new → end_of attributes ≡ length bytes → IsGotBack new file attributes bytes
+GetGivesWhatWasPut = (placing : Placing) (owner : Uic) (dir : FileId) (said : Option ℕ) (heading : Heading) (attributes bytes : List ℕ) (file : FileId) (old new : Filed) (C : Catalogue)
+    → ShowsBy old.image old.layout C → IsMadeFor placing owner dir said heading attributes bytes file old new → end_of attributes ≡ length bytes → IsGotBack new file attributes bytes

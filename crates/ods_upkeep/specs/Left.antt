@@ -1,6 +1,7 @@
 -- What contracts see of files that are being put.
 use Rattle.std.specs.Prelude.{ℕ, Bool, List, Option, is_some}
 use Rattle.ods_base.specs.declared.file_id.Uic.{Uic}
+use Rattle.ods_upkeep.specs.declared.asked.Placing.{Placing}
 use Rattle.ods_upkeep.specs.declared.asked.PutForm.{PutForm}
 use Rattle.ods_upkeep.specs.declared.target.Target.{Target}
 use Rattle.ods_upkeep.specs.Versions.{Noted}
@@ -14,6 +15,8 @@ pub record InPut : Type 0 where
   -- the form of its bytes, and the attributes of the file that it is to be like
   pub form : PutForm
   pub like : Option (List ℕ)
+  -- where its blocks stand
+  pub placing : Placing
   -- whose it is, where another is said than who asks
   pub owner : Option Uic
   -- how often entries name each file, where files are replaced

@@ -9,7 +9,7 @@ use Rattle.ods_shell.specs.declared.facts.Facts.{Facts}
 use Rattle.ods_shell.specs.declared.facts.Kind.TheVariants.{Directory}
 use Rattle.ods_shell.specs.declared.found.Found.{Found}
 use Rattle.ods_shell.specs.declared.path_fault.PathFault.TheVariants as fault
-use Rattle.ods_upkeep.specs.Begun.{AreLike, count_of, path_to}
+use Rattle.ods_upkeep.specs.Begun.{IsLike, count_of, path_to}
 use Rattle.ods_upkeep.specs.Refused.{HasPath, IsNoSource, IsOutOfMemory}
 use Rattle.ods_upkeep.specs.Sources.{AreOfPath}
 use Rattle.ods_upkeep.specs.Target.{IsNoTarget, IsTarget}
@@ -25,14 +25,14 @@ pub data AreNoPattern (found : List Found) : Why → Type 0 where
   directory : (one : Found) (facts : Facts) → found ≡ one ∷ [] → one.facts ≡ Some facts → facts.kind ≡ Directory → AreNoPattern found IsDirectory
   reserved : (one : Found) (facts : Facts) → found ≡ one ∷ [] → one.facts ≡ Some facts → facts.file.number ≤ 2 → AreNoPattern found (Request refusal.Reserved)
 
--- why a path says no attributes for new files: it names nothing, or what it names is no pattern for them
-abbrev pub SaysNoAttributes : List (List ℕ) → VolumeLayout → List ℕ → Why → Type 0
-SaysNoAttributes I L path why = IsNoSource I L (highest alone.Refused) path why ⊎ ((found : List Found) × AreOfPath I L (highest alone.Refused) path found × AreNoPattern found why)
+-- why a path says no file that new ones are to be like: it names nothing, or what it names is no pattern for them
+abbrev pub SaysNoPattern : List (List ℕ) → VolumeLayout → List ℕ → Why → Type 0
+SaysNoPattern I L path why = IsNoSource I L (highest alone.Refused) path why ⊎ ((found : List Found) × AreOfPath I L (highest alone.Refused) path found × AreNoPattern found why)
 
 -- there is no file that the new ones are to be like, where one is said
 abbrev pub IsNotLike : List (List ℕ) → VolumeLayout → Option (Bor (List ℕ)) → Failure → Type 0
 IsNotLike I L None failure = ⊥
-IsNotLike I L (Some path) failure = SaysNoAttributes I L path.now failure.why × HasPath failure path.now
+IsNotLike I L (Some path) failure = SaysNoPattern I L path.now failure.why × HasPath failure path.now
 
 -- There is no memory to count names, or to look up the highest versions. Neither is done where one file is put and none is replaced.
 abbrev pub AreUncounted : Bool → Bool → Failure → Type 0
@@ -43,4 +43,4 @@ abbrev pub IsNotBegun : List (List ℕ) → VolumeLayout → Option (Bor (List �
 IsNotBegun I L to several like replace failure =
     (IsNoTarget I L (count_of several) (path_to to) failure.why × HasPath failure (path_to to))
     ⊎ ((target : Target) × IsTarget I L (count_of several) (path_to to) target
-    × (IsNotLike I L like failure ⊎ ((own : Option (List ℕ)) × AreLike I L like own × AreUncounted several replace failure)))
+    × (IsNotLike I L like failure ⊎ ((facts : Option Facts) × IsLike I L like facts × AreUncounted several replace failure)))

@@ -18,6 +18,7 @@ use Rattle.ods_upkeep.specs.Refused.{AreNoSources, HasPath}
 use Rattle.ods_upkeep.specs.Sources.{AreSources}
 use Rattle.ods_upkeep.specs.Target.{IsNoTarget, IsTarget}
 use Rattle.ods_upkeep.specs.Unfiled.{IsUnfiled}
+use Rattle.ods_upkeep.specs.declared.asked.Placing.{Placing}
 use Rattle.ods_upkeep.specs.declared.failure.Failure.{Failure}
 use Rattle.ods_upkeep.specs.declared.failure.Why.{Why}
 use Rattle.ods_upkeep.specs.declared.failure.Why.TheVariants.{Request}
@@ -39,31 +40,31 @@ IsFirstUncopyable user to (f ∷ found) failure =
     (IsUncopyable user to f failure.why × HasPath failure (string_bytes f.path)) ⊎ (MayBeCopied user to f × IsFirstUncopyable user to found failure)
 
 -- Why a file is not copied when its turn comes: it may not be; its bytes are not read; no volume has as many as its blocks hold; or the copy is not made or entered. Nothing was done but for the last.
-pub data IsNotCopied (to : Target) (stamp : List ℕ) (found : Found) (old new : Filed) : Why → Type 0 where
-  uncopyable : (why : Why) → IsUncopyable old.user to found why → new ≡ old → IsNotCopied to stamp found old new why
-  unread : (why : Why) (facts : Facts) (name : RadName) → IsCopyable old.user to found facts name → IsUnread old.image old.layout facts.file.number why → new ≡ old → IsNotCopied to stamp found old new why
-  too_large : (facts : Facts) (name : RadName) → IsCopyable old.user to found facts name → 512 * 2 ^ 20 ≤ 512 * facts.blocks → new ≡ old → IsNotCopied to stamp found old new (Request refusal.VolumeFull)
+pub data IsNotCopied (placing : Placing) (to : Target) (stamp : List ℕ) (found : Found) (old new : Filed) : Why → Type 0 where
+  uncopyable : (why : Why) → IsUncopyable old.user to found why → new ≡ old → IsNotCopied placing to stamp found old new why
+  unread : (why : Why) (facts : Facts) (name : RadName) → IsCopyable old.user to found facts name → IsUnread old.image old.layout facts.file.number why → new ≡ old → IsNotCopied placing to stamp found old new why
+  too_large : (facts : Facts) (name : RadName) → IsCopyable old.user to found facts name → 512 * 2 ^ 20 ≤ 512 * facts.blocks → new ≡ old → IsNotCopied placing to stamp found old new (Request refusal.VolumeFull)
   unmade : (why : Why) (facts : Facts) (name : RadName) (body : Body) (bytes : List ℕ) (version : ℕ) (mid : Filed) → IsCopyable old.user to found facts name
       → HasBody old.image old.layout facts.file.number body → bytes_in Raw body ≡ Some bytes → IsNextVersion old to.directory name to.version version mid
-      → IsUnfiled old.user to.directory to.version (record { name = name; version = version; stamp = stamp }) (true_for facts.attributes facts.blocks) bytes mid new why → IsNotCopied to stamp found old new why
+      → IsUnfiled placing old.user to.directory to.version (record { name = name; version = version; stamp = stamp }) (true_for facts.attributes facts.blocks) bytes mid new why → IsNotCopied placing to stamp found old new why
 
 -- These are copied, one after another, up to one that is not.
-abbrev pub StopsCopying : Target → List ℕ → List Found → Filed → Filed → Failure → Type 0
-StopsCopying to stamp [] old new failure = ⊥
-StopsCopying to stamp (f ∷ found) old new failure =
-    (HasPath failure (string_bytes f.path) × IsNotCopied to stamp f old new failure.why)
-    ⊎ ((mid : Filed) × IsCopied to stamp f old mid × StopsCopying to stamp found mid new failure)
+abbrev pub StopsCopying : Placing → Target → List ℕ → List Found → Filed → Filed → Failure → Type 0
+StopsCopying placing to stamp [] old new failure = ⊥
+StopsCopying placing to stamp (f ∷ found) old new failure =
+    (HasPath failure (string_bytes f.path) × IsNotCopied placing to stamp f old new failure.why)
+    ⊎ ((mid : Filed) × IsCopied placing to stamp f old mid × StopsCopying placing to stamp found mid new failure)
 
 -- why not all of these are copied: one may not be, and nothing was done; or one is not
-abbrev pub AreNotCopied : Target → List ℕ → List Found → Filed → Filed → Failure → Type 0
-AreNotCopied to stamp found old new failure =
+abbrev pub AreNotCopied : Placing → Target → List ℕ → List Found → Filed → Filed → Failure → Type 0
+AreNotCopied placing to stamp found old new failure =
     ((new ≡ old) × IsFirstUncopyable old.user to found failure)
-    ⊎ (MayAllBeCopied old.user to found × StopsCopying to stamp found old new failure)
+    ⊎ (MayAllBeCopied old.user to found × StopsCopying placing to stamp found old new failure)
 
 -- Why not all that these paths name is copied, and what was done before: there are no sources, or no target, and nothing was done; or not all of the sources are copied.
-abbrev pub IsNotCopiedTo : List ℕ → List (Bor (List ℕ)) → List ℕ → Filed → Filed → Failure → Type 0
-IsNotCopiedTo stamp paths to old new failure =
+abbrev pub IsNotCopiedTo : Placing → List ℕ → List (Bor (List ℕ)) → List ℕ → Filed → Filed → Failure → Type 0
+IsNotCopiedTo placing stamp paths to old new failure =
     ((new ≡ old) × AreNoSources old.image old.layout (highest alone.Files) paths failure)
     ⊎ ((found : List Found) × AreSources old.image old.layout (highest alone.Files) paths found
     × (((new ≡ old) × IsNoTarget old.image old.layout (length found) to failure.why × HasPath failure to)
-    ⊎ ((target : Target) × IsTarget old.image old.layout (length found) to target × AreNotCopied target stamp found old new failure)))
+    ⊎ ((target : Target) × IsTarget old.image old.layout (length found) to target × AreNotCopied placing target stamp found old new failure)))

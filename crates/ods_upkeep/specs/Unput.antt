@@ -65,9 +65,9 @@ heading_in p name version = record { name = name; version = version; stamp = p.s
 pub data IsNotStored (p : InPut) (name : RadName) (attributes bytes : List ℕ) (old new : Filed) : Why → Type 0 where
   no_room : (why : Why) → IsNoRoom p.target.directory name p.target.version p.names old new why → IsNotStored p name attributes bytes old new why
   unfiled : (why : Why) (under : Option ℕ) (version : ℕ) (mid : Filed) → IsReady p name old under version mid
-      → IsUnfiled (unwrap_or p.owner old.user) p.target.directory under (heading_in p name version) attributes bytes mid new why → IsNotStored p name attributes bytes old new why
+      → IsUnfiled p.placing (unwrap_or p.owner old.user) p.target.directory under (heading_in p name version) attributes bytes mid new why → IsNotStored p name attributes bytes old new why
   unnoted : (under : Option ℕ) (version : ℕ) (mid : Filed) (file : FileId) → IsReady p name old under version mid
-      → IsMadeFor (unwrap_or p.owner old.user) p.target.directory under (heading_in p name version) attributes bytes file mid new → is_some p.highest ≡ true
+      → IsMadeFor p.placing (unwrap_or p.owner old.user) p.target.directory under (heading_in p name version) attributes bytes file mid new → is_some p.highest ≡ true
       → IsNotStored p name attributes bytes old new no_memory
 
 -- the host file has a name on the volume, which is not of the type DIR

@@ -12,6 +12,15 @@ pub enum PutForm {
     Said([u8; 4]),
 }
 
+/// Where the blocks of a new file stand.
+#[derive(Clone, Copy, Debug, PartialEq, Eq)]
+pub enum Placing {
+    /// Wherever blocks are free.
+    Anywhere,
+    /// One behind another, in the lowest run of free blocks that is long enough. The header says that the file is contiguous, where it has any block.
+    InOnePiece,
+}
+
 /// What is put: the last part of a host file's name, or `-`, and its bytes.
 #[derive(Clone, Copy)]
 pub struct HostFile<'a> {

@@ -7,8 +7,10 @@ ghost use Rattle.ods_header.specs.Text.{ident_text};
 ghost use Rattle.ods_filing.specs.Led.{IsLed};
 ghost use Rattle.ods_shell.specs.HostNames.{before_version};
 ghost use Rattle.ods_upkeep.specs.{Copied.IsCopied, Copied.IsCopiedTo, Copied.IsCopyable, Copied.IsUncopyable, Copied.IsUnread, Copied.NamesCopy, Copied.why_unread as why_for, Kinds.Copies};
+ghost use Rattle.ods_upkeep.specs.declared.asked.Placing.TheVariants.{Anywhere};
 ghost use Rattle.ods_upkeep.specs.{Copied.AreCopied, Uncopied.IsFirstUncopyable, Uncopied.IsNotCopied, Uncopied.IsNotCopiedTo, Uncopied.MayAllBeCopied, Uncopied.StopsCopying};
 
+use crate::asked::Placing;
 use crate::asking::put_new;
 use crate::attributes::true_for;
 use crate::failure::{Failure, Why, of_path};
@@ -27,20 +29,21 @@ use ods_space::ChainFault;
 use std::alloc::Global;
 
 /// Copies files to a directory that is there, where they keep their names, or one to a name: all their blocks, and their attributes. A name gets its
-/// next version where none is said.
+/// next version where none is said. The blocks of the copies stand as `placing` says.
 pub fn copy_files(
     alloc: Global,
     filing: &mut Filing,
     stamp: Stamp,
+    placing: Placing,
     paths: &[&str],
     to: &str,
 ) -> Result<(), Failure>
-    // It is what LookUp, Create, Extend, Write, SetUser and Enter leave.
-    ensures led { OnOk result (IsLed Copies filing.old filing.new) }
+    // Where they may stand anywhere, it is what LookUp, Create, Extend, Write, SetUser and Enter leave.
+    ensures led { placing ≡ Anywhere → OnOk result (IsLed Copies filing.old filing.new) }
     // Done, each file that is meant is copied to the target, and nothing else was done.
-    ensures done { OnOk result (IsCopiedTo stamp paths.now to.now filing.old filing.new) }
+    ensures done { OnOk result (IsCopiedTo placing stamp paths.now to.now filing.old filing.new) }
     // Refused, it is so for a reason that holds, and of the path that the failure says.
-    ensures refused { IfErr result (IsNotCopiedTo stamp paths.now to.now filing.old filing.new) }
+    ensures refused { IfErr result (IsNotCopiedTo placing stamp paths.now to.now filing.old filing.new) }
 {
     let all = sources(
         alloc,
@@ -50,7 +53,7 @@ pub fn copy_files(
     )?;
     let target = target_of(alloc, filing.mounted(), all.len(), to)?;
     check_all(alloc, &all, &target, filing.user())?;
-    copy_all(alloc, filing, &all, &target, stamp)
+    copy_all(alloc, filing, placing, &all, &target, stamp)
 }
 
 /// Why one of these files is not copied to this target, the first one, as far as it can be seen before.
@@ -70,16 +73,17 @@ fn check_all(alloc: Global, all: &[Found], target: &Target, user: Uic) -> Result
 fn copy_all(
     alloc: Global,
     filing: &mut Filing,
+    placing: Placing,
     all: &[Found],
     target: &Target,
     stamp: Stamp,
 ) -> Result<(), Failure>
-    ensures led { OnOk result (IsLed Copies filing.old filing.new) }
-    ensures done { OnOk result (AreCopied target.now stamp all.now filing.old filing.new) }
-    ensures refused { IfErr result (StopsCopying target.now stamp all.now filing.old filing.new) }
+    ensures led { placing ≡ Anywhere → OnOk result (IsLed Copies filing.old filing.new) }
+    ensures done { OnOk result (AreCopied placing target.now stamp all.now filing.old filing.new) }
+    ensures refused { IfErr result (StopsCopying placing target.now stamp all.now filing.old filing.new) }
 {
     for found in all {
-        if let Err(why) = copy(alloc, filing, found, target, stamp) {
+        if let Err(why) = copy(alloc, filing, placing, found, target, stamp) {
             return Err(of_path(alloc, &found.path, why));
         }
     }
@@ -151,13 +155,14 @@ fn without_version(text: &str) -> &str
 fn copy(
     alloc: Global,
     filing: &mut Filing,
+    placing: Placing,
     found: &Found,
     target: &Target,
     stamp: Stamp,
 ) -> Result<(), Why>
-    ensures led { OnOk result (IsLed Copies filing.old filing.new) }
-    ensures done { OnOk result (IsCopied target.now stamp found.now filing.old filing.new) }
-    ensures refused { IfErr result (IsNotCopied target.now stamp found.now filing.old filing.new) }
+    ensures led { placing ≡ Anywhere → OnOk result (IsLed Copies filing.old filing.new) }
+    ensures done { OnOk result (IsCopied placing target.now stamp found.now filing.old filing.new) }
+    ensures refused { IfErr result (IsNotCopied placing target.now stamp found.now filing.old filing.new) }
 {
     let user = filing.user();
     let (facts, name) = check(found, target, user)?;
@@ -171,7 +176,15 @@ fn copy(
         attributes,
         bytes: &bytes,
     };
-    let _copy = put_new(filing, user, target.directory, target.version, &file)?;
+    let _copy = put_new(
+        alloc,
+        filing,
+        placing,
+        user,
+        target.directory,
+        target.version,
+        &file,
+    )?;
     Ok(())
 }
 

@@ -33,7 +33,7 @@ mod truncating;
 mod versions;
 mod written;
 
-pub use asked::{HostFile, PutForm, Removal};
+pub use asked::{HostFile, Placing, PutForm, Removal};
 pub use copying::copy_files;
 pub use directories::{is_below_another, make_directories, remove_directories};
 pub use failure::{Failure, Why};

@@ -1,35 +1,39 @@
 //! The file like which others are made.
-ghost use Rattle.std.specs.Prelude.{MatchResult};
-ghost use Rattle.ods_upkeep.specs.Begun.{AreAttributesAt, AreLike};
-ghost use Rattle.ods_upkeep.specs.Unbegun.{IsNotLike, SaysNoAttributes};
+ghost use Rattle.std.specs.Prelude.{◌≡◌, MatchResult};
+ghost use Rattle.std.specs.Option.{option_map};
+ghost use Rattle.ods_shell.specs.declared.facts.Facts.{Facts};
+ghost use Rattle.ods_upkeep.specs.Begun.{IsLike, IsLikeable, is_contiguous, placing_by as placing_for};
+ghost use Rattle.ods_upkeep.specs.Unbegun.{IsNotLike, SaysNoPattern};
 
+use crate::asked::Placing;
 use crate::failure::{Failure, Why, of_path};
+use ods_header::CONTIGUOUS;
 use ods_mount::Mounted;
 use ods_request::Refusal;
 use ods_shell::mounted::find_path;
-use ods_shell::{Alone, Kind, PathFault, Unsaid};
+use ods_shell::{Alone, Facts, Kind, PathFault, Unsaid};
 use std::alloc::Global;
 
-/// The attributes of the file like which others are made.
-pub(crate) fn like_attributes(
+/// What is known of the file like which others are made.
+pub(crate) fn like_facts(
     alloc: Global,
     volume: &Mounted,
     like: Option<&str>,
-) -> Result<Option<[u8; 32]>, Failure>
-    ensures { MatchResult result (AreLike volume.now.image volume.now.layout like.entry) (IsNotLike volume.now.image volume.now.layout like.entry) }
+) -> Result<Option<Facts>, Failure>
+    ensures { MatchResult result (IsLike volume.now.image volume.now.layout like.entry) (IsNotLike volume.now.image volume.now.layout like.entry) }
 {
     let Some(path) = like else {
         return Ok(None);
     };
-    match attributes_of(alloc, volume, path) {
-        Ok(attributes) => Ok(Some(attributes)),
+    match facts_at(alloc, volume, path) {
+        Ok(facts) => Ok(Some(facts)),
         Err(why) => Err(of_path(alloc, path, why)),
     }
 }
 
-/// The attributes of the one file that a path names.
-fn attributes_of(alloc: Global, volume: &Mounted, path: &str) -> Result<[u8; 32], Why>
-    ensures { MatchResult result (AreAttributesAt volume.now.image volume.now.layout path.now) (SaysNoAttributes volume.now.image volume.now.layout path.now) }
+/// What is known of the one file that a path names.
+fn facts_at(alloc: Global, volume: &Mounted, path: &str) -> Result<Facts, Why>
+    ensures { MatchResult result (IsLikeable volume.now.image volume.now.layout path.now) (SaysNoPattern volume.now.image volume.now.layout path.now) }
 {
     let (found, _) = find_path(alloc, volume, path, Unsaid::highest(Alone::Refused), &[])?;
     let [one] = found.as_slice() else {
@@ -44,5 +48,35 @@ fn attributes_of(alloc: Global, volume: &Mounted, path: &str) -> Result<[u8; 32]
     if facts.file.number <= 2 {
         return Err(Why::Request(Refusal::Reserved));
     }
-    Ok(facts.attributes)
+    Ok(facts)
+}
+
+/// The attributes of the file like which others are made, where there is one.
+pub(crate) fn attributes_in(like: &Option<Facts>) -> Option<[u8; 32]>
+    ensures { result ≡ option_map (λ (f : Facts). f.attributes) like.now }
+{
+    match like {
+        Some(facts) => Some(facts.attributes),
+        None => None,
+    }
+}
+
+/// Whether the header says that the file is contiguous.
+fn is_contiguous(facts: &Facts) -> bool
+    ensures { result ≡ is_contiguous facts.now }
+{
+    facts.user_char >= CONTIGUOUS
+}
+
+/// Where the blocks of new files stand: as it is said; else in one piece where the file like which they are made is contiguous.
+pub(crate) fn placing_by(said: Option<Placing>, like: &Option<Facts>) -> Placing
+    ensures { result ≡ placing_for said like.now }
+{
+    if let Some(placing) = said {
+        return placing;
+    }
+    match like {
+        Some(facts) if is_contiguous(facts) => Placing::InOnePiece,
+        _ => Placing::Anywhere,
+    }
 }

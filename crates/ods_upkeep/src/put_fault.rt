@@ -1,11 +1,11 @@
-//! Why a host file is not put.
+//! Why a file is not put.
 ghost use Rattle.ods_upkeep.specs.PutFor.{HasPutStatus};
 
 use ods_records::RecordFault;
 use ods_shell::Status;
 use thiserror::Error;
 
-/// Why a host file is not put.
+/// Why a file is not put.
 #[derive(Clone, Copy, Debug, PartialEq, Eq, Error)]
 pub enum PutFault {
     /// The bytes are no whole records of the form that is said, with their first fault.
@@ -17,6 +17,9 @@ pub enum PutFault {
     /// The name of the host file has this character, which stands for one of the volume's that RSX cannot type.
     #[error("no name of a file: '{0}' stands for a character that RSX cannot type; put it to a PATH that says the name")]
     Untyped(char),
+    /// The longest run of free blocks has so many, and the file, which is to be in one piece, has more.
+    #[error("VolumeFull: the longest run of free blocks has {0} blocks, and the file needs {1}")]
+    NoRun(u32, usize),
 }
 
 impl PutFault {
@@ -25,7 +28,9 @@ impl PutFault {
         ensures { HasPutStatus self.now result }
     {
         match self {
-            PutFault::NoRecords(_) | PutFault::LongRecord(_, _) => Status::Refused,
+            PutFault::NoRecords(_) | PutFault::LongRecord(_, _) | PutFault::NoRun(_, _) => {
+                Status::Refused
+            }
             PutFault::Untyped(_) => Status::Words,
         }
     }

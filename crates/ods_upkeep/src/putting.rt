@@ -4,13 +4,14 @@ ghost use Rattle.ods_filing.specs.Filed.{HasGrown, lacking};
 ghost use Rattle.ods_filing.specs.Led.{IsLed};
 ghost use Rattle.ods_upkeep.specs.{Begun.AreKept, Begun.AreNames, Begun.IsBegun, Begun.count_of, Begun.path_to};
 ghost use Rattle.ods_upkeep.specs.{HostPut.AreCountedOn, HostPut.AreNotedOn, HostPut.IsHostPut, HostPut.IsPutAs, HostPut.IsStill, HostPut.IsVersionFor};
+ghost use Rattle.ods_upkeep.specs.declared.asked.Placing.TheVariants.{Anywhere};
 ghost use Rattle.ods_upkeep.specs.{Kinds.Puts, Left.replaces, PutFor.IsPut, Refused.HasPath, Refused.IsOutOfMemory, Refused.no_memory, Remarks.IsRemark, Remarks.IsRemarkOn};
 ghost use Rattle.ods_upkeep.specs.{Unbegun.IsNotBegun, Unput.IsNotPut, Unput.IsNotStored, Written.bytes_of};
 
 use crate::asking::put_new;
 use crate::failure::{Failure, Why, of_path};
 use crate::host_names::name_for;
-use crate::like_files::like_attributes;
+use crate::like_files::{attributes_in, like_facts, placing_by};
 use crate::looking::next_version;
 use crate::names::Names;
 use crate::rooms::make_room;
@@ -18,7 +19,7 @@ use crate::target::Target;
 use crate::targets::target_of;
 use crate::versions::Highest;
 use crate::written::{Written, write_host};
-use crate::{HostFile, PutForm};
+use crate::{HostFile, Placing, PutForm};
 use ods_base::{DIRECTORY_TYPE, FileId, Name, Uic};
 use ods_filing::{Filing, NewFile};
 use ods_mount::Mounted;
@@ -34,6 +35,7 @@ pub struct Putting {
     stamp: Stamp,
     form: PutForm,
     like: Option<[u8; 32]>,
+    placing: Placing,
     /// Whose the new files are, where another is said than who asks.
     owner: Option<Uic>,
     /// How many entries name each file, where files are replaced.
@@ -47,12 +49,12 @@ impl Model for Putting {
 
     ghost Value = { InPut };
 
-    ghost view = { λ p. record { target = p.target; stamp = p.stamp; form = p.form; like = p.like; owner = p.owner; names = p.names; highest = p.highest } };
+    ghost view = { λ p. record { target = p.target; stamp = p.stamp; form = p.form; like = p.like; placing = p.placing; owner = p.owner; names = p.names; highest = p.highest } };
 }
 
 impl Putting {
     /// Looks up where files go: a directory that is there, or a name; with no target the master directory. With `like` their records are written as those of
-    /// that file; asked for as bytes, they get all its attributes but for the end of file. With `replace` a file that has the name, and the version that
+    /// that file; asked for as bytes, they get all its attributes but for the end of file. Their blocks stand as `placing` says; where it says nothing, in one piece where that file is contiguous. With `replace` a file that has the name, and the version that
     /// is said, or the highest, makes room for the new one. With `owner` the new files are that user's, and he makes them; who asks enters them.
     pub fn begin(
         alloc: Global,
@@ -62,14 +64,15 @@ impl Putting {
         several: bool,
         form: PutForm,
         like: Option<&str>,
+        placing: Option<Placing>,
         replace: bool,
         owner: Option<Uic>,
     ) -> Result<Putting, Failure>
-        ensures { MatchResult result (IsBegun volume.now.image volume.now.layout stamp to.entry several form like.entry replace owner)
+        ensures { MatchResult result (IsBegun volume.now.image volume.now.layout stamp to.entry several form like.entry placing replace owner)
             (IsNotBegun volume.now.image volume.now.layout to.entry several like.entry replace) }
     {
         let target = target_of(alloc, volume, count_of(several), path_to(to))?;
-        let like = like_attributes(alloc, volume, like)?;
+        let facts = like_facts(alloc, volume, like)?;
         let names = count_names(alloc, volume, replace)?;
         let keeps = keeps_versions(several, replace);
         let highest = highest_versions(alloc, volume, target.directory, keeps)?;
@@ -77,7 +80,8 @@ impl Putting {
             target,
             stamp,
             form,
-            like,
+            like: attributes_in(&facts),
+            placing: placing_by(placing, &facts),
             owner,
             names,
             highest,
@@ -105,9 +109,9 @@ impl Putting {
         // It has the name, the attributes and the bytes that the host file gives, and what is known is what is there then.
         ensures done { OnOk result (IsHostPut self.old host.now.name.now host.now.bytes.now filing.old self.new filing.new) }
         // Its owner makes the file, and the user enters it. Before that he makes room, where files are replaced.
-        ensures volume { OnOk result (IsPut (Puts (replaces self.old)) self.old.owner filing.old filing.new) }
-        // Where no owner is said, it is what LookUp, Create, Extend, Write, SetUser and Enter leave, and where files are replaced, Stat, Remove and Delete besides.
-        ensures own { self.old.owner ≡ None → OnOk result (IsLed (Puts (replaces self.old)) filing.old filing.new) }
+        ensures volume { OnOk result (IsPut (Puts (replaces self.old)) self.old.placing self.old.owner filing.old filing.new) }
+        // Where no owner is said, and blocks may stand anywhere, it is what LookUp, Create, Extend, Write, SetUser and Enter leave, and where files are replaced, Stat, Remove and Delete besides.
+        ensures own { self.old.owner ≡ None → self.old.placing ≡ Anywhere → OnOk result (IsLed (Puts (replaces self.old)) filing.old filing.new) }
         ensures still { IsStill self.old self.new }
         ensures remark { IfOk result (IsRemark self.old.form self.old.like host.now.bytes.now) }
         // Refused, it is so for a reason that holds, of the host file, and what was done for that is said.
@@ -137,13 +141,14 @@ impl Putting {
         }
         let written = write_host(alloc, self.form, &self.like, host.bytes)?;
         let remark = remark(alloc, &written)?;
-        self.put_written(filing, name, &written)?;
+        self.put_written(alloc, filing, name, &written)?;
         Ok(remark)
     }
 
     /// Puts what was written under this name.
     fn put_written(
         &mut self,
+        alloc: Global,
         filing: &mut Filing,
         name: Name,
         written: &Written<'_>,
@@ -165,7 +170,7 @@ impl Putting {
             bytes: written.bytes(),
         };
         let owner = self.owner.unwrap_or(filing.user());
-        let id = put_new(filing, owner, dir, said, &file)?;
+        let id = put_new(alloc, filing, self.placing, owner, dir, said, &file)?;
         count_name(&mut self.names, id);
         note_version(&mut self.highest, &name, version)
     }

@@ -1,17 +1,18 @@
 //! A sound volume that changes by requests, and keeps no list of them.
-ghost use Rattle.std.specs.Prelude.{◌≡◌, length, unwrap_or, Some, None, MatchResult, IfOk, IfErr, OnOk, OnErr};
+ghost use Rattle.std.specs.Prelude.{◌≡◌, length, true, unwrap_or, Some, None, MatchResult, IfOk, IfErr, OnOk, OnErr};
+ghost use Rattle.std.specs.List.{All};
 ghost use Rattle.ods_alloc.specs.Counts.{free_counts};
 ghost use Rattle.ods_mount.specs.Sound.{IsSoundBy};
 ghost use Rattle.ods_space.specs.{Disks.on, Free.free_blocks, Free.free_numbers};
 ghost use Rattle.ods_state.specs.{Outcome.CanBeAsked, Served.IsRefusalOf};
 ghost use Rattle.ods_change.specs.IndexGrown.{IsWhyNoHeaders};
-ghost use Rattle.ods_amend.specs.{Access.Gives, Label.Relabels};
-ghost use Rattle.ods_volume.specs.Amended.{IsChangeOfAccess, IsChangeOfLabel, IsWhyNotGiven};
+ghost use Rattle.ods_amend.specs.{Access.Gives, Access.GivesAll, Bits.IsLoose, Bits.MarksAs, Label.Relabels};
+ghost use Rattle.ods_volume.specs.Amended.{IsChangeOfAccess, IsChangeOfLabel, IsChangeOfMarks, IsWhyNotGiven};
 ghost use Rattle.ods_volume.specs.Changing.{HasMoreHeaders, IsChangeFor, IsChangeOfHeaders, IsLawfulChange, IsStep, changed};
 
 use crate::prepare::{carry_out, counts_after};
 use ods_alloc::FreeCounts;
-use ods_amend::{draft_access, draft_label};
+use ods_amend::{draft_access, draft_label, draft_marks};
 use ods_base::{FileId, NoMemory, Uic};
 use ods_change::grow_headers;
 use ods_init::Label;
@@ -241,18 +242,20 @@ impl Sound {
         }
     }
 
-    /// What changes where a user gives a file another owner or another protection, with all the memory that this takes. The volume stays as it is.
+    /// What changes where a user gives a file another owner, another protection or other characteristics, with all the memory that this takes. The volume stays
+    /// as it is.
     fn prepare_access(
         &self,
         who: Uic,
         file: FileId,
         owner: Option<Uic>,
         protection: Option<u16>,
+        flags: Option<u8>,
     ) -> Result<Change, Refusal>
-        ensures { MatchResult result (IsChangeOfAccess self.now who file owner protection) (IsWhyNotGiven self.now who file) }
+        ensures { MatchResult result (IsChangeOfAccess self.now who file owner protection flags) (IsWhyNotGiven self.now who file) }
     {
         let disk = self.mounted.disk();
-        let draft = draft_access(self.alloc, &disk, who, file, owner, protection)?;
+        let draft = draft_access(self.alloc, &disk, who, file, owner, protection, flags)?;
         let Ok(counts) = self.counts.after(&disk, &draft) else {
             return Err(Refusal::NoMemory);
         };
@@ -281,7 +284,7 @@ impl Sound {
         ensures refused { IfErr result (IsWhyNotGiven self.old who file) }
         ensures unchanged { OnErr result (self.new ≡ self.old) }
     {
-        let change = self.prepare_access(who, file, owner, protection)?;
+        let change = self.prepare_access(who, file, owner, protection, None)?;
         self.apply(change);
         Ok(())
     }
@@ -303,6 +306,49 @@ impl Sound {
         ensures unchanged { OnErr result (self.new ≡ self.old) }
     {
         self.set_access(who, file, None, Some(protection))
+    }
+
+    /// Gives a file other characteristics of the user's, H.UCHA of its first header, for a user. Who may, and what is refused, is as of `set_access`.
+    pub fn set_characteristics(&mut self, who: Uic, file: FileId, flags: u8) -> Result<(), Refusal>
+        ensures given { OnOk result (GivesAll self.old who file None None (Some flags) self.new) }
+        ensures refused { IfErr result (IsWhyNotGiven self.old who file) }
+        ensures unchanged { OnErr result (self.new ≡ self.old) }
+    {
+        let change = self.prepare_access(who, file, None, None, Some(flags))?;
+        self.apply(change);
+        Ok(())
+    }
+
+    /// What changes where the storage bitmap says of blocks that they are free, or taken, with all the memory that this takes. The volume stays as it is.
+    fn prepare_marks(&self, blocks: &[u32], free: bool) -> Result<Change, AllocError>
+        requires { free ≡ true → All (IsLoose self.now.image self.now.layout) blocks.now }
+        ensures { IfOk result (IsChangeOfMarks self.now blocks.now free) }
+    {
+        let disk = self.mounted.disk();
+        let draft = draft_marks(self.alloc, &disk, blocks, free)?;
+        let counts = self.counts.after(&disk, &draft)?;
+        // Nothing is noted then of where a file's chain ends.
+        let end = None;
+        let places = Vec::new(self.alloc);
+        let marked = Change {
+            draft,
+            places,
+            counts,
+            end,
+        };
+        Ok(marked)
+    }
+
+    /// Has the storage bitmap say of blocks, given by their LBNs, that they are free, or that they are taken, as far as it covers them. Those that it frees no
+    /// file may hold, and no home block may be looked for there. It fails for want of memory alone, and then changes nothing.
+    pub fn mark_blocks(&mut self, blocks: &[u32], free: bool) -> Result<(), AllocError>
+        requires { free ≡ true → All (IsLoose self.old.image self.old.layout) blocks.now }
+        ensures marked { OnOk result (MarksAs self.old blocks.now free self.new) }
+        ensures unchanged { OnErr result (self.new ≡ self.old) }
+    {
+        let change = self.prepare_marks(blocks, free)?;
+        self.apply(change);
+        Ok(())
     }
 
     /// What changes where the volume gets another label, with all the memory that this takes. The volume stays as it is.

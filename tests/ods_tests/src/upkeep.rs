@@ -16,7 +16,7 @@ use ods_mount::{Mounted, check_image, mount};
 use ods_request::Stamp;
 use ods_shell::mounted::{find_path, open_contents};
 use ods_shell::{Alone, Found, Unsaid, Wanted};
-use ods_upkeep::{Failure, HostFile, PutForm, Putting, Removal, Why};
+use ods_upkeep::{Failure, HostFile, Placing, PutForm, Putting, Removal, Why};
 use std::alloc::Global;
 use std::process::Abort;
 use std::test::Fail;
@@ -111,6 +111,7 @@ fn try_put(
         false,
         form,
         like,
+        None,
         replace,
         None,
     )?;
@@ -135,7 +136,14 @@ fn copy_files(
     to: &str,
 ) -> Result<Mounted, Failure> {
     let mut filing = filing_for(alloc, volume, asked.user);
-    ods_upkeep::copy_files(alloc, &mut filing, asked.stamp, paths, to)?;
+    ods_upkeep::copy_files(
+        alloc,
+        &mut filing,
+        asked.stamp,
+        Placing::Anywhere,
+        paths,
+        to,
+    )?;
     Ok(filing.into_mounted())
 }
 

@@ -2,7 +2,7 @@
 ghost use Rattle.std.specs.Prelude.{IfErr, IfOk};
 ghost use Rattle.ods_records.specs.Forms.{IsForm};
 ghost use Rattle.fs_words.specs.Values.{IsValue, value_of};
-ghost use Rattle.fs_words.specs.{Asked.IsPut, Refused.HasReason, Refused.IsNoValue, Refused.IsUnasked};
+ghost use Rattle.fs_words.specs.{Asked.IsContiguity, Asked.IsPut, Refused.HasReason, Refused.IsNoValue, Refused.IsUnasked};
 
 use crate::actions::{Action, Change, PutWords};
 use crate::arguments::{Argument, Row};
@@ -22,7 +22,7 @@ SIZE is the record size, at most 32767";
 
 /// How `put` is written.
 pub(crate) const ROW: Row<'static> = Row {
-    usage: "f11fs IMAGE put [OPTIONS] [-t|-b] [--form FORM | --like PATH] [--replace] [--owner OWNER] HOST.. [PATH]",
+    usage: "f11fs IMAGE put [OPTIONS] [-t|-b] [--form FORM | --like PATH] [--contiguous] [--replace] [--owner OWNER] HOST.. [PATH]",
     about: "Copy host files (- is standard input) into the volume. A file is stored as text records if that is lossless, otherwise as bytes",
     arguments: &[
         Argument::Flag("-t", "Store each line as a record"),
@@ -32,6 +32,14 @@ pub(crate) const ROW: Row<'static> = Row {
             "--like",
             "PATH",
             "Copy the record type and carriage control of this file. Take the larger record size.\nWith -b: copy all attributes of this file but the end of file",
+        ),
+        Argument::Flag(
+            "--contiguous",
+            "Store each new file in consecutive blocks, and mark it contiguous. Default: only if the file of --like is contiguous",
+        ),
+        Argument::Flag(
+            "--no-contiguous",
+            "Store the new files in any free blocks, even if the file of --like is contiguous",
         ),
         Argument::Flag("--replace", "Replace the file. Default: add a version"),
         Argument::Text(
@@ -46,6 +54,7 @@ pub(crate) const ROW: Row<'static> = Row {
         ("-t", "--form"),
         ("-t", "--like"),
         ("--form", "--like"),
+        ("--contiguous", "--no-contiguous"),
     ],
 };
 
@@ -61,9 +70,23 @@ pub(crate) fn action<'a>(alloc: Global, own: &ArgMatches<'a>) -> Result<Action<'
         binary: own.get_flag("-b"),
         form,
         like: own.get_str("--like"),
+        contiguous: contiguity(own),
         replace: own.get_flag("--replace"),
         owner,
     })))
+}
+
+/// Whether the new files are to be in one piece, where that is said.
+fn contiguity(own: &ArgMatches<'_>) -> Option<bool>
+    ensures { IsContiguity own.now result }
+{
+    if own.get_flag("--contiguous") {
+        Some(true)
+    } else if own.get_flag("--no-contiguous") {
+        Some(false)
+    } else {
+        None
+    }
 }
 
 /// The form that the value of `--form` says, where there is one: the first four bytes of the attributes.

@@ -4,11 +4,13 @@ use crate::persons::{FIRST, USER, a_txt, reserved_id};
 use crate::same::same_block;
 use crate::volumes::sample_of;
 use ods_base::Block;
-use ods_filing::{Filing, NewFile, put_file};
+use ods_filing::{Filing, NewFile, put_contiguous, put_file};
+use ods_header::{pointer_at, pointer_count};
 use ods_look::{read, stat};
 use ods_mount::check_image;
 use ods_records::binary_attributes;
 use ods_request::{Kind, Refusal, Request, Stamp};
+use ods_space::primary_header;
 use std::alloc::Global;
 use std::test::Fail;
 
@@ -69,6 +71,28 @@ fn no_bytes_take_no_block(rt: HostRuntime) -> Result<(), Fail> {
     let after = filing.into_mounted();
     let disk = after.disk();
     assert!(rt; read(&disk, USER, FIRST, 1) == Err(Refusal::NoSuchBlock));
+    Ok(())
+}
+
+#[test]
+fn file_in_one_piece_passes_a_hole_over(rt: HostRuntime) -> Result<(), Fail> {
+    let mut filing = filing(rt.alloc())?;
+    let hole = put_file(&mut filing, &file_of(&[1])?)?;
+    assert!(rt; put_file(&mut filing, &file_of(&[2])?).is_ok());
+    let gone = Request::Delete { file: hole };
+    assert!(rt; filing.request(&gone).is_ok());
+    let bytes = some_bytes();
+    let id = put_contiguous(rt.alloc(), &mut filing, &file_of(&bytes)?)?;
+    let after = filing.into_mounted();
+    let disk = after.disk();
+    // UC.CON is 200 octal, and one pointer maps both blocks.
+    assert!(rt; stat(&disk, id)?.user_char == 128);
+    let header = primary_header(&disk, id.number).ok_or("a header")?;
+    assert!(rt; pointer_count(header) == 1 && pointer_at(header, 0).count == 2);
+    let mut first = Block::zeros();
+    first.set_bytes(0, &bytes[..512]);
+    assert!(rt; same_block(&read(&disk, USER, id, 1)?, &first));
+    assert!(rt; check_image(rt.alloc(), disk.image).is_ok());
     Ok(())
 }
 

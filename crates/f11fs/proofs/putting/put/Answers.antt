@@ -17,9 +17,9 @@ loop-host-preserved g c = (
 pub returns-clause-done : goal.returns-clause-done
 returns-clause-done g c =
     let end : c.loop-host.host-index ≡ length c.hosts-hosts.result.now = omega (arith, c.loop-host.invariant.0, c.loop-host-test.false) in
-    put_all c.args.how c.args.words.now.paths.items c.hosts-hosts.result.now c.path_among-to.result c.form_of.result c.args.stamp c.in-Ok.putting c.loop-host.putting c.loop-host.host-index
+    put_all c.args.how c.args.words.now.paths.items c.hosts-hosts.result.now c.path_among-to.result c.form_of.result c.placing_of.result c.args.stamp c.in-Ok.putting c.loop-host.putting c.loop-host.host-index
     c.args.filing.now c.make_ready.new.filing c.loop-host.filing
-    (subst (λ (v : _). IsBegun v c.args.filing.now.layout c.args.stamp c.path_among-to.result (nat_lt 1 (length c.hosts-hosts.result.now)) c.form_of.result c.args.how.like c.args.how.replace c.args.how.owner c.in-Ok.putting) c.mounted.ensures.0 (subst (λ (v : _). IsBegun c.mounted.result.now.image v c.args.stamp c.path_among-to.result (nat_lt 1 (length c.hosts-hosts.result.now)) c.form_of.result c.args.how.like c.args.how.replace c.args.how.owner c.in-Ok.putting) c.mounted.ensures.1 c.in-Ok.ensures))
+    (subst (λ (v : _). IsBegun v c.args.filing.now.layout c.args.stamp c.path_among-to.result (nat_lt 1 (length c.hosts-hosts.result.now)) c.form_of.result c.args.how.like c.placing_of.result c.args.how.replace c.args.how.owner c.in-Ok.putting) c.mounted.ensures.0 (subst (λ (v : _). IsBegun c.mounted.result.now.image v c.args.stamp c.path_among-to.result (nat_lt 1 (length c.hosts-hosts.result.now)) c.form_of.result c.args.how.like c.placing_of.result c.args.how.replace c.args.how.owner c.in-Ok.putting) c.mounted.ensures.1 c.in-Ok.ensures))
     (c.path_among-to.ensures ∙ ap (λ (ws : List (Bor (List ℕ))). path_among ws) c.as_slice-2.ensures.value)
     (c.hosts-hosts.ensures ∙ ap (λ (ws : List (Bor (List ℕ))). hosts_among ws) c.as_slice.ensures.value)
-    c.form_of.ensures c.make_ready.ensures.grown c.make_ready.ensures.replaces end c.loop-host.invariant.1
+    c.form_of.ensures c.placing_of.ensures c.make_ready.ensures.grown c.make_ready.ensures.replaces end c.loop-host.invariant.1

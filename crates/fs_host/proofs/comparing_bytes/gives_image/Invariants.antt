@@ -6,7 +6,7 @@ use Rattle.fs_host.proofs.comparing_bytes.gives_image.Given as goal
 
 abbrev pub invariant-loop-lbn : goal.invariant-loop-lbn
 invariant-loop-lbn g l = record {
-  room : l.held + 512 ≤ 4096;
+  room : l.held + 512 ≤ 65536;
   aligned : l.held % 512 ≡ 0;
   given : (given : List ℕ) × Gives l.ends_in_zeros (g.R.Read.remaining l.initial.reader) (g.R.Read.remaining l.reader) given × (given ++ take l.held l.piece ≡ concat (take l.lbn l.image));
 }

@@ -21,11 +21,11 @@ pub returns-in_err-enter-in-Ok-clause-refused : goal.returns-in_err-enter-in-Ok-
 returns-in_err-enter-in-Ok-clause-refused c =
     let f = c.args.file.now in
     let p = err_from_is_err_and c.from_residual.result c.from_residual.ensures.1 in
-    rw (p.1, p.2) (entering_stops c.args.owner c.user-user.result c.args.dir c.args.version (heading_of f) f.attributes f.bytes.now c.args.filing.now c.set_user.new.self c.put_file-made.new.filing c.set_user-2.new.self
-    c.user-user.ensures c.set_user.ensures c.set_user-2.ensures _ c.in-Ok.id c.enter.new.filing c.in-Ok.ensures.led c.in-Ok.ensures.ok c.in_err-enter-in-Ok.ensures.unchanged c.in_err-enter-in-Ok.ensures.refused)
+    rw (p.1, p.2) (entering_stops c.args.placing c.args.owner c.user-user.result c.args.dir c.args.version (heading_of f) f.attributes f.bytes.now c.args.filing.now c.set_user.new.self c.store-made.new.filing c.set_user-2.new.self
+    c.user-user.ensures c.set_user.ensures c.set_user-2.ensures _ c.in-Ok.id c.enter.new.filing c.in-Ok.ensures.stored c.in_err-enter-in-Ok.ensures.unchanged c.in_err-enter-in-Ok.ensures.refused)
 
 pub returns-in-Err-clause-refused : goal.returns-in-Err-clause-refused
 returns-in-Err-clause-refused c =
     let f = c.args.file.now in
-    making_stops c.args.owner c.user-user.result c.args.dir c.args.version (heading_of f) f.attributes f.bytes.now c.args.filing.now c.set_user.new.self c.put_file-made.new.filing c.set_user-2.new.self
-    c.user-user.ensures c.set_user.ensures c.set_user-2.ensures c.in-Err.refusal c.in-Err.ensures.err
+    making_stops c.args.placing c.args.owner c.user-user.result c.args.dir c.args.version (heading_of f) f.attributes f.bytes.now c.args.filing.now c.set_user.new.self c.store-made.new.filing c.set_user-2.new.self
+    c.user-user.ensures c.set_user.ensures c.set_user-2.ensures c.in-Err.why c.in-Err.ensures.refused

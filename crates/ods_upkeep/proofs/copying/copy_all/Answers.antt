@@ -8,7 +8,7 @@ use Rattle.ods_upkeep.proofs.Copies.{copied_on, stops_here, stops_on}
 use Rattle.ods_upkeep.proofs.copying.copy_all.Goals as goal
 
 pub loop-found-init : goal.loop-found-init
-loop-found-init c = record { led = stays c.args.filing.now; copies = λ new copied. copied; stops = λ new failure stop. stop }
+loop-found-init c = record { led = λ anywhere. stays c.args.filing.now; copies = λ new copied. copied; stops = λ new failure stop. stop }
 
 pub loop-found-preserved : goal.loop-found-preserved
 loop-found-preserved c =
@@ -16,11 +16,11 @@ loop-found-preserved c =
     let one = c.in_default.ensures in
     let item = c.found-item in
     record {
-      led = then_led so_far.led one.led;
+      led = λ anywhere. then_led (so_far.led anywhere) (one.led anywhere);
       copies = λ new copied. so_far.copies new
-          (copied_on c.args.target.now c.args.stamp c.args.all.now c.loop-found.found-index item.result c.loop-found.filing c.copy.new.filing new c.loop-found-test.true item.is one.done copied);
+          (copied_on c.args.placing c.args.target.now c.args.stamp c.args.all.now c.loop-found.found-index item.result c.loop-found.filing c.copy.new.filing new c.loop-found-test.true item.is one.done copied);
       stops = λ new failure stop. so_far.stops new failure
-          (stops_on c.args.target.now c.args.stamp c.args.all.now c.loop-found.found-index item.result c.loop-found.filing c.copy.new.filing new failure c.loop-found-test.true item.is one.done stop);
+          (stops_on c.args.placing c.args.target.now c.args.stamp c.args.all.now c.loop-found.found-index item.result c.loop-found.filing c.copy.new.filing new failure c.loop-found-test.true item.is one.done stop);
     }
 
 pub returns-clause-led : goal.returns-clause-led
@@ -29,12 +29,12 @@ returns-clause-led c = c.loop-found.invariant.led
 pub returns-clause-done : goal.returns-clause-done
 returns-clause-done c =
     c.loop-found.invariant.copies c.loop-found.filing
-    (subst (λ l. AreCopied c.args.target.now c.args.stamp l c.loop-found.filing c.loop-found.filing) (sym (drop_all c.loop-found.found-index c.args.all.now c.loop-found-test.false)) refl)
+    (subst (λ l. AreCopied c.args.placing c.args.target.now c.args.stamp l c.loop-found.filing c.loop-found.filing) (sym (drop_all c.loop-found.found-index c.args.all.now c.loop-found-test.false)) refl)
 
 pub returns-in-Err-clause-refused : goal.returns-in-Err-clause-refused
 returns-in-Err-clause-refused c =
     let item = c.found-item in
     c.loop-found.invariant.stops c.copy.new.filing c.of_path.result
-    (stops_here c.args.target.now c.args.stamp c.args.all.now c.loop-found.found-index item.result c.loop-found.filing c.copy.new.filing c.of_path.result c.loop-found-test.true item.is
+    (stops_here c.args.placing c.args.target.now c.args.stamp c.args.all.now c.loop-found.found-index item.result c.loop-found.filing c.copy.new.filing c.of_path.result c.loop-found-test.true item.is
     (subst (HasPath c.of_path.result) c.deref.ensures c.of_path.ensures.path)
-    (subst (λ why. IsNotCopied c.args.target.now c.args.stamp item.result c.loop-found.filing c.copy.new.filing why) (sym c.of_path.ensures.why) c.in-Err.ensures.refused))
+    (subst (λ why. IsNotCopied c.args.placing c.args.target.now c.args.stamp item.result c.loop-found.filing c.copy.new.filing why) (sym c.of_path.ensures.why) c.in-Err.ensures.refused))

@@ -20,7 +20,7 @@ returns-clause-done c =
     let sources : AreSources I L (highest alone.Files) c.args.paths.now all = same_unsaid (λ J M u. AreSources J M u c.args.paths.now all) c.mounted.ensures.0 c.mounted.ensures.1 c.highest.ensures c.in_ok-all.ensures in
     let counted : IsTarget I L c.len.result c.args.to.now to = same_disk (λ J M. IsTarget J M c.len.result c.args.to.now to) c.mounted-2.ensures.0 c.mounted-2.ensures.1 c.in_ok-target.ensures in
     let target : IsTarget I L (length all) c.args.to.now to = subst (λ n. IsTarget I L n c.args.to.now to) (omega (arith, c.len.ensures, c.in_ok-all.all.ok.0)) counted in
-    if_done c.copy_all.result (λ copied. (all, (to, sources, target, subst (λ l. AreCopied to c.args.stamp l c.args.filing.now c.copy_all.new.filing) c.deref-2.ensures.value copied))) c.copy_all.ensures.done
+    if_done c.copy_all.result (λ copied. (all, (to, sources, target, subst (λ l. AreCopied c.args.placing to c.args.stamp l c.args.filing.now c.copy_all.new.filing) c.deref-2.ensures.value copied))) c.copy_all.ensures.done
 
 pub returns-clause-refused : goal.returns-clause-refused
 returns-clause-refused c =
@@ -33,8 +33,8 @@ returns-clause-refused c =
     let counted : IsTarget I L c.len.result c.args.to.now to = same_disk (λ J M. IsTarget J M c.len.result c.args.to.now to) c.mounted-2.ensures.0 c.mounted-2.ensures.1 c.in_ok-target.ensures in
     let target : IsTarget I L (length all) c.args.to.now to = subst (λ n. IsTarget I L n c.args.to.now to) (omega (arith, c.len.ensures, c.in_ok-all.all.ok.0)) counted in
     let may : MayAllBeCopied c.args.filing.now.user to all = subst (λ u. MayAllBeCopied u to all) c.user.ensures (subst (MayAllBeCopied c.user.result to) c.deref.ensures.value c.in_ok-check_all.ensures.ok) in
-    IfErr-weaker c.copy_all.result (StopsCopying to c.args.stamp c.deref-2.result.now c.args.filing.now new) (IsNotCopiedTo c.args.stamp c.args.paths.now c.args.to.now c.args.filing.now new)
-    (λ failure stops. inr (all, sources, inr (to, target, inr (may, subst (λ l. StopsCopying to c.args.stamp l c.args.filing.now new failure) c.deref-2.ensures.value stops)))) c.copy_all.ensures.refused
+    IfErr-weaker c.copy_all.result (StopsCopying c.args.placing to c.args.stamp c.deref-2.result.now c.args.filing.now new) (IsNotCopiedTo c.args.placing c.args.stamp c.args.paths.now c.args.to.now c.args.filing.now new)
+    (λ failure stops. inr (all, sources, inr (to, target, inr (may, subst (λ l. StopsCopying c.args.placing to c.args.stamp l c.args.filing.now new failure) c.deref-2.ensures.value stops)))) c.copy_all.ensures.refused
 
 pub returns-in_err-target-clause-refused : goal.returns-in_err-target-clause-refused
 returns-in_err-target-clause-refused c =

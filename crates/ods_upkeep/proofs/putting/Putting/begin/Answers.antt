@@ -8,23 +8,23 @@ returns-in_err-target c =
     let p = err_from_is_err_and c.from_residual.result c.from_residual.ensures.1 in
     rw (p.1, p.2) (no_target v.image v.layout c.args.to c.args.several c.args.like c.args.replace c.count_of.result c.path_to.result.now c.count_of.ensures c.path_to.ensures _ c.in_err-target.ensures)
 
-pub returns-in_err-like : goal.returns-in_err-like
-returns-in_err-like c =
+pub returns-in_err-facts : goal.returns-in_err-facts
+returns-in_err-facts c =
     let v = c.args.volume.now in
-    let p = err_from_is_err_and c.from_residual-in_err-like.result c.from_residual-in_err-like.ensures.1 in
+    let p = err_from_is_err_and c.from_residual-in_err-facts.result c.from_residual-in_err-facts.ensures.1 in
     rw (p.1, p.2) (no_like v.image v.layout c.args.to c.args.several c.args.like c.args.replace c.count_of.result c.path_to.result.now c.count_of.ensures c.path_to.ensures _ c.in_ok-target.target c.in_ok-target.ensures
-    c.in_err-like.ensures)
+    c.in_err-facts.ensures)
 
 pub returns-in_err-names : goal.returns-in_err-names
 returns-in_err-names c =
     let v = c.args.volume.now in
     let p = err_from_is_err_and c.from_residual-in_err-names.result c.from_residual-in_err-names.ensures.1 in
-    rw (p.1, p.2) (no_names v.image v.layout c.args.to c.args.several c.args.like c.args.replace c.count_of.result c.path_to.result.now c.count_of.ensures c.path_to.ensures _ c.in_ok-target.target c.in_ok-like.like
-    c.in_ok-target.ensures c.in_ok-like.ensures c.in_err-names.ensures)
+    rw (p.1, p.2) (no_names v.image v.layout c.args.to c.args.several c.args.like c.args.replace c.count_of.result c.path_to.result.now c.count_of.ensures c.path_to.ensures _ c.in_ok-target.target c.in_ok-facts.facts
+    c.in_ok-target.ensures c.in_ok-facts.ensures c.in_err-names.ensures)
 
 pub returns-in_err-highest : goal.returns-in_err-highest
 returns-in_err-highest c =
     let v = c.args.volume.now in
     let p = err_from_is_err_and c.from_residual-in_err-highest.result c.from_residual-in_err-highest.ensures.1 in
-    rw (p.1, p.2) (no_versions v.image v.layout c.args.to c.args.several c.args.like c.args.replace c.count_of.result c.path_to.result.now c.count_of.ensures c.path_to.ensures _ c.in_ok-target.target c.in_ok-like.like
-    c.keeps_versions-keeps.result c.in_ok-target.ensures c.in_ok-like.ensures c.keeps_versions-keeps.ensures c.in_err-highest.ensures)
+    rw (p.1, p.2) (no_versions v.image v.layout c.args.to c.args.several c.args.like c.args.replace c.count_of.result c.path_to.result.now c.count_of.ensures c.path_to.ensures _ c.in_ok-target.target c.in_ok-facts.facts
+    c.keeps_versions-keeps.result c.in_ok-target.ensures c.in_ok-facts.ensures c.keeps_versions-keeps.ensures c.in_err-highest.ensures)

@@ -22,4 +22,4 @@ pub returns : goal.returns
 returns c =
     let lent : record { image = c.disk-disk.result.image.now; layout = c.disk-disk.result.layout.now } ≡ c.self.inside.mounted = λ i. record { image = c.disk-disk.ensures.image i; layout = c.disk-disk.ensures.layout i } in
     let made : Parts = record { changes = c.in_ok-draft.draft; places = c.new-places.result.items; counts = c.in-Ok.counts; end = None } in
-    subst (λ (d : Disk). IsChangeOfAccess d c.args.who c.args.file c.args.owner c.args.protection made) (lent ∙ c.self.view_is) (access_changed c.new-places.result.items c.in_ok-draft.ensures c.in-Ok.ensures c.new-places.ensures.items)
+    subst (λ (d : Disk). IsChangeOfAccess d c.args.who c.args.file c.args.owner c.args.protection c.args.flags made) (lent ∙ c.self.view_is) (access_changed c.new-places.result.items c.in_ok-draft.ensures c.in-Ok.ensures c.new-places.ensures.items)

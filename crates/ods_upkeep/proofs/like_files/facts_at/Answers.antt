@@ -8,7 +8,7 @@ use Rattle.ods_shell.specs.declared.found.Found.{Found}
 use Rattle.ods_upkeep.specs.Sources.{AreOfPath}
 use Rattle.ods_upkeep.specs.Unbegun.{directory, not_one, not_there, reserved}
 use Rattle.ods_upkeep.proofs.Naming.{just_one, no_source_by, of_path_by}
-use Rattle.ods_upkeep.proofs.like_files.attributes_of.Goals as goal
+use Rattle.ods_upkeep.proofs.like_files.facts_at.Goals as goal
 
 pub returns : goal.returns
 returns c =
@@ -20,11 +20,9 @@ returns c =
     record {
       found = c.one-item.result;
       one = subst (AreOfPath I L (highest alone.Refused) c.args.path.now) one named;
-      facts = c.in-Some.facts;
       known = c.in-Some.is;
       plain = same_false the_type _ _ (sym c.if-eq.ensures);
       above = c.if-facts-le2.false;
-      are = refl;
     }
 
 pub returns-in_err-found : goal.returns-in_err-found
