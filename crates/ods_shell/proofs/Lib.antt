@@ -7,6 +7,10 @@ mod FoundMore
 mod Headings
 mod Joining
 mod LeftBlocks
+mod ListedWhole
+mod MatchedLines
+mod PlainNames
+mod PutBack
 mod GotContents
 mod Listed
 mod Named

@@ -12,6 +12,7 @@ pub mod Info
 pub mod Json
 pub mod Lines
 pub mod Listed
+pub mod Matched
 pub mod Named
 pub mod Passed
 pub mod Rescued

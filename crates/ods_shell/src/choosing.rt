@@ -70,7 +70,7 @@ pub(crate) fn is_matched(name: &Name, files: &Files<'_>) -> bool
 }
 
 /// Whether the version of this line, which stands at this place, is picked.
-fn is_picked(lines: &[Listed], place: usize, line: &Listed, versions: Versions) -> bool
+pub(crate) fn is_picked(lines: &[Listed], place: usize, line: &Listed, versions: Versions) -> bool
     requires sorted { IsSortedByKey shown listing_cmp lines.now }
     requires there { slice_get lines.now place ≡ Some line.now }
     ensures { MatchBool result (IsPicked versions lines.now line.now) (¬ IsPicked versions lines.now line.now) }

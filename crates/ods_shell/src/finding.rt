@@ -5,8 +5,8 @@ ghost use Rattle.ods_shell.specs.Found.{AreFound, AreFoundIn, placed};
 ghost use Rattle.ods_shell.specs.Ways.{AreMeant, AreMet, CountAsClosed};
 ghost use Rattle.ods_space.specs.Disks.{on};
 
-use crate::choosing::chosen;
 use crate::folders::{Closed, Directory, directories, lines_of};
+use crate::matched::find_chosen;
 use ods_base::Listed;
 use ods_paths::{Files, Folder, Versions};
 use ods_space::Disk;
@@ -65,10 +65,9 @@ fn found_in(
 ) -> Result<Vec<Listed>, AllocError>
     ensures { IfOk result (λ found. on AreFoundIn disk.now (said_files files.now) unsaid number found.items) }
 {
-    let lines = lines_of(alloc, disk, number)?;
     match files {
-        Some(files) => chosen(alloc, &lines, files, unsaid),
-        None => Ok(lines),
+        Some(files) => find_chosen(alloc, disk, number, files, unsaid),
+        None => lines_of(alloc, disk, number),
     }
 }
 

@@ -28,6 +28,15 @@ pub fn listing(alloc: Global, disk: &Disk<'_>, number: u16) -> Result<Vec<Listed
     in_order(alloc, &entries)
 }
 
+/// The lines of which a listing is made, in the order of the directory's blocks. Who wants few of them in order leaves the others out first.
+pub fn shown_entries(alloc: Global, disk: &Disk<'_>, number: u16) -> Result<Vec<Listed>, AllocError>
+    requires { on IsDirectoryFile disk.now number }
+    ensures { IfOk result (λ entries. on AreEntries disk.now number entries.items) }
+{
+    let (shown, _) = read_entries(alloc, disk, number)?;
+    Ok(shown)
+}
+
 /// How many entries of a directory a listing passes over, since they are bad. On a sound volume there are none.
 pub fn count_bad(alloc: Global, disk: &Disk<'_>, number: u16) -> Result<usize, AllocError>
     requires { on IsDirectoryFile disk.now number }
@@ -79,7 +88,7 @@ fn place_past(len: u32, lbns: &[u32]) -> usize
 }
 
 /// These lines in the order of a listing.
-fn in_order(alloc: Global, entries: &[Listed]) -> Result<Vec<Listed>, AllocError>
+pub fn in_order(alloc: Global, entries: &[Listed]) -> Result<Vec<Listed>, AllocError>
     ensures permutation { IfOk result (λ lines. IsPermutation entries.now lines.items) }
     ensures order { IfOk result (λ lines. IsSortedByKey shown listing_cmp lines.items) }
 {
