@@ -31,14 +31,15 @@ _f11fs_of() {
     stat) options='--json -u -q --blocks --order -h --help' takes='path' ;;
     cat) options='-t -b --raw -u -q --blocks --order -h --help' takes='path' ;;
     get) options='-t -b --raw -r --deleted --partial -o -n --force --json -u -q --blocks --order -h --help' takes='path host' ;;
+    tar) options='-t -u -q --blocks --order -h --help' takes='path' ;;
     df) options='--json -q --blocks --order -h --help' takes='' ;;
     info) options='--json -q --blocks --order -h --help' takes='' ;;
     du) options='--top --json -q --blocks --order -h --help' takes='' ;;
     check) options='--all --json -q --blocks --order -h --help' takes='' ;;
     rescue) options='--text --scan --partial -n --json -q --blocks --order -h --help' takes='folder' ;;
     cmp) options='--all --json -u -q --blocks --order -h --help' takes='host' ;;
-    put) options='-t -b --form --like --replace --owner -o --backup --break-links -n --force --json --stamp -u -q --blocks --order -h --help' takes='host path' ;;
-    cp) options='-o --backup --break-links -n --force --json --stamp -u -q --blocks --order -h --help' takes='path' ;;
+    put) options='-t -b --form --like --contiguous --no-contiguous --replace --owner -o --backup --break-links -n --force --json --stamp -u -q --blocks --order -h --help' takes='host path' ;;
+    cp) options='--contiguous -o --backup --break-links -n --force --json --stamp -u -q --blocks --order -h --help' takes='path' ;;
     mv) options='-o --backup --break-links -n --force --json -u -q --blocks --order -h --help' takes='path' ;;
     rm) options='--entry --newest -o --backup --break-links -n --force --json -u -q --blocks --order -h --help' takes='path' ;;
     purge) options='-k -o --backup --break-links -n --force --json -u -q --blocks --order -h --help' takes='path' ;;
@@ -97,7 +98,7 @@ _f11fs() {
     elif [[ -z $image ]]; then
         takes=host
     elif [[ -z $command ]]; then
-        mapfile -t COMPREPLY < <(compgen -W 'ls find stat cat get df info du check rescue cmp put cp mv rm purge mkdir rmdir truncate chmod chown label init' -- "$cur")
+        mapfile -t COMPREPLY < <(compgen -W 'ls find stat cat get tar df info du check rescue cmp put cp mv rm purge mkdir rmdir truncate chmod chown label init' -- "$cur")
         return
     fi
     for one in $takes; do

@@ -234,6 +234,8 @@ ODD = odd_volume().bytes()
 CONTENTS = {
     "odd": ODD,
     "storage-map": blocks_of(ODD, MAP_PLACE, 2 * BLOCK),
+    "plain-storage-map": blocks_of(plain_volume().bytes(), MAP_PLACE, 2 * BLOCK),
+    "ring-directory": blocks_of(ring_volume().bytes(), 46, 48),
     "sub-directory": blocks_of(ODD, 47, 80),
     "low-directory": blocks_of(ODD, 48, 32),
     "long-text": LONG,

@@ -11,6 +11,10 @@ A file begins with what it is about. Then each line says by its first word what 
     >~ PATTERN, !~ PATTERN   a pattern of all that it prints, or of all errors
     >= CONTENT               all that it prints, where that is no text of lines
     any order                its lines are printed in any order
+    archive                  it prints an archive of tar, with just these members in this order, by Python's tarfile:
+    member PATH = CONTENT    a member, with these bytes
+    record KEYWORD=VALUE     a record of the member above; those that stand here are all that it has
+    time STAMP               the local time of the member above
     into FILE                what it prints goes into this file
     image NAME               the volume that is called disk is this one, where that is not the plain one
     input CONTENT            what it reads from standard input
@@ -44,6 +48,16 @@ NUMBERS = {"number": 10, "kind": 10, "control": 10, "size": 10, "highest": 10, "
 
 
 @dataclasses.dataclass
+class Member:
+    """A member of an archive: its path, its bytes, its records, and its local time where that is said."""
+
+    path: str
+    data: bytes
+    records: dict[str, str] = dataclasses.field(default_factory=dict)
+    stamp: str | None = None
+
+
+@dataclasses.dataclass
 class Row:
     """A command with what comes of it, as the lines above say it."""
 
@@ -53,6 +67,7 @@ class Row:
     out: Said = b""
     err: Said = b""
     any_order: bool = False
+    archive: list[Member] | None = None
     into: str | None = None
     image: str = "plain"
     input: bytes | None = None
@@ -158,6 +173,10 @@ class Reader:
             row.status = int(rest)
         elif (word, rest) == ("any", "order"):
             row.any_order = True
+        elif word == "archive":
+            row.archive = []
+        elif word in ("member", "record", "time"):
+            self.add_member(row, word, rest)
         elif word in ("into", "image"):
             setattr(row, word, rest)
         elif word == "input":
@@ -168,6 +187,19 @@ class Reader:
             row.leaves.update([self.file_of(rest)])
         else:
             self.add_change(row, word, rest)
+
+    def add_member(self, row: Row, word: str, rest: str) -> None:
+        """Adds to a row what a line says of the archive that it prints."""
+        if row.archive is None:
+            raise ValueError("a member is one of an archive")
+        if word == "member":
+            path, data = self.file_of(rest)
+            row.archive.append(Member(path, data or b""))
+        elif word == "record":
+            keyword, _, value = rest.partition("=")
+            row.archive[-1].records[keyword] = value
+        else:
+            row.archive[-1].stamp = rest
 
     def add_change(self, row: Row, word: str, rest: str) -> None:
         """Adds to a row what a line says of the volume."""

@@ -16,6 +16,7 @@ is_for_mounted (action.Find lost deleted long) = false
 is_for_mounted action.Stat = false
 is_for_mounted (action.Cat wanted) = false
 is_for_mounted (action.Get wanted target below deleted partial) = false
+is_for_mounted (action.Tar text) = false
 is_for_mounted action.Info = false
 is_for_mounted (action.Du top) = false
 is_for_mounted (action.Check all) = false

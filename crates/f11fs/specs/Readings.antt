@@ -50,6 +50,7 @@ reads_commands (action.Find lost deleted long) = false
 reads_commands action.Stat = false
 reads_commands (action.Cat wanted) = false
 reads_commands (action.Get wanted target below deleted partial) = false
+reads_commands (action.Tar text) = false
 reads_commands action.Df = false
 reads_commands action.Info = false
 reads_commands (action.Du top) = false

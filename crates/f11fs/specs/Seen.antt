@@ -11,6 +11,7 @@ prints_names (action.Find lost deleted long) = false
 prints_names action.Stat = false
 prints_names (action.Cat wanted) = false
 prints_names (action.Get wanted target below deleted partial) = false
+prints_names (action.Tar text) = false
 prints_names action.Df = false
 prints_names action.Info = false
 prints_names (action.Du top) = false

@@ -23,7 +23,7 @@ use std::cell::RefCell;
 use std::fs::File;
 use std::io;
 use std::io::Input;
-use std::rt::{Clock, Files};
+use std::rt::Files;
 
 /// The most bytes of a file of commands.
 const MOST: u64 = 1_048_576;
@@ -239,7 +239,7 @@ pub fn write_printed<R: Print>(rt: &R, printed: &[u8]) -> Result<(), HostFault>
 }
 
 /// Obeys the command in a line, and gives how it ended, and whether the volume stands: it does not where a change was made in part.
-fn obey_line<R: Files<File = File> + Clock + Input + AllocGlobal + Print + Eprint>(
+fn obey_line<R: Host>(
     rt: &R,
     filing: &mut Filing,
     run: &Run<'_, '_>,
@@ -286,7 +286,7 @@ fn is_from_input(action: &Action<'_>) -> bool
 }
 
 /// Obeys a command. What its line does not say of users, stamps and forms is as in the words of the run.
-fn obey_words<R: Files<File = File> + Clock + Input + AllocGlobal + Print + Eprint>(
+fn obey_words<R: Host>(
     rt: &R,
     filing: &mut Filing,
     run: &Run<'_, '_>,
@@ -321,7 +321,7 @@ pub fn as_outer<'a>(own: Words<'a>, outer: &Words<'_>) -> Words<'a>
 
 /// Obeys a command for the user of the filing, with this stamp for new files.
 #[tactic(auto, using(crate::proofs::Leading::changed_now, crate::proofs::Leading::kept_now, crate::proofs::Refusals::refused_status))]
-fn obey_action<R: Files<File = File> + Clock + Input + AllocGlobal + Print + Eprint>(
+fn obey_action<R: Host>(
     rt: &R,
     filing: &mut Filing,
     run: &Run<'_, '_>,

@@ -12,9 +12,6 @@ use fs_reads::{
 };
 use fs_words::{Action, Words};
 use ods_shell::Status;
-use std::fs::File;
-use std::rt::Files;
-use std::time::Clock;
 
 /// Which streams are terminals, where people see what is written.
 #[derive(Clone, Copy)]
@@ -87,7 +84,7 @@ fn is_rescue(action: &Action<'_>) -> bool
 }
 
 /// Does what the words ask for on a volume, which stays as it is. Where a mount refuses it, that is the status, whatever is shown.
-fn read_volume<'a, R: Files<File = File> + Clock + AllocGlobal + Print + Eprint>(
+fn read_volume<'a, R: Host>(
     rt: &R,
     words: &Words<'a>,
     progress: &mut Progress,

@@ -19,8 +19,6 @@ use fs_words::{Action, LineFault, Words, WordsFault, line_words, parse_line};
 use ods_shell::Status;
 use std::alloc::{AllocError, Global};
 use std::cell::RefCell;
-use std::fs::File;
-use std::rt::{Clock, Files};
 
 /// Whether these lines only look at the volume of an image, whether a mount takes it or not.
 pub fn only_look<'a>(alloc: Global, image: &'a str, text: &str) -> Result<bool, AllocError>
@@ -93,12 +91,7 @@ pub fn look_all<'a, R: Host>(
 }
 
 /// Obeys the command in a line, and gives how it ended.
-fn look_line<R: Files<File = File> + Clock + AllocGlobal + Print + Eprint>(
-    rt: &R,
-    volume: &Readable,
-    outer: &Words<'_>,
-    line: &str,
-) -> Status {
+fn look_line<R: Host>(rt: &R, volume: &Readable, outer: &Words<'_>, line: &str) -> Status {
     let words = match line_words(rt.alloc(), line) {
         Ok(words) => words,
         Err(fault) => return say_bad_line(rt, fault),
@@ -111,12 +104,7 @@ fn look_line<R: Files<File = File> + Clock + AllocGlobal + Print + Eprint>(
 }
 
 /// Obeys a command that only looks. What its line does not say of users and forms is as in the words of the run.
-fn look_words<R: Files<File = File> + Clock + AllocGlobal + Print + Eprint>(
-    rt: &R,
-    volume: &Readable,
-    outer: &Words<'_>,
-    own: Words<'_>,
-) -> Status
+fn look_words<R: Host>(rt: &R, volume: &Readable, outer: &Words<'_>, own: Words<'_>) -> Status
     ensures { IsForMounted own.entry.action → result ≡ Code.Words }
 {
     if !own.saving.says_nothing() {

@@ -11,3 +11,4 @@ pub mod Kept
 pub mod Making
 pub mod Compared
 pub mod Stopped
+pub mod Dates

@@ -6,12 +6,13 @@ ghost use Rattle.fs_host.specs.Reasons.{IsNotKept};
 use crate::shown::Shown;
 use std::alloc::Allocator;
 use std::cell::RefCell;
+use std::env::FillError;
 use std::fmt::Display;
 use std::fs::{Metadata, OpenOptions, Permissions};
 use std::io;
 use std::io::Input;
 use std::path::PathBuf;
-use std::rt::{Clock, Files};
+use std::rt::{Clock, Env, Files};
 use std::time::Duration;
 
 /// A runtime for the command in this line of a file.
@@ -72,6 +73,20 @@ impl<R: Clock> Clock for Collecting<'_, R> {
 
     fn sleep(&self, duration: Duration) {
         self.rt.sleep(duration)
+    }
+}
+
+impl<R: Env> Env for Collecting<'_, R> {
+    fn arg(&self, i: usize, buf: &mut [u8]) -> Result<usize, FillError> {
+        self.rt.arg(i, buf)
+    }
+
+    fn var(&self, name: &str, buf: &mut [u8]) -> Result<usize, FillError> {
+        self.rt.var(name, buf)
+    }
+
+    fn var_at(&self, i: usize, buf: &mut [u8]) -> Result<usize, FillError> {
+        self.rt.var_at(i, buf)
     }
 }
 

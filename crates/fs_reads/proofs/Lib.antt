@@ -13,4 +13,6 @@ mod PathsKnown
 mod Saying
 mod Statuses
 mod Undeleting
+mod Patterns
+mod InArchive
 pub mod PassedOver

@@ -19,3 +19,4 @@ pub mod Scans
 pub mod Trees
 pub mod TreesGot
 pub mod Told
+pub mod Tars

@@ -32,6 +32,8 @@ mod rescuing;
 mod scanning;
 mod showing;
 mod stop;
+mod tar_folders;
+mod tarring;
 mod volume;
 
 pub use checking::{check, check_image};

@@ -15,18 +15,19 @@ use crate::printing::cat;
 use crate::progress::Progress;
 use crate::showing::push_stats;
 use crate::stop::{Stop, send, stop_at_own_output};
+use crate::tarring::tar;
 use fs_words::{Action, Words};
 use ods_mount::Mounted;
 use ods_shell::{Columns, Status, space_lines, space_object, space_of};
 use ods_space::Disk;
 use std::alloc::Global;
 use std::fs::File;
-use std::rt::Files;
+use std::rt::{Env, Files};
 use std::time::Clock;
 
 /// Does what a command asks for on a volume.
 /// No clause covers what it prints and writes; `tests/fs` checks that on the built program.
-pub fn obey<'a, R: Files<File = File> + Clock + AllocGlobal + Print + Eprint>(
+pub fn obey<'a, R: Files<File = File> + Clock + Env + AllocGlobal + Print + Eprint + Clone + Drop>(
     rt: &R,
     disk: &Disk<'_>,
     words: &Words<'a>,
@@ -59,6 +60,7 @@ pub fn obey<'a, R: Files<File = File> + Clock + AllocGlobal + Print + Eprint>(
             partial,
         } => get_deleted(rt, disk, words, target, wanted, partial, progress),
         Action::Cmp { all } => compare_all(rt, disk, words, all, progress),
+        Action::Tar { text } => tar(rt, disk, words, text),
         _ => {
             let mut text = String::new(rt.alloc());
             let done = push_shown(rt.alloc(), disk, words, &mut text);
@@ -106,6 +108,7 @@ fn push_shown<'a>(
         Action::Cat(_)
         | Action::Df
         | Action::Get { .. }
+        | Action::Tar { .. }
         | Action::Cmp { .. }
         | Action::Info
         | Action::Check { .. }

@@ -24,6 +24,7 @@ whole_simple verb.Find = refl
 whole_simple verb.Stat = refl
 whole_simple verb.Cat = refl
 whole_simple verb.Get = refl
+whole_simple verb.Tar = refl
 whole_simple verb.Df = refl
 whole_simple verb.Info = refl
 whole_simple verb.Du = refl

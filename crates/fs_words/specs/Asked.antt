@@ -53,6 +53,9 @@ abbrev pub IsGet : ArgMatches → Option (Bor (List ℕ)) → Action → Type 0
 IsGet m out a = (wanted : Wanted) × (below deleted partial : Bool) × IsWanted m wanted × IsSet m (codes "-r") below × IsSet m (codes "--deleted") deleted
     × IsSet m (codes "--partial") partial × (partial ≡ true → deleted ≡ true) × (below ≡ true → deleted ≡ false) × (a ≡ action.Get wanted out below deleted partial)
 
+abbrev pub IsTar : ArgMatches → Action → Type 0
+IsTar m a = (text : Bool) × IsSet m (codes "-t") text × (a ≡ action.Tar text)
+
 abbrev pub IsDu : ArgMatches → Action → Type 0
 IsDu m a = (top : Option ℕ) × IsValue IsNumber (text_of m (codes "--top")) top × (a ≡ action.Du top)
 
@@ -123,6 +126,7 @@ Asks verb.Find m out a = IsFind m a
 Asks verb.Stat m out a = a ≡ action.Stat
 Asks verb.Cat m out a = IsCat m a
 Asks verb.Get m out a = IsGet m out a
+Asks verb.Tar m out a = IsTar m a
 Asks verb.Df m out a = a ≡ action.Df
 Asks verb.Info m out a = a ≡ action.Info
 Asks verb.Du m out a = IsDu m a

@@ -11,6 +11,7 @@ verb_text verb.Find = codes "find"
 verb_text verb.Stat = codes "stat"
 verb_text verb.Cat = codes "cat"
 verb_text verb.Get = codes "get"
+verb_text verb.Tar = codes "tar"
 verb_text verb.Df = codes "df"
 verb_text verb.Info = codes "info"
 verb_text verb.Du = codes "du"
@@ -33,7 +34,7 @@ verb_text verb.File = codes "-f"
 
 -- the commands, in the order of the help
 abbrev pub verbs : List Verb
-verbs = verb.Ls ∷ verb.Find ∷ verb.Stat ∷ verb.Cat ∷ verb.Get ∷ verb.Df ∷ verb.Info ∷ verb.Du ∷ verb.Check ∷ verb.Rescue ∷ verb.Cmp ∷ verb.Put ∷ verb.Cp ∷ verb.Mv ∷ verb.Rm ∷ verb.Purge ∷ verb.Mkdir ∷ verb.Rmdir ∷ verb.Truncate ∷ verb.Chmod ∷ verb.Chown ∷ verb.Label ∷ verb.Init ∷ []
+verbs = verb.Ls ∷ verb.Find ∷ verb.Stat ∷ verb.Cat ∷ verb.Get ∷ verb.Tar ∷ verb.Df ∷ verb.Info ∷ verb.Du ∷ verb.Check ∷ verb.Rescue ∷ verb.Cmp ∷ verb.Put ∷ verb.Cp ∷ verb.Mv ∷ verb.Rm ∷ verb.Purge ∷ verb.Mkdir ∷ verb.Rmdir ∷ verb.Truncate ∷ verb.Chmod ∷ verb.Chown ∷ verb.Label ∷ verb.Init ∷ []
 
 -- the command of this name
 abbrev pub verb_named : List ℕ → Option Verb

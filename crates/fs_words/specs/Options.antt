@@ -48,6 +48,7 @@ stamps v = false
 -- what prints lines, if only those of a plan
 abbrev pub prints_lines : Verb → Bool
 prints_lines verb.Cat = false
+prints_lines verb.Tar = false
 prints_lines v = true
 
 -- what asks rights, or makes something for a user

@@ -124,6 +124,7 @@ own_rules verb.Find = apart (flag (codes "--lost")) ∷ flag (codes "--deleted")
 own_rules verb.Stat = needed 0 ∷ []
 own_rules verb.Cat = forms ++ needed 0 ∷ []
 own_rules verb.Get = forms ++ flag (codes "-r") ∷ flag (codes "--deleted") ∷ flag (codes "--partial") ∷ needed 0 ∷ []
+own_rules verb.Tar = flag (codes "-t") ∷ paths ∷ []
 own_rules verb.Df = []
 own_rules verb.Info = []
 own_rules verb.Du = number (codes "--top") ∷ []

@@ -31,6 +31,10 @@ pub enum Action<'a> {
         deleted: bool,
         partial: bool,
     },
+    /// Writes an archive of files to standard output; records as lines where `text`.
+    Tar {
+        text: bool,
+    },
     /// Shows how much of the volume is used.
     Df,
     /// Shows the label, owner, size and layout of the volume.

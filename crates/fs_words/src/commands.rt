@@ -25,6 +25,7 @@ mod rescue;
 mod rm;
 mod rmdir;
 mod stat;
+mod tar;
 mod truncate;
 
 use crate::actions::{Action, Change};
@@ -47,6 +48,7 @@ pub(crate) fn command_of<'a>(alloc: Global, verb: Verb) -> Result<Command<'a>, A
         Verb::Stat => row_command(alloc, verb, &stat::ROW),
         Verb::Cat => row_command(alloc, verb, &cat::ROW),
         Verb::Get => row_command(alloc, verb, &get::ROW),
+        Verb::Tar => row_command(alloc, verb, &tar::ROW),
         Verb::Df => row_command(alloc, verb, &df::ROW),
         Verb::Info => row_command(alloc, verb, &info::ROW),
         Verb::Du => row_command(alloc, verb, &du::ROW),
@@ -94,6 +96,7 @@ pub(crate) fn action_of<'a>(
         Verb::Stat => Ok(Action::Stat),
         Verb::Cat => Ok(Action::Cat(wanted_form(own))),
         Verb::Get => get::action(alloc, own, out),
+        Verb::Tar => Ok(tar::action(own)),
         Verb::Df => Ok(Action::Df),
         Verb::Info => Ok(Action::Info),
         Verb::Du => du::action(alloc, own),

@@ -68,7 +68,7 @@ pub fn serves(choice: Choice, verb: Verb) -> bool
             verb.changes() || matches!(verb, Verb::Get | Verb::Rescue | Verb::Init | Verb::File)
         }
         Choice::Force => verb.changes() || matches!(verb, Verb::Get | Verb::File),
-        Choice::Json => !matches!(verb, Verb::Cat),
+        Choice::Json => !matches!(verb, Verb::Cat | Verb::Tar),
         Choice::Stamp => {
             matches!(
                 verb,

@@ -19,6 +19,8 @@ pub enum Verb {
     Cat,
     /// `get`: writes files to the host.
     Get,
+    /// `tar`: writes an archive to standard output.
+    Tar,
     /// `df`: shows how much of the volume is used.
     Df,
     /// `info`: shows the label, owner, size and layout of the volume.
@@ -60,12 +62,13 @@ pub enum Verb {
 }
 
 /// The commands, in the order of the help.
-pub(crate) const VERBS: [Verb; 23] = [
+pub(crate) const VERBS: [Verb; 24] = [
     Verb::Ls,
     Verb::Find,
     Verb::Stat,
     Verb::Cat,
     Verb::Get,
+    Verb::Tar,
     Verb::Df,
     Verb::Info,
     Verb::Du,
@@ -97,6 +100,7 @@ impl Verb {
             Verb::Stat => "stat",
             Verb::Cat => "cat",
             Verb::Get => "get",
+            Verb::Tar => "tar",
             Verb::Df => "df",
             Verb::Info => "info",
             Verb::Du => "du",

@@ -23,6 +23,10 @@ pub row_command-requires-in-Get : goal.row_command-requires-in-Get
 unfolding own_rules
 row_command-requires-in-Get c = rw c.in-Get.is refl
 
+pub row_command-requires-in-Tar : goal.row_command-requires-in-Tar
+unfolding own_rules
+row_command-requires-in-Tar c = rw c.in-Tar.is refl
+
 pub row_command-requires-in-Df : goal.row_command-requires-in-Df
 unfolding own_rules
 row_command-requires-in-Df c = rw c.in-Df.is refl
