@@ -41,7 +41,7 @@ module _ (I : List (List ℕ)) (L : VolumeLayout) (n : ℕ) (end : KnownEnd) (kn
         let k = chain_known whole.0 whole.1 whole.2.chain in
         (valid_in I L (n ∷ whole.0) end.last (chain_seen I L n whole.0 whole.1 image layout whole.2.chain).valid (subst (Contains (n ∷ whole.0)) (sym k.2) (last_in n whole.0))).header.layout
 
-last_of-append : (n : ℕ) (xs ys : List ℕ) → last_of n (xs ++ ys) ≡ last_of (last_of n xs) ys
+pub last_of-append : (n : ℕ) (xs ys : List ℕ) → last_of n (xs ++ ys) ≡ last_of (last_of n xs) ys
 last_of-append n [] ys = refl
 last_of-append n (x ∷ xs) ys = last_of-append x xs ys
 

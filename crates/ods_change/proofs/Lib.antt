@@ -1,5 +1,6 @@
 pub mod ChainEnds
 pub mod KnownEnds
+pub mod CutEnds
 pub mod NewBodies
 pub mod AllocatedNumbers
 pub mod CreatingFile

@@ -1,5 +1,5 @@
 -- Where a chain is cut, and what is known of a file that a user may cut.
-use Rattle.std.specs.Prelude.{◌≡◌, ℕ, ◌+◌, ◌<◌, ◌≤◌, ◌⊎◌, false, List, [], ◌∷◌, ◌++◌, length, None, Some}
+use Rattle.std.specs.Prelude.{◌≡◌, ℕ, ◌+◌, ◌-◌, ◌<◌, ◌≤◌, ◌⊎◌, false, List, [], ◌∷◌, ◌++◌, length, Option, None, Some}
 use Rattle.std.specs.FinMap as map
 use Rattle.ods_base.specs.declared.file_id.FileId.{FileId}
 use Rattle.ods_base.specs.declared.file_id.Uic.{Uic}
@@ -10,6 +10,7 @@ use Rattle.ods_space.specs.Layout.{VolumeLayout, header_at}
 use Rattle.ods_request.specs.declared.requests.Request.TheVariants.{Truncate}
 use Rattle.ods_request.specs.Catalogue.{Catalogue}
 use Rattle.ods_request.specs.Faults.{fault_of}
+use Rattle.ods_state.specs.declared.known_end.KnownEnd.{KnownEnd}
 use Rattle.ods_state.specs.Contents.{ShowsBy}
 use Rattle.ods_look.specs.Opening.{IsFileId, file_shown}
 use Rattle.ods_change.specs.declared.truncate_file.CutPlace.{CutPlace}
@@ -33,3 +34,12 @@ pub record IsCuttable (I : List (List ℕ)) (L : VolumeLayout) (who : Uic) (id :
   pub enough : count ≤ length lbns
   pub there : (C : Catalogue) → ShowsBy I L C → map.get C.files id ≡ Some (file_shown I L id lbns)
   pub fine : (C : Catalogue) → ShowsBy I L C → fault_of C who (Truncate id count) ≡ None
+
+-- What is noted once file n keeps so many blocks: it was noted where its chain ends, and its last header keeps some of its own blocks.
+pub record IsCutEnd (I : List (List ℕ)) (L : VolumeLayout) (n count : ℕ) (known : Option KnownEnd) (after : KnownEnd) : Type 0 where
+  pub end : KnownEnd
+  pub noted : known ≡ Some end
+  pub own : end.file ≡ n
+  pub fits : count ≤ end.blocks
+  pub within : end.blocks - count < length (blocks_of (header_at I L end.last))
+  pub is : after ≡ record { file = end.file; headers = end.headers; blocks = count; last = end.last }

@@ -1,14 +1,15 @@
 //! The noted end of a file's chain of headers, before and after the file grows.
-ghost use Rattle.std.specs.Prelude.{◌≡◌, ◌+◌, ◌≤◌, ℕ, List, length};
+ghost use Rattle.std.specs.Prelude.{◌≡◌, ◌≢◌, ◌+◌, ◌≤◌, ℕ, List, length, IfSome};
 ghost use Rattle.ods_alloc.specs.{Ends.IsEndOf, Ends.IsMeasured, Extend.last_of};
-ghost use Rattle.ods_space.specs.{Chain.chain_blocks, Files.IsLayoutOf, Files.IsWhole};
+ghost use Rattle.ods_space.specs.{Chain.chain_blocks, Files.HasBlocks, Files.IsLayoutOf, Files.IsWhole};
 ghost use Rattle.ods_space.specs.Disks.{header_on, on};
 ghost use Rattle.ods_state.specs.Ends.{IsKnownIn};
+ghost use Rattle.ods_change.specs.Truncating.{IsCutEnd};
 
 use ods_alloc::ChainEnd;
 use ods_base::Block;
-use ods_header::room_words;
-use ods_space::{Disk, header_block};
+use ods_header::{pointer_sum, room_words};
+use ods_space::{Disk, count_whole, header_block};
 use ods_state::KnownEnd;
 
 /// Where the chain of a file ends, with no walk along it where that is noted. `first` is its first header.
@@ -43,6 +44,59 @@ pub(crate) fn known_end<'a>(
         }
     }
     ChainEnd::of(disk, number, first)
+}
+
+/// How many blocks a file has, with no walk along its chain where its end is noted. `first` is its first header.
+pub(crate) fn known_count(
+    disk: &Disk<'_>,
+    number: u16,
+    first: &Block,
+    known: &Option<KnownEnd>,
+) -> u32
+    requires layout { on IsLayoutOf disk.now }
+    requires other { number ≢ 1 }
+    requires whole { (blocks : List ℕ) × on HasBlocks disk.now number blocks }
+    requires first { first.now ≡ header_on disk.now number }
+    requires known { on IsKnownIn disk.now known.now }
+    ensures { (held : List ℕ) → on HasBlocks disk.now number held → result ≡ length held }
+{
+    if let Some(end) = known {
+        if end.file == number {
+            return end.blocks;
+        }
+    }
+    count_whole(disk, number, first)
+}
+
+/// Where the chain of a file ends once it keeps so many of its blocks. It is known where the end is noted, and the last header keeps some of its own blocks.
+pub(crate) fn cut_end(
+    disk: &Disk<'_>,
+    number: u16,
+    count: u32,
+    known: &Option<KnownEnd>,
+) -> Option<KnownEnd>
+    requires layout { on IsLayoutOf disk.now }
+    requires whole { (others : List ℕ) × (blocks : List ℕ) × on IsWhole disk.now number others blocks }
+    requires known { on IsKnownIn disk.now known.now }
+    ensures { IfSome result (λ after. on IsCutEnd disk.now number count known.now after) }
+{
+    // The blocks of an image have bytes, so the header has its parts in place.
+    let _ = disk.image.len();
+    if let Some(end) = known {
+        if end.file == number {
+            if let Some(block) = header_block(disk, end.last) {
+                if count <= end.blocks && end.blocks - count < pointer_sum(block) {
+                    return Some(KnownEnd {
+                        file: end.file,
+                        headers: end.headers,
+                        blocks: count,
+                        last: end.last,
+                    });
+                }
+            }
+        }
+    }
+    None
 }
 
 /// Where the chain of this file, which ended so, ends once it has so many blocks more, and these headers behind its own.

@@ -3,39 +3,45 @@ ghost use Rattle.std.specs.Prelude.{◌≡◌, ◌<◌, ◌≤◌, nat_lt, ℕ, 
 ghost use Rattle.ods_space.specs.{Draft.applied, Chain.IsChain, Files.HasBlocks, Files.IsFile, Files.IsLayoutOf, Files.IsWhole};
 ghost use Rattle.ods_mount.specs.Sound.{IsSoundBy};
 ghost use Rattle.ods_request.specs.{declared.answers.Answer.TheVariants.Truncated, declared.requests.Request.TheVariants.Truncate};
-ghost use Rattle.ods_state.specs.{Change.IsFaultBy, Cutting.CutsOff, Served.IsStepOf, Served.IsRefusalOf};
+ghost use Rattle.ods_state.specs.{Change.IsFaultBy, Cutting.CutsOff, Ends.IsKnownIn, Served.IsStepOf, Served.IsRefusalOf};
 ghost use Rattle.ods_change.specs.Truncating.{IsCutPlace, IsCuttable};
 ghost use Rattle.ods_space.specs.Disks.{header_on, on};
 
 use crate::delete_file::delete_headers;
+use crate::known_end::{cut_end, known_count};
 use ods_alloc::mark_free;
 use ods_base::{Block, FileId, Uic};
 use ods_header::{cut_header, pointer_sum};
 use ods_look::opening::{is_granted, plain_header};
 use ods_request::{Refusal, Right};
-use ods_space::{ChainHeaders, Disk, Draft, count_whole, push_header};
+use ods_space::{ChainHeaders, Disk, Draft, push_header};
+use ods_state::KnownEnd;
 use std::alloc::{AllocError, Global};
 
 /// The draft by which a file keeps so many of its blocks, the first ones: the others are given back, with the headers
-/// behind the one that has the last of them. Or why that is refused.
+/// behind the one that has the last of them. Or why that is refused. The file's blocks are not counted if it is noted where its chain ends.
+/// Where it ends then is given too, if that is known from what was noted.
 pub fn truncate(
     alloc: Global,
     disk: &Disk<'_>,
     who: Uic,
     file: FileId,
     count: u32,
-) -> Result<Draft, Refusal>
-    requires { on IsSoundBy disk.now }
-    ensures { MatchResult result
-        (λ draft. on IsStepOf disk.now who (Truncate file count) (Truncated count) (applied disk.now.image.now draft) disk.now.layout.now)
+    known: &Option<KnownEnd>,
+) -> Result<(Draft, Option<KnownEnd>), Refusal>
+    requires sound { on IsSoundBy disk.now }
+    requires known { on IsKnownIn disk.now known.now }
+    ensures end { IfOk result (λ r. IsKnownIn (applied disk.now.image.now r.0) disk.now.layout.now r.1) }
+    ensures step { MatchResult result
+        (λ r. on IsStepOf disk.now who (Truncate file count) (Truncated count) (applied disk.now.image.now r.0) disk.now.layout.now)
         (on IsRefusalOf disk.now who (Truncate file count)) }
 {
-    let first = match open_to_truncate(disk, who, file, count) {
+    let first = match open_to_truncate(disk, who, file, count, known) {
         Ok(first) => first,
         Err(refusal) => return Err(refusal),
     };
     match cut_off(alloc, disk, file.number, first, count) {
-        Ok(draft) => Ok(draft),
+        Ok(draft) => Ok((draft, cut_end(disk, file.number, count, known))),
         Err(_) => Err(Refusal::NoMemory),
     }
 }
@@ -46,8 +52,10 @@ fn open_to_truncate<'a>(
     who: Uic,
     file: FileId,
     count: u32,
+    known: &Option<KnownEnd>,
 ) -> Result<&'a Block, Refusal>
-    requires { on IsSoundBy disk.now }
+    requires sound { on IsSoundBy disk.now }
+    requires known { on IsKnownIn disk.now known.now }
     ensures ok { IfOk result (λ first. on IsCuttable disk.now who file count × (first.now ≡ header_on disk.now file.number)) }
     ensures err { IfErr result (on IsFaultBy disk.now who (Truncate file count)) }
 {
@@ -55,7 +63,7 @@ fn open_to_truncate<'a>(
         Ok(first) => first,
         Err(refusal) => return Err(refusal),
     };
-    if has_fewer(disk, file.number, first, count) {
+    if has_fewer(disk, file.number, first, count, known) {
         return Err(Refusal::BadCount);
     }
     if !is_granted(first, who, Right::Extend) {
@@ -65,14 +73,21 @@ fn open_to_truncate<'a>(
 }
 
 /// Whether the file with this first header has fewer blocks.
-fn has_fewer(disk: &Disk<'_>, number: u16, first: &Block, count: u32) -> bool
+fn has_fewer(
+    disk: &Disk<'_>,
+    number: u16,
+    first: &Block,
+    count: u32,
+    known: &Option<KnownEnd>,
+) -> bool
     requires sound { on IsSoundBy disk.now }
     requires file { on IsFile disk.now number }
     requires header { first.now ≡ header_on disk.now number }
     requires above { 5 < number }
+    requires known { on IsKnownIn disk.now known.now }
     ensures { (held : List ℕ) → on HasBlocks disk.now number held → result ≡ nat_lt (length held) count }
 {
-    count_whole(disk, number, first) < count
+    known_count(disk, number, first, known) < count
 }
 
 /// The draft that cuts the file with this first header: the headers behind the cut are deleted along its chain, the

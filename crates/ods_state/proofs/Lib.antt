@@ -46,3 +46,8 @@ pub mod ShownWithout
 pub mod CutChain
 pub mod CutOff
 pub mod EndsKept
+pub mod EndsBack
+pub mod EndsAllocated
+pub mod EndsGiven
+pub mod EndsWritten
+pub mod EndsServed

@@ -7,7 +7,12 @@ use Rattle.ods_space.specs.Layout.{VolumeLayout, with_places}
 use Rattle.ods_request.specs.declared.answers.Entry.{Entry}
 use Rattle.ods_state.specs.Version.{State}
 use Rattle.ods_state.specs.Outcome.{IsLawfulPlan, Plan, carried_out, disk_of}
-use Rattle.ods_volume.specs.Changing.{IsLawfulChange, Parts}
+use Rattle.ods_base.specs.Image.{IsImage}
+use Rattle.ods_state.specs.Version.{IsLawful}
+use Rattle.ods_volume.specs.declared.ends.Falls.{Falls}
+use Rattle.ods_volume.specs.Ends.{falls_for, stays}
+use Rattle.ods_volume.proofs.EndsFollow.{kept_served, no_fault}
+use Rattle.ods_volume.specs.Changing.{IsLawfulChange}
 
 pub carried_is : (v : State) (p : Plan) (entries : List Entry) (image : List (List ℕ)) (layout : VolumeLayout) → entries ≡ v.entries ++ p.entry ∷ [] → image ≡ applied v.image p.changes → layout ≡ with_places v.layout p.places
     → record { mounted = v.mounted; entries = entries; image = image; layout = layout; limit = v.limit } ≡ carried_out v p
@@ -23,13 +28,18 @@ newest_is now v p count e changed counted =
     (λ i. slice_index_or (listed i) (place i) e) ∙ get_or-append_seam v.entries p.entry [] e
 
 -- the change of a lawful plan is lawful, by whatever words
-pub change_of_plan : (v w : State) (p q : Plan) → v ≡ w → p ≡ q → IsLawfulPlan w q → IsLawfulChange (disk_of v) (record { changes = p.changes; places = p.places; counts = p.counts; end = p.end })
+pub change_of_plan : (v w : State) (p q : Plan) (falls : Falls) → v ≡ w → p ≡ q → IsLawful v → IsImage v.image → falls ≡ falls_for p.entry.request p.entry.answer → IsLawfulPlan w q
+    → IsLawfulChange (disk_of v) (record { changes = p.changes; places = p.places; counts = p.counts; end = p.end; falls = falls })
 unfolding carried_out
-change_of_plan v w p q volume plan lawful =
-    subst (λ (x : State). IsLawfulChange (disk_of x) (parts p)) (sym volume) (subst (λ (y : Plan). IsLawfulChange (disk_of w) (parts y)) (sym plan) here)
+change_of_plan v w p q falls volume plan was image fall lawful = record {
+  sound = here.lawful.version.sound;
+  counted = here.counted;
+  ended = here.ended;
+  kept = λ end stay known.
+      kept_served v.image (applied v.image p.changes) v.layout (with_places v.layout p.places) image was.version.sound here.lawful.version.sound p.entry.who p.entry.request p.entry.answer here.accepts.moves here.accepts.elsewhere
+      was.version.catalogue was.version.shown (no_fault was.version.catalogue p.entry.who p.entry.request p.entry.answer (here.accepts.steps was.version.catalogue was.version.replayed))
+      end (sym (ap (λ f. stays f end.file) fall) ∙ stay) known;
+}
   where
-    parts : Plan → Parts
-    parts y = record { changes = y.changes; places = y.places; counts = y.counts; end = y.end }
-
-    here : IsLawfulChange (disk_of w) (parts q)
-    here = record { sound = lawful.lawful.version.sound; counted = lawful.counted; ended = lawful.ended }
+    here : IsLawfulPlan v p
+    here = subst (λ (x : State). IsLawfulPlan x p) (sym volume) (subst (IsLawfulPlan w) (sym plan) lawful)

@@ -4,6 +4,8 @@ pub mod OtherPast
 pub mod Stepped
 pub mod Lawful
 pub mod Reasons
+pub mod NotedEnds
+pub mod EndsFollow
 pub mod Carried
 pub mod Arms
 pub mod Counted

@@ -1,7 +1,7 @@
 -- A look is a step that changes nothing.
-use Rattle.std.proofs.Common.{◌≡◌, ℕ, refl, sym, subst, ◌∙◌, true, false, List, [], Option, arith}
+use Rattle.std.proofs.Common.{◌≡◌, ℕ, refl, sym, subst, true, false, List, [], arith}
 use Rattle.ods_base.specs.declared.file_id.Uic.{Uic}
-use Rattle.ods_space.specs.Layout.{Disk, VolumeLayout, with_places}
+use Rattle.ods_space.specs.Layout.{Disk, VolumeLayout}
 use Rattle.ods_space.specs.Draft.{Changes, applied}
 use Rattle.ods_space.proofs.Drafts.{applied_none}
 use Rattle.ods_mount.specs.Sound.{IsSoundBy}
@@ -18,10 +18,6 @@ use Rattle.ods_state.specs.Contents.{ShowsBy}
 use Rattle.ods_state.specs.Moves.{Moves, NothingMoves}
 use Rattle.ods_state.specs.Change.{disk, IsAnsweredBy}
 use Rattle.ods_state.specs.Served.{IsStepOf}
-use Rattle.ods_state.specs.declared.known_end.KnownEnd.{KnownEnd}
-use Rattle.ods_state.specs.Ends.{IsKnownIn}
-use Rattle.ods_state.proofs.GrownMoves.{no_places}
-use Rattle.ods_change.specs.declared.beginning.Drafted.{Drafted}
 use Rattle.ods_state.proofs.Served.{carried_is_step, lacks_nothing}
 
 nothing_moves : (D : Disk) → NothingMoves D D
@@ -80,10 +76,3 @@ module _ (I : List (List ℕ)) (L : VolumeLayout) (S : IsSoundBy I L) (who : Uic
   look_by_none d none =
       subst (λ (e : Changes). IsStepOf I L who r a (applied I e) L) (sym none)
       (subst (λ J. IsStepOf I L who r a J L) (applied_none I) look_is_step)
-
--- what was noted is true still where nothing changes
-pub known_still : (I : List (List ℕ)) (L : VolumeLayout) (end : Option KnownEnd) {d : Changes} (o : Drafted) → o.draft ≡ d → o.places.items ≡ [] → d ≡ [] → IsKnownIn I L end
-    → IsKnownIn (applied I o.draft) (with_places L o.places.items) end
-known_still I L end o same none empty known =
-    subst (λ M. IsKnownIn (applied I o.draft) M end) (sym (no_places L o.places.items none))
-    (subst (λ e. IsKnownIn (applied I e) L end) (sym (same ∙ empty)) (subst (λ J. IsKnownIn J L end) (applied_none I) known))

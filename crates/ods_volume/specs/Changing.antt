@@ -1,5 +1,5 @@
 -- What a request makes of a sound volume that keeps no list.
-use Rattle.std.specs.Prelude.{◌≡◌, ℕ, List, Option}
+use Rattle.std.specs.Prelude.{◌≡◌, ℕ, true, List, Option}
 use Rattle.ods_base.specs.declared.file_id.Uic.{Uic}
 use Rattle.ods_space.specs.Draft.{Changes, applied}
 use Rattle.ods_space.specs.Layout.{Disk, with_places}
@@ -9,22 +9,26 @@ use Rattle.ods_request.specs.declared.requests.Request.{Request}
 use Rattle.ods_request.specs.declared.answers.Answer.{Answer}
 use Rattle.ods_request.specs.declared.refusals.Refusal.{Refusal}
 use Rattle.ods_state.specs.declared.known_end.KnownEnd.{KnownEnd}
-use Rattle.ods_state.specs.Ends.{IsKnownIn}
+use Rattle.ods_state.specs.Ends.{IsEndKnown, IsKnownIn}
 use Rattle.ods_state.specs.Served.{IsStepOf}
+use Rattle.ods_volume.specs.declared.ends.Falls.{Falls}
+use Rattle.ods_volume.specs.Ends.{AreKnownIn, falls_for, stays}
 use Rattle.ods_change.specs.IndexGrown.{IsIndexGrown, IsWhyNoHeaders}
 
--- the volume is sound, these are its counts, and what is noted of where a file's chain ends is true of it
-pub record IsNoted (D : Disk) (counts : Counts) (end : Option KnownEnd) : Type 0 where
+-- the volume is sound, these are its counts, and what is noted of where chains of files end is true of it
+pub record IsNoted (D : Disk) (counts : Counts) (ends : List (Option KnownEnd)) : Type 0 where
   pub sound : IsSoundBy D.image D.layout
   pub counted : counts ≡ counts_of D.image D.layout
-  pub ended : IsKnownIn D.image D.layout end
+  pub ended : AreKnownIn D.image D.layout ends
 
--- the blocks that a change writes, those that INDEXF.SYS gets, the counts of the bitmaps afterwards, where they are made anew, and what is noted then of where a file's chain ends
+-- The blocks that a change writes, those that INDEXF.SYS gets, and the counts of the bitmaps afterwards, where they are made anew. Where the chain of its file ends then, if it says so,
+-- and what it makes untrue of what is noted.
 pub record Parts : Type 0 where
   pub changes : Changes
   pub places : List ℕ
   pub counts : Option Counts
   pub end : Option KnownEnd
+  pub falls : Falls
 
 -- the volume with the change made
 abbrev pub changed : Disk → Parts → Disk
@@ -34,16 +38,18 @@ changed D p = record { image = applied D.image p.changes; layout = with_places D
 abbrev pub IsStep : Disk → Uic → Request → Answer → Disk → Type 0
 IsStep D who r a E = IsStepOf D.image D.layout who r a E.image E.layout
 
--- The change leaves a sound volume, and its counts and what it notes are true of what it leaves.
+-- The change leaves a sound volume, and its counts and what it says of where a chain ends are true of what it leaves. What stays noted is true still.
 pub record IsLawfulChange (D : Disk) (p : Parts) : Type 0 where
   pub sound : IsSoundBy (applied D.image p.changes) (with_places D.layout p.places)
   pub counted : AreCountsAfter D.image (applied D.image p.changes) D.layout p.counts
   pub ended : IsKnownIn (applied D.image p.changes) (with_places D.layout p.places) p.end
+  pub kept : (end : KnownEnd) → stays p.falls end.file ≡ true → IsEndKnown D.image D.layout end → IsEndKnown (applied D.image p.changes) (with_places D.layout p.places) end
 
 -- The change is what a request, answered so, makes of the volume.
 pub record IsChangeFor (D : Disk) (who : Uic) (r : Request) (a : Answer) (p : Parts) : Type 0 where
   pub step : IsStep D who r a (changed D p)
   pub lawful : IsLawfulChange D p
+  pub falls : p.falls ≡ falls_for r a
 
 -- E is the volume D where INDEXF.SYS has headers for so many files more, and nothing else was done
 abbrev pub HasMoreHeaders : Disk → ℕ → Disk → Type 0

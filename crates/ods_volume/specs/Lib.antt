@@ -1,5 +1,6 @@
 pub mod Amended
 pub mod Changing
+pub mod Ends
 pub mod Entries
 pub mod Kept
 pub mod Made

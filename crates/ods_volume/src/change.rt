@@ -112,6 +112,8 @@ impl Volume {
         ensures changed { self.new ≡ carried_out self.old prepared }
         ensures lines { AreLinesOf prepared.entry.answer result }
     {
+        // The blocks of an image have bytes.
+        let _ = self.sound.disk().image.len();
         self.entries.push_reserved(prepared.entry);
         self.sound.apply(prepared.change);
         prepared.lines

@@ -3,6 +3,7 @@
 #![tactic(auto)]
 
 mod change;
+mod ends;
 mod entries;
 mod planned;
 mod prepare;

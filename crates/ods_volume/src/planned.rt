@@ -27,8 +27,9 @@ impl Model for Prepared {
     ghost view = { λ p. record { entry = p.entry; changes = p.change.changes; places = p.change.places; counts = p.change.counts; end = p.change.end } };
 
     ghost use Rattle.ods_volume.specs.Kept.{AreLinesOf};
+    ghost use Rattle.ods_volume.specs.Ends.{falls_for};
 
-    ghost invariant = { λ p. AreLinesOf p.entry.answer p.lines };
+    ghost invariant = { λ p. AreLinesOf p.entry.answer p.lines × (p.change.falls ≡ falls_for p.entry.request p.entry.answer) };
 }
 
 /// The lines of an answer once more, where it has lines. Only they take memory.

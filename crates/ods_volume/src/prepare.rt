@@ -5,11 +5,12 @@ ghost use Rattle.ods_alloc.specs.Counts.{AreCountsAfter, counts_of};
 ghost use Rattle.ods_space.specs.{Draft.applied, Layout.VolumeLayout};
 ghost use Rattle.ods_mount.specs.Sound.{IsSoundBy};
 ghost use Rattle.ods_request.specs.{declared.requests.Request.TheVariants.List as Lines, Queries.request_of, Table.only_looks, Table.takes_memory};
-ghost use Rattle.ods_state.specs.{Served.IsStepOf, Served.IsRefusalOf, Ends.IsKnownIn, Outcome.CanBeAsked};
+ghost use Rattle.ods_state.specs.{Served.IsStepOf, Served.IsRefusalOf, Outcome.CanBeAsked};
 ghost use Rattle.ods_change.specs.Steps.{IsDraftFor, IsKnownThen};
-ghost use Rattle.ods_volume.specs.{Made.answer_of, Made.end_of};
+ghost use Rattle.ods_volume.specs.{Ends.AreKnownIn, Made.answer_of, Made.end_of};
 ghost use Rattle.ods_space.specs.Disks.{on, seen};
 
+use crate::ends::KnownEnds;
 use ods_alloc::FreeCounts;
 use ods_base::{FileId, Uic};
 use ods_change::{Drafted, create, delete, enter, extend, remove, set_user, truncate, write};
@@ -19,60 +20,52 @@ use ods_space::{Disk, Draft};
 use ods_state::KnownEnd;
 use std::alloc::{AllocError, Global};
 
-/// Writes the answer of a query into this place. It changes no block, and what is noted stays.
+/// Writes the answer of a query into this place. It changes no block.
 fn look_only(
     alloc: Global,
     disk: &Disk<'_>,
     who: Uic,
     query: Query,
-    known: &Option<KnownEnd>,
     answer: &mut Answer,
-) -> Result<(Drafted, Option<KnownEnd>), Refusal>
-    requires sound { on IsSoundBy disk.now }
-    requires known { on IsKnownIn disk.now known.now }
-    ensures end { IfOk result (λ r. IsKnownThen disk.now r.0.draft r.0.places.items r.1) }
-    ensures step { MatchResult result (λ r. IsDraftFor disk.now who (request_of query) answer.new r.0.draft r.0.places.items)
+) -> Result<Drafted, Refusal>
+    requires { on IsSoundBy disk.now }
+    ensures { MatchResult result (λ r. IsDraftFor disk.now who (request_of query) answer.new r.draft r.places.items)
         (on IsRefusalOf disk.now who (request_of query)) }
 {
     match look_into(disk, who, query, answer) {
-        Ok(()) => Ok((Drafted::still(alloc, Draft::new(alloc)), *known)),
+        Ok(()) => Ok(Drafted::still(alloc, Draft::new(alloc))),
         Err(refusal) => Err(refusal),
     }
 }
 
-/// Writes the answer of a List into this place. It changes no block, and what is noted stays.
+/// Writes the answer of a List into this place. It changes no block.
 fn list_only(
     alloc: Global,
     disk: &Disk<'_>,
     who: Uic,
     dir: FileId,
-    known: &Option<KnownEnd>,
     answer: &mut Answer,
-) -> Result<(Drafted, Option<KnownEnd>), Refusal>
-    requires sound { on IsSoundBy disk.now }
-    requires known { on IsKnownIn disk.now known.now }
-    ensures end { IfOk result (λ r. IsKnownThen disk.now r.0.draft r.0.places.items r.1) }
-    ensures step { MatchResult result (λ r. IsDraftFor disk.now who (Lines dir) answer.new r.0.draft r.0.places.items)
+) -> Result<Drafted, Refusal>
+    requires { on IsSoundBy disk.now }
+    ensures { MatchResult result (λ r. IsDraftFor disk.now who (Lines dir) answer.new r.draft r.places.items)
         (on IsRefusalOf disk.now who (Lines dir)) }
 {
     match list(alloc, disk, who, dir) {
         Ok(lines) => {
             *answer = Answer::Names(lines);
-            Ok((Drafted::still(alloc, Draft::new(alloc)), *known))
+            Ok(Drafted::still(alloc, Draft::new(alloc)))
         }
         Err(refusal) => Err(refusal),
     }
 }
 
 /// What a change is answered; of an Extend, where the chain of its file ends then, with the count of
-/// its blocks. A Write stands apart from what else is done, since it changes no chain. No such answer
-/// has a block or lines, so this is small and cheap to hand on.
+/// its blocks; of a Truncate the same, if that is known. No such answer has a block or lines, so this is small and cheap to hand on.
 #[derive(Clone, Copy)]
 pub(crate) enum Made {
     Created(FileId),
     Extended(KnownEnd),
-    Truncated(u32),
-    Written,
+    Truncated(u32, Option<KnownEnd>),
     Done,
     Entered(u16),
     Removed(FileId, u16),
@@ -85,21 +78,20 @@ fn put_answer(answer: &mut Answer, made: Made)
     match made {
         Made::Created(file) => *answer = Answer::Created(file),
         Made::Extended(end) => *answer = Answer::Extended(end.blocks),
-        Made::Truncated(count) => *answer = Answer::Truncated(count),
-        Made::Written | Made::Done => *answer = Answer::Done,
+        Made::Truncated(count, _) => *answer = Answer::Truncated(count),
+        Made::Done => *answer = Answer::Done,
         Made::Entered(version) => *answer = Answer::Entered(version),
         Made::Removed(file, version) => *answer = Answer::Removed(file, version),
     }
 }
 
-/// What is noted after a change of where a file's chain ends. A Write changes no chain, so what was
-/// noted before stays; after the others it need not be true any more.
-fn end_of(known: &Option<KnownEnd>, made: &Made) -> Option<KnownEnd>
-    ensures { result ≡ end_of known.now made.now }
+/// What a change says of where a chain ends: an Extend says it of its file, and a Truncate may.
+fn end_of(made: &Made) -> Option<KnownEnd>
+    ensures { result ≡ end_of made.now }
 {
     match made {
         Made::Extended(end) => Some(*end),
-        Made::Written => *known,
+        Made::Truncated(_, end) => *end,
         _ => None,
     }
 }
@@ -111,15 +103,15 @@ fn change(
     counts: &FreeCounts,
     who: Uic,
     request: &Request,
-    known: &Option<KnownEnd>,
+    known: &KnownEnds,
 ) -> Result<(Made, Drafted), Refusal>
     requires asked { CanBeAsked request.now }
     requires changes { only_looks request.now ≡ false }
     requires sound { on IsSoundBy disk.now }
     requires counts { counts.now ≡ seen counts_of disk.now }
-    requires known { on IsKnownIn disk.now known.now }
+    requires known { on AreKnownIn disk.now known.now.ends }
     ensures end { IfOk result
-        (λ p. IsKnownThen disk.now p.1.draft p.1.places.items (end_of known.now p.0)) }
+        (λ p. IsKnownThen disk.now p.1.draft p.1.places.items (end_of p.0)) }
     ensures step { MatchResult result (λ p. IsDraftFor disk.now who request.now (answer_of p.0) p.1.draft p.1.places.items)
         (on IsRefusalOf disk.now who request.now) }
 {
@@ -134,14 +126,19 @@ fn change(
             Err(refusal) => Err(refusal),
         },
         Request::Extend { file, blocks } => {
-            match extend(alloc, disk, counts, who, *file, *blocks, known) {
+            let noted = known.of(file.number);
+            match extend(alloc, disk, counts, who, *file, *blocks, &noted) {
                 Ok((drafted, end)) => Ok((Made::Extended(end), drafted)),
                 Err(refusal) => Err(refusal),
             }
         }
         Request::Truncate { file, blocks } => {
-            match truncate(alloc, disk, who, *file, *blocks) {
-                Ok(draft) => Ok((Made::Truncated(*blocks), Drafted::still(alloc, draft))),
+            let counted = known.of(file.number);
+            match truncate(alloc, disk, who, *file, *blocks, &counted) {
+                Ok((draft, end)) => Ok((
+                    Made::Truncated(*blocks, end),
+                    Drafted::still(alloc, draft),
+                )),
                 Err(refusal) => Err(refusal),
             }
         }
@@ -160,7 +157,7 @@ fn change(
         },
         Request::Write { file, vbn, block } => {
             match write(alloc, disk, who, *file, *vbn, block) {
-                Ok(draft) => Ok((Made::Written, Drafted::still(alloc, draft))),
+                Ok(draft) => Ok((Made::Done, Drafted::still(alloc, draft))),
                 Err(refusal) => Err(refusal),
             }
         }
@@ -184,33 +181,40 @@ fn change(
     }
 }
 
-/// Writes what a request is answered into this place, and gives what it makes of the volume, with what is noted then.
+/// Writes what a request is answered into this place, and gives what it makes of the volume. An Extend says where the chain of its
+/// file ends then, and a Truncate may.
 pub(crate) fn carry_out(
     alloc: Global,
     disk: &Disk<'_>,
     counts: &FreeCounts,
     who: Uic,
     request: &Request,
-    known: &Option<KnownEnd>,
+    known: &KnownEnds,
     answer: &mut Answer,
 ) -> Result<(Drafted, Option<KnownEnd>), Refusal>
     requires asked { CanBeAsked request.now }
     requires sound { on IsSoundBy disk.now }
     requires counts { counts.now ≡ seen counts_of disk.now }
-    requires known { on IsKnownIn disk.now known.now }
+    requires known { on AreKnownIn disk.now known.now.ends }
     ensures end { IfOk result (λ r. IsKnownThen disk.now r.0.draft r.0.places.items r.1) }
     ensures step { MatchResult result (λ r. IsDraftFor disk.now who request.now answer.new r.0.draft r.0.places.items)
         (on IsRefusalOf disk.now who request.now) }
 {
     if let Some(query) = request.as_query() {
-        return look_only(alloc, disk, who, query, known, answer);
+        return match look_only(alloc, disk, who, query, answer) {
+            Ok(drafted) => Ok((drafted, None)),
+            Err(refusal) => Err(refusal),
+        };
     }
     if let Request::List { dir } = request {
-        return list_only(alloc, disk, who, *dir, known, answer);
+        return match list_only(alloc, disk, who, *dir, answer) {
+            Ok(drafted) => Ok((drafted, None)),
+            Err(refusal) => Err(refusal),
+        };
     }
     match change(alloc, disk, counts, who, request, known) {
         Ok((made, drafted)) => {
-            let end = end_of(known, &made);
+            let end = end_of(&made);
             put_answer(answer, made);
             Ok((drafted, end))
         }

@@ -10,6 +10,7 @@ ghost use Rattle.ods_amend.specs.{Access.Gives, Access.GivesAll, Bits.IsLoose, B
 ghost use Rattle.ods_volume.specs.Amended.{IsChangeOfAccess, IsChangeOfLabel, IsChangeOfMarks, IsWhyNotGiven};
 ghost use Rattle.ods_volume.specs.Changing.{HasMoreHeaders, IsChangeFor, IsChangeOfHeaders, IsLawfulChange, IsStep, changed};
 
+use crate::ends::{Falls, KnownEnds, falls_for};
 use crate::prepare::{carry_out, counts_after};
 use ods_alloc::FreeCounts;
 use ods_amend::{draft_access, draft_label, draft_marks};
@@ -24,14 +25,14 @@ use std::alloc::{AllocError, Global};
 use std::marker::Model;
 
 /// A sound image with its layout, which changes by requests. What is free is counted for each block of the bitmaps, so that a request
-/// reads none of which nothing is left. Where the chain of the file ends that was extended last is noted, so that its next Extend
-/// does not walk along it. The image is always sound, and the counts are those made anew of it.
+/// reads none of which nothing is left. Where the chains of the files end that were extended last is noted, so that their next Extend
+/// does not walk along them. The image is always sound, and the counts are those made anew of it.
 #[derive(Drop)]
 pub struct Sound {
     alloc: Global,
     mounted: Mounted,
     counts: FreeCounts,
-    end: Option<KnownEnd>,
+    ends: KnownEnds,
 }
 
 impl Model for Sound {
@@ -42,17 +43,19 @@ impl Model for Sound {
 
     ghost view = { λ s. s.mounted };
 
-    ghost invariant = { λ s. IsNoted s.mounted s.counts s.end };
+    ghost invariant = { λ s. IsNoted s.mounted s.counts s.ends.ends };
 }
 
 /// What an accepted request changes: the blocks, and those that INDEXF.SYS gets. It has the counts of the bitmaps afterwards, where they
-/// are made anew, and what is noted then of where a file's chain ends. All the memory that the change takes is taken.
+/// are made anew, where the chain of its file ends then, if it says so, and what it makes untrue of what is noted of others. All the
+/// memory that the change takes is taken.
 #[derive(Drop)]
 pub struct Change {
     pub(crate) draft: Draft,
     pub(crate) places: Vec<u32>,
     counts: Option<FreeCounts>,
     end: Option<KnownEnd>,
+    pub(crate) falls: Falls,
 }
 
 impl Model for Change {
@@ -60,7 +63,7 @@ impl Model for Change {
 
     ghost Value = { Parts };
 
-    ghost view = { λ c. record { changes = c.draft; places = c.places.items; counts = c.counts; end = c.end } };
+    ghost view = { λ c. record { changes = c.draft; places = c.places.items; counts = c.counts; end = c.end; falls = c.falls } };
 }
 
 /// The new counts take the place of those that are kept; where there are none, those stay.
@@ -86,7 +89,7 @@ impl Sound {
             alloc,
             mounted,
             counts,
-            end: None,
+            ends: KnownEnds::new(),
         })
     }
 
@@ -149,13 +152,15 @@ impl Sound {
             (IsRefusalOf self.now.image self.now.layout who request.now) }
     {
         let disk = self.mounted.disk();
+        // The blocks of an image have bytes.
+        let _ = disk.image.len();
         let (drafted, end) = match carry_out(
             self.alloc,
             &disk,
             &self.counts,
             who,
             request,
-            &self.end,
+            &self.ends,
             answer,
         ) {
             Ok(carried) => carried,
@@ -169,6 +174,7 @@ impl Sound {
             places: drafted.places,
             counts,
             end,
+            falls: falls_for(request, answer),
         })
     }
 
@@ -179,7 +185,7 @@ impl Sound {
     {
         self.mounted.apply(change.draft, &change.places);
         put_counts(&mut self.counts, change.counts);
-        self.end = change.end;
+        self.ends.follow(change.falls, change.end);
     }
 
     /// Prepares a request and makes its change. Refused, it changes nothing.
@@ -213,13 +219,15 @@ impl Sound {
         let Ok(counts) = self.counts.after(&disk, &drafted.draft) else {
             return Err(Refusal::NoMemory);
         };
-        // Nothing is noted then of where a file's chain ends.
+        // Nothing is noted then of where chains end.
         let end = None;
+        let falls = Falls::Everything;
         let growth = Change {
             draft: drafted.draft,
             places: drafted.places,
             counts,
             end,
+            falls,
         };
         Ok(growth)
     }
@@ -259,14 +267,16 @@ impl Sound {
         let Ok(counts) = self.counts.after(&disk, &draft) else {
             return Err(Refusal::NoMemory);
         };
-        // Nothing is noted then of where a file's chain ends.
+        // Nothing is noted then of where chains end.
         let end = None;
+        let falls = Falls::Everything;
         let places = Vec::new(self.alloc);
         let given = Change {
             draft,
             places,
             counts,
             end,
+            falls,
         };
         Ok(given)
     }
@@ -327,14 +337,16 @@ impl Sound {
         let disk = self.mounted.disk();
         let draft = draft_marks(self.alloc, &disk, blocks, free)?;
         let counts = self.counts.after(&disk, &draft)?;
-        // Nothing is noted then of where a file's chain ends.
+        // Nothing is noted then of where chains end.
         let end = None;
+        let falls = Falls::Everything;
         let places = Vec::new(self.alloc);
         let marked = Change {
             draft,
             places,
             counts,
             end,
+            falls,
         };
         Ok(marked)
     }
@@ -358,14 +370,16 @@ impl Sound {
         let disk = self.mounted.disk();
         let draft = draft_label(self.alloc, &disk, label)?;
         let counts = self.counts.after(&disk, &draft)?;
-        // Nothing is noted then of where a file's chain ends.
+        // Nothing is noted then of where chains end.
         let end = None;
+        let falls = Falls::Everything;
         let places = Vec::new(self.alloc);
         let labelled = Change {
             draft,
             places,
             counts,
             end,
+            falls,
         };
         Ok(labelled)
     }

@@ -1,9 +1,10 @@
-use Rattle.std.proofs.Common.{[], sym, subst}
+use Rattle.std.proofs.Common.{sym, subst}
 use Rattle.ods_space.specs.Draft.{applied}
-use Rattle.ods_space.specs.Layout.{with_places}
 use Rattle.ods_state.specs.Ends.{IsKnownIn}
+use Rattle.ods_state.proofs.GrownMoves.{no_places}
 use Rattle.ods_state.specs.Outcome.{CanBeAsked}
 use Rattle.ods_change.proofs.StillLayout.{step_still}
+use Rattle.ods_volume.proofs.EndsFollow.{known_of}
 use Rattle.ods_volume.proofs.Arms.{no_other, refused_as, step_as}
 use Rattle.ods_volume.proofs.prepare.change.Goals as goal
 
@@ -15,14 +16,12 @@ unreachable-requires c =
 pub returns-in-Ok-write-clause-step : goal.returns-in-Ok-write-clause-step
 returns-in-Ok-write-clause-step c = step_as c.in-Write.is (step_still c.still-in-Ok-write.result c.still-in-Ok-write.ensures.draft c.still-in-Ok-write.ensures.places c.in-Ok-write.ensures.step)
 
--- what was noted is true still
-pub returns-in-Ok-write-clause-end : goal.returns-in-Ok-write-clause-end
-returns-in-Ok-write-clause-end c =
-    let I = c.args.disk.now.image.now in
-    let L = c.args.disk.now.layout.now in
-    let end = c.args.known.now in
-    subst (λ l. IsKnownIn (applied I c.still-in-Ok-write.result.draft) (with_places L l) end) (sym c.still-in-Ok-write.ensures.places)
-    (subst (λ d. IsKnownIn (applied I d) (with_places L []) end) (sym c.still-in-Ok-write.ensures.draft) (c.in-Ok-write.ensures.known end c.requires.known))
+-- what is noted of the file is true
+pub extend-requires-clause-known : goal.extend-requires-clause-known
+extend-requires-clause-known c = known_of c.args.disk.now.image.now c.args.disk.now.layout.now c.args.known.now.ends _ c.of-noted.result c.requires.known c.of-noted.ensures.some
+
+pub truncate-requires-clause-known : goal.truncate-requires-clause-known
+truncate-requires-clause-known c = known_of c.args.disk.now.image.now c.args.disk.now.layout.now c.args.known.now.ends _ c.of-counted.result c.requires.known c.of-counted.ensures.some
 
 pub returns-in-Err-write-clause-step : goal.returns-in-Err-write-clause-step
 returns-in-Err-write-clause-step c = refused_as c.args.who c.in-Err-write.refusal c.in-Write.is c.in-Err-write.ensures.step
@@ -52,10 +51,19 @@ pub returns-in-Err-extend-clause-step : goal.returns-in-Err-extend-clause-step
 returns-in-Err-extend-clause-step c = refused_as c.args.who c.in-Err-extend.refusal c.in-Extend.is c.in-Err-extend.ensures.step
 
 pub returns-in-Ok-truncate-clause-step : goal.returns-in-Ok-truncate-clause-step
-returns-in-Ok-truncate-clause-step c = step_as c.in-Truncate.is (step_still c.still.result c.still.ensures.draft c.still.ensures.places c.in-Ok-truncate.ensures)
+returns-in-Ok-truncate-clause-step c = step_as c.in-Truncate.is (step_still c.still.result c.still.ensures.draft c.still.ensures.places c.in-Ok-truncate.ensures.step)
+
+-- what a Truncate says of its file is true then
+pub returns-in-Ok-truncate-clause-end : goal.returns-in-Ok-truncate-clause-end
+returns-in-Ok-truncate-clause-end c =
+    let I = c.args.disk.now.image.now in
+    let L = c.args.disk.now.layout.now in
+    let end = c.in-Ok-truncate.end in
+    subst (λ M. IsKnownIn (applied I c.still.result.draft) M end) (sym (no_places L c.still.result.places.items c.still.ensures.places))
+    (subst (λ d. IsKnownIn (applied I d) L end) (sym c.still.ensures.draft) c.in-Ok-truncate.ensures.end)
 
 pub returns-in-Err-truncate-clause-step : goal.returns-in-Err-truncate-clause-step
-returns-in-Err-truncate-clause-step c = refused_as c.args.who c.in-Err-truncate.refusal c.in-Truncate.is c.in-Err-truncate.ensures
+returns-in-Err-truncate-clause-step c = refused_as c.args.who c.in-Err-truncate.refusal c.in-Truncate.is c.in-Err-truncate.ensures.step
 
 pub returns-in-Ok-delete-clause-step : goal.returns-in-Ok-delete-clause-step
 returns-in-Ok-delete-clause-step c = step_as c.in-Delete.is (step_still c.still-in-Ok-delete.result c.still-in-Ok-delete.ensures.draft c.still-in-Ok-delete.ensures.places c.in-Ok-delete.ensures)

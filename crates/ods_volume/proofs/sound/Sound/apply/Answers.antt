@@ -8,18 +8,18 @@ use Rattle.ods_volume.proofs.sound.Sound.apply.Goals as goal
 
 pub apply-requires : goal.apply-requires
 apply-requires c =
-    let p : Parts = record { changes = c.change.inside.draft; places = c.change.inside.places.items; counts = c.change.inside.counts; end = c.change.inside.end } in
+    let p : Parts = record { changes = c.change.inside.draft; places = c.change.inside.places.items; counts = c.change.inside.counts; end = c.change.inside.end; falls = c.change.inside.falls } in
     let lawful = lawful_as c.self.inside.mounted c.args.self.now p c.args.change c.self.view_is c.change.view_is c.requires in
     record { sound = subst (λ ps. IsSoundBy (applied c.self.inside.mounted.image c.change.inside.draft) (with_places c.self.inside.mounted.layout ps)) (sym c.deref.ensures.value) lawful.sound }
 
-now : (c : goal.After-drop-change-inside) → c.apply.new.self ≡ changed c.self.inside.mounted (record { changes = c.change.inside.draft; places = c.change.inside.places.items; counts = c.change.inside.counts; end = c.change.inside.end })
+now : (c : goal.After-drop-change-inside) → c.apply.new.self ≡ changed c.self.inside.mounted (record { changes = c.change.inside.draft; places = c.change.inside.places.items; counts = c.change.inside.counts; end = c.change.inside.end; falls = c.change.inside.falls })
 now c = c.apply.ensures.changed ∙ (λ i. record { image = applied c.self.inside.mounted.image c.change.inside.draft; layout = with_places c.self.inside.mounted.layout (c.deref.ensures.value i) })
 
 pub invariant_of-self : goal.invariant_of-self
 invariant_of-self c =
-    let p : Parts = record { changes = c.change.inside.draft; places = c.change.inside.places.items; counts = c.change.inside.counts; end = c.change.inside.end } in
+    let p : Parts = record { changes = c.change.inside.draft; places = c.change.inside.places.items; counts = c.change.inside.counts; end = c.change.inside.end; falls = c.change.inside.falls } in
     let lawful = lawful_as c.self.inside.mounted c.args.self.now p c.args.change c.self.view_is c.change.view_is c.requires in
-    noted_then c.self.inside.mounted p c.self.inside.counts c.self.inside.end c.self.invariant lawful c.apply.new.self c.put_counts.new.kept (now c) c.put_counts.ensures
+    noted_then c.self.inside.mounted p c.self.inside.counts c.self.inside.ends.ends c.self.invariant lawful c.apply.new.self c.put_counts.new.kept c.follow.new.self.ends (now c) c.put_counts.ensures c.follow.ensures
 
 pub returns : goal.returns
 returns c = now c ∙ (λ i. changed (c.self.view_is i) (c.change.view_is i))

@@ -3,6 +3,7 @@ use Rattle.std.proofs.lemmas.Result.{err_from_is_err_and}
 use Rattle.ods_space.specs.Layout.{Disk}
 use Rattle.ods_request.specs.declared.refusals.Refusal.TheVariants as refusal
 use Rattle.ods_volume.specs.Amended.{IsChangeOfAccess, IsWhyNotGiven}
+use Rattle.ods_volume.specs.declared.ends.Falls.TheVariants.{Everything}
 use Rattle.ods_volume.specs.Changing.{Parts}
 use Rattle.ods_volume.proofs.Amended.{access_changed, no_memory_left}
 use Rattle.ods_volume.proofs.sound.Sound.prepare_access.Goals as goal
@@ -21,5 +22,5 @@ returns-in_default c =
 pub returns : goal.returns
 returns c =
     let lent : record { image = c.disk-disk.result.image.now; layout = c.disk-disk.result.layout.now } ≡ c.self.inside.mounted = λ i. record { image = c.disk-disk.ensures.image i; layout = c.disk-disk.ensures.layout i } in
-    let made : Parts = record { changes = c.in_ok-draft.draft; places = c.new-places.result.items; counts = c.in-Ok.counts; end = None } in
+    let made : Parts = record { changes = c.in_ok-draft.draft; places = c.new-places.result.items; counts = c.in-Ok.counts; end = None; falls = Everything } in
     subst (λ (d : Disk). IsChangeOfAccess d c.args.who c.args.file c.args.owner c.args.protection c.args.flags made) (lent ∙ c.self.view_is) (access_changed c.new-places.result.items c.in_ok-draft.ensures c.in-Ok.ensures c.new-places.ensures.items)

@@ -1,6 +1,7 @@
 use Rattle.std.proofs.Common.{◌≡◌, ◌∙◌, subst, None}
 use Rattle.ods_space.specs.Layout.{Disk}
 use Rattle.ods_volume.specs.Amended.{IsChangeOfMarks}
+use Rattle.ods_volume.specs.declared.ends.Falls.TheVariants.{Everything}
 use Rattle.ods_volume.specs.Changing.{Parts}
 use Rattle.ods_volume.proofs.Amended.{marks_changed}
 use Rattle.ods_volume.proofs.sound.Sound.prepare_marks.Goals as goal
@@ -8,5 +9,5 @@ use Rattle.ods_volume.proofs.sound.Sound.prepare_marks.Goals as goal
 pub returns : goal.returns
 returns c =
     let lent : record { image = c.disk-disk.result.image.now; layout = c.disk-disk.result.layout.now } ≡ c.self.inside.mounted = λ i. record { image = c.disk-disk.ensures.image i; layout = c.disk-disk.ensures.layout i } in
-    let made : Parts = record { changes = c.in_ok-draft.draft; places = c.new-places.result.items; counts = c.in_ok-counts.counts; end = None } in
+    let made : Parts = record { changes = c.in_ok-draft.draft; places = c.new-places.result.items; counts = c.in_ok-counts.counts; end = None; falls = Everything } in
     subst (λ (d : Disk). IsChangeOfMarks d c.args.blocks.now c.args.free made) (lent ∙ c.self.view_is) (marks_changed c.new-places.result.items c.in_ok-draft.ensures c.in_ok-counts.ensures c.new-places.ensures.items)

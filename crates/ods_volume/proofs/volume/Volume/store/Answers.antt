@@ -1,4 +1,5 @@
 use Rattle.std.proofs.Common.{◌≡◌, ap, sym, ◌∙◌, subst, arith}
+use Rattle.ods_base.specs.Image.{IsImage}
 use Rattle.ods_space.specs.Layout.{Disk}
 use Rattle.ods_state.specs.Version.{IsLawful}
 use Rattle.ods_state.specs.Outcome.{Plan, carried_out}
@@ -11,7 +12,7 @@ use Rattle.ods_volume.proofs.volume.Volume.store.Goals.{After-apply}
 pub apply-requires : goal.apply-requires
 apply-requires c =
     let p : Plan = record { entry = c.prepared.inside.entry; changes = c.prepared.inside.change.changes; places = c.prepared.inside.change.places; counts = c.prepared.inside.change.counts; end = c.prepared.inside.change.end } in
-    change_of_plan (state_of c.self.inside) c.args.self.now p c.args.prepared c.self.view_is c.prepared.view_is c.requires
+    change_of_plan (state_of c.self.inside) c.args.self.now p c.args.prepared c.prepared.inside.change.falls c.self.view_is c.prepared.view_is c.self.invariant.lawful (subst IsImage c.disk.ensures.image c.len.ensures.image) c.prepared.invariant.1 c.requires
 
 -- the volume is that with the plan made
 now : (c : After-apply) → record { mounted = c.self.inside.mounted; entries = c.push_reserved.new.self.items; image = c.apply.new.self.image; layout = c.apply.new.self.layout; limit = c.self.inside.limit }
