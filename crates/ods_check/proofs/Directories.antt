@@ -1,7 +1,7 @@
 -- The lines of directories, and the files that they name.
-use Rattle.std.proofs.Common.{◌≡◌, ◌≢◌, ◌⊎◌, ◌+◌, ◌-◌, ◌*◌, ◌<◌, ◌≤◌, ℕ, Bool, true, false, cond, List, [], length, map, slice_get, Some, not, inl, inr, refl, sym, ap, ◌∙◌, subst, arith}
+use Rattle.std.proofs.Common.{◌≡◌, ◌≢◌, ◌⊎◌, ◌<◌, ℕ, Bool, true, false, List, [], length, map, slice_get, Some, not, inl, inr, refl, sym, ap, ◌∙◌, subst, arith}
 use Rattle.std.specs.List.{All, Contains}
-use Rattle.std.specs.Prelude.{MatchBool, slice_index_or, ◌==◌, min}
+use Rattle.std.specs.Prelude.{MatchBool, slice_index_or}
 use Rattle.std.proofs.lemmas.List.Elements.{All-contains_itself}
 use Rattle.std.proofs.lemmas.Option.{slice_get_within, get_or_from_slice_get, slice_get-get_or}
 use Rattle.ods_base.specs.Image.{block_at}
@@ -10,7 +10,6 @@ use Rattle.ods_base.specs.declared.listed.Listed.{Listed}
 use Rattle.ods_base.specs.declared.file_id.FileId.{FileId}
 use Rattle.ods_header.specs.Header.{sequence_of}
 use Rattle.ods_directory.specs.Entry.{Entry, IsGoodEntry, used_entries}
-use Rattle.ods_directory.specs.Mark.{mark_in, end_block, end_byte}
 use Rattle.ods_directory.specs.Names.{AreDistinct, IsDirectory, HasBadEntry, HasTwins, names_of}
 use Rattle.ods_space.specs.Layout.{VolumeLayout, header_at}
 use Rattle.ods_space.specs.Chain.{index_for}
@@ -26,11 +25,13 @@ use Rattle.ods_mount.proofs.Soundness.{all_at}
 use Rattle.ods_check.specs.declared.finding.Finding.{Finding}
 use Rattle.ods_check.specs.declared.finding.Finding.TheVariants.{NamesNone}
 use Rattle.ods_check.specs.Sets.{IsSetOf}
+use Rattle.ods_check.specs.Lists.{AreInOrder}
 use Rattle.ods_directory.specs.Hidden.{HasHidden}
-use Rattle.ods_directory.proofs.Marks.{mark_inside}
-use Rattle.ods_check.specs.Findings.{IsWholeDirectory, IsRead, IsHiding, HasName, AreNames, IsIdOfFile, IsNumberOf, NamesAt, NamesFile, IsLostFile, id_at}
+use Rattle.ods_check.specs.Findings.{IsWholeDirectory, IsRead, IsHiding, HasName, AreNames, ComesBefore, IsIdOfFile, IsNumberOf, NamesAt, NamesFile, IsLostFile, id_at}
 use Rattle.ods_check.proofs.StillTold.{TellsLine}
 use Rattle.ods_check.proofs.Noting.{set_as}
+use Rattle.ods_check.proofs.KeyedLines.{lines_rising}
+use Rattle.ods_check.proofs.InOrder.{order_nil}
 
 -- where the chain has a fault there is no list of blocks
 pub no_blocks : (I : List (List ℕ)) (L : VolumeLayout) (n : ℕ) (fault : ChainFault) → IsChainFault I L n fault → fault ≢ NoMemory → (blocks : List ℕ) → ¬ HasBlocks I L n blocks
@@ -76,6 +77,7 @@ module _ (I : List (List ℕ)) (L : VolumeLayout) where
   none_are d lines is none = record {
     each = λ k x low. let size : length lines ≡ 0 = ap length is in absurd (omega arith);
     all = λ line h. absurd (none line h);
+    rising = subst (AreInOrder ComesBefore) (sym is) (order_nil ComesBefore);
   }
 
   -- the lines of a directory
@@ -88,6 +90,7 @@ module _ (I : List (List ℕ)) (L : VolumeLayout) where
     all = λ line h.
         let P : List ℕ → Type 0 = λ xs. Contains (lines_of (names_of (contents_of I xs) (mark_at I L d xs))) line in
         subst (λ l. Contains l line) (sym is) (subst P (same_blocks I L d h.blocks blocks h.has own) h.named);
+    rising = subst (AreInOrder ComesBefore) (sym is) (lines_rising (contents_of I blocks) (mark_at I L d blocks) good);
   }
 
   -- a directory with a fault in its names has no line

@@ -23,3 +23,9 @@ pub mod UnheldLines
 pub mod RisingRuns
 pub mod SameWords
 pub mod NamedLines
+pub mod ListedBelow
+pub mod NoneSoFar
+pub mod HeldFree
+pub mod KeyedLines
+pub mod InOrder
+pub mod DanglingLines

@@ -1,8 +1,12 @@
 -- What a mount does not refuse, of a volume that has a layout, sound or not: what each finding says, and that all of a kind are told.
 use Rattle.std.specs.Prelude.{◌≡◌, ◌≢◌, ℕ, ◌+◌, ◌-◌, ◌*◌, ◌/◌, ◌%◌, ◌^◌, ◌<◌, ◌≤◌, ◌==◌, IsTrue, Bool, true, false, List, [], ◌∷◌, ◌++◌, ◌⊎◌, length, slice_get, Option, Some, None, if◌then◌else◌}
 use Rattle.std.specs.List.{All, Contains, flat_map}
+use Rattle.std.specs.declared.cmp.Ordering.TheVariants.{Less}
+use Rattle.std.specs.Ordering.{nat_cmp}
+use Rattle.std.specs.Cmp.Lexicographic.{slice_cmp}
 use Rattle.ods_base.specs.declared.file_id.FileId.{FileId}
 use Rattle.ods_base.specs.declared.listed.Listed.{Listed}
+use Rattle.ods_base.specs.Name.{key_of}
 use Rattle.ods_base.specs.Names.{lines_of}
 use Rattle.ods_header.specs.declared.header.HeaderFault.TheVariants as fault
 use Rattle.ods_header.specs.Header.{IsValidHeader, IsFirstFault, segment_of, sequence_of, user_char_of, system_char_of, attributes_of}
@@ -20,7 +24,7 @@ use Rattle.ods_check.specs.declared.finding.NoHeader.TheVariants.{NoBlock, Check
 use Rattle.ods_check.specs.declared.finding.Finding.{Finding}
 use Rattle.ods_check.specs.declared.finding.Finding.TheVariants.{BadHeader, StrayNumbers, LostHeader, HeldByNone, RunHeldByNone, NamesNone, LostFile, EndPast, HiddenEntries, MarkedDeleted, Locked, Unnamed}
 use Rattle.ods_directory.specs.Hidden.{HasHidden}
-use Rattle.ods_check.specs.Lists.{AreDistinct}
+use Rattle.ods_check.specs.Lists.{AreDistinct, AreInOrder}
 use Rattle.ods_check.specs.Runs.{IsRun, AreRising}
 
 -- There is no valid header n: it has no block, or this is the first check of it that fails.
@@ -35,6 +39,10 @@ IsWithout I L n Format = IsFirstFault (header_at I L n) n fault.UnsupportedMap
 -- the bit of number n in the index bitmap is set, a file may have the number, and there is no valid header n, for this reason
 abbrev pub IsBadHeader : List (List ℕ) → VolumeLayout → ℕ → NoHeader → Type 0
 IsBadHeader I L n why = IsTrue (is_in_use I L.home n) × (n ≤ last_number L) × IsWithout I L n why
+
+-- the bit of number n in the index bitmap is set, and there is no valid header n
+abbrev pub LacksHeader : List (List ℕ) → VolumeLayout → ℕ → Type 0
+LacksHeader I L n = IsTrue (is_in_use I L.home n) × ¬ IsValidHeader (header_at I L n) n
 
 -- The bit of number n in the index bitmap is set, and no file may have the number: it is above H.FMAX, or INDEXF.SYS has no block for its header. There is no valid header n.
 pub record IsStray (I : List (List ℕ)) (L : VolumeLayout) (n : ℕ) : Type 0 where
@@ -114,10 +122,15 @@ pub record HasName (I : List (List ℕ)) (L : VolumeLayout) (d : ℕ) (line : Li
 abbrev pub IsIdOfFile : List (List ℕ) → VolumeLayout → FileId → Type 0
 IsIdOfFile I L id = IsFile I L id.number × (sequence_of (header_at I L id.number) ≡ id.sequence)
 
--- these are all lines of directory d; a number that is no such directory has none
+-- a line comes before another in the order of names: by its key, as a list of numbers
+abbrev pub ComesBefore : Listed → Listed → Type 0
+ComesBefore x y = slice_cmp nat_cmp (key_of x.name x.version) (key_of y.name y.version) ≡ Less
+
+-- these are all lines of directory d, each once and in the order of names; a number that is no such directory has none
 pub record AreNames (I : List (List ℕ)) (L : VolumeLayout) (d : ℕ) (lines : List Listed) : Type 0 where
   pub each : All (HasName I L d) lines
   pub all : (line : Listed) → HasName I L d line → Contains lines line
+  pub rising : AreInOrder ComesBefore lines
 
 -- the line names file n, which is there
 abbrev pub IsNumberOf : List (List ℕ) → VolumeLayout → Listed → ℕ → Type 0

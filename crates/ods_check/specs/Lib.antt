@@ -7,3 +7,5 @@ pub mod Findings
 pub mod Holders
 pub mod Turns
 pub mod Runs
+pub mod HeldFree
+pub mod Repairs

@@ -12,6 +12,10 @@ pub record Adds {X : Type 0} (P : X → Type 0) (old new : List X × ℕ) : Type
 abbrev pub AreDistinct : {X : Type 0} → List X → Type 0
 AreDistinct {X = X} xs = (i j : ℕ) (x : X) → slice_get xs i ≡ Some x → slice_get xs j ≡ Some x → i ≡ j
 
+-- each stands in this relation to those behind it
+abbrev pub AreInOrder : {X : Type 0} → (X → X → Type 0) → List X → Type 0
+AreInOrder {X = X} R xs = (i j : ℕ) (x y : X) → slice_get xs i ≡ Some x → slice_get xs j ≡ Some y → i < j → R x y
+
 -- The list is the old one with more behind it, nothing of it twice. The turn of each is a or later, and before b.
 pub record AddsInTurn {X : Type 0} (turn : X → ℕ) (a b : ℕ) (old new : List X × ℕ) : Type 0 where
   pub more : List X

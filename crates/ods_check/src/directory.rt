@@ -15,13 +15,13 @@ use std::alloc::{AllocError, Global};
 
 /// A directory with a whole chain: its blocks, and its end mark.
 #[derive(Drop)]
-pub(crate) struct WholeDirectory {
+pub struct WholeDirectory {
     pub lbns: Vec<u32>,
     pub mark: u64,
 }
 
 /// The directory of this number, where it is one with a whole chain. An error is for memory.
-pub(crate) fn whole_directory(
+pub fn whole_directory(
     alloc: Global,
     disk: &Disk<'_>,
     number: u16,

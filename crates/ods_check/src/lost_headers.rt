@@ -50,7 +50,7 @@ impl Sought for LostHeaders {
 }
 
 /// Whether this is a valid extension header that no file has. `reached` has the headers of all files.
-fn is_lost_header(disk: &Disk<'_>, reached: &NumberSet, number: u16) -> bool
+pub(crate) fn is_lost_header(disk: &Disk<'_>, reached: &NumberSet, number: u16) -> bool
     requires { IsSetOf (λ n. (m : ℕ) × on HasAsHeader disk.now m n) reached.now }
     ensures { MatchBool result (on IsLostHeader disk.now number) (¬ on IsLostHeader disk.now number) }
 {

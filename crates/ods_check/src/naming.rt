@@ -77,7 +77,7 @@ impl Sought for LostFiles {
 }
 
 /// Whether this is a file above 5 that no name names.
-fn is_lost(disk: &Disk<'_>, named: &NumberSet, number: u16) -> bool
+pub(crate) fn is_lost(disk: &Disk<'_>, named: &NumberSet, number: u16) -> bool
     requires { IsSetOf (λ n. (d : ℕ) × on NamesFile disk.now d n) named.now }
     ensures { MatchBool result (on IsLostFile disk.now number) (¬ on IsLostFile disk.now number) }
 {
@@ -91,7 +91,7 @@ fn is_lost(disk: &Disk<'_>, named: &NumberSet, number: u16) -> bool
 }
 
 /// Adds each name of a directory that names no file, and notes the files that the others name.
-fn push_names(
+pub(crate) fn push_names(
     alloc: Global,
     disk: &Disk<'_>,
     directory: u16,
@@ -157,7 +157,7 @@ fn push_line(
 }
 
 /// Whether this is the ID of a file.
-fn is_id_of_file(disk: &Disk<'_>, file: FileId) -> bool
+pub(crate) fn is_id_of_file(disk: &Disk<'_>, file: FileId) -> bool
     ensures { MatchBool result (on IsIdOfFile disk.now file) (¬ on IsIdOfFile disk.now file) }
 {
     match primary_header(disk, file.number) {

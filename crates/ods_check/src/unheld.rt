@@ -44,7 +44,7 @@ pub(crate) fn held_blocks(alloc: Global, disk: &Disk<'_>) -> Result<NumberSet, A
 }
 
 /// Notes the blocks of a file, where it has a whole chain.
-fn note_blocks(
+pub(crate) fn note_blocks(
     alloc: Global,
     disk: &Disk<'_>,
     number: u16,

@@ -1,0 +1,37 @@
+-- What freeing leaves, by what each of its steps says.
+use Rattle.std.proofs.Common.{◌≡◌, ℕ, ◌<◌, ap, sym, subst, true, List, [], length, get_or}
+use Rattle.std.specs.Prelude.{◌↔◌}
+use Rattle.std.specs.List.{All, Contains}
+use Rattle.std.proofs.lemmas.List.Elements.{Contains-get_or}
+use Rattle.ods_space.specs.Layout.{VolumeLayout}
+use Rattle.ods_amend.specs.Bits.{IsLoose}
+use Rattle.ods_check.specs.declared.finding.Finding.{Finding}
+use Rattle.ods_check.specs.Findings.{IsHeldByNone, unheld_line}
+use Rattle.ods_check.specs.Runs.{AddsRuns}
+use Rattle.ods_filing.specs.Contiguous.{HasMarked}
+use Rattle.ods_filing.specs.Filed.{Filed}
+use Rattle.ods_repair.specs.Freed.{AreKnown, IsFreed}
+use Rattle.ods_repair.proofs.NoneLeft.{loose, none_left}
+
+-- what holds of one volume holds of the same
+pub same_here : (P : List (List ℕ) → VolumeLayout → Type 0) (I J : List (List ℕ)) (L M : VolumeLayout) → I ≡ J → L ≡ M → P I L → P J M
+same_here P I J L M image layout holds = subst (P J) layout (subst (λ K. P K L) image holds)
+
+-- each of these blocks may be freed
+pub all_loose : (I : List (List ℕ)) (L : VolumeLayout) (blocks : List ℕ) → ((b : ℕ) → Contains blocks b ↔ IsHeldByNone I L b) → All (IsLoose I L) blocks
+all_loose I L blocks exactly k d low = loose I L (get_or blocks k d) ((exactly (get_or blocks k d)).0 (Contains-get_or blocks k d low))
+
+-- the runs, beside how many of them may be kept
+beside : (Is : ℕ → Type 0) (most : ℕ) (told : List Finding × ℕ) → AddsRuns Is unheld_line ([], most) told → AddsRuns Is unheld_line ([], most) (told.0, most)
+beside Is most told adds = record { runs = adds.runs; is = ap (λ t. (t.0, most)) adds.is; each = adds.each; all = adds.all; rising = adds.rising }
+
+pub are_freed : (old new : Filed) (told : List Finding × ℕ) (blocks : List ℕ) (most : ℕ) → AreKnown old.image old.layout → ((b : ℕ) → Contains blocks b ↔ IsHeldByNone old.image old.layout b)
+    → HasMarked old blocks true new → AddsRuns (IsHeldByNone old.image old.layout) unheld_line ([], most) told → IsFreed old told.0 new
+are_freed old new told blocks most known exactly marked runs = record {
+  known = known;
+  blocks = blocks;
+  exactly = exactly;
+  marked = marked;
+  runs = (most, beside (IsHeldByNone old.image old.layout) most told runs);
+  none = λ b left. none_left old.image new.image old.layout blocks (λ n held. (exactly n).1 held) marked.marked.0 b (subst (λ M. IsHeldByNone new.image M b) marked.marked.1 left);
+}

@@ -1,0 +1,30 @@
+use Rattle.std.proofs.Common.{◌≡◌, ℕ, true, subst, sym, List, []}
+use Rattle.std.specs.Prelude.{◌↔◌}
+use Rattle.std.specs.List.{All, Contains}
+use Rattle.ods_amend.specs.Bits.{IsLoose}
+use Rattle.ods_check.specs.Findings.{IsHeldByNone, unheld_line}
+use Rattle.ods_check.specs.Runs.{AddsRuns}
+use Rattle.ods_filing.specs.Contiguous.{HasMarked}
+use Rattle.ods_repair.specs.Freed.{AreKnown}
+use Rattle.ods_repair.proofs.FreedAll.{same_here, all_loose, are_freed}
+use Rattle.ods_repair.proofs.freeing.free_unheld.Goals as goal
+
+pub mark_blocks-requires : goal.mark_blocks-requires
+mark_blocks-requires c =
+    let I = c.args.filing.now.image in
+    let L = c.args.filing.now.layout in
+    let exactly : (b : ℕ) → Contains c.in_ok-blocks.blocks.items b ↔ IsHeldByNone I L b =
+    same_here (λ K M. (b : ℕ) → Contains c.in_ok-blocks.blocks.items b ↔ IsHeldByNone K M b) c.disk-3.result.image.now I c.disk-3.result.layout.now L c.disk-3.ensures.image c.disk-3.ensures.layout c.in_ok-blocks.ensures in
+    λ freed. subst (All (IsLoose I L)) (sym c.deref.ensures.value) (all_loose I L c.in_ok-blocks.blocks.items exactly)
+
+pub returns-clause-freed : goal.returns-clause-freed
+returns-clause-freed c =
+    let I = c.args.filing.now.image in
+    let L = c.args.filing.now.layout in
+    let told = c.in_ok-told.told in
+    let exactly : (b : ℕ) → Contains c.in_ok-blocks.blocks.items b ↔ IsHeldByNone I L b =
+    same_here (λ K M. (b : ℕ) → Contains c.in_ok-blocks.blocks.items b ↔ IsHeldByNone K M b) c.disk-3.result.image.now I c.disk-3.result.layout.now L c.disk-3.ensures.image c.disk-3.ensures.layout c.in_ok-blocks.ensures in
+    let known : AreKnown I L = same_here AreKnown c.disk.result.image.now I c.disk.result.layout.now L c.disk.ensures.image c.disk.ensures.layout c.in_ok-check_known.ensures.ok in
+    let runs = same_here (λ K M. AddsRuns (IsHeldByNone K M) unheld_line ([], 4294967295) c.in_ok-told.told) c.disk-2.result.image.now I c.disk-2.result.layout.now L c.disk-2.ensures.image c.disk-2.ensures.layout c.in_ok-told.ensures in
+    are_freed c.args.filing.now c.mark_blocks.new.self told c.in_ok-blocks.blocks.items 4294967295 known exactly
+    (subst (λ bs. HasMarked c.args.filing.now bs true c.mark_blocks.new.self) c.deref.ensures.value c.in_ok-mark_blocks.ensures.marked) runs

@@ -1,0 +1,41 @@
+-- Blocks that are marked used and that no file holds are freed: what that leaves, and when it is refused.
+use Rattle.std.specs.Prelude.{◌≡◌, ◌⊎◌, ◌↔◌, ℕ, ◌<◌, true, List, []}
+use Rattle.std.specs.List.{Contains}
+use Rattle.ods_base.specs.declared.file_id.FileId.{FileId}
+use Rattle.ods_space.specs.Layout.{VolumeLayout}
+use Rattle.ods_check.specs.declared.finding.Finding.{Finding}
+use Rattle.ods_check.specs.Findings.{IsHeldByNone, IsLostHeader, LacksHeader, id_at, unheld_line}
+use Rattle.ods_check.specs.Runs.{AddsRuns}
+use Rattle.ods_filing.specs.Contiguous.{HasMarked}
+use Rattle.ods_filing.specs.Filed.{Filed}
+use Rattle.ods_repair.specs.declared.fault.RepairFault.{RepairFault}
+use Rattle.ods_repair.specs.declared.fault.RepairFault.TheVariants.{NoHeader, Unreached, NoMemory}
+
+-- Each number in use has a valid header, and each valid extension header is reached by a file: so it is known which blocks are held.
+pub record AreKnown (I : List (List ℕ)) (L : VolumeLayout) : Type 0 where
+  pub headers : (n : ℕ) → n < 65536 → ¬ LacksHeader I L n
+  pub reached : (n : ℕ) → ¬ IsLostHeader I L n
+
+-- why it is not known: a number in use has no valid header, or no file reaches an extension header
+abbrev pub IsUnknown : List (List ℕ) → VolumeLayout → RepairFault → Type 0
+IsUnknown I L (NoHeader n) = LacksHeader I L n
+IsUnknown I L (Unreached id) = IsLostHeader I L id.number × (id ≡ id_at I L id.number)
+IsUnknown I L other = ⊥
+
+-- The blocks that were marked used and that no file held are free, and nothing else was done; their runs are told.
+pub record IsFreed (old : Filed) (told : List Finding) (new : Filed) : Type 0 where
+  pub known : AreKnown old.image old.layout
+  pub blocks : List ℕ
+  pub exactly : (b : ℕ) → Contains blocks b ↔ IsHeldByNone old.image old.layout b
+  pub marked : HasMarked old blocks true new
+  pub runs : (most : ℕ) × AddsRuns (IsHeldByNone old.image old.layout) unheld_line ([], most) (told, most)
+  -- none is left
+  pub none : (b : ℕ) → ¬ IsHeldByNone new.image new.layout b
+
+-- why it is not looked for: it is not known which blocks are held, or there is no memory
+abbrev pub IsUnsettled : List (List ℕ) → VolumeLayout → RepairFault → Type 0
+IsUnsettled I L why = (why ≡ NoMemory) ⊎ IsUnknown I L why
+
+-- why they are not freed
+abbrev pub IsNotFreed : Filed → RepairFault → Type 0
+IsNotFreed old why = IsUnsettled old.image old.layout why

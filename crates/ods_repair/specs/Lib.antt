@@ -1,0 +1,10 @@
+pub mod Freed
+pub mod Asked
+pub mod Kept
+pub mod Cleared
+pub mod Found
+pub mod Framed
+pub mod Spare
+pub mod Used
+pub mod Doubled
+pub mod Noted

@@ -1,0 +1,22 @@
+//! Repairs of a volume: what is wrong of one kind goes, and nothing else changes.
+#![tactic(auto)]
+
+mod asking;
+mod doubling;
+mod entering;
+mod fault;
+mod freeing;
+mod idents;
+mod lost_file;
+mod noted;
+mod removing;
+mod spare;
+mod used;
+
+pub use doubling::renumber_doubles;
+pub use entering::enter_lost;
+pub use fault::RepairFault;
+pub use freeing::free_unheld;
+pub use lost_file::LostFile;
+pub use removing::remove_dangling;
+pub use used::mark_used;

@@ -1,0 +1,70 @@
+//! `repair names`: entries that name no file go.
+ghost use Rattle.std.specs.Prelude.{◌≡◌, IfErr, IfOk};
+ghost use Rattle.ods_base.specs.declared.name.Pick.{Pick as Picked};
+ghost use Rattle.ods_request.specs.declared.requests.Request.{Request as Asked};
+ghost use Rattle.ods_filing.specs.Led.{IsLed};
+ghost use Rattle.ods_repair.specs.Cleared.{IsCleared, IsNotCleared, RemovesEntries};
+
+use crate::RepairFault;
+use crate::asking::{Plan, ask_all};
+use ods_base::{FileId, Name, Pick};
+use ods_check::{Dangling, find_dangling};
+use ods_filing::Filing;
+use ods_request::{Refusal, Request};
+use std::alloc::Global;
+
+/// Removes each entry of each directory that names no file, by its name and its version, and gives what was removed: entries of lower directories
+/// first. All are found before the first one is removed. The user of the volume asks for it, and needs the right Write to each of these directories.
+/// Refused, those before the one that is refused are removed.
+pub fn remove_dangling(alloc: Global, filing: &mut Filing) -> Result<Vec<Dangling>, RepairFault>
+    // Refused or not, it is what removing entries leaves.
+    ensures led { IsLed RemovesEntries filing.old filing.new }
+    // Done, no name is left that names no file, and each other name is there.
+    ensures done { IfOk result (λ found. IsCleared filing.old found.items filing.new) }
+    // A directory denies the user the right, or there is no memory.
+    ensures refused { IfErr result (IsNotCleared filing.old filing.new) }
+{
+    let found = find_dangling(alloc, &filing.disk())?;
+    let asked = ask_all(filing, &Removing, &found);
+    // The volume is sound still.
+    let _ = filing.disk();
+    if let Err(why) = asked {
+        return Err(why);
+    }
+    Ok(found)
+}
+
+/// Entries go.
+#[derive(Clone, Copy)]
+struct Removing;
+
+impl Plan for Removing {
+    ghost use Rattle.ods_repair.specs.Cleared.{removal_of};
+    ghost use Rattle.ods_repair.specs.declared.fault.RepairFault.TheVariants.{NotRemoved};
+
+    type Item = Dangling;
+
+    ghost request_of = { λ _. removal_of };
+
+    ghost fault_of = { NotRemoved };
+
+    fn request(&self, item: Dangling) -> Request {
+        let line = item.line;
+        removal(item.directory, line.name, line.version)
+    }
+
+    fn fault(&self, item: Dangling, reason: Refusal) -> RepairFault {
+        RepairFault::NotRemoved(item, reason)
+    }
+}
+
+/// The request that removes this very entry.
+fn removal(dir: FileId, name: Name, version: u16) -> Request
+    ensures { result ≡ Asked.Remove dir name (Picked.Exact version) }
+{
+    Request::Remove {
+        dir,
+        name,
+        pick: Pick::Exact(version),
+    }
+}
