@@ -18,11 +18,11 @@ use Rattle.ods_files.specs.declared.form.Form.TheVariants.{Raw}
 use Rattle.ods_filing.specs.Filed.{Filed}
 use Rattle.ods_shell.specs.declared.facts.Facts.{Facts}
 use Rattle.ods_shell.specs.declared.found.Found.{Found}
-use Rattle.ods_upkeep.specs.Copied.{AreCopied, IsCopied, IsCopyable, IsUncopyable, IsUnread, true_for, why_unread}
+use Rattle.ods_upkeep.specs.Copied.{AreCopied, IsCopied, IsCopyMade, IsCopyable, IsUncopyable, IsUnread, true_for, why_unread}
 use Rattle.ods_upkeep.specs.Looked.{IsNextVersion}
 use Rattle.ods_upkeep.specs.PutFor.{IsMadeFor}
 use Rattle.ods_upkeep.specs.Refused.{HasPath}
-use Rattle.ods_upkeep.specs.Uncopied.{IsFirstUncopyable, IsNotCopied, MayAllBeCopied, MayBeCopied, StopsCopying, uncopyable, unmade}
+use Rattle.ods_upkeep.specs.Uncopied.{IsCopyUnmade, IsFirstUncopyable, IsNotCopied, MayAllBeCopied, MayBeCopied, StopsCopying, uncopyable, unfiled, unmade}
 use Rattle.ods_upkeep.specs.Unfiled.{IsUnfiled}
 use Rattle.ods_upkeep.specs.declared.asked.Placing.{Placing}
 use Rattle.ods_upkeep.specs.declared.failure.Failure.{Failure}
@@ -48,12 +48,32 @@ unread I L n (Chain BadChain) told = inr (refl, λ body has. not_bad I L n body 
 unread I L n (Chain (OutsideVolume lbn)) told = inr (refl, λ body has. not_past I L n lbn body told.1 has)
 unread I L n (Chain NoMemory) told = inl refl
 
+-- a copy is made
+pub copy_made : (placing : Placing) (to : Target) (name : RadName) (stamp : List ℕ) (facts : Facts) (old mid new : Filed) (user : Uic) (attributes bytes : List ℕ) (version : ℕ) (file : FileId)
+    → user ≡ old.user → attributes ≡ true_for facts.attributes facts.blocks → IsNextVersion old to.directory name to.version version mid
+    → IsMadeFor placing user to.directory to.version (record { name = name; version = version; stamp = stamp }) attributes bytes file mid new → IsCopyMade placing to name stamp facts bytes old new
+copy_made placing to name stamp facts old mid new user attributes bytes version file is are next made = record {
+  version = version;
+  mid = mid;
+  next = next;
+  file = file;
+  made = subst (λ u. IsMadeFor placing u to.directory to.version (record { name = name; version = version; stamp = stamp }) (true_for facts.attributes facts.blocks) bytes file mid new) is
+      (subst (λ a. IsMadeFor placing user to.directory to.version (record { name = name; version = version; stamp = stamp }) a bytes file mid new) are made);
+}
+
+-- and none is
+pub copy_unmade : (why : Why) (placing : Placing) (to : Target) (name : RadName) (stamp : List ℕ) (facts : Facts) (old mid new : Filed) (user : Uic) (attributes bytes : List ℕ) (version : ℕ)
+    → user ≡ old.user → attributes ≡ true_for facts.attributes facts.blocks → IsNextVersion old to.directory name to.version version mid
+    → IsUnfiled placing user to.directory to.version (record { name = name; version = version; stamp = stamp }) attributes bytes mid new why → IsCopyUnmade placing to name stamp facts bytes old new why
+copy_unmade why placing to name stamp facts old mid new user attributes bytes version is are next refused =
+    unfiled why version mid next (subst (λ u. IsUnfiled placing u to.directory to.version (record { name = name; version = version; stamp = stamp }) (true_for facts.attributes facts.blocks) bytes mid new why) is
+    (subst (λ a. IsUnfiled placing user to.directory to.version (record { name = name; version = version; stamp = stamp }) a bytes mid new why) are refused))
+
 -- a file is copied
-pub is_copied : (placing : Placing) (to : Target) (stamp : List ℕ) (found : Found) (old mid new : Filed) (user : Uic) (facts : Facts) (name : RadName) (attributes bytes lent : List ℕ) (version : ℕ) (file : FileId)
+pub is_copied : (placing : Placing) (to : Target) (stamp : List ℕ) (found : Found) (old new : Filed) (user : Uic) (facts : Facts) (name : RadName) (bytes lent : List ℕ)
     → user ≡ old.user → IsCopyable user to found facts name → ((body : Body) × HasBody old.image old.layout facts.file.number body × (bytes_in Raw body ≡ Some bytes))
-    → attributes ≡ true_for facts.attributes facts.blocks → IsNextVersion old to.directory name to.version version mid → lent ≡ bytes
-    → IsMadeFor placing user to.directory to.version (record { name = name; version = version; stamp = stamp }) attributes lent file mid new → IsCopied placing to stamp found old new
-is_copied placing to stamp found old mid new user facts name attributes bytes lent version file is copyable read are next same made = record {
+    → lent ≡ bytes → IsCopyMade placing to name stamp facts lent old new → IsCopied placing to stamp found old new
+is_copied placing to stamp found old new user facts name bytes lent is copyable read same made = record {
   facts = facts;
   name = name;
   copyable = subst (λ u. IsCopyable u to found facts name) is copyable;
@@ -61,13 +81,7 @@ is_copied placing to stamp found old mid new user facts name attributes bytes le
   held = read.1;
   bytes = bytes;
   all = read.2;
-  version = version;
-  mid = mid;
-  next = next;
-  file = file;
-  made = subst (λ u. IsMadeFor placing u to.directory to.version (record { name = name; version = version; stamp = stamp }) (true_for facts.attributes facts.blocks) bytes file mid new) is
-      (subst (λ a. IsMadeFor placing user to.directory to.version (record { name = name; version = version; stamp = stamp }) a bytes file mid new) are
-      (subst (λ b. IsMadeFor placing user to.directory to.version (record { name = name; version = version; stamp = stamp }) attributes b file mid new) same made));
+  made = subst (λ b. IsCopyMade placing to name stamp facts b old new) same made;
 }
 
 -- it may not be copied
@@ -75,15 +89,11 @@ pub may_not : (why : Why) (placing : Placing) (to : Target) (stamp : List ℕ) (
 may_not why placing to stamp found old user is reason = uncopyable why (subst (λ u. IsUncopyable u to found why) is reason) refl
 
 -- its copy is not made
-pub not_copied : (why : Why) (placing : Placing) (to : Target) (stamp : List ℕ) (found : Found) (old mid new : Filed) (user : Uic) (facts : Facts) (name : RadName) (attributes bytes lent : List ℕ) (version : ℕ)
+pub not_copied : (why : Why) (placing : Placing) (to : Target) (stamp : List ℕ) (found : Found) (old new : Filed) (user : Uic) (facts : Facts) (name : RadName) (bytes lent : List ℕ)
     → user ≡ old.user → IsCopyable user to found facts name → ((body : Body) × HasBody old.image old.layout facts.file.number body × (bytes_in Raw body ≡ Some bytes))
-    → attributes ≡ true_for facts.attributes facts.blocks → IsNextVersion old to.directory name to.version version mid → lent ≡ bytes
-    → IsUnfiled placing user to.directory to.version (record { name = name; version = version; stamp = stamp }) attributes lent mid new why → IsNotCopied placing to stamp found old new why
-not_copied why placing to stamp found old mid new user facts name attributes bytes lent version is copyable read are next same refused =
-    unmade why facts name read.0 bytes version mid (subst (λ u. IsCopyable u to found facts name) is copyable) read.1 read.2 next
-    (subst (λ u. IsUnfiled placing u to.directory to.version (record { name = name; version = version; stamp = stamp }) (true_for facts.attributes facts.blocks) bytes mid new why) is
-    (subst (λ a. IsUnfiled placing user to.directory to.version (record { name = name; version = version; stamp = stamp }) a bytes mid new why) are
-    (subst (λ b. IsUnfiled placing user to.directory to.version (record { name = name; version = version; stamp = stamp }) attributes b mid new why) same refused)))
+    → lent ≡ bytes → IsCopyUnmade placing to name stamp facts lent old new why → IsNotCopied placing to stamp found old new why
+not_copied why placing to stamp found old new user facts name bytes lent is copyable read same refused =
+    unmade why facts name read.0 bytes (subst (λ u. IsCopyable u to found facts name) is copyable) read.1 read.2 (subst (λ b. IsCopyUnmade placing to name stamp facts b old new why) same refused)
 
 -- where the others are copied after one more, all that are left are
 pub copied_on : (placing : Placing) (to : Target) (stamp : List ℕ) (all : List Found) (i : ℕ) (x : Found) (mid next new : Filed) → i < length all → x ≡ get_or all i x → IsCopied placing to stamp x mid next → AreCopied placing to stamp (drop (i + 1) all) next new

@@ -37,3 +37,8 @@ pub mod Making
 pub mod Noting
 pub mod Superseding
 pub mod Gets
+pub mod CutTexts
+pub mod WaysMade
+pub mod Packing
+pub mod CopiesOver
+pub mod CopiedTrees

@@ -80,7 +80,16 @@ true_for own blocks =
     else if nat_lt (512 * blocks) (end_of own) then with_end own (512 * blocks)
     else take 4 own ++ block blocks ++ drop 8 own
 
--- A file is copied. What is known of it is as it was found at first; its bytes are those that all its blocks have when its turn comes. The user makes the copy, its blocks placed so, and enters it, under the version that is said or the next one.
+-- A copy with these bytes is made of a file of which this is known: the user makes it, its blocks placed so, and enters it under this name, under the version that is said or the next one.
+pub record IsCopyMade (placing : Placing) (to : Target) (name : RadName) (stamp : List ℕ) (facts : Facts) (bytes : List ℕ) (old new : Filed) : Type 0 where
+  -- the version that the header of the copy gets, and the volume when it is looked up
+  pub version : ℕ
+  pub mid : Filed
+  pub next : IsNextVersion old to.directory name to.version version mid
+  pub file : FileId
+  pub made : IsMadeFor placing old.user to.directory to.version (record { name = name; version = version; stamp = stamp }) (true_for facts.attributes facts.blocks) bytes file mid new
+
+-- A file is copied. What is known of it is as it was found at first; its bytes are those that all its blocks have when its turn comes.
 pub record IsCopied (placing : Placing) (to : Target) (stamp : List ℕ) (found : Found) (old new : Filed) : Type 0 where
   pub facts : Facts
   pub name : RadName
@@ -89,12 +98,7 @@ pub record IsCopied (placing : Placing) (to : Target) (stamp : List ℕ) (found 
   pub held : HasBody old.image old.layout facts.file.number body
   pub bytes : List ℕ
   pub all : bytes_in Raw body ≡ Some bytes
-  -- the version that the header of the copy gets, and the volume when it is looked up
-  pub version : ℕ
-  pub mid : Filed
-  pub next : IsNextVersion old to.directory name to.version version mid
-  pub file : FileId
-  pub made : IsMadeFor placing old.user to.directory to.version (record { name = name; version = version; stamp = stamp }) (true_for facts.attributes facts.blocks) bytes file mid new
+  pub made : IsCopyMade placing to name stamp facts bytes old new
 
 -- these files are copied, one after another
 abbrev pub AreCopied : Placing → Target → List ℕ → List Found → Filed → Filed → Type 0

@@ -34,3 +34,9 @@ pub mod Remarks
 pub mod Rooms
 pub mod Versions
 pub mod Written
+pub mod Wayside
+pub mod Untarred
+pub mod CopiedFrom
+pub mod UncopiedFrom
+pub mod CopiedTree
+pub mod UncopiedTree

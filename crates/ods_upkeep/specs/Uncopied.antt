@@ -39,14 +39,19 @@ IsFirstUncopyable user to [] failure = ⊥
 IsFirstUncopyable user to (f ∷ found) failure =
     (IsUncopyable user to f failure.why × HasPath failure (string_bytes f.path)) ⊎ (MayBeCopied user to f × IsFirstUncopyable user to found failure)
 
--- Why a file is not copied when its turn comes: it may not be; its bytes are not read; no volume has as many as its blocks hold; or the copy is not made or entered. Nothing was done but for the last.
+-- Why no copy with these bytes is made of a file of which this is known: no volume has as many as its blocks hold, and nothing was done; or the copy is not made or entered.
+pub data IsCopyUnmade (placing : Placing) (to : Target) (name : RadName) (stamp : List ℕ) (facts : Facts) (bytes : List ℕ) (old new : Filed) : Why → Type 0 where
+  too_large : 512 * 2 ^ 20 ≤ 512 * facts.blocks → new ≡ old → IsCopyUnmade placing to name stamp facts bytes old new (Request refusal.VolumeFull)
+  unfiled : (why : Why) (version : ℕ) (mid : Filed) → IsNextVersion old to.directory name to.version version mid
+      → IsUnfiled placing old.user to.directory to.version (record { name = name; version = version; stamp = stamp }) (true_for facts.attributes facts.blocks) bytes mid new why
+      → IsCopyUnmade placing to name stamp facts bytes old new why
+
+-- Why a file is not copied when its turn comes: it may not be, or its bytes are not read, and nothing was done; or no copy is made.
 pub data IsNotCopied (placing : Placing) (to : Target) (stamp : List ℕ) (found : Found) (old new : Filed) : Why → Type 0 where
   uncopyable : (why : Why) → IsUncopyable old.user to found why → new ≡ old → IsNotCopied placing to stamp found old new why
   unread : (why : Why) (facts : Facts) (name : RadName) → IsCopyable old.user to found facts name → IsUnread old.image old.layout facts.file.number why → new ≡ old → IsNotCopied placing to stamp found old new why
-  too_large : (facts : Facts) (name : RadName) → IsCopyable old.user to found facts name → 512 * 2 ^ 20 ≤ 512 * facts.blocks → new ≡ old → IsNotCopied placing to stamp found old new (Request refusal.VolumeFull)
-  unmade : (why : Why) (facts : Facts) (name : RadName) (body : Body) (bytes : List ℕ) (version : ℕ) (mid : Filed) → IsCopyable old.user to found facts name
-      → HasBody old.image old.layout facts.file.number body → bytes_in Raw body ≡ Some bytes → IsNextVersion old to.directory name to.version version mid
-      → IsUnfiled placing old.user to.directory to.version (record { name = name; version = version; stamp = stamp }) (true_for facts.attributes facts.blocks) bytes mid new why → IsNotCopied placing to stamp found old new why
+  unmade : (why : Why) (facts : Facts) (name : RadName) (body : Body) (bytes : List ℕ) → IsCopyable old.user to found facts name → HasBody old.image old.layout facts.file.number body
+      → bytes_in Raw body ≡ Some bytes → IsCopyUnmade placing to name stamp facts bytes old new why → IsNotCopied placing to stamp found old new why
 
 -- These are copied, one after another, up to one that is not.
 abbrev pub StopsCopying : Placing → Target → List ℕ → List Found → Filed → Filed → Failure → Type 0

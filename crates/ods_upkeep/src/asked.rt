@@ -36,3 +36,12 @@ pub struct Removal {
     /// Where no version is said, the highest is meant; else that is refused.
     pub newest: bool,
 }
+
+/// How files of another volume are copied.
+#[derive(Clone, Copy, Debug, PartialEq, Eq)]
+pub struct CopyFrom {
+    /// Where the blocks of the copies stand. Where it is not said, those of a contiguous file stand in one piece, and others anywhere.
+    pub placing: Option<Placing>,
+    /// Whether each copy gets the next version of its name, and not the file's own.
+    pub next: bool,
+}

@@ -45,7 +45,7 @@ pub(crate) fn true_for(attributes: [u8; 32], blocks: u32) -> Result<[u8; 32], Wh
 }
 
 /// Whether nothing was ever written into the attributes.
-fn are_zeros(attributes: &[u8; 32]) -> bool
+pub(crate) fn are_zeros(attributes: &[u8; 32]) -> bool
     ensures { result ≡ all_zeros attributes.now }
 {
     attributes.iter().all(|byte| *byte == 0)

@@ -6,9 +6,11 @@ ghost use Rattle.ods_files.specs.Body.{Body, HasBody, bytes_in};
 ghost use Rattle.ods_header.specs.Text.{ident_text};
 ghost use Rattle.ods_filing.specs.Led.{IsLed};
 ghost use Rattle.ods_shell.specs.HostNames.{before_version};
-ghost use Rattle.ods_upkeep.specs.{Copied.IsCopied, Copied.IsCopiedTo, Copied.IsCopyable, Copied.IsUncopyable, Copied.IsUnread, Copied.NamesCopy, Copied.why_unread as why_for, Kinds.Copies};
+ghost use Rattle.ods_upkeep.specs.{Copied.IsCopied, Copied.IsCopiedTo, Copied.IsCopyMade, Copied.IsCopyable, Copied.IsUncopyable, Copied.IsUnread, Copied.NamesCopy, Copied.why_unread as why_for, Kinds.Copies};
 ghost use Rattle.ods_upkeep.specs.declared.asked.Placing.TheVariants.{Anywhere};
-ghost use Rattle.ods_upkeep.specs.{Copied.AreCopied, Uncopied.IsFirstUncopyable, Uncopied.IsNotCopied, Uncopied.IsNotCopiedTo, Uncopied.MayAllBeCopied, Uncopied.StopsCopying};
+ghost use Rattle.ods_space.specs.Files.{FindsFiles};
+ghost use Rattle.ods_space.specs.Disks.{on};
+ghost use Rattle.ods_upkeep.specs.{Copied.AreCopied, Uncopied.IsCopyUnmade, Uncopied.IsFirstUncopyable, Uncopied.IsNotCopied, Uncopied.IsNotCopiedTo, Uncopied.MayAllBeCopied, Uncopied.StopsCopying};
 
 use crate::asked::Placing;
 use crate::asking::put_new;
@@ -25,7 +27,7 @@ use ods_header::print_ident;
 use ods_mount::Mounted;
 use ods_request::{Refusal, Right, Stamp, permits};
 use ods_shell::{Alone, Facts, Found, Kind, PathFault, Unsaid};
-use ods_space::ChainFault;
+use ods_space::{ChainFault, Disk};
 use std::alloc::Global;
 
 /// Copies files to a directory that is there, where they keep their names, or one to a name: all their blocks, and their attributes. A name gets its
@@ -57,7 +59,12 @@ pub fn copy_files(
 }
 
 /// Why one of these files is not copied to this target, the first one, as far as it can be seen before.
-fn check_all(alloc: Global, all: &[Found], target: &Target, user: Uic) -> Result<(), Failure>
+pub(crate) fn check_all(
+    alloc: Global,
+    all: &[Found],
+    target: &Target,
+    user: Uic,
+) -> Result<(), Failure>
     ensures ok { OnOk result (MayAllBeCopied user target.now all.now) }
     ensures err { IfErr result (IsFirstUncopyable user target.now all.now) }
 {
@@ -91,7 +98,7 @@ fn copy_all(
 }
 
 /// What is known of the file, and the name of its copy, where this user may copy it to this target.
-fn check(found: &Found, target: &Target, user: Uic) -> Result<(Facts, Name), Why>
+pub(crate) fn check(found: &Found, target: &Target, user: Uic) -> Result<(Facts, Name), Why>
     ensures ok { IfOk result (λ r. IsCopyable user target.now found.now r.0 r.1) }
     ensures err { IfErr result (IsUncopyable user target.now found.now) }
 {
@@ -167,6 +174,25 @@ fn copy(
     let user = filing.user();
     let (facts, name) = check(found, target, user)?;
     let bytes = all_bytes(alloc, filing, facts.file)?;
+    make_copy(alloc, filing, placing, target, name, stamp, &facts, &bytes)
+}
+
+/// Makes a copy of a file of which this is known, with these bytes, and enters it in the directory of the target under this name.
+pub(crate) fn make_copy(
+    alloc: Global,
+    filing: &mut Filing,
+    placing: Placing,
+    target: &Target,
+    name: Name,
+    stamp: Stamp,
+    facts: &Facts,
+    bytes: &[u8],
+) -> Result<(), Why>
+    ensures led { placing ≡ Anywhere → OnOk result (IsLed Copies filing.old filing.new) }
+    ensures done { OnOk result (IsCopyMade placing target.now name stamp facts.now bytes.now filing.old filing.new) }
+    ensures refused { IfErr result (IsCopyUnmade placing target.now name stamp facts.now bytes.now filing.old filing.new) }
+{
+    let user = filing.user();
     let attributes = true_for(facts.attributes, facts.blocks)?;
     let version = next_version(filing, target.directory, name, target.version);
     let file = NewFile {
@@ -174,7 +200,7 @@ fn copy(
         version,
         stamp,
         attributes,
-        bytes: &bytes,
+        bytes,
     };
     let _copy = put_new(
         alloc,
@@ -194,7 +220,16 @@ fn all_bytes(alloc: Global, filing: &Filing, file: FileId) -> Result<Vec<u8>, Wh
     ensures err { IfErr result (IsUnread filing.now.image filing.now.layout file.number) }
 {
     let disk = filing.disk();
-    let body = match FileBody::open(alloc, &disk, file.number) {
+    bytes_on(alloc, &disk, file)
+}
+
+/// The same of a file on a volume that may be one that is refused.
+pub(crate) fn bytes_on(alloc: Global, disk: &Disk<'_>, file: FileId) -> Result<Vec<u8>, Why>
+    requires { on FindsFiles disk.now }
+    ensures ok { IfOk result (λ bytes. (body : Body) × on HasBody disk.now file.number body × (bytes_in Form.Raw body ≡ Some bytes.items)) }
+    ensures err { IfErr result (on IsUnread disk.now file.number) }
+{
+    let body = match FileBody::open(alloc, disk, file.number) {
         Ok(body) => body,
         Err(fault) => return Err(why_unread(fault)),
     };

@@ -71,7 +71,12 @@ fn make_directory(
 }
 
 /// Makes the file of a directory with room for so many names, or one block.
-fn create(filing: &mut Filing, name: Name, names: u32, stamp: Stamp) -> Result<FileId, Why>
+pub(crate) fn create(
+    filing: &mut Filing,
+    name: Name,
+    names: u32,
+    stamp: Stamp,
+) -> Result<FileId, Why>
     ensures { MatchResult result (λ file. IsDone filing.old (Request.Create name 1 (blocks_for names) stamp) (Answer.Created file) filing.new)
         (λ why. IsRefusedBy filing.old (Request.Create name 1 (blocks_for names) stamp) why × (filing.new ≡ filing.old)) }
 {

@@ -1,5 +1,5 @@
 //! The file like which others are made.
-ghost use Rattle.std.specs.Prelude.{◌≡◌, MatchResult};
+ghost use Rattle.std.specs.Prelude.{◌≡◌, MatchResult, Some};
 ghost use Rattle.std.specs.Option.{option_map};
 ghost use Rattle.ods_shell.specs.declared.facts.Facts.{Facts};
 ghost use Rattle.ods_upkeep.specs.Begun.{IsLike, IsLikeable, is_contiguous, placing_by as placing_for};
@@ -79,4 +79,12 @@ pub(crate) fn placing_by(said: Option<Placing>, like: &Option<Facts>) -> Placing
         Some(facts) if is_contiguous(facts) => Placing::InOnePiece,
         _ => Placing::Anywhere,
     }
+}
+
+/// Where the blocks of a file stand that is made like this one.
+pub(crate) fn placing_like(said: Option<Placing>, facts: &Facts) -> Placing
+    ensures { result ≡ placing_for said (Some facts.now) }
+{
+    let like = Some(*facts);
+    placing_by(said, &like)
 }

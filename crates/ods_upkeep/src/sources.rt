@@ -4,11 +4,13 @@ ghost use Rattle.ods_shell.specs.declared.found.Found.{Found as One};
 ghost use Rattle.ods_upkeep.specs.Refused.{AreNoSources, IsNoSource};
 ghost use Rattle.ods_upkeep.specs.Sources.{AreFirst, AreOfPath, AreSources, IsAgain};
 ghost use Rattle.ods_upkeep.specs.Once.{HasKeysOf, key_of};
+ghost use Rattle.ods_space.specs.Files.{FindsFiles};
+ghost use Rattle.ods_space.specs.Disks.{on};
 
 use crate::failure::{Failure, Why, of_path};
 use ods_mount::Mounted;
-use ods_shell::mounted::find_path;
-use ods_shell::{Found, Unsaid};
+use ods_shell::{Found, Unsaid, find_path};
+use ods_space::Disk;
 use std::alloc::{AllocError, Global};
 use std::collections::BTreeSet;
 
@@ -22,9 +24,23 @@ pub(crate) fn sources(
     ensures { MatchResult result (λ found. AreSources volume.now.image volume.now.layout unsaid paths.now found.items)
         (AreNoSources volume.now.image volume.now.layout unsaid paths.now) }
 {
+    let disk = volume.disk();
+    sources_on(alloc, &disk, paths, unsaid)
+}
+
+/// The same on a volume that may be one that is refused.
+pub(crate) fn sources_on(
+    alloc: Global,
+    disk: &Disk<'_>,
+    paths: &[&str],
+    unsaid: Unsaid,
+) -> Result<Vec<Found>, Failure>
+    requires { on FindsFiles disk.now }
+    ensures { MatchResult result (λ found. on AreSources disk.now unsaid paths.now found.items) (on AreNoSources disk.now unsaid paths.now) }
+{
     let mut all = Vec::new(alloc);
     for path in paths {
-        if let Err(why) = add_found(alloc, volume, path, unsaid, &mut all) {
+        if let Err(why) = add_found(alloc, disk, path, unsaid, &mut all) {
             return Err(of_path(alloc, path, why));
         }
     }
@@ -37,15 +53,16 @@ pub(crate) fn sources(
 /// Adds what a path finds, the last first.
 fn add_found(
     alloc: Global,
-    volume: &Mounted,
+    disk: &Disk<'_>,
     path: &str,
     unsaid: Unsaid,
     all: &mut Vec<Found>,
 ) -> Result<(), Why>
-    ensures { MatchResult result (λ _. (here : List One) × AreOfPath volume.now.image volume.now.layout unsaid path.now here × (all.new.items ≡ all.old.items ++ reverse here))
-        (IsNoSource volume.now.image volume.now.layout unsaid path.now) }
+    requires { on FindsFiles disk.now }
+    ensures { MatchResult result (λ _. (here : List One) × on AreOfPath disk.now unsaid path.now here × (all.new.items ≡ all.old.items ++ reverse here))
+        (on IsNoSource disk.now unsaid path.now) }
 {
-    let (mut found, _) = find_path(alloc, volume, path, unsaid, &[])?;
+    let (mut found, _) = find_path(alloc, disk, path, unsaid, &[])?;
     found.reverse();
     all.append(&mut found)?;
     Ok(())

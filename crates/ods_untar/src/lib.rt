@@ -1,0 +1,18 @@
+//! What an archive of tar asks of a volume: its files, with the attributes, owners and protections that their records say. It knows no volume.
+#![tactic(auto)]
+
+mod asking;
+mod below;
+mod faults;
+mod laws;
+mod octal;
+mod reading;
+mod told;
+mod wanted;
+
+pub use asking::members_in;
+pub use below::path_below;
+pub use faults::AskFault;
+pub use laws::one_told;
+pub use told::Told;
+pub use wanted::Wanted;
