@@ -8,3 +8,5 @@ mod HolderTexts
 mod Failed
 mod Storing
 mod Ordered
+mod ZeroPieces
+mod CutImages

@@ -10,5 +10,7 @@ pub mod Times
 pub mod Kept
 pub mod Making
 pub mod Compared
+pub mod Holes
+pub mod Blocks
 pub mod Stopped
 pub mod Dates

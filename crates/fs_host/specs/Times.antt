@@ -38,6 +38,10 @@ IsStampOf time stamp =
 abbrev pub IsLocal : Timestamp → DateTime → Type 0
 IsLocal instant time = (zone : TimeZone) × (civil_nanos time ≡ instant.nanosecond +ℤ nanos_of_seconds (offset_at zone instant.nanosecond))
 
+-- the stamp is that of the local time at this second since 1970
+abbrev pub IsStampAt : ℕ → List ℕ → Type 0
+IsStampAt second stamp = (instant : Timestamp) × (instant.nanosecond ≡ nanos_of_seconds (pos second)) × ((time : DateTime) × IsLocal instant time × IsStampOf time stamp)
+
 -- the stamp is that of a local time, from 1970 on
 abbrev pub IsStampOfLocal : List ℕ → Type 0
 IsStampOfLocal stamp = (instant : Timestamp) × (pos 0 ≤ℤ instant.nanosecond) × ((time : DateTime) × IsLocal instant time × IsStampOf time stamp)

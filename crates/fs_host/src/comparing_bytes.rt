@@ -157,7 +157,7 @@ fn may_lack(bytes: &[u8], ends_in_zeros: bool) -> bool
 }
 
 /// Whether each byte is zero.
-fn are_zeros(bytes: &[u8]) -> bool
+pub fn are_zeros(bytes: &[u8]) -> bool
     ensures { result ≡ list_all is_zero bytes.now }
 {
     bytes.iter().all(|byte| *byte == 0)

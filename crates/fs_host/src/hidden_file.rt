@@ -6,6 +6,7 @@ ghost use Rattle.fs_host.specs.Making.{path_hidden};
 
 use crate::comparing_bytes::has_bytes;
 use crate::faults::SaveFault;
+use crate::holes::write_holed;
 use crate::host_fault::HostFault;
 use crate::marks::Mark;
 use crate::noting::Noting;
@@ -48,12 +49,16 @@ impl HiddenFile {
         Err(HostFault::Held)
     }
 
-    /// Writes an image, and these bytes behind it, behind what the file has.
-    pub fn write(&mut self, image: &Image, behind: &[u8]) -> Result<(), SaveFault>
+    /// Writes an image, and these bytes behind it, behind what the file has. Where it `is_sparse` the file gets holes for pieces of zeros.
+    pub fn write(&mut self, image: &Image, behind: &[u8], is_sparse: bool) -> Result<(), SaveFault>
         ensures stays { path_hidden self.new ≡ path_hidden self.old }
         ensures err { IfErr result (λ fault. IsTrue (may_end_filling fault)) }
     {
-        write_image(&mut self.file, image, behind)
+        if is_sparse {
+            write_sparse(&self.file, image, behind)
+        } else {
+            write_image(&mut self.file, image, behind)
+        }
     }
 
     /// Waits until all that was written is on the disk.
@@ -166,6 +171,16 @@ fn write_image(file: &mut File, image: &Image, behind: &[u8]) -> Result<(), Save
         return Err(SaveFault::Write(noting.why()));
     }
     Ok(())
+}
+
+/// The same, with holes for pieces of zeros.
+fn write_sparse(file: &File, image: &Image, behind: &[u8]) -> Result<(), SaveFault>
+    ensures { IfErr result (λ fault. IsTrue (may_end_filling fault)) }
+{
+    match write_holed(file, image, behind) {
+        Ok(_) => Ok(()),
+        Err(why) => Err(SaveFault::Write(why)),
+    }
 }
 
 /// Whether an error says that a file system has no hard links.

@@ -1,11 +1,13 @@
 //! The host's time zone, by which dates of files are read.
 ghost use Rattle.std.specs.Prelude.{◌≡◌, ◌⊎◌, ◌<◌, ◌+◌, ◌≤◌, ◌↔◌, pos, int_div, IfSome, IsTrue};
 ghost use Rattle.fs_host.specs.Dates.{IsDated, IsSecondAt, IsSecondOf, full_year, two_at};
-ghost use Rattle.fs_host.specs.Times.{IsMonth};
+ghost use Rattle.fs_host.specs.Times.{IsLocal, IsMonth, IsStampAt};
 
+use crate::local_time::stamp_of;
 use jiff::Timestamp;
 use jiff::civil::DateTime;
 use jiff::tz::{SystemTimeZone, TimeZone, TimeZoneDatabase};
+use ods_request::Stamp;
 use std::rt::{Env, Files};
 
 /// The host's time zone: the one that `TZ` names, or else `/etc/localtime`; UTC where neither names one.
@@ -56,6 +58,23 @@ impl HostZone {
             Ok(instant) => second_of(instant),
             Err(_) => 0,
         }
+    }
+
+    /// The stamp that a clock in this zone shows at a second since 1970. None where there is no such time.
+    pub fn stamp_at(&self, second: u32) -> Option<Stamp>
+        ensures { IfSome result (IsStampAt second) }
+    {
+        let Ok(instant) = Timestamp::from_second(second as i64) else {
+            return None;
+        };
+        stamp_of(self.local(instant))
+    }
+
+    /// The time that a clock in this zone shows at an instant.
+    pub fn local(&self, instant: Timestamp) -> DateTime
+        ensures { IsLocal instant result }
+    {
+        self.zone().to_datetime(instant)
     }
 
     /// The zone.

@@ -1,10 +1,10 @@
 //! The host's local time, as new files carry it.
 ghost use Rattle.std.specs.Prelude.{◌≡◌, IfSome};
-ghost use Rattle.fs_host.specs.Times.{IsMonth, IsLocal, IsStampOf, IsStampOfLocal, stamp_text};
+ghost use Rattle.fs_host.specs.Times.{IsMonth, IsStampOf, IsStampOfLocal, stamp_text};
 
+use crate::host_zone::HostZone;
 use jiff::Timestamp;
 use jiff::civil::DateTime;
-use jiff::tz::{SystemTimeZone, TimeZone, TimeZoneDatabase};
 use ods_request::Stamp;
 use std::rt::{Clock, Env, Files};
 
@@ -16,32 +16,11 @@ pub fn stamp_of_now<R: Clock + Env + Files + AllocGlobal + Clone + Drop>(rt: &R)
     let Ok(now) = Timestamp::now(rt) else {
         return None;
     };
-    stamp_of(local(rt, now))
-}
-
-/// The local time of an instant.
-fn local<R: Env + Files + AllocGlobal + Clone + Drop>(rt: &R, now: Timestamp) -> DateTime
-    ensures { IsLocal now result }
-{
-    let utc = TimeZone::UTC.to_datetime(now);
-    let Ok(zone) = SystemTimeZone::read(rt) else {
-        return utc;
-    };
-    // All zones are read only where the name alone says which it is.
-    if let Ok(zone) = zone.time_zone(&TimeZoneDatabase::new(rt.alloc())) {
-        return zone.to_datetime(now);
-    }
-    match TimeZoneDatabase::from_env(rt) {
-        Ok(all) => match zone.time_zone(&all) {
-            Ok(zone) => zone.to_datetime(now),
-            Err(_) => utc,
-        },
-        Err(_) => utc,
-    }
+    stamp_of(HostZone::read(rt).local(now))
 }
 
 /// The stamp of a time.
-fn stamp_of(time: DateTime) -> Option<Stamp>
+pub fn stamp_of(time: DateTime) -> Option<Stamp>
     ensures { IfSome result (IsStampOf time) }
 {
     let month = letters_of(time.month().unsigned_abs())?;

@@ -74,7 +74,7 @@ impl<R: Files<File = File> + Clock + AllocGlobal + Clone + Drop> Folder for Repl
         image: &Image,
         behind: &[u8],
     ) -> Result<(), SaveFault> {
-        file.write(image, behind)?;
+        file.write(image, behind, is_sparse(self.old))?;
         Ok(())
     }
 
@@ -101,4 +101,9 @@ impl<R: Files<File = File> + Clock + AllocGlobal + Clone + Drop> Folder for Repl
     fn remove(&mut self, file: HiddenFile) -> bool {
         file.take_away(self.rt)
     }
+}
+
+/// Whether a file has fewer bytes on the disk than its length: it has holes. The host counts them in blocks of 512 bytes.
+fn is_sparse(found: &Metadata) -> bool {
+    found.blocks() < found.len() / 512
 }

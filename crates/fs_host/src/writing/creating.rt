@@ -66,7 +66,8 @@ impl<R: Files<File = File> + AllocGlobal> Folder for Creating<'_, R> {
         image: &Image,
         behind: &[u8],
     ) -> Result<(), SaveFault> {
-        file.write(image, behind)?;
+        // Of a new file nobody expects that its zeros have their places on the disk.
+        file.write(image, behind, true)?;
         Ok(())
     }
 
