@@ -39,7 +39,8 @@ _f11fs_of() {
     rescue) options='--text --scan --partial -n --json -q --blocks --order -h --help' takes='folder' ;;
     cmp) options='--all --json -u -q --blocks --order -h --help' takes='host' ;;
     put) options='-t -b --form --like --contiguous --no-contiguous --replace --owner -o --backup --break-links -n --force --json --stamp -u -q --blocks --order -h --help' takes='host path' ;;
-    cp) options='--contiguous -o --backup --break-links -n --force --json --stamp -u -q --blocks --order -h --help' takes='path' ;;
+    untar) options='-o --backup --break-links -n --force --json --stamp -u -q --blocks --order -h --help' takes='host path' ;;
+    cp) options='--from -r --next --contiguous --no-contiguous -o --backup --break-links -n --force --json --stamp -u -q --blocks --order -h --help' takes='path' ;;
     mv) options='-o --backup --break-links -n --force --json -u -q --blocks --order -h --help' takes='path' ;;
     rm) options='--entry --newest -o --backup --break-links -n --force --json -u -q --blocks --order -h --help' takes='path' ;;
     purge) options='-k -o --backup --break-links -n --force --json -u -q --blocks --order -h --help' takes='path' ;;
@@ -49,6 +50,7 @@ _f11fs_of() {
     chmod) options='-o --backup --break-links -n --force --json -u -q --blocks --order -h --help' takes='path' ;;
     chown) options='-o --backup --break-links -n --force --json -u -q --blocks --order -h --help' takes='path' ;;
     label) options='-o --backup --break-links -n --force --json -q --blocks --order -h --help' takes='' ;;
+    repair) options='--into -o --backup --break-links -n --force --stamp -q --blocks --order -h --help' takes='' ;;
     init) options='--files --label -n --json --stamp -u --order -h --help' takes='size' ;;
     *) options='' takes='' ;;
     esac
@@ -57,9 +59,9 @@ _f11fs_of() {
 # Sets what the value of an option is: _f11fs_value OPTION
 _f11fs_value() {
     case $1 in
-    -f | --commands | -o) kind=host ;;
+    -f | --commands | -o | --from) kind=host ;;
     --stamp | -u | --blocks | --order | --top | --form | --owner | -k | --names | --files | --label) kind=none ;;
-    --like) kind=path ;;
+    --like | --into) kind=path ;;
     *) return 1 ;;
     esac
 }
@@ -98,7 +100,7 @@ _f11fs() {
     elif [[ -z $image ]]; then
         takes=host
     elif [[ -z $command ]]; then
-        mapfile -t COMPREPLY < <(compgen -W 'ls find stat cat get tar df info du check rescue cmp put cp mv rm purge mkdir rmdir truncate chmod chown label init' -- "$cur")
+        mapfile -t COMPREPLY < <(compgen -W 'ls find stat cat get tar df info du check rescue cmp put untar cp mv rm purge mkdir rmdir truncate chmod chown label repair init' -- "$cur")
         return
     fi
     for one in $takes; do

@@ -8,6 +8,10 @@ mod PutAll
 mod Refusals
 mod Slashed
 mod Told
+mod Growing
+mod MoreVersions
+mod Opened
+mod Unpacking
 pub mod Other
 pub mod Giving
 pub mod ShownRights

@@ -9,7 +9,8 @@ use Rattle.ods_upkeep.specs.declared.asked.PutForm.{PutForm}
 use Rattle.ods_upkeep.specs.Begun.{AreNames, IsBegun}
 use Rattle.ods_upkeep.specs.HostPut.{IsHostPut}
 use Rattle.ods_upkeep.specs.Left.{InPut}
-use Rattle.f11fs.specs.Changed.{ArePut, ArePutNext, MayBeReady, hosts_among, path_among}
+use Rattle.f11fs.specs.Changed.{ArePut, ArePutNext, hosts_among, path_among}
+use Rattle.f11fs.specs.Ready.{MayBeReady}
 use Rattle.f11fs.specs.Forms.{form_said, placing_said}
 use Rattle.f11fs.specs.Readings.{IsLastPart}
 

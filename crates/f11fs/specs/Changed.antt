@@ -17,7 +17,7 @@ use Rattle.fs_words.specs.Parts.{IsLineOf}
 use Rattle.fs_reads.specs.declared.stop.Stop.{Stop}
 use Rattle.fs_reads.specs.declared.stop.Stop.TheVariants as stop
 use Rattle.ods_filing.specs.Amended.{HasGiven, HasGotLabel}
-use Rattle.ods_filing.specs.Filed.{Filed, HasGrown, for_another, lacking}
+use Rattle.ods_filing.specs.Filed.{Filed, for_another}
 use Rattle.ods_filing.specs.Led.{IsLed}
 use Rattle.ods_upkeep.specs.Begun.{IsBegun}
 use Rattle.ods_upkeep.specs.Kinds.{Cuts, Removes, Renames}
@@ -32,7 +32,10 @@ use Rattle.ods_upkeep.specs.Removed.{IsRemoved}
 use Rattle.ods_upkeep.specs.HostPut.{IsHostPut}
 use Rattle.ods_upkeep.specs.Left.{InPut}
 use Rattle.ods_upkeep.specs.declared.asked.Placing.{Placing}
+use Rattle.f11fs.specs.CopiedOver.{CopiesBelow}
 use Rattle.f11fs.specs.Forms.{form_said, placing_for, placing_said}
+use Rattle.f11fs.specs.Ready.{MayBeReady}
+use Rattle.f11fs.specs.Unpacked.{AreUntarred}
 use Rattle.f11fs.specs.Readings.{IsLastPart}
 
 -- of so many words of a put, how many name host files: all but the last, where there are several
@@ -54,10 +57,6 @@ abbrev pub ArePutNext : InPut → List (Bor (List ℕ)) → Filed → InPut → 
 ArePutNext p [] old q new = (q ≡ p) × (new ≡ old)
 ArePutNext p (host ∷ hosts) old q new =
     (name : List ℕ) × ((bytes : List ℕ) × ((r : InPut) × ((mid : Filed) × IsLastPart host.now name × IsHostPut p name bytes old r mid × ArePutNext r hosts mid q new)))
-
--- before so many files are put INDEXF.SYS may get the headers that it lacks for all of them, where none is replaced
-abbrev pub MayBeReady : Bool → ℕ → Filed → Filed → Type 0
-MayBeReady replaces count old new = (new ≡ old) ⊎ ((replaces ≡ false) × HasGrown old (lacking old (min count 65535)) new)
 
 -- Each host file that the words name was put where they say, in the form and for the owner that they say. Nothing else was done.
 pub record ArePut (how : PutWords) (words : List (Bor (List ℕ))) (stamp : List ℕ) (old new : Filed) : Type 0 where
@@ -92,6 +91,8 @@ IsNoLabel text = ¬ IsTrue (is_label_text text)
 -- What a change leaves that is made whole, by the words behind its name, and by the time that new files get.
 abbrev pub IsChanged : Change → List (Bor (List ℕ)) → List ℕ → Filed → Filed → Type 0
 IsChanged (change.Put how) words stamp old new = ArePut how words stamp old new
+IsChanged change.Untar words stamp old new = (said : Bool) × AreUntarred said words stamp old new
+IsChanged (change.CpFrom how) words stamp old new = CopiesBelow how.below how.contiguous how.next words stamp old new
 IsChanged (change.Cp contiguous) words stamp old new = CopiesToLast (placing_for contiguous) words stamp old new
 IsChanged change.Mv words stamp old new = MovesToLast words old new
 IsChanged (change.Rm entry_alone newest) words stamp old new = IsRemoved entry_alone newest words old new
@@ -115,6 +116,8 @@ SomeGot owner protection old new = (files : List FileId) × HaveGot owner protec
 -- what some changes leave, refused or not: nothing but what requests of theirs leave, or some of what they give
 abbrev pub KeepsTo : Change → Filed → Filed → Type 0
 KeepsTo (change.Put how) old new = Unit {0}
+KeepsTo change.Untar old new = Unit {0}
+KeepsTo (change.CpFrom how) old new = Unit {0}
 KeepsTo (change.Cp contiguous) old new = Unit {0}
 KeepsTo change.Mv old new = IsLed Renames old new
 KeepsTo (change.Rm entry_alone newest) old new = IsLed (Removes entry_alone) old new

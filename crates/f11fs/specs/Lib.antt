@@ -1,10 +1,14 @@
 pub mod Changed
+pub mod CopiedOver
 pub mod Forms
 pub mod Laws
 pub mod Looks
+pub mod Mended
 pub mod Orders
 pub mod Plans
 pub mod Readings
+pub mod Ready
 pub mod Saved
 pub mod Seen
+pub mod Unpacked
 pub mod Wrong

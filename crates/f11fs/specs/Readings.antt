@@ -1,6 +1,6 @@
 -- Host files: their names, and what is read of them.
-use Rattle.std.specs.Prelude.{◌≡◌, ◌≢◌, ◌⊎◌, ℕ, List, ◌∷◌, ◌++◌, [], Option, Some, MatchOption, Bool, true, false, IfOk, IfErr, ◌-◌, ◌≤◌, vec_len, codes, drop, if◌then◌else◌, nat_eq, string_bytes}
-use Rattle.std.specs.List.{position, starts_with}
+use Rattle.std.specs.Prelude.{◌≡◌, ◌≢◌, ◌⊎◌, ℕ, List, ◌∷◌, ◌++◌, [], Option, Some, MatchOption, Bool, ◌||◌, true, false, IfOk, IfErr, ◌-◌, ◌≤◌, vec_len, codes, drop, if◌then◌else◌, nat_eq, string_bytes}
+use Rattle.std.specs.List.{list_any, position, starts_with}
 use Rattle.std.specs.Str.{bytes_eq}
 use Rattle.std.specs.Borrow.{Bor}
 use Rattle.fs_host.specs.Names.{LacksSlash}
@@ -24,9 +24,9 @@ IsLastPart path name = LacksSlash name × ((path ≡ name) ⊎ ((folder : List �
 abbrev pub first_at : List ℕ → List Taken → Option ℕ
 first_at path taken = position (λ one. bytes_eq (string_bytes one.path) path) taken
 
--- nothing is read for another command than a put
-abbrev pub IsNoPut : Action → Type 0
-IsNoPut asked = (how : PutWords) → asked ≢ action.Change (change.Put how)
+-- nothing is read early for another command than a put and an untar
+abbrev pub ReadsNothing : Action → Type 0
+ReadsNothing asked = ((how : PutWords) → asked ≢ action.Change (change.Put how)) × (asked ≢ action.Change change.Untar)
 
 -- A file was read to the end, behind those that were read before, and so much less may be read from now on; where there was no room, nothing was.
 abbrev pub AddsReading : List ℕ → Early → Early → Type 0
@@ -58,7 +58,17 @@ reads_commands (action.Check all) = false
 reads_commands (action.Rescue text scan partial) = false
 reads_commands (action.Cmp all) = false
 reads_commands (action.Change change) = false
+reads_commands (action.Repair kinds into) = false
 reads_commands (action.Init blocks files label) = false
+
+-- an untar without words reads standard input
+abbrev pub untars_input : Action → List (Bor (List ℕ)) → Bool
+untars_input (action.Change change.Untar) [] = true
+untars_input asked words = false
+
+-- a command reads standard input: one of its words says so, or it is an untar without words
+abbrev pub takes_input : Action → List (Bor (List ℕ)) → Bool
+takes_input asked words = list_any (λ path. bytes_eq path.now (codes "-")) words || untars_input asked words
 
 -- the bytes of a byte order mark
 abbrev pub order_mark : List ℕ

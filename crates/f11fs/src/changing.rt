@@ -8,15 +8,17 @@ ghost use Rattle.fs_reads.specs.declared.stop.Stop.{Stop as End};
 ghost use Rattle.fs_reads.specs.declared.stop.WordFault.{WordFault as AWordFault};
 ghost use Rattle.f11fs.specs.{Changed.IsChanged, Changed.IsLabelled, Changed.IsNoLabel, Changed.IsRefusal, Changed.KeepsTo, Saved.EndsSaved, Saved.IsNotLocked, Saved.IsNotSaved, Saved.IsSavedStatus, Saved.IsWrittenTo};
 
+use crate::copying_from::copy_from_image;
 use crate::early::Early;
 use crate::host::Host;
 use crate::orders::layers_of;
 use crate::putting::{placing_for, put};
 use crate::telling::plan_text;
+use crate::untarring::untar;
 use fs_host::{Locked, Shown, Unfinished, stamp_of_now};
-use fs_reads::{Stop, WordFault, say_extent, send, stop_about, volume_of};
+use fs_reads::{Stop, WordFault, image_of, say_extent, send, stop_about, volume_of};
 use fs_words::{Change, Saving, Words};
-use ods_base::Uic;
+use ods_base::{Image, Uic};
 use ods_filing::Filing;
 use ods_init::Label;
 use ods_mount::Mounted;
@@ -27,11 +29,9 @@ use ods_upkeep::{
     move_names, purge_files, remove_directories, remove_files, truncate_file,
 };
 use std::alloc::{AllocError, Global};
-use std::fs::File;
-use std::rt::Files;
 
 /// The user of whom changes ask rights where none is said.
-const KEEPER: Uic = Uic {
+pub const KEEPER: Uic = Uic {
     group: 1,
     member: 1,
 };
@@ -55,7 +55,7 @@ pub fn change_image<'a, R: Host>(
 }
 
 /// The volume with the change that the words ask for, made whole.
-fn changed<'a, R: Files<File = File> + AllocGlobal + Eprint>(
+fn changed<'a, R: Host>(
     rt: &R,
     volume: Mounted,
     asker: Asker,
@@ -78,14 +78,11 @@ pub fn lock_volume<'a, R: Host>(
 ) -> Result<(Locked, Mounted), Stop<'a>>
     ensures { IfErr result (IsNotLocked words.now.image (not (is_some words.now.saving.out) && not words.now.saving.only_tells) words.now.force) }
 {
-    let writes = words.saving.out.is_none() && !words.saving.only_tells;
-    let mut locked = match Locked::of(rt, words.image, writes, words.force) {
-        Ok(locked) => locked,
-        Err(fault) => return Err(Stop::Word(words.image, WordFault::Unsaved(fault))),
+    let (locked, image) = match lock_image(rt, words) {
+        Ok(found) => found,
+        Err(stop) => return Err(stop),
     };
-    let image = locked.read(rt.alloc(), words.blocks, layers_of(words.order));
-    say_extent(rt, words.image, locked.extent(), false);
-    let volume = match volume_of(rt, words.image, image) {
+    let volume = match volume_of(rt, words.image, Ok(image)) {
         Ok(volume) => volume,
         Err(stop) => return Err(stop),
     };
@@ -96,6 +93,23 @@ pub fn lock_volume<'a, R: Host>(
         }
     } else {
         Ok((locked, volume))
+    }
+}
+
+/// Locks the image, and reads its blocks.
+pub fn lock_image<'a, R: Host>(rt: &R, words: &Words<'a>) -> Result<(Locked, Image), Stop<'a>>
+    ensures { IfErr result (IsNotLocked words.now.image (not (is_some words.now.saving.out) && not words.now.saving.only_tells) words.now.force) }
+{
+    let writes = words.saving.out.is_none() && !words.saving.only_tells;
+    let mut locked = match Locked::of(rt, words.image, writes, words.force) {
+        Ok(locked) => locked,
+        Err(fault) => return Err(Stop::Word(words.image, WordFault::Unsaved(fault))),
+    };
+    let image = locked.read(rt.alloc(), words.blocks, layers_of(words.order));
+    say_extent(rt, words.image, locked.extent(), false);
+    match image_of(rt, words.image, image) {
+        Ok(image) => Ok((locked, image)),
+        Err(stop) => Err(stop),
     }
 }
 
@@ -131,7 +145,7 @@ pub enum Finished {
 }
 
 /// The status of a run that ended so.
-fn status_of(finished: Finished) -> Status
+pub fn status_of(finished: Finished) -> Status
     ensures { EndsSaved finished → IsSavedStatus result }
 {
     match finished {
@@ -179,11 +193,26 @@ pub fn finish<'a, R: Host>(
     ensures short { before.now ≡ None → words.now.saving.out ≡ None → words.now.force ≡ false → IsSomeAnd (remark_kept locked.old) SaysShort → IfOk result (λ f. f ≡ Finished.Told Code.Done) }
     ensures err { before.now ≡ None → words.now.saving.out ≡ None → IfErr result (IsNotSaved words.now.image (is_floppy locked.old) (force_kept locked.old) words.now.saving.backup words.now.saving.break_links) }
 {
-    let image = volume.image();
     if let Some(before) = before {
         let text = plan_text(rt.alloc(), before, volume, words.json)?;
         return Ok(Finished::Told(send(rt, text.as_str())?));
     }
+    save_image(rt, words, locked, volume.image())
+}
+
+/// Saves the changed image where the words say; one that is as it was is left alone.
+pub fn save_image<'a, R: Host>(
+    rt: &R,
+    words: &Words<'a>,
+    locked: &mut Locked,
+    image: &Image,
+) -> Result<Finished, Stop<'a>>
+    ensures status { IfOk result EndsSaved }
+    ensures out { IfSome words.now.saving.out (λ out. IsWrittenTo (is_floppy locked.old) out result) }
+    // An image that is shorter than its volume is written only where the words say so.
+    ensures short { words.now.saving.out ≡ None → words.now.force ≡ false → IsSomeAnd (remark_kept locked.old) SaysShort → IfOk result (λ f. f ≡ Finished.Told Code.Done) }
+    ensures err { words.now.saving.out ≡ None → IfErr result (IsNotSaved words.now.image (is_floppy locked.old) (force_kept locked.old) words.now.saving.backup words.now.saving.break_links) }
+{
     if let Some(out) = words.saving.out {
         return match locked.write_copy(rt, out, image) {
             Ok(wanting) => Ok(Finished::Saved(say_unfinished(rt, out, wanting))),
@@ -223,7 +252,7 @@ pub fn say_unfinished<R: Eprint>(rt: &R, path: &str, wanting: Option<Unfinished>
 
 /// Makes the change that the words ask for. Refused, it may be made in part.
 #[tactic(auto, using(crate::proofs::Giving::done_or_same, crate::proofs::Giving::some_got, crate::proofs::Leading::through, crate::proofs::Leading::unmoved))]
-pub fn change_volume<'a, R: Files<File = File> + AllocGlobal + Eprint>(
+pub fn change_volume<'a, R: Host>(
     rt: &R,
     filing: &mut Filing,
     stamp: Stamp,
@@ -239,6 +268,8 @@ pub fn change_volume<'a, R: Files<File = File> + AllocGlobal + Eprint>(
     let paths = words.paths.as_slice();
     match change {
         Change::Put(how) => put(rt, filing, stamp, words, how, early),
+        Change::Untar => untar(rt, filing, stamp, words, early),
+        Change::CpFrom(how) => copy_from_image(rt, filing, stamp, words, how),
         Change::Cp { contiguous } => match paths.split_last() {
             Some((to, paths)) => end_change(
                 alloc,

@@ -3,7 +3,7 @@ ghost use Rattle.std.specs.Prelude.{◌≡◌, ◌≤◌, ◌⊎◌, ◌&&◌, �
 ghost use Rattle.std.specs.{List.list_any, Str.Lines.lines, Str.bytes_eq};
 ghost use Rattle.fs_host.specs.Faults.{is_reason};
 ghost use Rattle.fs_reads.specs.declared.stop.Stop.{Stop as End};
-ghost use Rattle.f11fs.specs.{Looks.IsAsOuter, Changed.AreAllDone, Changed.AreLinesEnded, Changed.AsksChange, Changed.IsChange, Changed.IsChanged, Changed.IsDoneBy, Changed.IsDoneNow, Changed.IsLineDone, Changed.is_refused, Readings.IsUnread, Readings.behind_mark, Readings.reads_commands};
+ghost use Rattle.f11fs.specs.{Looks.IsAsOuter, Changed.AreAllDone, Changed.AreLinesEnded, Changed.AsksChange, Changed.IsChange, Changed.IsChanged, Changed.IsDoneBy, Changed.IsDoneNow, Changed.IsLineDone, Changed.is_refused, Readings.IsUnread, Readings.behind_mark, Readings.reads_commands, Readings.takes_input, Readings.untars_input};
 ghost use Rattle.ods_shell.specs.declared.status.Status.{Status as Code};
 
 use crate::changing::{Asker, Finished, asker_of, change_volume, finish, kept_before, lock_volume};
@@ -261,11 +261,28 @@ fn obey_line<R: Host>(
     }
 }
 
-/// Whether a `put` wants the standard input that has the commands.
+/// Whether a command wants the standard input that has the commands.
 fn reads_input(outer: &Words<'_>, own: &Words<'_>) -> bool
-    ensures { result ≡ (reads_commands outer.now.action && list_any (λ path. bytes_eq path.now (codes "-")) own.now.paths.items) }
+    ensures { result ≡ (reads_commands outer.now.action && takes_input own.now.action own.now.paths.items) }
 {
-    is_from_input(&outer.action) && name_input(own.paths.as_slice())
+    is_from_input(&outer.action) && takes_input(own.action, own.paths.as_slice())
+}
+
+/// Whether a command of these words reads standard input.
+fn takes_input(action: Action<'_>, paths: &[&str]) -> bool
+    ensures { result ≡ takes_input action.entry paths.now }
+{
+    name_input(paths) || untars_input(action, paths)
+}
+
+/// Whether it is an `untar` without words.
+fn untars_input(action: Action<'_>, paths: &[&str]) -> bool
+    ensures { result ≡ untars_input action.entry paths.now }
+{
+    match action {
+        Action::Change(Change::Untar) => paths.is_empty(),
+        _ => false,
+    }
 }
 
 /// Whether one of these paths is that of standard input.
@@ -334,7 +351,7 @@ fn obey_action<R: Host>(
     ensures refused { result.1 ≡ false → is_refused result.0 ≡ true }
 {
     match own.action {
-        Action::Change(Change::Put(_)) if reads_input(run.outer, own) => {
+        Action::Change(Change::Put(_) | Change::Untar) if reads_input(run.outer, own) => {
             (
                 say_wrong(rt, "error: standard input has the commands"),
                 true,
@@ -357,9 +374,10 @@ fn obey_action<R: Host>(
             (say_end(rt, done), true)
         }
         Action::Df => (say_end(rt, show_space(rt, filing.mounted(), own)), true),
-        Action::Commands { .. } | Action::Init { .. } | Action::Rescue { .. } => {
-            (say_wrong(rt, NO_COMMAND), true)
-        }
+        Action::Commands { .. }
+        | Action::Init { .. }
+        | Action::Rescue { .. }
+        | Action::Repair { .. } => (say_wrong(rt, NO_COMMAND), true),
         _ => {
             let disk = filing.mounted().disk();
             let done = obey(rt, &disk, own, &mut Progress::none());
@@ -370,7 +388,7 @@ fn obey_action<R: Host>(
 
 /// Makes a change; refused, it has done nothing. The copy of the volume that is kept for that shares its blocks.
 #[tactic(auto, using(crate::proofs::Refusals::refused_status))]
-fn change_or_keep<'a, R: Files<File = File> + AllocGlobal + Eprint>(
+fn change_or_keep<'a, R: Host>(
     rt: &R,
     filing: &mut Filing,
     stamp: Stamp,

@@ -7,6 +7,7 @@ use crate::command_files::obey_file;
 use crate::host::Host;
 use crate::making::init_image;
 use crate::orders::layers_of;
+use crate::repairing::repair_image;
 use fs_reads::{
     Progress, Stop, check, info, obey, open_readable, open_volume, rescue, say_end, show_space,
 };
@@ -49,6 +50,7 @@ pub fn run_command<R: Host>(rt: &R, words: &Words<'_>, seen: Seen) -> Status {
             rescue(rt, words, layers, text, scan, partial, &mut progress)
         }
         Action::Change(change) => change_image(rt, words, change),
+        Action::Repair { kinds, into } => repair_image(rt, words, kinds, into),
         Action::Init {
             blocks,
             files,

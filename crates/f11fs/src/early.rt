@@ -1,11 +1,12 @@
-//! Host files that are no plain files, as pipes and standard input: a `put` reads them before the image is locked, so that nobody waits under the
+//! Host files that are no plain files, as pipes and standard input: `put` and `untar` read them before the image is locked, so that nobody waits under the
 //! lock.
-ghost use Rattle.std.specs.Prelude.{◌≡◌, ◌<◌, ◌≤◌, ◌-◌, ◌∷◌, ◌++◌, ℕ, [], None, Some, IfErr, IfOk, IfSome, IsTrue, MatchResult, OnOk, length, slice_get, vec_len};
+ghost use Rattle.std.specs.Prelude.{◌≡◌, ◌<◌, ◌≤◌, ◌-◌, ◌∷◌, ◌++◌, ◌⊎◌, ℕ, [], MatchOption, None, Some, IfErr, IfOk, IfSome, IsTrue, MatchResult, OnOk, length, slice_get, vec_len};
 ghost use Rattle.fs_host.specs.Faults.{is_reason};
 ghost use Rattle.std.specs.List.{remove};
-ghost use Rattle.f11fs.specs.{Changed.host_count, Changed.hosts_among, Readings.AddsReading, Readings.IsNoPut, Readings.first_at};
+ghost use Rattle.f11fs.specs.{Changed.host_count, Changed.hosts_among, Readings.AddsReading, Readings.ReadsNothing, Readings.first_at};
 ghost use Rattle.f11fs.specs.declared.early.Taken.{Taken as Read};
 
+use crate::untarring::archive_among;
 use fs_host::{HostFault, read_host, read_some};
 use fs_reads::Stop;
 use fs_words::{Action, Change, Words};
@@ -46,21 +47,46 @@ impl Early {
         }
     }
 
-    /// Reads what the words of a `put` name and is no plain file. Why reading failed is kept, for the `put`.
+    /// Reads what the words of a `put` or an `untar` name and is no plain file. Why reading failed is kept, for that command.
     pub fn read_words<'a, R: Files<File = File> + Input + AllocGlobal>(
         &mut self,
         rt: &R,
         words: &Words<'_>,
     ) -> Result<(), Stop<'a>>
-        ensures { IsNoPut words.now.action → self.new ≡ self.old }
+        ensures { ReadsNothing words.now.action → self.new ≡ self.old }
     {
-        if !matches!(words.action, Action::Change(Change::Put(_))) {
-            return Ok(());
-        }
-        for path in hosts(words.paths.as_slice()) {
-            if *path == "-" || is_stream(rt, *path) {
-                self.read(rt, *path)?;
+        match words.action {
+            Action::Change(Change::Put(_)) => self.read_all(rt, hosts(words.paths.as_slice())),
+            Action::Change(Change::Untar) => {
+                self.room = archive_room(self.room);
+                self.read_stream(rt, archive_among(words.paths.as_slice()))
             }
+            _ => Ok(()),
+        }
+    }
+
+    /// Reads each of these that is no plain file.
+    fn read_all<'a, R: Files<File = File> + Input + AllocGlobal>(
+        &mut self,
+        rt: &R,
+        paths: &[&str],
+    ) -> Result<(), Stop<'a>> {
+        for path in paths {
+            self.read_stream(rt, *path)?;
+        }
+        Ok(())
+    }
+
+    /// Reads what is at this path, where it is no plain file.
+    fn read_stream<'a, R: Files<File = File> + Input + AllocGlobal>(
+        &mut self,
+        rt: &R,
+        path: &str,
+    ) -> Result<(), Stop<'a>>
+        ensures { OnOk result ((self.new ≡ self.old) ⊎ AddsReading path.now self.old self.new) }
+    {
+        if path == "-" || is_stream(rt, path) {
+            return self.read(rt, path);
         }
         Ok(())
     }
@@ -91,6 +117,17 @@ impl Early {
             Some(place) => Some(self.taken.remove(place).bytes),
             None => None,
         }
+    }
+}
+
+/// How many bytes an archive may have where the files of a volume may have so many. A file has a header on the volume, and up to four blocks more in an
+/// archive.
+pub fn archive_room(room: Option<u64>) -> Option<u64>
+    ensures { MatchOption room (result ≡ None) (λ bytes. IfSome result (λ most. bytes ≤ most)) }
+{
+    match room {
+        Some(bytes) => Some(bytes.saturating_mul(4).saturating_add(65_536)),
+        None => None,
     }
 }
 

@@ -45,4 +45,4 @@ pub use progress::Progress;
 pub use readable::{Readable, open_readable};
 pub use rescuing::rescue;
 pub use stop::{Stop, WordFault, say_end, send, stop_about};
-pub use volume::{VolumeFault, open_volume, say_extent, volume_of};
+pub use volume::{VolumeFault, image_of, open_volume, say_extent, volume_of};

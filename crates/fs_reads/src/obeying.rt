@@ -113,6 +113,7 @@ fn push_shown<'a>(
         | Action::Info
         | Action::Check { .. }
         | Action::Rescue { .. }
+        | Action::Repair { .. }
         | Action::Change(_)
         | Action::Init { .. }
         | Action::Commands { .. } => Ok(()),

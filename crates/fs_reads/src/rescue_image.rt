@@ -5,7 +5,7 @@ ghost use Rattle.fs_reads.specs.declared.volume.VolumeFault.{VolumeFault as Faul
 
 use crate::stop::Stop;
 use crate::volume::{VolumeFault, no_volume, not_read, open_image, say_extent};
-use fs_host::{HostFault, Layers, Noting, read_host};
+use fs_host::{HostFault, Layers, Noting, read_cut_image};
 use ods_base::{Image, ImageError, MAX_BYTES};
 use std::fs;
 use std::fs::File;
@@ -78,16 +78,19 @@ fn read_stream<R: Files<File = File> + AllocGlobal>(
 ) -> Result<(Image, u64), VolumeFault>
     ensures { IfOk result (λ found. found.1 < 512) }
 {
-    let bytes = match read_host(rt, path, MAX_BYTES as u64 + BLOCK - 1) {
-        Ok(bytes) => bytes,
-        Err(HostFault::TooLarge) => return Err(VolumeFault::Image(ImageError::TooBig, None)),
-        Err(HostFault::NoMemory) => return Err(VolumeFault::NoMemory),
-        Err(why) => return Err(VolumeFault::Read(why)),
+    let mut file = match fs::open(rt, path) {
+        Ok(file) => file,
+        Err(error) => return Err(VolumeFault::Read(HostFault::of(&error))),
     };
-    let rest = bytes.len() as u64 % BLOCK;
-    let mut whole = bytes.as_slice().take(bytes.len() as u64 - rest);
-    let image = Image::read_from(rt.alloc(), &mut whole);
-    with_rest(rt, path, image, rest, HostFault::Unknown)
+    let mut noting = Noting::new(&mut file);
+    let read = read_cut_image(rt.alloc(), noting.by_ref());
+    match read {
+        Ok((image, rest)) => Ok((image, rest as u64)),
+        Err(fault) => {
+            let why = noting.why();
+            Err(not_read(rt, path, fault, why))
+        }
+    }
 }
 
 /// The image that was read, and how many bytes stand behind it; or why there is none.

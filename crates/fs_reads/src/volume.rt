@@ -214,8 +214,23 @@ pub fn volume_of<'a, R: Files<File = File> + AllocGlobal>(
     ensures ok { IfOk result (λ volume. image ≡ Ok volume.image) }
     ensures err { IfErr result (λ stop. (fault : Fault) × IsNoVolume path.entry fault stop) }
 {
-    match image {
+    match image_of(rt, path, image) {
         Ok(image) => mount_or_stop(rt, path, image),
+        Err(stop) => Err(stop),
+    }
+}
+
+/// The image that was read from this path; that there is none is said.
+pub fn image_of<'a, R: Files<File = File> + AllocGlobal>(
+    rt: &R,
+    path: &'a str,
+    image: Result<Image, ReadFault>,
+) -> Result<Image, Stop<'a>>
+    ensures ok { IfOk result (λ read. image ≡ Ok read) }
+    ensures err { IfErr result (λ stop. (fault : Fault) × IsNoVolume path.entry fault stop) }
+{
+    match image {
+        Ok(image) => Ok(image),
         Err(fault) => Err(no_volume(path, not_read_in(rt, path, fault, HostFault::Unknown))),
     }
 }

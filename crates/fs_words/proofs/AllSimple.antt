@@ -42,6 +42,8 @@ whole_simple verb.Truncate = refl
 whole_simple verb.Chmod = refl
 whole_simple verb.Chown = refl
 whole_simple verb.Label = refl
+whole_simple verb.Untar = refl
+whole_simple verb.Repair = refl
 whole_simple verb.Init = refl
 whole_simple verb.File = refl
 

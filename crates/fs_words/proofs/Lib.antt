@@ -6,3 +6,4 @@ pub mod LeftWords
 pub mod Unknown
 pub mod Refusing
 pub mod OneProtection
+pub mod RepairLists

@@ -1,8 +1,8 @@
 -- What a command asks for, by what a parse found behind its name.
-use Rattle.std.specs.Prelude.{◌≡◌, ◌≢◌, ℕ, Bool, true, false, List, [], codes, Option, Some, None, MatchOption, unwrap_or}
+use Rattle.std.specs.Prelude.{◌≡◌, ◌≢◌, ◌≤◌, ◌⊎◌, ℕ, length, Bool, true, false, List, [], codes, Option, Some, None, MatchOption, option_map, unwrap_or, is_some}
 use Rattle.std.specs.Borrow.{Bor}
 use Rattle.clap.specs.declared.parser.matches.ArgMatches.{ArgMatches}
-use Rattle.clap.specs.Words.{first_value, found_of, one_text}
+use Rattle.clap.specs.Words.{first_value, found_of, matched_of, one_text, raw_values}
 use Rattle.ods_base.specs.declared.file_id.Uic.{Uic}
 use Rattle.ods_records.specs.Forms.{IsForm}
 use Rattle.ods_records.specs.declared.kind.Wanted.{Wanted}
@@ -12,11 +12,14 @@ use Rattle.fs_words.specs.declared.actions.Action.{Action}
 use Rattle.fs_words.specs.declared.actions.Action.TheVariants as action
 use Rattle.fs_words.specs.declared.actions.Change.{Change}
 use Rattle.fs_words.specs.declared.actions.Change.TheVariants as change
+use Rattle.fs_words.specs.declared.actions.FromWords.{FromWords}
 use Rattle.fs_words.specs.declared.actions.PutWords.{PutWords}
+use Rattle.fs_words.specs.declared.actions.Repairs.{Repairs}
 use Rattle.fs_words.specs.declared.verbs.Verb.{Verb}
 use Rattle.fs_words.specs.declared.verbs.Verb.TheVariants as verb
 use Rattle.fs_words.specs.Devices.{device_size}
 use Rattle.fs_words.specs.Protections.{IsProtection}
+use Rattle.fs_words.specs.RepairWords.{AreKinds}
 use Rattle.fs_words.specs.Users.{IsSaid}
 use Rattle.fs_words.specs.Values.{IsValue, value_of}
 
@@ -29,6 +32,10 @@ pub record IsSet (m : ArgMatches) (option : List ℕ) (set : Bool) : Type 0 wher
 -- the text of an option
 abbrev pub text_of : ArgMatches → List ℕ → Option (List ℕ)
 text_of m option = first_value (found_of m) option
+
+-- all texts of an argument
+abbrev pub texts_of : ArgMatches → List ℕ → List (List ℕ)
+texts_of m id = unwrap_or (option_map raw_values (matched_of (found_of m) id)) []
 
 abbrev pub IsLs : ArgMatches → Action → Type 0
 IsLs m a = (long ids below : Bool) × IsSet m (codes "-l") long × IsSet m (codes "-i") ids × IsSet m (codes "-R") below × (a ≡ action.Ls long ids below)
@@ -86,8 +93,23 @@ pub record IsPutSo (m : ArgMatches) (p : PutWords) : Type 0 where
 abbrev pub IsPut : ArgMatches → Action → Type 0
 IsPut m a = (p : PutWords) × IsPutSo m p × (a ≡ action.Change (change.Put p))
 
+-- an archive and a directory are said at most
+abbrev pub IsUntar : ArgMatches → Action → Type 0
+IsUntar m a = (length (texts_of m (codes "path")) ≤ 2) × (a ≡ action.Change change.Untar)
+
+pub record IsFromSo (m : ArgMatches) (f : FromWords) : Type 0 where
+  pub from : text_of m (codes "--from") ≡ Some f.from.now
+  pub below : IsSet m (codes "-r") f.below
+  pub next : IsSet m (codes "--next") f.next
+  pub contiguous : IsContiguity m f.contiguous
+
+-- no other image is said, and nothing that does something beside one alone
+abbrev pub IsCpWithin : ArgMatches → Action → Type 0
+IsCpWithin m a = (contiguous : Option Bool) × (text_of m (codes "--from") ≡ None) × IsSet m (codes "-r") false × IsSet m (codes "--next") false
+    × IsContiguity m contiguous × (contiguous ≢ Some false) × (a ≡ action.Change (change.Cp (unwrap_or contiguous false)))
+
 abbrev pub IsCp : ArgMatches → Action → Type 0
-IsCp m a = (contiguous : Bool) × IsSet m (codes "--contiguous") contiguous × (a ≡ action.Change (change.Cp contiguous))
+IsCp m a = IsCpWithin m a ⊎ ((f : FromWords) × IsFromSo m f × (a ≡ action.Change (change.CpFrom f)))
 
 abbrev pub IsRm : ArgMatches → Action → Type 0
 IsRm m a = (alone newest : Bool) × IsSet m (codes "--entry") alone × IsSet m (codes "--newest") newest × (a ≡ action.Change (change.Rm alone newest))
@@ -110,6 +132,11 @@ IsChown m a = (owner : Uic) × IsValue IsSaid (text_of m (codes "owner")) (Some 
 
 abbrev pub IsLabel : ArgMatches → Action → Type 0
 IsLabel m a = (text : Bor (List ℕ)) × (text_of m (codes "label") ≡ Some text.now) × (a ≡ action.Change (change.Label text))
+
+-- each word names repairs, and those are asked for; a directory is said only beside lost files
+abbrev pub IsRepair : ArgMatches → Action → Type 0
+IsRepair m a = (kinds : Repairs) × (into : Option (Bor (List ℕ))) × AreKinds (texts_of m (codes "path")) kinds
+    × (value_of into ≡ text_of m (codes "--into")) × (is_some into ≡ true → kinds.lost ≡ true) × (a ≡ action.Repair kinds into)
 
 -- the size of a volume: that of a device, or where there is none of that name the number
 abbrev pub IsSize : List ℕ → ℕ → Type 0
@@ -134,6 +161,7 @@ Asks verb.Check m out a = IsCheck m a
 Asks verb.Rescue m out a = IsRescue m a
 Asks verb.Cmp m out a = IsCmp m a
 Asks verb.Put m out a = IsPut m a
+Asks verb.Untar m out a = IsUntar m a
 Asks verb.Cp m out a = IsCp m a
 Asks verb.Mv m out a = a ≡ action.Change change.Mv
 Asks verb.Rm m out a = IsRm m a
@@ -144,5 +172,6 @@ Asks verb.Truncate m out a = IsTruncate m a
 Asks verb.Chmod m out a = IsChmod m a
 Asks verb.Chown m out a = IsChown m a
 Asks verb.Label m out a = IsLabel m a
+Asks verb.Repair m out a = IsRepair m a
 Asks verb.Init m out a = IsInit m a
 Asks verb.File m out a = ⊥

@@ -15,4 +15,5 @@ pub mod Kinds
 pub mod Hints
 pub mod Parses
 pub mod Parts
+pub mod RepairWords
 pub mod Refused

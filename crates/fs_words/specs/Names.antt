@@ -29,12 +29,14 @@ verb_text verb.Truncate = codes "truncate"
 verb_text verb.Chmod = codes "chmod"
 verb_text verb.Chown = codes "chown"
 verb_text verb.Label = codes "label"
+verb_text verb.Untar = codes "untar"
+verb_text verb.Repair = codes "repair"
 verb_text verb.Init = codes "init"
 verb_text verb.File = codes "-f"
 
 -- the commands, in the order of the help
 abbrev pub verbs : List Verb
-verbs = verb.Ls ∷ verb.Find ∷ verb.Stat ∷ verb.Cat ∷ verb.Get ∷ verb.Tar ∷ verb.Df ∷ verb.Info ∷ verb.Du ∷ verb.Check ∷ verb.Rescue ∷ verb.Cmp ∷ verb.Put ∷ verb.Cp ∷ verb.Mv ∷ verb.Rm ∷ verb.Purge ∷ verb.Mkdir ∷ verb.Rmdir ∷ verb.Truncate ∷ verb.Chmod ∷ verb.Chown ∷ verb.Label ∷ verb.Init ∷ []
+verbs = verb.Ls ∷ verb.Find ∷ verb.Stat ∷ verb.Cat ∷ verb.Get ∷ verb.Tar ∷ verb.Df ∷ verb.Info ∷ verb.Du ∷ verb.Check ∷ verb.Rescue ∷ verb.Cmp ∷ verb.Put ∷ verb.Untar ∷ verb.Cp ∷ verb.Mv ∷ verb.Rm ∷ verb.Purge ∷ verb.Mkdir ∷ verb.Rmdir ∷ verb.Truncate ∷ verb.Chmod ∷ verb.Chown ∷ verb.Label ∷ verb.Repair ∷ verb.Init ∷ []
 
 -- the command of this name
 abbrev pub verb_named : List ℕ → Option Verb

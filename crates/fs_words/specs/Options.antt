@@ -18,6 +18,8 @@ verb_changes verb.Truncate = true
 verb_changes verb.Chmod = true
 verb_changes verb.Chown = true
 verb_changes verb.Label = true
+verb_changes verb.Untar = true
+verb_changes verb.Repair = true
 verb_changes v = false
 
 -- a file of commands may hold any of those that change a volume
@@ -41,6 +43,8 @@ abbrev pub stamps : Verb → Bool
 stamps verb.Put = true
 stamps verb.Cp = true
 stamps verb.Mkdir = true
+stamps verb.Untar = true
+stamps verb.Repair = true
 stamps verb.Init = true
 stamps verb.File = true
 stamps v = false
@@ -49,6 +53,7 @@ stamps v = false
 abbrev pub prints_lines : Verb → Bool
 prints_lines verb.Cat = false
 prints_lines verb.Tar = false
+prints_lines verb.Repair = false
 prints_lines v = true
 
 -- what asks rights, or makes something for a user
@@ -59,6 +64,7 @@ asks_rights verb.Du = false
 asks_rights verb.Check = false
 asks_rights verb.Rescue = false
 asks_rights verb.Label = false
+asks_rights verb.Repair = false
 asks_rights v = true
 
 -- what reads a volume that is there

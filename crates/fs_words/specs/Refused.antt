@@ -1,5 +1,5 @@
 -- Which words are refused.
-use Rattle.std.specs.Prelude.{◌≡◌, ◌≢◌, ◌⊎◌, ℕ, Bool, true, false, List, [], ◌∷◌, codes, Option, Some, None, MatchBool, is_some, unwrap_or}
+use Rattle.std.specs.Prelude.{◌≡◌, ◌≢◌, ◌⊎◌, ◌<◌, length, ℕ, Bool, true, false, List, [], ◌∷◌, codes, Option, Some, None, MatchBool, is_some, unwrap_or}
 use Rattle.std.specs.List.{Contains}
 use Rattle.std.specs.Borrow.{Bor}
 use Rattle.clap.specs.declared.parser.matches.ArgMatches.{ArgMatches}
@@ -15,7 +15,7 @@ use Rattle.fs_words.specs.declared.options.Choice.{Choice}
 use Rattle.fs_words.specs.declared.said.Said.{Said}
 use Rattle.fs_words.specs.declared.verbs.Verb.{Verb}
 use Rattle.fs_words.specs.declared.verbs.Verb.TheVariants as verb
-use Rattle.fs_words.specs.Asked.{IsSet, IsSize, text_of}
+use Rattle.fs_words.specs.Asked.{IsContiguity, IsSet, IsSize, text_of, texts_of}
 use Rattle.fs_words.specs.Found.{IsStamp}
 use Rattle.fs_words.specs.Layerings.{IsLayering}
 use Rattle.fs_words.specs.Names.{verb_named}
@@ -23,6 +23,7 @@ use Rattle.fs_words.specs.Options.{has_value, option_serves, option_text, option
 use Rattle.fs_words.specs.Parses.{IsParseOf}
 use Rattle.fs_words.specs.Parts.{words_left}
 use Rattle.fs_words.specs.Protections.{IsProtection}
+use Rattle.fs_words.specs.RepairWords.{HasUnknown, is_asked_for}
 use Rattle.fs_words.specs.Rules.{program_app, whole_app}
 use Rattle.fs_words.specs.Saying.{IsFlag, text_said}
 use Rattle.fs_words.specs.Users.{IsSaid}
@@ -78,6 +79,11 @@ IsUnasked verb.Truncate m = (bytes : ℕ) → IsValue IsLargeNumber (text_of m (
 IsUnasked verb.Chmod m = (protection : ℕ) → IsValue IsProtection (text_of m (codes "protection")) (Some protection) → ⊥
 IsUnasked verb.Chown m = (owner : Uic) → IsValue IsSaid (text_of m (codes "owner")) (Some owner) → ⊥
 IsUnasked verb.Label m = text_of m (codes "label") ≡ None
+IsUnasked verb.Untar m = 2 < length (texts_of m (codes "path"))
+-- within the volume something is said that does something beside another image alone
+IsUnasked verb.Cp m = (text_of m (codes "--from") ≡ None) × (IsSet m (codes "-r") true ⊎ (IsSet m (codes "--next") true ⊎ IsContiguity m (Some false)))
+-- a word names no repair, or a directory is said and lost files are not
+IsUnasked verb.Repair m = HasUnknown (texts_of m (codes "path")) ⊎ ((is_some (text_of m (codes "--into")) ≡ true) × (is_asked_for (codes "lost") (texts_of m (codes "path")) ≡ false))
 IsUnasked verb.Init m = SpellsNone IsSize (unwrap_or (text_of m (codes "size")) []) ⊎ IsNoValue IsNumber (text_of m (codes "--files"))
 IsUnasked verb.File m = Unit {0}
 IsUnasked v m = ⊥

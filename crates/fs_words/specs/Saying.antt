@@ -1,11 +1,10 @@
 -- What the words say of an option that may stand before IMAGE or behind the command.
-use Rattle.std.specs.Prelude.{◌≡◌, ◌⊎◌, ℕ, Bool, true, false, List, [], codes, Option, Some, None, map, option_map, unwrap_or}
+use Rattle.std.specs.Prelude.{◌≡◌, ◌⊎◌, ℕ, Bool, true, false, List, [], codes, Option, Some, None}
 use Rattle.std.specs.Option.{option_or}
 use Rattle.std.specs.Borrow.{Bor}
 use Rattle.clap.specs.declared.parser.matches.ArgMatches.{ArgMatches}
-use Rattle.clap.specs.Words.{found_of, matched_of, raw_values}
 use Rattle.fs_words.specs.declared.said.Said.{Said}
-use Rattle.fs_words.specs.Asked.{IsSet, text_of}
+use Rattle.fs_words.specs.Asked.{IsSet, text_of, texts_of}
 
 -- an option without a value is set among these, where there are any
 abbrev pub IsSetAmong : Option (Bor ArgMatches) → List ℕ → Bool → Type 0
@@ -16,10 +15,6 @@ IsSetAmong None option set = set ≡ false
 abbrev pub text_among : Option (Bor ArgMatches) → List ℕ → Option (List ℕ)
 text_among (Some m) option = text_of m.now option
 text_among None option = None
-
--- all texts of an argument
-abbrev pub texts_of : ArgMatches → List ℕ → List (List ℕ)
-texts_of m id = unwrap_or (option_map raw_values (matched_of (found_of m) id)) []
 
 -- the words from the name of the command on
 abbrev pub rest_among : ArgMatches → List (List ℕ)

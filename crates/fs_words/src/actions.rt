@@ -60,6 +60,11 @@ pub enum Action<'a> {
     },
     /// Changes the volume.
     Change(Change<'a>),
+    /// Mends what is wrong with the image; lost files are entered in the directory of the path `into`, where one is said.
+    Repair {
+        kinds: Repairs,
+        into: Option<&'a str>,
+    },
     /// Makes an image of this many blocks, with room for this many files beside the five reserved ones, where a number is said.
     Init {
         blocks: u32,
@@ -78,10 +83,14 @@ pub enum Action<'a> {
 pub enum Change<'a> {
     /// Puts files of the host.
     Put(PutWords<'a>),
+    /// Puts the members of an archive: of the host file that the first word says, or of standard input; below the directory that the second word says.
+    Untar,
     /// Copies files, in one piece where `contiguous`.
     Cp {
         contiguous: bool,
     },
+    /// Copies files of another volume.
+    CpFrom(FromWords<'a>),
     /// Moves names, or gives files other names.
     Mv,
     /// Removes names with their files: the entry alone where `entry_alone`, the highest version where `newest`.
@@ -116,6 +125,34 @@ pub enum Change<'a> {
     Label {
         text: &'a str,
     },
+}
+
+/// How files of another volume are copied.
+#[derive(Clone, Copy, Debug, PartialEq, Eq, Drop)]
+pub struct FromWords<'a> {
+    /// The image of the other volume.
+    pub from: &'a str,
+    /// All that is in a directory and below it.
+    pub below: bool,
+    /// A version that is taken becomes the next one.
+    pub next: bool,
+    /// Whether the copies are to be in one piece, where that is said.
+    pub contiguous: Option<bool>,
+}
+
+/// Which repairs are made.
+#[derive(Clone, Copy, Debug, PartialEq, Eq, Drop)]
+pub struct Repairs {
+    /// Blocks that files hold and that the storage bitmap says are free are marked as used.
+    pub used: bool,
+    /// Of two entries with one name and version the second gets the next version.
+    pub double: bool,
+    /// Entries that name no file are removed.
+    pub names: bool,
+    /// Files that no directory names are entered in one.
+    pub lost: bool,
+    /// Blocks that are marked as used and that no file holds become free.
+    pub free: bool,
 }
 
 /// How files are put.

@@ -31,6 +31,10 @@ pub(crate) enum Argument<'a> {
     Word(&'a str, &'a str, &'a str),
     /// One word that is a number of 64 bits.
     LargeNumber(&'a str, &'a str, &'a str),
+    /// Any number of words that are no paths of the volume. In a parse they are what paths are. Their name in the help, and their help.
+    Words(&'a str, &'a str),
+    /// The same, one or more.
+    SomeWords(&'a str, &'a str),
     /// Any number of paths.
     Paths,
     /// One path or more.
@@ -118,7 +122,11 @@ fn name_in<'a>(argument: &Argument<'a>) -> &'a str
         | Argument::Number(id, _, _)
         | Argument::Word(id, _, _)
         | Argument::LargeNumber(id, _, _) => id,
-        Argument::Paths | Argument::SomePaths | Argument::TwoPaths => "path",
+        Argument::Words(_, _)
+        | Argument::SomeWords(_, _)
+        | Argument::Paths
+        | Argument::SomePaths
+        | Argument::TwoPaths => "path",
     }
 }
 
@@ -140,18 +148,20 @@ fn of_kind<'a>(arg: Arg<'a>, argument: &Argument<'a>) -> Arg<'a>
             .required(true)
             .value_parser(value_parser!(u64))
             .help(help),
-        Argument::Paths => paths(arg, 0),
-        Argument::SomePaths => paths(arg, 0).required(true),
-        Argument::TwoPaths => paths(arg, 2).required(true),
+        Argument::Words(value, help) => words(arg, value, help, 0),
+        Argument::SomeWords(value, help) => words(arg, value, help, 0).required(true),
+        Argument::Paths => words(arg, "PATH", PATHS_HELP, 0),
+        Argument::SomePaths => words(arg, "PATH", PATHS_HELP, 0).required(true),
+        Argument::TwoPaths => words(arg, "PATH", PATHS_HELP, 2).required(true),
     }
 }
 
-/// Paths, at least so many where any are said.
-fn paths<'a>(arg: Arg<'a>, least: usize) -> Arg<'a>
+/// Words, at least so many where any are said, with their name in the help.
+fn words<'a>(arg: Arg<'a>, value: &'a str, help: &'a str, least: usize) -> Arg<'a>
     ensures rule { rule_of result ≡ as_paths least (rule_of arg.entry) }
     ensures same { IsKindOf arg.entry result }
 {
-    arg.value_name("PATH").num_args(least..).help(PATHS_HELP)
+    arg.value_name(value).num_args(least..).help(help)
 }
 
 /// An option as it is written: `--` and a word, or `-` and a letter.

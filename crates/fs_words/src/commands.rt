@@ -21,12 +21,14 @@ mod mkdir;
 mod mv;
 mod purge;
 mod put;
+mod repair;
 mod rescue;
 mod rm;
 mod rmdir;
 mod stat;
 mod tar;
 mod truncate;
+mod untar;
 
 use crate::actions::{Action, Change};
 use crate::arguments::{Row, command_in};
@@ -56,6 +58,7 @@ pub(crate) fn command_of<'a>(alloc: Global, verb: Verb) -> Result<Command<'a>, A
         Verb::Rescue => row_command(alloc, verb, &rescue::ROW),
         Verb::Cmp => row_command(alloc, verb, &cmp::ROW),
         Verb::Put => row_command(alloc, verb, &put::ROW),
+        Verb::Untar => row_command(alloc, verb, &untar::ROW),
         Verb::Cp => row_command(alloc, verb, &cp::ROW),
         Verb::Mv => row_command(alloc, verb, &mv::ROW),
         Verb::Rm => row_command(alloc, verb, &rm::ROW),
@@ -66,6 +69,7 @@ pub(crate) fn command_of<'a>(alloc: Global, verb: Verb) -> Result<Command<'a>, A
         Verb::Chmod => row_command(alloc, verb, &chmod::ROW),
         Verb::Chown => row_command(alloc, verb, &chown::ROW),
         Verb::Label => row_command(alloc, verb, &label::ROW),
+        Verb::Repair => row_command(alloc, verb, &repair::ROW),
         Verb::Init => row_command(alloc, verb, &init::ROW),
         Verb::File => Ok(Command::new(alloc, verb.name())),
     }
@@ -104,7 +108,8 @@ pub(crate) fn action_of<'a>(
         Verb::Rescue => Ok(rescue::action(own)),
         Verb::Cmp => Ok(cmp::action(own)),
         Verb::Put => put::action(alloc, own),
-        Verb::Cp => Ok(cp::action(own)),
+        Verb::Untar => untar::action(alloc, own),
+        Verb::Cp => cp::action(alloc, own),
         Verb::Mv => Ok(Action::Change(Change::Mv)),
         Verb::Rm => Ok(rm::action(own)),
         Verb::Purge => purge::action(alloc, own),
@@ -114,6 +119,7 @@ pub(crate) fn action_of<'a>(
         Verb::Chmod => chmod::action(alloc, own),
         Verb::Chown => chown::action(alloc, own),
         Verb::Label => label::action(alloc, own),
+        Verb::Repair => repair::action(alloc, own),
         Verb::Init => init::action(alloc, own),
         // No name of a command gives it.
         Verb::File => Err(wanting(alloc, false)?),

@@ -16,13 +16,15 @@ mod line;
 mod numbers;
 mod options;
 mod parse;
+mod placing;
 mod protections;
+mod repairs;
 mod said;
 mod users;
 mod verbs;
 mod words;
 
-pub use actions::{Action, Change, PutWords};
+pub use actions::{Action, Change, FromWords, PutWords, Repairs};
 pub use days::is_true_day;
 pub use devices::device_blocks;
 pub use layering::Layering;

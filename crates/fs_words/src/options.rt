@@ -68,17 +68,29 @@ pub fn serves(choice: Choice, verb: Verb) -> bool
             verb.changes() || matches!(verb, Verb::Get | Verb::Rescue | Verb::Init | Verb::File)
         }
         Choice::Force => verb.changes() || matches!(verb, Verb::Get | Verb::File),
-        Choice::Json => !matches!(verb, Verb::Cat | Verb::Tar),
+        Choice::Json => !matches!(verb, Verb::Cat | Verb::Tar | Verb::Repair),
         Choice::Stamp => {
             matches!(
                 verb,
-                Verb::Put | Verb::Cp | Verb::Mkdir | Verb::Init | Verb::File
+                Verb::Put
+                    | Verb::Untar
+                    | Verb::Cp
+                    | Verb::Mkdir
+                    | Verb::Repair
+                    | Verb::Init
+                    | Verb::File
             )
         }
         Choice::User => {
             !matches!(
                 verb,
-                Verb::Df | Verb::Info | Verb::Du | Verb::Check | Verb::Rescue | Verb::Label
+                Verb::Df
+                    | Verb::Info
+                    | Verb::Du
+                    | Verb::Check
+                    | Verb::Rescue
+                    | Verb::Label
+                    | Verb::Repair
             )
         }
         Choice::Quiet | Choice::Blocks => !matches!(verb, Verb::Init),

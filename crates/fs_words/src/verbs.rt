@@ -55,6 +55,10 @@ pub enum Verb {
     Chown,
     /// `label`: gives the volume another label.
     Label,
+    /// `untar`: puts the files of an archive into the volume.
+    Untar,
+    /// `repair`: mends faults and findings of an image.
+    Repair,
     /// `init`: makes an image of a new volume.
     Init,
     /// `-f`: obeys the commands in a file.
@@ -62,7 +66,7 @@ pub enum Verb {
 }
 
 /// The commands, in the order of the help.
-pub(crate) const VERBS: [Verb; 24] = [
+pub(crate) const VERBS: [Verb; 26] = [
     Verb::Ls,
     Verb::Find,
     Verb::Stat,
@@ -76,6 +80,7 @@ pub(crate) const VERBS: [Verb; 24] = [
     Verb::Rescue,
     Verb::Cmp,
     Verb::Put,
+    Verb::Untar,
     Verb::Cp,
     Verb::Mv,
     Verb::Rm,
@@ -86,6 +91,7 @@ pub(crate) const VERBS: [Verb; 24] = [
     Verb::Chmod,
     Verb::Chown,
     Verb::Label,
+    Verb::Repair,
     Verb::Init,
 ];
 
@@ -118,6 +124,8 @@ impl Verb {
             Verb::Chmod => "chmod",
             Verb::Chown => "chown",
             Verb::Label => "label",
+            Verb::Untar => "untar",
+            Verb::Repair => "repair",
             Verb::Init => "init",
             Verb::File => "-f",
         }
@@ -147,6 +155,8 @@ impl Verb {
                 | Verb::Chmod
                 | Verb::Chown
                 | Verb::Label
+                | Verb::Untar
+                | Verb::Repair
         )
     }
 }

@@ -2,10 +2,11 @@
 ghost use Rattle.std.specs.Prelude.{IfErr, IfOk};
 ghost use Rattle.ods_records.specs.Forms.{IsForm};
 ghost use Rattle.fs_words.specs.Values.{IsValue, value_of};
-ghost use Rattle.fs_words.specs.{Asked.IsContiguity, Asked.IsPut, Refused.HasReason, Refused.IsNoValue, Refused.IsUnasked};
+ghost use Rattle.fs_words.specs.{Asked.IsPut, Refused.HasReason, Refused.IsNoValue, Refused.IsUnasked};
 
 use crate::actions::{Action, Change, PutWords};
 use crate::arguments::{Argument, Row};
+use crate::placing::contiguity;
 use crate::said::wrong;
 use crate::users::owner_of;
 use crate::verbs::Verb;
@@ -74,19 +75,6 @@ pub(crate) fn action<'a>(alloc: Global, own: &ArgMatches<'a>) -> Result<Action<'
         replace: own.get_flag("--replace"),
         owner,
     })))
-}
-
-/// Whether the new files are to be in one piece, where that is said.
-fn contiguity(own: &ArgMatches<'_>) -> Option<bool>
-    ensures { IsContiguity own.now result }
-{
-    if own.get_flag("--contiguous") {
-        Some(true)
-    } else if own.get_flag("--no-contiguous") {
-        Some(false)
-    } else {
-        None
-    }
 }
 
 /// The form that the value of `--form` says, where there is one: the first four bytes of the attributes.

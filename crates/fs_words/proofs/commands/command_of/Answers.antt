@@ -95,6 +95,14 @@ pub row_command-requires-in-Label : goal.row_command-requires-in-Label
 unfolding own_rules
 row_command-requires-in-Label c = rw c.in-Label.is refl
 
+pub row_command-requires-in-Untar : goal.row_command-requires-in-Untar
+unfolding own_rules
+row_command-requires-in-Untar c = rw c.in-Untar.is refl
+
+pub row_command-requires-in-Repair : goal.row_command-requires-in-Repair
+unfolding own_rules
+row_command-requires-in-Repair c = rw c.in-Repair.is refl
+
 pub row_command-requires-in-Init : goal.row_command-requires-in-Init
 unfolding own_rules
 row_command-requires-in-Init c = rw c.in-Init.is refl

@@ -1,7 +1,7 @@
 use Rattle.std.proofs.Common.{rules, ◌≡◌, Some}
 use Rattle.clap.specs.Lexer.{usize_max}
 use Rattle.fs_words.proofs.Listed.{some_is}
-use Rattle.fs_words.proofs.arguments.paths.Goals as goal
+use Rattle.fs_words.proofs.arguments.words.Goals as goal
 
 pub returns-clause-rule : goal.returns-clause-rule
 returns-clause-rule c =

@@ -1,0 +1,25 @@
+use Rattle.std.proofs.Common.{rules, ◌≡◌, ◌∙◌, List, ℕ, [], ◌∷◌, ◌++◌, ap, subst}
+use Rattle.std.specs.Borrow.{Bor}
+use Rattle.ods_upkeep.specs.CopiedTree.{IsTreeCopiedFromSome}
+use Rattle.ods_upkeep.specs.declared.asked.CopyFrom.{CopyFrom}
+use Rattle.f11fs.proofs.Opened.{no_words}
+use Rattle.f11fs.proofs.copying_from.copy_tree_over.Goals as goal
+
+pub returns-in-Ok-clause-done : goal.returns-in-Ok-clause-done
+returns-in-Ok-clause-done g c =
+    let words = c.args.words.now.paths.items in
+    let path : Bor (List ℕ) = c.in-Some-split_first.path.now in
+    let to : Bor (List ℕ) = c.in-Some.to.now in
+    let split : words ≡ c.in-Some.paths.now ++ to ∷ [] = search rules in
+    let first : c.in-Some.paths.now ≡ path ∷ c.in-Some-split_first.others.now = search rules in
+    let none : c.in-Some-split_first.others.now ≡ [] = search (rules, no_words) in
+    let two : words ≡ path ∷ to ∷ [] = split ∙ ap (λ (ps : List (Bor (List ℕ))). ps ++ to ∷ []) first ∙ ap (λ (os : List (Bor (List ℕ))). path ∷ (os ++ to ∷ [])) none in
+    let disk = c.disk-disk.result in (
+      path,
+      (
+        to,
+        two,
+        subst (λ (how : CopyFrom). IsTreeCopiedFromSome how c.args.stamp path.now to.now c.args.filing.now c.copy_tree_from.new.filing) c.how_to_copy-how.ensures
+            (disk.image.now, (disk.layout.now, c.disk-disk.ensures.laid_out, c.in-Ok.ensures.done)),
+      ),
+    )

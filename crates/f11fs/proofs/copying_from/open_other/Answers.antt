@@ -1,0 +1,12 @@
+use Rattle.std.proofs.Common.{◌≡◌}
+use Rattle.std.proofs.lemmas.Result.{IfErr-weaker}
+use Rattle.fs_reads.specs.Volumes.{IsNoVolume}
+use Rattle.fs_reads.specs.declared.stop.Stop.{Stop}
+use Rattle.fs_reads.specs.declared.volume.VolumeFault.{VolumeFault}
+use Rattle.f11fs.specs.Changed.{IsRefusal}
+use Rattle.f11fs.proofs.Opened.{no_volume_refusal}
+use Rattle.f11fs.proofs.copying_from.open_other.Goals as goal
+
+pub returns : goal.returns
+returns g c =
+    IfErr-weaker c.open_readable.result (λ (end : Stop). (why : VolumeFault) × IsNoVolume c.args.image why end) IsRefusal (λ end told. no_volume_refusal c.args.image told.0 end told.1) c.open_readable.ensures

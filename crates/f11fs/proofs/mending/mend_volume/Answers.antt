@@ -1,0 +1,13 @@
+use Rattle.std.proofs.Common.{◌∙◌, inl, subst}
+use Rattle.ods_mount.specs.Sound.{IsSoundBy}
+use Rattle.f11fs.specs.Mended.{LeavesSound}
+use Rattle.f11fs.proofs.mending.mend_volume.Goals as goal
+
+pub returns : goal.returns
+returns c = inl (
+  c.args.volume.layout,
+  c.mend_sound.new.filing,
+  subst (λ I. IsSoundBy I c.args.volume.layout) c.disk.ensures.image (subst (λ L. IsSoundBy c.disk.result.image.now L) c.disk.ensures.layout c.disk.ensures.sound),
+  subst (λ f. LeavesSound c.args.wishes.now.kinds c.args.wishes.now.stamp c.args.wishes.now.into f c.mend_sound.new.filing) c.in_ok-filing.ensures c.in_ok-mend_sound.ensures,
+  c.into_parts-image.ensures.value.0 ∙ c.into_mounted.ensures.0,
+)

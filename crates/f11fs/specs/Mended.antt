@@ -1,0 +1,122 @@
+-- What `repair` leaves of an image: the kinds that are asked for, one after another.
+use Rattle.std.specs.Prelude.{◌≡◌, ◌⊎◌, ◌||◌, ℕ, Bool, true, false, List, [], ◌∷◌, Option, Some, None}
+use Rattle.std.specs.Borrow.{Bor}
+use Rattle.std.specs.List.{All}
+use Rattle.ods_base.specs.declared.file_id.FileId.{FileId}
+use Rattle.ods_base.specs.declared.file_id.Uic.{Uic}
+use Rattle.ods_space.specs.Files.{IsLayoutOf}
+use Rattle.ods_space.specs.Layout.{VolumeLayout}
+use Rattle.ods_mount.specs.Faults.{FaultIsTrue, IsTrueOf}
+use Rattle.ods_mount.specs.Sound.{IsSoundBy}
+use Rattle.ods_mount.specs.declared.fault.MountFault.{MountFault}
+use Rattle.ods_mount.specs.declared.fault.MountFault.TheVariants.{DuplicateName}
+use Rattle.ods_check.specs.Findings.{IsLostFile}
+use Rattle.ods_check.specs.declared.dangling_list.Dangling.{Dangling}
+use Rattle.ods_check.specs.declared.finding.Finding.{Finding}
+use Rattle.ods_filing.specs.Filed.{Filed}
+use Rattle.ods_paths.specs.Paths.{Said, Says}
+use Rattle.ods_repair.specs.Cleared.{IsCleared}
+use Rattle.ods_repair.specs.Doubled.{HasRenumbered, IsNotRenumbered}
+use Rattle.ods_repair.specs.Found.{IsFound}
+use Rattle.ods_repair.specs.Freed.{IsFreed, IsNotFreed}
+use Rattle.ods_repair.specs.Used.{AreUsed, IsBitmapFault}
+use Rattle.ods_repair.specs.declared.fault.RepairFault.{RepairFault}
+use Rattle.ods_repair.specs.declared.lost_file.LostFile.{LostFile}
+use Rattle.ods_shell.specs.Named.{AreNamedBy, highest}
+use Rattle.ods_shell.specs.declared.alone.Alone.TheVariants as alone
+use Rattle.ods_shell.specs.declared.facts.Facts.{Facts}
+use Rattle.ods_shell.specs.declared.facts.Kind.TheVariants as kind
+use Rattle.ods_shell.specs.declared.found.Found.{Found as Named}
+use Rattle.ods_upkeep.specs.Made.{AreMade}
+use Rattle.fs_words.specs.declared.actions.Repairs.{Repairs}
+
+-- who asks for repairs: the keeper of the image, [1,1]
+abbrev pub keeper : Uic
+keeper = record { group = 1; member = 1 }
+
+-- what `used` leaves: blocks that files hold and that were marked as free are used; or it is refused, and nothing is done
+abbrev pub LeavesUsed : Bool → List (List ℕ) → List (List ℕ) → Type 0
+LeavesUsed false I J = J ≡ I
+LeavesUsed true I J = (L : VolumeLayout) × IsLayoutOf I L
+    × (((blocks : List ℕ) × AreUsed I L blocks J) ⊎ ((J ≡ I) × ((why : RepairFault) × IsBitmapFault I L why)))
+
+-- names of directory d that were one are so no more; or that is refused, and nothing is done
+abbrev pub LeavesDirectory : VolumeLayout → ℕ → List (List ℕ) → List (List ℕ) → Type 0
+LeavesDirectory L d I J = HasRenumbered I L d J ⊎ ((J ≡ I) × ((why : RepairFault) × IsNotRenumbered I L d why))
+
+-- so it is with each of these, one after another
+abbrev pub LeavesDirectories : VolumeLayout → List ℕ → List (List ℕ) → List (List ℕ) → Type 0
+LeavesDirectories L [] I J = J ≡ I
+LeavesDirectories L (d ∷ ds) I J = (mid : List (List ℕ)) × LeavesDirectory L d I mid × LeavesDirectories L ds mid J
+
+-- what `double` leaves: in directories that have names which are one, the second gets the next version
+abbrev pub LeavesDouble : Bool → List (List ℕ) → List (List ℕ) → Type 0
+LeavesDouble false I J = J ≡ I
+LeavesDouble true I J = (L : VolumeLayout) × (ds : List ℕ) × IsLayoutOf I L × All (λ d. IsTrueOf I L (DuplicateName d)) ds × LeavesDirectories L ds I J
+
+-- what `names` leaves: entries that named no file are removed
+abbrev pub LeavesNames : Bool → Filed → Filed → Type 0
+LeavesNames false old new = new ≡ old
+LeavesNames true old new = (found : List Dangling) × IsCleared old found new
+
+-- what is found is this directory
+abbrev pub IsDirectoryFound : Named → FileId → Type 0
+IsDirectoryFound found dir = (facts : Facts) × (found.facts ≡ Some facts) × (facts.kind ≡ kind.Directory) × (facts.file ≡ dir)
+
+-- one thing is found, and it is this directory
+abbrev pub IsOneDirectory : List Named → FileId → Type 0
+IsOneDirectory all dir = (found : Named) × (all ≡ found ∷ []) × IsDirectoryFound found dir
+
+-- the path means this one directory
+abbrev pub IsDirectoryOf : Filed → List ℕ → FileId → Type 0
+IsDirectoryOf volume path dir = (says : Said) × Says path says × ((all : List Named) × AreNamedBy volume.image volume.layout [] says (highest alone.Themselves) all × IsOneDirectory all dir)
+
+-- the directory is there, or is made as mkdir makes it
+abbrev pub HasDirectory : List ℕ → Bor (List ℕ) → Filed → Filed → FileId → Type 0
+HasDirectory stamp path old new dir = ((new ≡ old) ⊎ AreMade None 0 stamp (path ∷ []) old new) × IsDirectoryOf new path.now dir
+
+-- something stays that was to be repaired, also where files stay lost
+abbrev pub is_left_by : Bool → List FileId → Bool
+is_left_by before [] = before
+is_left_by before (id ∷ ids) = true
+
+-- no file of the volume is lost
+abbrev pub HasNoLost : Filed → Type 0
+HasNoLost volume = (n : ℕ) → ¬ IsLostFile volume.image volume.layout n
+
+-- files that no directory named are entered in the one that is said
+abbrev pub EntersLost : List ℕ → Bor (List ℕ) → Filed → Filed → Type 0
+EntersLost stamp into old new = (mid : Filed) × (dir : FileId) × (found : List LostFile) × HasDirectory stamp into old mid dir × IsFound mid dir found new
+
+-- what `lost` leaves: those files are entered, or there is none, and nothing is done
+abbrev pub LeavesLost : Bool → List ℕ → Bor (List ℕ) → Filed → Filed → Type 0
+LeavesLost false stamp into old new = new ≡ old
+LeavesLost true stamp into old new = ((new ≡ old) × HasNoLost old) ⊎ EntersLost stamp into old new
+
+-- what `free` leaves: blocks that no file held and that were marked as used are free; or it is refused, and nothing is done
+abbrev pub LeavesFree : Bool → Filed → Filed → Type 0
+LeavesFree false old new = new ≡ old
+LeavesFree true old new = ((told : List Finding) × IsFreed old told new) ⊎ ((new ≡ old) × ((why : RepairFault) × IsNotFreed old why))
+
+-- what the repairs of a sound volume leave, one after another
+abbrev pub LeavesSound : Repairs → List ℕ → Bor (List ℕ) → Filed → Filed → Type 0
+LeavesSound kinds stamp into old new = (named : Filed) × (found : Filed) × LeavesNames kinds.names old named × LeavesLost kinds.lost stamp into named found × LeavesFree kinds.free found new
+
+-- one of the repairs is asked for that want a sound volume
+abbrev pub wants_sound : Repairs → Bool
+wants_sound kinds = kinds.names || (kinds.lost || kinds.free)
+
+-- the image is sound, and this is what the repairs of a sound volume leave; or a fault of it is known, and nothing is done
+abbrev pub LeavesMounted : Repairs → List ℕ → Bor (List ℕ) → List (List ℕ) → List (List ℕ) → Type 0
+LeavesMounted kinds stamp into I J =
+    ((L : VolumeLayout) × (new : Filed) × IsSoundBy I L × LeavesSound kinds stamp into (record { image = I; layout = L; user = keeper }) new × (J ≡ new.image))
+    ⊎ ((J ≡ I) × ((fault : MountFault) × FaultIsTrue I fault))
+
+-- those repairs, where one is asked for
+abbrev pub LeavesRest : Bool → Repairs → List ℕ → Bor (List ℕ) → List (List ℕ) → List (List ℕ) → Type 0
+LeavesRest false kinds stamp into I J = J ≡ I
+LeavesRest true kinds stamp into I J = LeavesMounted kinds stamp into I J
+
+-- What `repair` leaves of the blocks of an image.
+abbrev pub IsMended : Repairs → List ℕ → Bor (List ℕ) → List (List ℕ) → List (List ℕ) → Type 0
+IsMended kinds stamp into I J = (H : List (List ℕ)) × (K : List (List ℕ)) × LeavesUsed kinds.used I H × LeavesDouble kinds.double H K × LeavesRest (wants_sound kinds) kinds stamp into K J

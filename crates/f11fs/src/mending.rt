@@ -1,0 +1,448 @@
+//! What `repair` makes of the blocks of an image: each kind that is asked for, one after another, with a line for each thing that is done.
+ghost use Rattle.std.specs.Prelude.{◌≡◌, ◌≢◌, ◌⊎◌, ◌++◌, ◌∷◌, [], ℕ, IfOk, IfSome, MatchBool, OnOk, true};
+ghost use Rattle.std.specs.List.{All, Contains};
+ghost use Rattle.ods_mount.specs.declared.fault.MountFault.TheVariants.{DuplicateName, NoMemory};
+ghost use Rattle.ods_check.specs.declared.fault_line.FaultLine.TheVariants.{Plain};
+ghost use Rattle.ods_space.specs.Files.{IsLayoutOf};
+ghost use Rattle.f11fs.specs.Mended.{EntersLost, HasDirectory, HasNoLost, IsDirectoryFound, IsDirectoryOf, IsMended, IsOneDirectory, LeavesDirectories, LeavesDirectory, LeavesDouble, LeavesFree, LeavesLost, LeavesMounted, LeavesNames, LeavesSound, LeavesUsed, wants_sound};
+
+use crate::changing::{KEEPER, stop_failed};
+use crate::repair_lines::{Report, push_free, push_lost, push_names, push_used};
+use fs_reads::{Stop, VolumeFault, WordFault, stop_about};
+use fs_words::Repairs;
+use ods_base::{FileId, Image};
+use ods_check::{Checked, FaultLine, check_all, find_lost};
+use ods_filing::Filing;
+use ods_mount::{MountFault, Mounted, mount, read_layout};
+use ods_repair::{
+    RepairFault, enter_lost, free_unheld, mark_used, remove_dangling, renumber_doubles,
+};
+use ods_request::Stamp;
+use ods_shell::mounted::find_path;
+use ods_shell::{Alone, Found, Kind, PathFault, Status, Unsaid};
+use ods_space::Layout;
+use ods_upkeep::make_directories;
+use std::alloc::{AllocError, Global};
+
+/// In at most so many directories a run renumbers names: each takes a pass over the image.
+const MOST_DOUBLES: usize = 100;
+
+/// What is asked of a repair: of the image at this path these kinds, lost files into this directory, and the time that a new directory gets.
+#[derive(Clone, Copy)]
+pub struct Wishes<'a> {
+    pub path: &'a str,
+    pub kinds: Repairs,
+    pub into: &'a str,
+    pub stamp: Stamp,
+}
+
+/// The image with the repairs made that are asked for.
+pub fn mend<'a>(
+    alloc: Global,
+    image: Image,
+    wishes: &Wishes<'a>,
+    report: &mut Report,
+) -> Result<Image, Stop<'a>>
+    ensures { IfOk result (IsMended wishes.now.kinds wishes.now.stamp wishes.now.into image) }
+{
+    let image = mend_used(alloc, image, wishes, report)?;
+    let image = mend_double(alloc, image, wishes, report)?;
+    if !wants_sound(&wishes.kinds) {
+        return Ok(image);
+    }
+    mend_mounted(alloc, image, wishes, report)
+}
+
+/// Whether a repair is asked for that wants a sound volume.
+fn wants_sound(kinds: &Repairs) -> bool
+    ensures { result ≡ wants_sound kinds.now }
+{
+    kinds.names || kinds.lost || kinds.free
+}
+
+/// The image with held blocks marked as used, where that is asked for.
+fn mend_used<'a>(
+    alloc: Global,
+    image: Image,
+    wishes: &Wishes<'a>,
+    report: &mut Report,
+) -> Result<Image, Stop<'a>>
+    ensures { IfOk result (LeavesUsed wishes.now.kinds.used image) }
+{
+    if !wishes.kinds.used {
+        return Ok(image);
+    }
+    let (_, layout) = match read_layout(alloc, &image) {
+        Ok(found) => found,
+        Err(fault) => return Err(not_laid_out(wishes.path, fault)),
+    };
+    mark_held(alloc, image, &layout, report)
+}
+
+/// The end of a repair of an image without a layout.
+fn not_laid_out<'a>(path: &'a str, fault: MountFault) -> Stop<'a> {
+    match fault {
+        MountFault::NoMemory => Stop::NoMemory,
+        fault => Stop::Image(path, VolumeFault::Volume(fault, None)),
+    }
+}
+
+/// The image with held blocks marked as used.
+fn mark_held<'a>(
+    alloc: Global,
+    image: Image,
+    layout: &Layout,
+    report: &mut Report,
+) -> Result<Image, Stop<'a>>
+    requires { IsLayoutOf image layout.now }
+    ensures { IfOk result (LeavesUsed true image) }
+{
+    let mut image = image;
+    match mark_used(alloc, &mut image, layout) {
+        Ok(blocks) => push_used(&mut report.text, &blocks)?,
+        Err(RepairFault::NoMemory) => return Err(Stop::NoMemory),
+        Err(fault) => report.tell_left(alloc, "used", &fault)?,
+    }
+    Ok(image)
+}
+
+/// The image with other versions of names that are there twice, where that is asked for.
+fn mend_double<'a>(
+    alloc: Global,
+    image: Image,
+    wishes: &Wishes<'a>,
+    report: &mut Report,
+) -> Result<Image, Stop<'a>>
+    ensures { IfOk result (LeavesDouble wishes.now.kinds.double image) }
+{
+    if !wishes.kinds.double {
+        return Ok(image);
+    }
+    let Checked {
+        layout,
+        answer,
+        faults,
+        ..
+    } = check_all(alloc, &image)?;
+    let Some(layout) = layout else {
+        return Err(unread(wishes.path, answer));
+    };
+    let doubled = doubled_among(alloc, faults.kept_lines(), report)?;
+    renumber_each(alloc, image, &layout, &doubled, report)
+}
+
+/// The end of a repair of an image without a layout, of which a mount answers this.
+fn unread<'a>(path: &'a str, answer: Option<MountFault>) -> Stop<'a> {
+    match answer {
+        Some(fault) => not_laid_out(path, fault),
+        None => Stop::NoMemory,
+    }
+}
+
+/// The directories of these lines that have two names which are one, as many as one run renumbers. The others are told.
+fn doubled_among(
+    alloc: Global,
+    lines: &[FaultLine],
+    report: &mut Report,
+) -> Result<Vec<u16>, AllocError>
+    ensures { IfOk result (λ ds. All (λ d. Contains lines.now (Plain (DuplicateName d))) ds.items) }
+{
+    let mut doubled = Vec::new(alloc);
+    for line in lines {
+        push_doubled(&mut doubled, line, report)?;
+    }
+    Ok(doubled)
+}
+
+/// Adds the directory of a line, where the line says that it has two names which are one, and there are not yet too many.
+fn push_doubled(
+    doubled: &mut Vec<u16>,
+    line: &FaultLine,
+    report: &mut Report,
+) -> Result<(), AllocError>
+    ensures { OnOk result ((doubled.new.items ≡ doubled.old.items) ⊎ ((d : ℕ) × (line.now ≡ Plain (DuplicateName d)) × (doubled.new.items ≡ doubled.old.items ++ d ∷ []))) }
+{
+    let Some(directory) = doubled_in(line) else {
+        return Ok(());
+    };
+    if doubled.len() >= MOST_DOUBLES {
+        return report.tell_later(directory);
+    }
+    doubled.push(directory)?;
+    Ok(())
+}
+
+/// The directory that has two names which are one, where a line says so.
+fn doubled_in(line: &FaultLine) -> Option<u16>
+    ensures { IfSome result (λ d. line.now ≡ Plain (DuplicateName d)) }
+{
+    match line {
+        FaultLine::Plain(MountFault::DuplicateName(directory)) => Some(*directory),
+        _ => None,
+    }
+}
+
+/// The image with other versions of the names in these directories that are there twice.
+fn renumber_each<'a>(
+    alloc: Global,
+    image: Image,
+    layout: &Layout,
+    directories: &[u16],
+    report: &mut Report,
+) -> Result<Image, Stop<'a>>
+    requires { IsLayoutOf image layout.now }
+    ensures { IfOk result (LeavesDirectories layout.now directories.now image) }
+{
+    let mut image = image;
+    for directory in directories {
+        image = renumber_one(alloc, image, layout, *directory, report)?;
+    }
+    Ok(image)
+}
+
+/// The image with other versions of the names in this directory that are there twice.
+fn renumber_one<'a>(
+    alloc: Global,
+    image: Image,
+    layout: &Layout,
+    directory: u16,
+    report: &mut Report,
+) -> Result<Image, Stop<'a>>
+    requires { IsLayoutOf image layout.now }
+    ensures left { IfOk result (LeavesDirectory layout.now directory image) }
+    ensures layout { IfOk result (λ new. IsLayoutOf new layout.now) }
+{
+    let mut image = image;
+    match renumber_doubles(alloc, &mut image, layout, directory) {
+        Ok(()) => report.tell_double(directory)?,
+        Err(RepairFault::NoMemory) => return Err(Stop::NoMemory),
+        Err(fault) => report.tell_not_double(alloc, directory, &fault)?,
+    }
+    Ok(image)
+}
+
+/// The image with the repairs made that want a sound volume, where it is one.
+fn mend_mounted<'a>(
+    alloc: Global,
+    image: Image,
+    wishes: &Wishes<'a>,
+    report: &mut Report,
+) -> Result<Image, Stop<'a>>
+    ensures { IfOk result (LeavesMounted wishes.now.kinds wishes.now.stamp wishes.now.into image) }
+{
+    match mount(alloc, image) {
+        Ok(volume) => mend_volume(alloc, volume, wishes, report),
+        Err((image, fault)) => {
+            if is_memory(&fault) {
+                return Err(Stop::NoMemory);
+            }
+            report.tell_refused(alloc, &fault)?;
+            Ok(image)
+        }
+    }
+}
+
+/// Whether the fault is that memory was refused.
+fn is_memory(fault: &MountFault) -> bool
+    ensures { MatchBool result (fault.now ≡ NoMemory) (fault.now ≢ NoMemory) }
+{
+    matches!(fault, MountFault::NoMemory)
+}
+
+/// The blocks of a volume with the repairs made.
+fn mend_volume<'a>(
+    alloc: Global,
+    volume: Mounted,
+    wishes: &Wishes<'a>,
+    report: &mut Report,
+) -> Result<Image, Stop<'a>>
+    ensures { IfOk result (LeavesMounted wishes.now.kinds wishes.now.stamp wishes.now.into volume.image) }
+{
+    let _ = volume.disk();
+    let mut filing = Filing::new(alloc, volume, KEEPER)?;
+    mend_sound(alloc, &mut filing, wishes, report)?;
+    let (image, _) = filing.into_mounted().into_parts();
+    Ok(image)
+}
+
+/// Makes the repairs of a sound volume.
+fn mend_sound<'a>(
+    alloc: Global,
+    filing: &mut Filing,
+    wishes: &Wishes<'a>,
+    report: &mut Report,
+) -> Result<(), Stop<'a>>
+    ensures { OnOk result (LeavesSound wishes.now.kinds wishes.now.stamp wishes.now.into filing.old filing.new) }
+{
+    mend_names(alloc, filing, wishes.kinds.names, report)?;
+    mend_lost(alloc, filing, wishes, report)?;
+    mend_free(alloc, filing, wishes.kinds.free, report)
+}
+
+/// Removes entries that name no file, where that is asked for.
+fn mend_names<'a>(
+    alloc: Global,
+    filing: &mut Filing,
+    wanted: bool,
+    report: &mut Report,
+) -> Result<(), Stop<'a>>
+    ensures { OnOk result (LeavesNames wanted filing.old filing.new) }
+{
+    if !wanted {
+        return Ok(());
+    }
+    match remove_dangling(alloc, filing) {
+        Ok(found) => {
+            push_names(alloc, &mut report.text, &found)?;
+            Ok(())
+        }
+        Err(fault) => Err(not_mended(alloc, "names", fault)),
+    }
+}
+
+/// The end of a repair that is refused in the middle.
+fn not_mended<'a>(alloc: Global, kind: &str, fault: RepairFault) -> Stop<'a> {
+    match fault {
+        RepairFault::NoMemory => Stop::NoMemory,
+        fault => stop_about(alloc, kind, fault, Status::Refused),
+    }
+}
+
+/// Enters lost files in the directory that is said, where that is asked for.
+fn mend_lost<'a>(
+    alloc: Global,
+    filing: &mut Filing,
+    wishes: &Wishes<'a>,
+    report: &mut Report,
+) -> Result<(), Stop<'a>>
+    ensures { OnOk result (LeavesLost wishes.now.kinds.lost wishes.now.stamp wishes.now.into filing.old filing.new) }
+{
+    if !wishes.kinds.lost {
+        return Ok(());
+    }
+    if has_no_lost(alloc, filing)? {
+        return Ok(());
+    }
+    enter_all(alloc, filing, wishes, report)
+}
+
+/// Whether no file is lost.
+fn has_no_lost(alloc: Global, filing: &Filing) -> Result<bool, AllocError>
+    ensures { IfOk result (λ none. none ≡ true → HasNoLost filing.now) }
+{
+    let lost = find_lost(alloc, &filing.disk())?;
+    match lost.first() {
+        Some(_) => Ok(false),
+        None => Ok(true),
+    }
+}
+
+/// Enters lost files in the directory that is said.
+fn enter_all<'a>(
+    alloc: Global,
+    filing: &mut Filing,
+    wishes: &Wishes<'a>,
+    report: &mut Report,
+) -> Result<(), Stop<'a>>
+    ensures { OnOk result (EntersLost wishes.now.stamp wishes.now.into filing.old filing.new) }
+{
+    let dir = directory_for(alloc, filing, wishes.into, wishes.stamp)?;
+    match enter_lost(alloc, filing, dir) {
+        Ok(found) => {
+            push_lost(&mut report.text, &found, wishes.into)?;
+            report.tell_nameless(&find_lost(alloc, &filing.disk())?)?;
+            Ok(())
+        }
+        Err(fault) => Err(not_mended(alloc, "lost", fault)),
+    }
+}
+
+/// The directory of this path, which is made where it is not there.
+fn directory_for<'a>(
+    alloc: Global,
+    filing: &mut Filing,
+    path: &'a str,
+    stamp: Stamp,
+) -> Result<FileId, Stop<'a>>
+    ensures { IfOk result (HasDirectory stamp path.entry filing.old filing.new) }
+{
+    match directory_of(alloc, filing, path) {
+        Ok(dir) => Ok(dir),
+        Err(Stop::Path(_, PathFault::Nothing)) => make_directory(alloc, filing, path, stamp),
+        Err(stop) => Err(stop),
+    }
+}
+
+/// A new directory of this path.
+fn make_directory<'a>(
+    alloc: Global,
+    filing: &mut Filing,
+    path: &'a str,
+    stamp: Stamp,
+) -> Result<FileId, Stop<'a>>
+    ensures { IfOk result (HasDirectory stamp path.entry filing.old filing.new) }
+{
+    match make_directories(alloc, filing, stamp, &[path], 0, None) {
+        Ok(()) => directory_of(alloc, filing, path),
+        Err(failure) => Err(stop_failed(alloc, &failure)),
+    }
+}
+
+/// The one directory that this path means.
+fn directory_of<'a>(alloc: Global, filing: &Filing, path: &'a str) -> Result<FileId, Stop<'a>>
+    ensures { IfOk result (IsDirectoryOf filing.now path.now) }
+{
+    let unsaid = Unsaid::highest(Alone::Themselves);
+    let found = match find_path(alloc, filing.mounted(), path, unsaid, &[]) {
+        Ok((found, _)) => found,
+        Err(fault) => return Err(Stop::Path(path, fault)),
+    };
+    match directory_in(&found) {
+        Some(dir) => Ok(dir),
+        None => Err(Stop::Word(path, WordFault::OneDirectory)),
+    }
+}
+
+/// The one that is found, where it is a directory.
+#[tactic(auto, using(crate::proofs::MoreVersions::one_directory))]
+fn directory_in(found: &[Found]) -> Option<FileId>
+    ensures { IfSome result (IsOneDirectory found.now) }
+{
+    match found.len() {
+        1 => directory_at(&found[0]),
+        _ => None,
+    }
+}
+
+/// What is found, where it is a directory.
+fn directory_at(found: &Found) -> Option<FileId>
+    ensures { IfSome result (IsDirectoryFound found.now) }
+{
+    match &found.facts {
+        Some(facts) => match facts.kind {
+            Kind::Directory => Some(facts.file),
+            Kind::Text | Kind::Records | Kind::Binary => None,
+        },
+        None => None,
+    }
+}
+
+/// Frees blocks that no file holds, where that is asked for.
+fn mend_free<'a>(
+    alloc: Global,
+    filing: &mut Filing,
+    wanted: bool,
+    report: &mut Report,
+) -> Result<(), Stop<'a>>
+    ensures { OnOk result (LeavesFree wanted filing.old filing.new) }
+{
+    if !wanted {
+        return Ok(());
+    }
+    match free_unheld(alloc, filing) {
+        Ok(told) => push_free(alloc, &mut report.text, told.kept_lines())?,
+        Err(RepairFault::NoMemory) => return Err(Stop::NoMemory),
+        Err(fault) => report.tell_left(alloc, "free", &fault)?,
+    }
+    Ok(())
+}

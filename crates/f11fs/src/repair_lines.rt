@@ -1,0 +1,227 @@
+//! What `repair` tells: a line for each thing that is done, and one for each thing that is not.
+ghost use Rattle.std.specs.Prelude.{◌≡◌, ◌+◌, ◌<◌, ◌≤◌, ◌==◌, OnOk, false, length, string_bytes, true};
+ghost use Rattle.fs_reads.specs.Shown.{Extends};
+ghost use Rattle.f11fs.specs.Mended.{is_left_by};
+
+use ods_base::{FileId, print_title, print_type};
+use ods_check::{Dangling, Finding};
+use ods_mount::MountFault;
+use ods_repair::{LostFile, RepairFault};
+use std::alloc::{AllocError, Global};
+
+/// What repairs did, a line for each thing, and whether something stays that was to be repaired.
+#[derive(Drop)]
+pub struct Report {
+    pub text: String,
+    pub is_left: bool,
+}
+
+impl Report {
+    /// Nothing is done yet.
+    pub fn new(alloc: Global) -> Report
+        ensures { result.is_left ≡ false }
+    {
+        Report {
+            text: String::new(alloc),
+            is_left: false,
+        }
+    }
+
+    /// Tells that names of this directory that were there twice have other versions.
+    pub fn tell_double(&mut self, directory: u16) -> Result<(), AllocError>
+        ensures more { OnOk result (Extends (string_bytes self.old.text) (string_bytes self.new.text)) }
+        ensures left { self.new.is_left ≡ self.old.is_left }
+    {
+        writeln!(
+            self.text,
+            "double: directory {directory} had two entries with one name and version"
+        )
+    }
+
+    /// Tells that they are there twice, and why.
+    pub fn tell_not_double(
+        &mut self,
+        alloc: Global,
+        directory: u16,
+        why: &RepairFault,
+    ) -> Result<(), AllocError>
+        ensures more { OnOk result (Extends (string_bytes self.old.text) (string_bytes self.new.text)) }
+        ensures left { self.new.is_left ≡ true }
+    {
+        self.is_left = true;
+        let said = format!(in alloc; "{why}")?;
+        writeln!(self.text, "double: directory {directory}: not done: {said}")
+    }
+
+    /// Tells that another run renumbers the names of this directory.
+    pub fn tell_later(&mut self, directory: u16) -> Result<(), AllocError>
+        ensures more { OnOk result (Extends (string_bytes self.old.text) (string_bytes self.new.text)) }
+        ensures left { self.new.is_left ≡ true }
+    {
+        self.is_left = true;
+        writeln!(
+            self.text,
+            "double: directory {directory}: not done in this run; run it once more"
+        )
+    }
+
+    /// Tells of a kind that is not repaired, and why.
+    pub fn tell_left(
+        &mut self,
+        alloc: Global,
+        kind: &str,
+        why: &RepairFault,
+    ) -> Result<(), AllocError>
+        ensures more { OnOk result (Extends (string_bytes self.old.text) (string_bytes self.new.text)) }
+        ensures left { self.new.is_left ≡ true }
+    {
+        self.is_left = true;
+        let said = format!(in alloc; "{why}")?;
+        writeln!(self.text, "{kind}: not done: {said}")
+    }
+
+    /// Tells that the repairs of a sound volume are not made, since the image is refused for this fault.
+    pub fn tell_refused(&mut self, alloc: Global, why: &MountFault) -> Result<(), AllocError>
+        ensures more { OnOk result (Extends (string_bytes self.old.text) (string_bytes self.new.text)) }
+        ensures left { self.new.is_left ≡ true }
+    {
+        self.is_left = true;
+        let said = format!(in alloc; "{why}")?;
+        writeln!(self.text, "names, lost, free: not done: {said}")
+    }
+
+    /// Tells of lost files that have no name, and stay lost.
+    pub fn tell_nameless(&mut self, files: &[FileId]) -> Result<(), AllocError>
+        ensures more { OnOk result (Extends (string_bytes self.old.text) (string_bytes self.new.text)) }
+        ensures left { self.new.is_left ≡ is_left_by self.old.is_left files.now }
+    {
+        if files.first().is_some() {
+            self.is_left = true;
+        }
+        push_nameless(&mut self.text, files)
+    }
+}
+
+/// Appends a line for each run of these blocks, ascending, which were marked as free and are used.
+#[tactic(auto, using(crate::proofs::Growing::extends_on, crate::proofs::Growing::extends_same))]
+pub fn push_used(text: &mut String, blocks: &[u32]) -> Result<(), AllocError>
+    ensures { OnOk result (Extends (string_bytes text.old) (string_bytes text.new)) }
+{
+    let mut at = 0;
+    'runs: while at < blocks.len() {
+        let end = run_end(blocks, at);
+        push_run(text, blocks[at], blocks[end - 1])?;
+        at = end;
+    }
+    Ok(())
+}
+
+/// Appends a line for a run of such blocks.
+fn push_run(text: &mut String, first: u32, last: u32) -> Result<(), AllocError>
+    ensures { OnOk result (Extends (string_bytes text.old) (string_bytes text.new)) }
+{
+    if first == last {
+        return writeln!(text, "used: block {first} was marked as free");
+    }
+    writeln!(text, "used: blocks {first} to {last} were marked as free")
+}
+
+/// Appends a line for each entry that is removed.
+#[tactic(auto, using(crate::proofs::Growing::extends_on, crate::proofs::Growing::extends_same))]
+pub fn push_names(alloc: Global, text: &mut String, found: &[Dangling]) -> Result<(), AllocError>
+    ensures { OnOk result (Extends (string_bytes text.old) (string_bytes text.new)) }
+{
+    for one in found {
+        push_finding(alloc, text, "names", one.finding())?;
+    }
+    Ok(())
+}
+
+/// Appends a line for a finding that is mended.
+fn push_finding(
+    alloc: Global,
+    text: &mut String,
+    kind: &str,
+    finding: Finding,
+) -> Result<(), AllocError>
+    ensures { OnOk result (Extends (string_bytes text.old) (string_bytes text.new)) }
+{
+    let said = format!(in alloc; "{finding}")?;
+    writeln!(text, "{kind}: {said}")
+}
+
+/// Appends a line for each lost file that is entered in the directory of this path.
+#[tactic(auto, using(crate::proofs::Growing::extends_on, crate::proofs::Growing::extends_same))]
+pub fn push_lost(text: &mut String, found: &[LostFile], path: &str) -> Result<(), AllocError>
+    ensures { OnOk result (Extends (string_bytes text.old) (string_bytes text.new)) }
+{
+    for one in found {
+        push_entered(text, one, path)?;
+    }
+    Ok(())
+}
+
+/// Appends a line for a lost file that is entered.
+fn push_entered(text: &mut String, one: &LostFile, path: &str) -> Result<(), AllocError>
+    ensures { OnOk result (Extends (string_bytes text.old) (string_bytes text.new)) }
+{
+    let (number, sequence) = (one.file.number, one.file.sequence);
+    let (title, kind) = (print_title(&one.name), print_type(&one.name));
+    writeln!(
+        text,
+        "lost: file {number},{sequence} is entered as {title}.{kind} in {path}"
+    )
+}
+
+/// Appends a line for each lost file that has no name.
+#[tactic(auto, using(crate::proofs::Growing::extends_on, crate::proofs::Growing::extends_same))]
+fn push_nameless(text: &mut String, files: &[FileId]) -> Result<(), AllocError>
+    ensures { OnOk result (Extends (string_bytes text.old) (string_bytes text.new)) }
+{
+    for file in files {
+        push_one_nameless(text, *file)?;
+    }
+    Ok(())
+}
+
+/// Appends a line for a lost file that has no name.
+fn push_one_nameless(text: &mut String, file: FileId) -> Result<(), AllocError>
+    ensures { OnOk result (Extends (string_bytes text.old) (string_bytes text.new)) }
+{
+    let (number, sequence) = (file.number, file.sequence);
+    writeln!(
+        text,
+        "lost: file {number},{sequence} has no name in its header, and stays lost"
+    )
+}
+
+/// Appends a line for each finding of blocks that are freed.
+#[tactic(auto, using(crate::proofs::Growing::extends_on, crate::proofs::Growing::extends_same))]
+pub fn push_free(alloc: Global, text: &mut String, found: &[Finding]) -> Result<(), AllocError>
+    ensures { OnOk result (Extends (string_bytes text.old) (string_bytes text.new)) }
+{
+    for one in found {
+        push_finding(alloc, text, "free", *one)?;
+    }
+    Ok(())
+}
+
+/// Where the run ends that begins at this place of a list of numbers.
+fn run_end(numbers: &[u32], at: usize) -> usize
+    requires { at < length numbers.now }
+    ensures behind { at < result }
+    ensures within { result ≤ length numbers.now }
+{
+    let mut end = at + 1;
+    while end < numbers.len() && follows(numbers[end - 1], numbers[end]) {
+        end += 1;
+    }
+    end
+}
+
+/// Whether one number is the next behind another.
+fn follows(one: u32, next: u32) -> bool
+    ensures { result ≡ (one + 1 == next) }
+{
+    one < next && next - one == 1
+}
