@@ -1,5 +1,5 @@
 /* Fails one call of a program that opens, reads, writes or starts a thread: the one with the number in FAIL; with SHORT set, that call moves one byte
-   instead, where it is to move several. With SAVES set, calls that sync, lock, seek, name and own files, and say what they are, are counted too.
+   instead, where it is to move several. With SAVES set, calls that sync, lock, seek, cut, name and own files, and say what they are, are counted too.
    With TURN set, only writes to files that the program opened are counted, and the first byte of that one is another. With MEDDLE set to a path,
    only calls of fsync are counted, and before that one another program appends a byte to the file of this path.
    What is asked of /proc is not counted, since it changes from run to run. It writes which call it was to the file FAILED. For LD_PRELOAD: see tests/faults and tests/fs_faults. */
@@ -113,6 +113,8 @@ int fsync(int file) {
 int flock(int file, int how) { return saves("flock", how) ? -1 : syscall(SYS_flock, file, how); }
 
 off_t lseek(int file, off_t to, int from) { return saves("lseek", file) ? -1 : syscall(SYS_lseek, file, to, from); }
+
+int ftruncate(int file, off_t size) { return saves("ftruncate", file) ? -1 : syscall(SYS_ftruncate, file, size); }
 
 int rename(const char *from, const char *to) { return saves("rename", 0) ? -1 : syscall(SYS_rename, from, to); }
 

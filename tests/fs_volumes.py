@@ -180,6 +180,15 @@ def few_volume() -> Volume:
     return volume
 
 
+def old_volume() -> Volume:
+    """A volume with one text in [1,2]."""
+    volume = Volume()
+    volume.directory(4, "000000.DIR;1", *entries(f"000000.DIR;1 4,4 001002.DIR;1 6,1 {RESERVED}"))
+    volume.directory(6, "001002.DIR;1", *entries("OLD.TXT;4 9,1"))
+    volume.file(9, "OLD.TXT;4", variable(b"old"), control=2, size=3)
+    return volume
+
+
 def long_image() -> bytes:
     """The plain volume whose NOTES.TXT has a second block, which stands in another header."""
     volume = plain_volume(variable(b"x" * 600)[2:], kind=1)
@@ -224,6 +233,15 @@ def more_images() -> dict[str, bytes]:
     }
 
 
+def repair_images() -> dict[str, bytes]:
+    """Images with what repair mends, beside those of images() and more_images() that have it."""
+    plain = plain_volume().bytes()
+    return {
+        "lost": changed(plain, 46, 0, b"\0\0", has_sum=False),  # the entry of NOTES.TXT is empty
+        "both": plain_volume().bytes(free=[47], used=[65]),
+    }
+
+
 def blocks_of(image: bytes, lbn: int, size: int) -> bytes:
     """So many bytes of an image from a block on."""
     return image[BLOCK * lbn : BLOCK * lbn + size]
@@ -252,4 +270,5 @@ CONTENTS = {
     "x-bytes": b"x" * 9000,
     "z-bytes": b"z" * 5000,
     "thirty-blocks": bytes(30 * BLOCK),
+    "few-image": few_volume().bytes(),
 }

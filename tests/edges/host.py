@@ -29,6 +29,7 @@ COMMANDS = [
     ("--stamp", STAMP, "disk", "cp", FILE, OTHER), ("--stamp", STAMP, "disk", "mkdir", "[6,6]"), ("--stamp", STAMP, "disk", "mkdir", "[1,2]"),
     ("disk", "rmdir", "[1,2]"), ("disk", "truncate", FILE, "1"), ("disk", "truncate", FILE, "99999"), ("-n", "--stamp", STAMP, "disk", "mkdir", "NEW"),
     ("--stamp", STAMP, "-f", "todo", "disk"), ("--stamp", STAMP, "-f", "listed", "disk"), ("--stamp", STAMP, "--backup", "-f", "listed", "disk"),
+    ("--stamp", STAMP, "disk", "untar", "-"), ("--stamp", STAMP, "disk", "cp", "--from", "linked", FILE, "[0,0]"), ("--stamp", STAMP, "disk", "repair", "all"),
     ("--stamp", STAMP, "-o", "new", "disk", "mkdir", "NEW"), ("--stamp", STAMP, "made", "init", "80"), ("--stamp", STAMP, "linked", "mkdir", "NEW"),
 ]
 
@@ -315,6 +316,22 @@ def new_image_has_the_mode_of_the_old(room: Room) -> None:
         equal((room.folder / f"new{mode:o}").stat().st_mode & 0o7777, mode, "the mode")
     equal(room.run("--stamp", STAMP, "made", "init", "80", umask=0o027), (0, b"", b""), "a new volume")
     equal((room.folder / "made").stat().st_mode & 0o777, 0o640, "the mode of a new volume")
+
+
+@row
+def sparse_image_stays_sparse(room: Room) -> None:
+    made = room.folder / "made"
+    equal(room.run("--stamp", STAMP, "made", "init", "20000"), (0, b"", b""), "a new volume")
+    assert made.stat().st_blocks < 2000, "the zeros of a new volume are on the disk"
+    equal(room.run("--stamp", STAMP, "made", "mkdir", "NEW"), (0, b"", b""), "a change")
+    assert made.stat().st_blocks < 2000, "the zeros of a sparse image are on the disk"
+    equal(room.run("-o", "copy", "--stamp", STAMP, "made", "mkdir", "MORE"), (0, b"", b""), "a change elsewhere")
+    assert (room.folder / "copy").stat().st_blocks < 2000, "the zeros of a copy are on the disk"
+    equal((room.folder / "copy").stat().st_size, 20000 * 512, "the size of the copy")
+    made.write_bytes(made.read_bytes())
+    equal(room.run("--stamp", STAMP, "made", "mkdir", "MORE"), (0, b"", b""), "a change of a full image")
+    assert made.stat().st_blocks >= 20000, "a full image has holes"
+    equal(room.run("made", "check"), (0, b"sound\n", b""), "the volume")
 
 
 @row

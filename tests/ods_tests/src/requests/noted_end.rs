@@ -1,6 +1,6 @@
-//! The note of where a chain ends spares an Extend the walk along the headers: behind an Extend of the same file it takes less than behind one
-//! of another file, which puts its own note in place of it.
-use super::rows::extend;
+//! The note of where a chain ends spares an Extend the walk along the headers: behind an Extend of another file it takes less than behind those of
+//! nine others, whose notes take all eight places.
+use super::rows::{create, dat, extend};
 use crate::persons::{FIRST, SECOND, USER, a_txt, b_txt, indexf};
 use crate::volumes::{FileHeader, Variant, added, reserved, run, sample_of};
 use ods_base::{FileId, Image};
@@ -51,11 +51,30 @@ fn grow(rt: &impl Abort, volume: &mut Volume, file: FileId) {
     assert!(rt; matches!(answer, Ok(Answer::Extended(_))), "{answer:?}");
 }
 
-/// How long an Extend of the long file takes at least, behind one of this file.
-fn least(rt: &(impl Abort + Clock), volume: &mut Volume, before: FileId) -> Result<Duration, Fail> {
+/// Nine new files: more than there are places for notes.
+fn nine_files(rt: &impl Abort, alloc: Global, volume: &mut Volume) -> Result<Vec<FileId>, Fail> {
+    let mut files = Vec::new(alloc);
+    for letter in b'A'..=b'I' {
+        let answer = volume.request(1, 1, USER, create(rt, dat(letter), 1));
+        let Ok(Answer::Created(file)) = answer else {
+            return Err("a new file".into());
+        };
+        files.push(file)?;
+    }
+    Ok(files)
+}
+
+/// How long an Extend of the long file takes at least, behind one of each of these files.
+fn least(
+    rt: &(impl Abort + Clock),
+    volume: &mut Volume,
+    before: &[FileId],
+) -> Result<Duration, Fail> {
     let mut least = Duration::from_secs(900);
     for _k in 0..EXTENDS {
-        grow(rt, volume, before);
+        for file in before {
+            grow(rt, volume, *file);
+        }
         let begun = Instant::now(rt)?;
         grow(rt, volume, FIRST);
         least = least.min(begun.elapsed(rt)?);
@@ -63,7 +82,7 @@ fn least(rt: &(impl Abort + Clock), volume: &mut Volume, before: FileId) -> Resu
     Ok(least)
 }
 
-/// Without the note both walk along 201 headers. The least of many times is that of an Extend beside which the machine had no other work.
+/// Without the notes both walk along 201 headers. The least of many times is that of an Extend beside which the machine had no other work.
 #[test]
 fn noted_extend_walks_along_nothing(rt: HostRuntime) -> Result<(), Fail> {
     let alloc = rt.alloc();
@@ -73,11 +92,12 @@ fn noted_extend_walks_along_nothing(rt: HostRuntime) -> Result<(), Fail> {
     let Ok(mut volume) = Volume::new(alloc, mounted, 65_536) else {
         return Err("memory for a volume".into());
     };
+    let others = nine_files(&rt, alloc, &mut volume)?;
     let mut noted = Duration::from_secs(900);
     let mut walked = Duration::from_secs(900);
     for _round in 0..ROUNDS {
-        noted = noted.min(least(&rt, &mut volume, FIRST)?);
-        walked = walked.min(least(&rt, &mut volume, SECOND)?);
+        noted = noted.min(least(&rt, &mut volume, &[SECOND])?);
+        walked = walked.min(least(&rt, &mut volume, &others)?);
     }
     let (noted, walked) = (noted.as_micros(), walked.as_micros());
     assert!(rt; 3 * noted < 2 * walked, "{noted} and {walked} microseconds");
