@@ -14,7 +14,7 @@ from fs_volumes import RESERVED, plain_volume
 
 FREED = "free: blocks 65 to 66 are marked as used and no file holds them\n"
 MARKED = "used: block 47 was marked as free\n"
-NOT_DONE = "names, lost, free: not done: the image is refused: "
+NOT_DONE = "names, lost, free: not done: "
 
 
 def repairs(room: Room, *words: str, status: int = 0, lines: str = "") -> None:

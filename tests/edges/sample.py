@@ -56,6 +56,8 @@ def commands_for_keepers_run(room: Room) -> None:
     (room.folder / "notes.txt").write_bytes(b"one\ntwo\n")
     (room.folder / "f11fs").symlink_to(room.program)
     (room.folder / "examples").symlink_to(TOP / "examples")
+    for words in (["init", "RX01"], ["mkdir", "1,2", "1,3"], ["put", "notes.txt", "1,2/OLD.TXT"], ["put", "notes.txt", "1,3/NOTES.TXT"]):
+        equal(room.run("old.dsk", *words)[0], 0, f"old.dsk {words}")
     lines = [line.split(" # ")[0] for block in blocks() if "disk.dsk" in block[0] for line in block]
     assert len(lines) >= 12, f"only {len(lines)} lines of README.md"
     for line in lines:
@@ -82,7 +84,7 @@ def commands_for_refused_images_run(room: Room) -> None:
     for name, image in before.items():
         (room.folder / name).write_bytes(image)
     (room.folder / "f11fs").symlink_to(room.program)
-    [lines] = [block for block in blocks() if "bad.dsk" in block[0]]
+    [lines] = [block for block in blocks() if "bad.dsk check" in block[0]]
     assert len(lines) == 8, f"{len(lines)} lines of README.md"
     for line in (line.split(" # ")[0].strip() for line in lines):
         shutil.rmtree(room.folder / "saved", ignore_errors=True)
