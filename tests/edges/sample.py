@@ -96,3 +96,15 @@ def commands_for_refused_images_run(room: Room) -> None:
     sound = Room((room.program, room.f11), room.folder, None).run("disk.dsk", "cat", "1,2/NOTES.TXT")
     equal((0, (room.folder / "notes.txt").read_bytes(), b""), sound, "what was got")
     equal({name: (room.folder / name).read_bytes() for name in before}, before, "the images")
+
+
+@row(image=no_image)
+def commands_that_repair_run(room: Room) -> None:
+    (room.folder / "bad.dsk").write_bytes(with_free_block())
+    (room.folder / "f11fs").symlink_to(room.program)
+    [lines] = [block for block in blocks() if block[0].startswith("cp bad.dsk")]
+    for line in (line.split(" # ")[0].strip() for line in lines):
+        ran = subprocess.run(["sh", "-c", line], cwd=room.folder, capture_output=True, timeout=300)
+        equal((ran.returncode, ran.stderr), (0, b""), line)
+    equal(room.run("work.dsk", "check", "--all"), (0, b"sound\n", b""), "what check says of the copy")
+    equal((room.folder / "bad.dsk").read_bytes(), with_free_block(), "the image")
