@@ -1,10 +1,11 @@
 //! The body of a file: its blocks where they stand in the image, and how far its bytes go.
-ghost use Rattle.std.specs.Prelude.{◌≡◌, ◌⊎◌, ◌*◌, ◌≤◌, length, ℕ, List, Some, None, IfSome, IfNone, IfOk, IfErr, OnOk};
+ghost use Rattle.std.specs.Prelude.{◌≡◌, ◌≢◌, ◌⊎◌, ◌*◌, ◌≤◌, length, ℕ, List, Some, None, IfSome, IfNone, IfOk, IfErr, MatchBool, OnOk};
 ghost use Rattle.std.specs.Io.KnownBytes.{Appends};
 ghost use Rattle.ods_space.specs.Files.{FindsFiles, IsFile};
 ghost use Rattle.ods_space.specs.Chain.{chain_blocks};
 ghost use Rattle.ods_files.specs.Body.{HasBody, HasPart, IsFileFault, are_zeros, body_at, size_in, bytes_in, IsCopyFault};
 
+use crate::comparing::have_same_sized;
 use crate::sending::{push_first, send_first};
 use crate::{CopyFault, FileFault, Form};
 use ods_base::Image;
@@ -151,6 +152,24 @@ impl<'a> FileBody<'a> {
         match send_first(self.image, &self.lbns, size, writer) {
             Ok(()) => Ok(()),
             Err(fault) => Err(CopyFault::Write(fault)),
+        }
+    }
+
+    /// Whether the bytes in this form are those of another file in that form. A form without bytes is like no other but one without. Nothing is copied.
+    pub fn is_same(&self, form: Form, other: &FileBody<'_>, other_form: Form) -> bool
+        ensures { MatchBool result (bytes_in form self.now ≡ bytes_in other_form other.now) (bytes_in form self.now ≢ bytes_in other_form other.now) }
+    {
+        match (self.size(form), other.size(other_form)) {
+            (Some(size), Some(other_size)) => have_same_sized(
+                self.image,
+                &self.lbns,
+                size,
+                other.image,
+                &other.lbns,
+                other_size,
+            ),
+            (None, None) => true,
+            _ => false,
         }
     }
 

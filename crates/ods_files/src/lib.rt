@@ -2,6 +2,7 @@
 #![tactic(auto)]
 
 mod body;
+mod comparing;
 mod fault;
 mod form;
 mod inside;

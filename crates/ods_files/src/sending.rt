@@ -129,7 +129,7 @@ pub(crate) fn push_first(
 }
 
 /// The block at this LBN, or these zeros where it lies past the image.
-fn block_or_zeros<'a>(image: &'a Image, zeros: &'a Block, lbn: u32) -> &'a Block
+pub(crate) fn block_or_zeros<'a>(image: &'a Image, zeros: &'a Block, lbn: u32) -> &'a Block
     requires { zeros.now ≡ zeros_are }
     ensures { result.now ≡ block_or_zeros image.now lbn }
 {
