@@ -22,3 +22,4 @@ pub mod Renumbering
 pub mod Keys
 pub mod Renumbered
 pub mod DoubledLaw
+pub mod Wholly

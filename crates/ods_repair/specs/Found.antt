@@ -1,9 +1,8 @@
 -- Lost files are entered in a directory under the names in their headers: the requests that are made, what they leave, and why not all are made.
-use Rattle.std.specs.Prelude.{◌≡◌, ◌↔◌, ℕ, ◌<◌, List, [], ◌∷◌, None}
+use Rattle.std.specs.Prelude.{◌≡◌, ◌↔◌, ℕ, ◌<◌, List, None}
 use Rattle.std.specs.List.{All, Contains}
 use Rattle.ods_base.specs.declared.file_id.FileId.{FileId}
 use Rattle.ods_base.specs.declared.listed.Listed.{Listed}
-use Rattle.ods_base.specs.Block.{word}
 use Rattle.ods_base.specs.Name.{IsName, RadName}
 use Rattle.ods_header.specs.Header.{ident_of}
 use Rattle.ods_space.specs.Layout.{VolumeLayout, header_at}
@@ -11,16 +10,13 @@ use Rattle.ods_request.specs.declared.requests.Request.{Request as Asked}
 use Rattle.ods_request.specs.declared.requests.Request.TheVariants.{Enter}
 use Rattle.ods_check.specs.Findings.{HasName, IsLostFile, id_at}
 use Rattle.ods_check.specs.Lists.{AreInOrder}
+use Rattle.ods_remains.specs.Idents.{name_in}
 use Rattle.ods_filing.specs.Filed.{Filed}
 use Rattle.ods_repair.specs.Asked.{AsksAll, StopsAt}
 use Rattle.ods_repair.specs.Kept.{KeepsFiles}
 use Rattle.ods_repair.specs.declared.fault.RepairFault.{RepairFault}
 use Rattle.ods_repair.specs.declared.fault.RepairFault.TheVariants.{NoMemory, NotEntered}
 use Rattle.ods_repair.specs.declared.lost_file.LostFile.{LostFile}
-
--- the name in an ident area, by its words
-abbrev pub name_in : List ℕ → RadName
-name_in ident = record { words = word ident 0 ∷ word ident 1 ∷ word ident 2 ∷ []; ext = word ident 3 }
 
 -- the name in the header of file n
 abbrev pub name_at : List (List ℕ) → VolumeLayout → ℕ → RadName

@@ -8,3 +8,4 @@ pub mod Spare
 pub mod Used
 pub mod Doubled
 pub mod Noted
+pub mod Wholly

@@ -10,12 +10,12 @@ ghost use Rattle.ods_repair.specs.Found.{AreNamed, EntersNext, IsFound, IsNotFou
 
 use crate::RepairFault;
 use crate::asking::{Plan, ask_all};
-use crate::idents::name_in;
 use crate::lost_file::LostFile;
 use ods_base::{FileId, Name};
 use ods_check::find_lost;
 use ods_filing::Filing;
 use ods_header::ident;
+use ods_remains::name_in;
 use ods_request::{Refusal, Request};
 use ods_space::{Disk, primary_header};
 use std::alloc::{AllocError, Global};
