@@ -1,5 +1,6 @@
 pub mod Bodies
 mod Bounds
+mod ComparedForms
 mod Digits
 mod Dots
 mod Flags
@@ -19,6 +20,7 @@ mod Noted
 mod Numbered
 mod Objects
 mod OneName
+mod OneNamed
 mod Places
 mod Runs
 mod RunObjects

@@ -1,12 +1,13 @@
 -- What is known of deleted files whose headers are still there, and which of them a path looks for.
-use Rattle.std.specs.Prelude.{◌≡◌, ℕ, Bool, List, [], ◌∷◌, length, Option, Some, None, MatchBool, option_map}
+use Rattle.std.specs.Prelude.{◌≡◌, ℕ, Bool, List, length, Option, Some, None, MatchBool, option_map}
 use Rattle.std.specs.List.{AllZip, range_with_len}
 use Rattle.ods_base.specs.Block.{word}
-use Rattle.ods_base.specs.Name.{RadName, IsName}
+use Rattle.ods_base.specs.Name.{IsName}
 use Rattle.ods_base.specs.declared.file_id.FileId.{FileId}
 use Rattle.ods_header.specs.Header.{attributes_of, ident_of, sequence_of}
 use Rattle.ods_space.specs.Layout.{VolumeLayout, last_number}
 use Rattle.ods_remains.specs.Deleted.{IsDeletedFile, IsFormerChain, counted, former, used_again}
+use Rattle.ods_remains.specs.Idents.{name_in}
 use Rattle.ods_remains.specs.Shared.{IsWhole}
 use Rattle.ods_remains.specs.Summary.{IsSharerOrSelf, missing_header}
 use Rattle.ods_remains.specs.declared.summary.Summary.{Summary}
@@ -53,10 +54,6 @@ pub record IsDeletionBy (I : List (List ℕ)) (L : VolumeLayout) (n : ℕ) (numb
 -- this is known of the deleted file n
 abbrev pub IsDeletion : List (List ℕ) → VolumeLayout → ℕ → Deletion → Type 0
 IsDeletion I L n d = (numbers : List ℕ) × (lbns : List ℕ) × (ends : Bool) × IsDeletionBy I L n numbers lbns ends d
-
--- the name in an ident area
-abbrev pub name_in : List ℕ → RadName
-name_in ident = record { words = word ident 0 ∷ word ident 1 ∷ word ident 2 ∷ []; ext = word ident 3 }
 
 -- A version is looked for where no other one is said. What directories had is not known, so none is the highest or the lowest.
 abbrev pub HasVersion : Option Versions → ℕ → Type 0

@@ -39,9 +39,9 @@ rows =
     (codes "BadChain", codes "the headers of a file do not go on as they say", codes "'rescue' gets the other files") ∷
     (codes "OutsideVolume", codes "a file goes on behind the end of the image", codes "with '--blocks N' an image that was cut short reads as its N blocks; 'rescue' gets the other files") ∷
     (codes "DoublyUsed", codes "two files hold one block, or one file holds it twice", codes "'check --all' lists all such blocks, and 'rescue' gets the files") ∷
-    (codes "MarkedFree", codes "a file holds a block that BITMAP.SYS says is free", codes "'check --all' lists all such blocks, and 'rescue' gets the files") ∷
+    (codes "MarkedFree", codes "a file holds a block that BITMAP.SYS says is free", codes "'repair used' marks all such blocks as used, and 'check --all' lists them") ∷
     (codes "BadDirectory", codes "an entry of a directory is no lawful one", codes "'check --all' lists all such directories, and 'rescue' gets the files") ∷
-    (codes "DuplicateName", codes "two entries of a directory have one name, type and version", codes "'check --all' lists all such names, and 'rescue' gets both files") ∷
+    (codes "DuplicateName", codes "two entries of a directory have one name, type and version", codes "'repair double' gives one of them another version, and 'check --all' lists all") ∷
     (codes "EndPastBlocks", codes "the end of the file lies past its blocks", codes "'get --raw' gets all its blocks") ∷
     (codes "BadName", codes "a name has at most 9 and a type at most 3 of A to Z, 0 to 9, $", codes "'put FILE PATH' says another name") ∷
     []

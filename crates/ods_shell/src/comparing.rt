@@ -1,5 +1,6 @@
 //! Whether files of two volumes have the same bytes.
-ghost use Rattle.std.specs.Prelude.{◌≡◌, ◌↔◌, ◌⊎◌, ℕ, List, IsTrue, IfOk, IfErr};
+ghost use Rattle.std.specs.Prelude.{◌≡◌, ◌↔◌, ◌⊎◌, ℕ, List, IsTrue, IfOk, IfErr, Some};
+ghost use Rattle.ods_files.specs.Body.{bytes_in};
 ghost use Rattle.ods_shell.specs.Compared.{AreCompared, HasCompared, HasNone};
 ghost use Rattle.ods_space.specs.Files.{FindsFiles};
 ghost use Rattle.ods_space.specs.Disks.{on};
@@ -8,7 +9,7 @@ use crate::FormFault;
 use crate::form::body_of;
 use ods_files::{FileBody, Form};
 use ods_space::Disk;
-use std::alloc::{AllocError, Global};
+use std::alloc::Global;
 
 /// Whether two files have the same bytes: those up to the end of file, or of all blocks where that lies past them. `NoSuchFile` where one
 /// of them is no file.
@@ -33,24 +34,17 @@ pub fn have_same_bytes(
         Ok(body) => body,
         Err(fault) => return Err(fault),
     };
-    let Ok(bytes) = bytes_of(alloc, &body) else {
-        return Err(FormFault::NoMemory);
-    };
-    let Ok(other_bytes) = bytes_of(alloc, &other_body) else {
-        return Err(FormFault::NoMemory);
-    };
-    Ok(bytes.as_slice() == other_bytes.as_slice())
+    let form = form_of(&body);
+    let other_form = form_of(&other_body);
+    Ok(body.is_same(form, &other_body, other_form))
 }
 
-/// The bytes of a file with this body that are compared.
-fn bytes_of(alloc: Global, body: &FileBody<'_>) -> Result<Vec<u8>, AllocError>
-    ensures { IfOk result (λ bytes. AreCompared body.now bytes.items) }
+/// The form in which a body is compared: up to the end of file, or all blocks where that lies past them.
+fn form_of(body: &FileBody<'_>) -> Form
+    ensures { (bytes : List ℕ) × (bytes_in result body.now ≡ Some bytes) × AreCompared body.now bytes }
 {
-    if let Some(bytes) = body.read(alloc, Form::Binary)? {
-        return Ok(bytes);
+    match body.size(Form::Binary) {
+        Some(_) => Form::Binary,
+        None => Form::Raw,
     }
-    let Some(bytes) = body.read(alloc, Form::Raw)? else {
-        unreachable!()
-    };
-    Ok(bytes)
 }

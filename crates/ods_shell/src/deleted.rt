@@ -1,5 +1,5 @@
 //! What is known of deleted files whose headers are still there, found by the name in their ident.
-ghost use Rattle.std.specs.Prelude.{◌≡◌, ◌≤◌, ◌⊎◌, ◌++◌, ◌∷◌, [], IfOk, IfSome, OnOk, MatchBool, MatchOption, option_map};
+ghost use Rattle.std.specs.Prelude.{◌≡◌, ◌⊎◌, ◌++◌, ◌∷◌, [], IfOk, IfSome, OnOk, MatchBool, MatchOption, option_map};
 ghost use Rattle.ods_header.specs.Header.{IsLaidOut};
 ghost use Rattle.ods_base.specs.Block.{word as word_in};
 ghost use Rattle.ods_base.specs.Name.{IsName};
@@ -7,15 +7,16 @@ ghost use Rattle.ods_paths.specs.Views.{files as said, said_files};
 ghost use Rattle.ods_remains.specs.Deleted.{IsDeleted, IsDeletedFile};
 ghost use Rattle.ods_space.specs.Disks.{on, seen};
 ghost use Rattle.ods_shell.specs.Choosing.{IsMatched};
-ghost use Rattle.ods_shell.specs.Deleted.{AreDeletions, HasVersion, IsDeletion, IsSought, IsSoughtFile, deleted_id as id_of_deleted, deletion_by, name_in as name_of};
+ghost use Rattle.ods_shell.specs.Deleted.{AreDeletions, HasVersion, IsDeletion, IsSought, IsSoughtFile, deleted_id as id_of_deleted, deletion_by};
+ghost use Rattle.ods_remains.specs.Idents.{name_in as name_of};
 ghost use Rattle.ods_shell.specs.declared.deleted.Deletion.{Deletion as Known};
 
 use crate::choosing::is_matched;
 use crate::facts::size;
-use ods_base::{Block, FileId, Name};
+use ods_base::{Block, FileId};
 use ods_header::{attributes, file_sequence, ident};
 use ods_paths::{Files, Versions};
-use ods_remains::{Shares, Summary, deleted_header, is_deleted_file};
+use ods_remains::{Shares, Summary, deleted_header, ident_word, is_deleted_file, name_in};
 use ods_space::{Disk, last_number};
 use std::alloc::{AllocError, Global};
 
@@ -179,30 +180,9 @@ fn is_named_so(ident: &[u8; 46], files: &Files<'_>) -> bool
         (¬ (IsName (name_of ident.now) × IsMatched (said files.now) (name_of ident.now) × HasVersion files.now.versions (word_in ident.now 4))) }
 {
     match name_in(ident) {
-        Some(name) => is_matched(&name, files) && has_version(word(ident, 4), files.versions),
+        Some(name) => is_matched(&name, files) && has_version(ident_word(ident, 4), files.versions),
         None => false,
     }
-}
-
-/// The name in an ident area, where its words spell one.
-fn name_in(ident: &[u8; 46]) -> Option<Name>
-    ensures { MatchOption result (¬ IsName (name_of ident.now)) (λ name. IsName (name_of ident.now) × (name ≡ name_of ident.now)) }
-{
-    let words = [word(ident, 0), word(ident, 1), word(ident, 2)];
-    let ext = word(ident, 3);
-    if words[0] < 64_000 && words[1] < 64_000 && words[2] < 64_000 && ext < 64_000 {
-        Some(Name::new(words, ext))
-    } else {
-        None
-    }
-}
-
-/// A word of an ident area.
-fn word(ident: &[u8; 46], place: usize) -> u16
-    requires { place ≤ 22 }
-    ensures { result ≡ word_in ident.now place }
-{
-    u16::from_le_bytes([ident[2 * place], ident[2 * place + 1]])
 }
 
 /// Whether a version is looked for.

@@ -55,6 +55,21 @@ pub fn find_open(
     })
 }
 
+/// The directories that a folder means, where none is closed. No names in them are read.
+pub(crate) fn find_directories(
+    alloc: Global,
+    disk: &Disk<'_>,
+    folder: &Folder<'_>,
+) -> Result<Vec<Directory>, AllocError>
+    ensures { IfOk result (λ found. on AreMeant disk.now [] (said_folder folder.now) found.items) }
+{
+    let mut shut = Closed {
+        numbers: &[],
+        met: Vec::new(alloc),
+    };
+    directories(alloc, disk, folder, &mut shut)
+}
+
 /// The lines that are found in one directory.
 fn found_in(
     alloc: Global,

@@ -1,20 +1,21 @@
 //! The lines of a directory that files of a path choose: what their patterns do not match is left out before the rest is put in order.
 ghost use Rattle.std.specs.Prelude.{◌+◌, ◌<◌, ◌++◌, ◌∷◌, List, [], IfOk, OnOk, IsSortedByKey, Some, length, take};
 ghost use Rattle.ods_base.specs.declared.listed.Listed.{Listed as Entry};
+ghost use Rattle.ods_mount.specs.Faults.{IsDirectoryFile};
 ghost use Rattle.ods_paths.specs.{Order.listing_cmp, Patterns.capitals, Views.files as said};
 ghost use Rattle.ods_walk.specs.Listing.{shown};
 ghost use Rattle.ods_shell.specs.Choosing.{AreThose, IsPicked};
 ghost use Rattle.ods_shell.specs.Found.{AreFoundIn};
-ghost use Rattle.ods_shell.specs.Matched.{AreMatchedIn, HasTitle, HasType, IsMatchedLine};
+ghost use Rattle.ods_shell.specs.Matched.{AreLikely, AreMatchedIn, HasTitle, HasType, IsMatchedLine};
 ghost use Rattle.ods_space.specs.Disks.{on};
 
 use crate::choosing::is_picked;
 use crate::folders::is_directory_file;
-use crate::sought::{is_sought, sought_title, sought_type};
+use crate::sought::{is_sought, sought_name, sought_title, sought_type};
 use ods_base::{Listed, Name};
 use ods_paths::{Files, Versions};
 use ods_space::Disk;
-use ods_walk::{in_order, shown_entries};
+use ods_walk::{entries_of, in_order, shown_entries};
 use std::alloc::{AllocError, Global};
 
 /// The lines of a directory that files of a path choose, in the order of a listing. `unsaid` are the versions that are meant where the path
@@ -45,9 +46,25 @@ fn matched_lines(
     if !is_directory_file(disk, number) {
         return Ok(Vec::new(alloc));
     }
-    let entries = shown_entries(alloc, disk, number)?;
+    let entries = likely_entries(alloc, disk, number, files)?;
     let those = keep_matched(alloc, &entries, files)?;
     in_order(alloc, &those)
+}
+
+/// Entries of a directory, among which are all that the patterns match: where these say one name, those of that name, else all that it shows.
+fn likely_entries(
+    alloc: Global,
+    disk: &Disk<'_>,
+    number: u16,
+    files: &Files<'_>,
+) -> Result<Vec<Listed>, AllocError>
+    requires { on IsDirectoryFile disk.now number }
+    ensures { IfOk result (λ likely. on AreLikely disk.now (said files.now) number likely.items) }
+{
+    match sought_name(alloc, files)? {
+        Some(name) => entries_of(alloc, disk, number, &name),
+        None => shown_entries(alloc, disk, number),
+    }
 }
 
 /// Of these entries those that the patterns match, in their order.

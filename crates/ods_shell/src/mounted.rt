@@ -69,6 +69,18 @@ pub fn find_open(
     crate::finding::find_open(alloc, &disk, folder, files, unsaid, closed)
 }
 
+/// The directories that a folder means.
+pub fn find_directories(
+    alloc: Global,
+    volume: &Mounted,
+    folder: &Folder<'_>,
+) -> Result<Vec<Directory>, AllocError>
+    ensures { IfOk result (λ found. AreMeant volume.now.image volume.now.layout [] (said_folder folder.now) found.items) }
+{
+    let disk = volume.disk();
+    crate::finding::find_directories(alloc, &disk, folder)
+}
+
 /// What names of files stand for in directories that a path says.
 pub fn find_names(
     alloc: Global,

@@ -213,7 +213,7 @@ const ROWS: [Row; 32] = [
         name: "MarkedFree",
         advice: Advice {
             why: "a file holds a block that BITMAP.SYS says is free",
-            what: "'check --all' lists all such blocks, and 'rescue' gets the files",
+            what: "'repair used' marks all such blocks as used, and 'check --all' lists them",
         },
     },
     Row {
@@ -227,7 +227,7 @@ const ROWS: [Row; 32] = [
         name: "DuplicateName",
         advice: Advice {
             why: "two entries of a directory have one name, type and version",
-            what: "'check --all' lists all such names, and 'rescue' gets both files",
+            what: "'repair double' gives one of them another version, and 'check --all' lists all",
         },
     },
     Row {

@@ -4,7 +4,7 @@ ghost use Rattle.ods_base.specs.Name.{RadName, Spells, title as title_of, type_t
 ghost use Rattle.ods_base.specs.declared.name.Pick.TheVariants as Picked;
 ghost use Rattle.ods_paths.specs.{Patterns.Matches, Patterns.capitals, Patterns.has_wildcard as wild, Views.files as said};
 ghost use Rattle.ods_shell.specs.Choosing.{IsMatched};
-ghost use Rattle.ods_shell.specs.Matched.{HasTitle, HasType};
+ghost use Rattle.ods_shell.specs.Matched.{HasTitle, HasType, IsOnly};
 
 use crate::choosing::is_matched;
 use ods_base::{Name, parse_name};
@@ -29,6 +29,28 @@ pub(crate) fn sought_type(alloc: Global, pattern: &[u8]) -> Result<Option<Name>,
     text.push(b'.')?;
     push_capitals(&mut text, pattern)?;
     Ok(spelled(&text))
+}
+
+/// The one name that the patterns can match; none where one has a wildcard, or is no title or no type.
+pub(crate) fn sought_name(alloc: Global, files: &Files<'_>) -> Result<Option<Name>, AllocError>
+    ensures { IfOk result (IsOnly (said files.now)) }
+{
+    let title = sought_title(alloc, files.name)?;
+    let kind = sought_type(alloc, files.kind)?;
+    Ok(joined(files, &title, &kind))
+}
+
+/// The name with the words of a title and of a type.
+fn joined(files: &Files<'_>, title: &Option<Name>, kind: &Option<Name>) -> Option<Name>
+    requires title { HasTitle (capitals files.now.name.now) title.now }
+    requires kind { HasType (capitals files.now.kind.now) kind.now }
+    ensures { IsOnly (said files.now) result }
+{
+    let _ = files;
+    match (title, kind) {
+        (Some(title), Some(kind)) => Some(Name::new(title.words(), kind.ext())),
+        _ => None,
+    }
 }
 
 /// The name that a text without a wildcard spells.

@@ -6,3 +6,4 @@ pub mod Ways
 pub mod Covered
 pub mod TableGrows
 pub mod Flagged
+pub mod NamedEntries

@@ -1,14 +1,14 @@
 -- The lines of a directory as people are shown them.
-use Rattle.std.specs.Prelude.{◌≡◌, ℕ, ◌+◌, Bool, List, length, nat_le, IsPermutation, IsSortedByKey}
-use Rattle.std.specs.List.{before_first}
-use Rattle.ods_base.specs.Name.{title, type_text}
-use Rattle.ods_base.specs.Names.{lines_of}
+use Rattle.std.specs.Prelude.{◌≡◌, ℕ, ◌+◌, ◌*◌, ◌^◌, ◌<◌, ◌≤◌, Bool, List, length, nat_le, IsPermutation, IsSortedByKey}
+use Rattle.std.specs.List.{before_first, filter}
+use Rattle.ods_base.specs.Name.{RadName, title, type_text}
+use Rattle.ods_base.specs.Names.{is_of, lines_of}
 use Rattle.ods_base.specs.declared.listed.Listed.{Listed}
 use Rattle.ods_space.specs.Layout.{VolumeLayout}
-use Rattle.ods_space.specs.Files.{HasBlocks}
+use Rattle.ods_space.specs.Files.{AreInside, HasBlocks}
 use Rattle.ods_space.specs.Reach.{ReachesBy}
 use Rattle.ods_directory.specs.Entry.{used_entries}
-use Rattle.ods_directory.specs.Lines.{good_lines}
+use Rattle.ods_directory.specs.Lines.{good_lines, line_key}
 use Rattle.ods_directory.specs.Names.{names_of}
 use Rattle.ods_mount.specs.Faults.{IsDirectoryFile, contents_of, mark_at}
 use Rattle.ods_mount.specs.Sound.{IsSoundBy}
@@ -29,11 +29,27 @@ pub record AreThere (I : List (List ℕ)) (L : VolumeLayout) (n : ℕ) (lbns : L
   pub reached : ReachesBy I L n blocks whole
   pub front : lbns ≡ up_to_end (length I) blocks
 
+-- These blocks of directory n are there and lie in the image, and this is its mark.
+pub record IsRead (I : List (List ℕ)) (L : VolumeLayout) (n : ℕ) (lbns : List ℕ) (mark : ℕ) : Type 0 where
+  pub there : AreThere I L n lbns
+  pub inside : AreInside I lbns
+  pub few : length lbns < 2 ^ 32
+  pub end : mark ≡ mark_at I L n lbns
+  pub before : mark ≤ 512 * length lbns
+
 -- These entries directory n shows: in its blocks that are there, before its mark, the good ones.
 pub record AreEntries (I : List (List ℕ)) (L : VolumeLayout) (n : ℕ) (entries : List Listed) : Type 0 where
   pub lbns : List ℕ
   pub there : AreThere I L n lbns
   pub all : entries ≡ good_lines (used_entries (contents_of I lbns) (mark_at I L n lbns))
+
+-- whether the entry has this name, whatever its version
+abbrev pub has_name : RadName → Listed → Bool
+has_name name e = is_of name (line_key e)
+
+-- of the entries that directory n shows just those of this name, in their order
+abbrev pub AreEntriesOf : List (List ℕ) → VolumeLayout → ℕ → RadName → List Listed → Type 0
+AreEntriesOf I L n name found = (entries : List Listed) × AreEntries I L n entries × (found ≡ filter (has_name name) entries)
 
 -- So many entries directory n passes over: in its blocks that are there, before its mark, the used ones that are not good.
 abbrev pub ArePassedOver : List (List ℕ) → VolumeLayout → ℕ → ℕ → Type 0

@@ -5,12 +5,12 @@ ghost use Rattle.ods_text.specs.Cuts.{IsFirst};
 ghost use Rattle.ods_mount.specs.Faults.{IsDirectoryFile};
 ghost use Rattle.ods_base.specs.Name.{title as title_of, type_text};
 ghost use Rattle.ods_paths.specs.{Order.listing_cmp, Lines.line};
-ghost use Rattle.ods_walk.specs.Listing.{IsListing, AreEntries, ArePassedOver, shown, up_to_end};
+ghost use Rattle.ods_walk.specs.Listing.{IsListing, IsRead, AreEntries, ArePassedOver, shown, up_to_end};
 ghost use Rattle.ods_space.specs.Disks.{on};
 
 use arrayvec::ArrayString;
 use ods_base::{Listed, print_title, print_type};
-use ods_directory::{DirBlocks, good_entries, mark_of};
+use ods_directory::{good_entries, mark_of};
 use ods_header::attributes;
 use ods_mount::FileBlocks;
 use ods_paths::{Shown, compare};
@@ -56,6 +56,21 @@ fn read_entries(
     ensures shown { IfOk result (λ r. on AreEntries disk.now number r.0.items) }
     ensures bad { IfOk result (λ r. on ArePassedOver disk.now number r.1) }
 {
+    let (there, mark) = directory_blocks(alloc, disk, number)?;
+    let blocks = FileBlocks::new(disk.image, &there);
+    let (lines, bad) = good_entries(alloc, &blocks, mark)?;
+    Ok((lines, bad))
+}
+
+/// The blocks of a directory that are there, and its mark.
+pub(crate) fn directory_blocks(
+    alloc: Global,
+    disk: &Disk<'_>,
+    number: u16,
+) -> Result<(Vec<u32>, u64), AllocError>
+    requires { on IsDirectoryFile disk.now number }
+    ensures { IfOk result (λ r. on IsRead disk.now number r.0.items r.1) }
+{
     let Some(header) = primary_header(disk, number) else {
         unreachable!()
     };
@@ -63,10 +78,9 @@ fn read_entries(
         unreachable!()
     };
     let there = up_to_end(disk.image.len(), &reached.blocks);
-    let blocks = FileBlocks::new(disk.image, there);
-    let mark = mark_of(&attributes(header), blocks.count());
-    let (lines, bad) = good_entries(alloc, &blocks, mark)?;
-    Ok((lines, bad))
+    let mark = mark_of(&attributes(header), there.len() as u32);
+    let lbns = Vec::from_slice(alloc, there)?;
+    Ok((lbns, mark))
 }
 
 /// The first of these LBNs, up to one past an image of so many blocks.

@@ -12,10 +12,10 @@ use Rattle.ods_shell.proofs.matched.matched_lines.Goals as goal
 pub returns-clause-lines : goal.returns-clause-lines
 returns-clause-lines c =
     let said = files c.args.files.now in
-    let entries : List Listed = c.in_ok-entries.entries.items in
+    let likely = c.in_ok-entries.ensures in
     let some : List Listed = c.deref-2.result.now in
-    let kept : AreThose (IsMatchedLine said) entries some =
+    let kept : AreThose (IsMatchedLine said) c.in_ok-entries.entries.items some =
     subst (λ (es : List Listed). AreThose (IsMatchedLine said) es some) c.deref.ensures.value (subst (AreThose (IsMatchedLine said) c.deref.result.now) (sym c.deref-2.ensures.value) c.in_ok-those.ensures) in
     from_two c.in_order.result (λ those. IsPermutation some those.items) (λ those. IsSortedByKey shown listing_cmp those.items) _
-    (λ those moved sorted. matched_of_listing c.args.disk.now.image.now c.args.disk.now.layout.now said c.args.number entries some c.if-not-is_directory_file.ensures c.in_ok-entries.ensures kept those.items moved sorted)
+    (λ those moved sorted. matched_of_listing c.args.disk.now.image.now c.args.disk.now.layout.now said c.args.number likely.0 some c.if-not-is_directory_file.ensures likely.1 (likely.2 some kept) those.items moved sorted)
     c.in_order.ensures.permutation c.in_order.ensures.order
