@@ -42,3 +42,10 @@ pub mod WaysMade
 pub mod Packing
 pub mod CopiesOver
 pub mod CopiedTrees
+pub mod Padding
+pub mod Behind
+pub mod LawsAppended
+pub mod Requests
+mod Grown
+pub mod TreeNaming
+pub mod TreePutting

@@ -59,12 +59,12 @@ begun stamp path way f none = λ parts last parted. record {
 }
 
 -- the part in front is the first of those that are left
-record Front (rest part behind last : List ℕ) (more : List (List ℕ)) : Type 0 where
-  others : List (List ℕ)
-  whole : more ≡ part ∷ others
-  parted : IsParted behind others last
+pub record Front (rest part behind last : List ℕ) (more : List (List ℕ)) : Type 0 where
+  pub others : List (List ℕ)
+  pub whole : more ≡ part ∷ others
+  pub parted : IsParted behind others last
 
-front : (rest part behind last : List ℕ) (more : List (List ℕ)) → cut_of 47 rest ≡ Some (part, behind) → IsParted rest more last → Front rest part behind last more
+pub front : (rest part behind last : List ℕ) (more : List (List ℕ)) → cut_of 47 rest ≡ Some (part, behind) → IsParted rest more last → Front rest part behind last more
 front rest part behind last [] cut parted = (let clash : None ≡ Some (part, behind) = sym parted.0 ∙ cut in absurd (cc clash))
 front rest part behind last (p ∷ others) cut parted =
     let pair : (p, parted.0) ≡ (part, behind) = same_Some (p, parted.0) (part, behind) (sym parted.1 ∙ cut) in

@@ -50,3 +50,10 @@ abbrev pub Cuts : Request → Type 0
 Cuts (Truncate file blocks) = Unit {0}
 Cuts (SetUser file attributes) = Unit {0}
 Cuts r = ⊥
+
+-- append: a file gets blocks, these are written, and its attributes are set
+abbrev pub Appends : Request → Type 0
+Appends (Extend file blocks) = Unit {0}
+Appends (Write file vbn block) = Unit {0}
+Appends (SetUser file attributes) = Unit {0}
+Appends r = ⊥

@@ -20,6 +20,8 @@ use Rattle.ods_shell.specs.Contents.{IsGot, IsNotGot}
 use Rattle.ods_shell.specs.declared.form.FormFault.{FormFault}
 use Rattle.ods_shell.specs.declared.form.FormFault.TheVariants.{NoMemory}
 use Rattle.ods_shell.specs.declared.form.Remark.{Remark}
+use Rattle.ods_shell.specs.declared.facts.Facts.{Facts}
+use Rattle.ods_upkeep.specs.Appended.{AreBehind, HoldsBytes, IsLeftOf, appends}
 use Rattle.ods_upkeep.specs.PutFor.{IsMadeFor}
 use Rattle.ods_upkeep.specs.Removed.{Does}
 use Rattle.ods_upkeep.specs.declared.asked.Placing.{Placing}
@@ -61,3 +63,9 @@ pub record IsGotBack (new : Filed) (id : FileId) (attributes bytes : List ℕ) :
 abbrev pub GetGivesWhatWasPut : Type 0
 GetGivesWhatWasPut = (placing : Placing) (owner : Uic) (dir : FileId) (said : Option ℕ) (heading : Heading) (attributes bytes : List ℕ) (file : FileId) (old new : Filed) (C : Catalogue)
     → ShowsBy old.image old.layout C → IsMadeFor placing owner dir said heading attributes bytes file old new → end_of attributes ≡ length bytes → IsGotBack new file attributes bytes
+
+-- What append leaves of a catalogue that the blocks show, and whose file has the old bytes: it has all bytes then, and the new attributes say that they end there. Nothing else has changed.
+abbrev pub AppendPutsBehind : Type 0
+AppendPutsBehind = (facts : Facts) (held bytes all attributes : List ℕ) (old new : Filed) → length facts.attributes ≡ 32 → AreBehind facts.attributes held bytes all attributes
+    → Does old (appends facts (length held) all attributes) new → (C : Catalogue) → ShowsBy old.image old.layout C → HoldsBytes C facts.file facts.blocks held
+    → (end_of attributes ≡ length all) × ((D : Catalogue) × ShowsBy new.image new.layout D × IsLeftOf C facts.file attributes all D)

@@ -40,3 +40,6 @@ pub mod CopiedFrom
 pub mod UncopiedFrom
 pub mod CopiedTree
 pub mod UncopiedTree
+pub mod Appended
+pub mod TreeNames
+pub mod TreePut

@@ -26,7 +26,7 @@ use Rattle.ods_upkeep.specs.declared.asked.Placing.TheVariants.{Anywhere, InOneP
 use Rattle.ods_upkeep.specs.declared.failure.Why.{Why}
 use Rattle.ods_upkeep.specs.declared.failure.Why.TheVariants.{Put, Request}
 use Rattle.ods_upkeep.specs.declared.put_fault.PutFault.{PutFault}
-use Rattle.ods_upkeep.specs.declared.put_fault.PutFault.TheVariants.{NoRecords, LongRecord, Untyped, NoRun}
+use Rattle.ods_upkeep.specs.declared.put_fault.PutFault.TheVariants.{NoRecords, LongRecord, Untyped, NoRun, NoEnd, OtherKind, PastBlocks}
 
 -- the exit status: a name that is none is wrong words, and bytes that do not fit are refused
 abbrev pub HasPutStatus : PutFault → Status → Type 0
@@ -34,6 +34,9 @@ HasPutStatus (NoRecords fault) s = s ≡ Refused
 HasPutStatus (LongRecord longest size) s = s ≡ Refused
 HasPutStatus (Untyped character) s = s ≡ Words
 HasPutStatus (NoRun longest blocks) s = s ≡ Refused
+HasPutStatus NoEnd s = s ≡ Refused
+HasPutStatus (OtherKind kind) s = s ≡ Refused
+HasPutStatus PastBlocks s = s ≡ Refused
 
 -- The bytes fit attributes: where these are of records with a length, the bytes are such records, and none is longer than F.RSIZ where that is not 0.
 abbrev pub FitsForm : List ℕ → List ℕ → Type 0
@@ -46,6 +49,9 @@ IsUnfit own bytes (LongRecord longest size) = (kind : RecordKind) × (kind_in ow
     × (longest ≡ longest_of records) × (size ≡ word_at own 2) × (size < longest) × (size ≢ 0))
 IsUnfit own bytes (Untyped character) = ⊥
 IsUnfit own bytes (NoRun longest blocks) = ⊥
+IsUnfit own bytes NoEnd = ⊥
+IsUnfit own bytes (OtherKind kind) = ⊥
+IsUnfit own bytes PastBlocks = ⊥
 
 -- the attributes with the record type and the record attributes of others, and the greater record size of both
 abbrev pub like_greater : List ℕ → List ℕ → List ℕ

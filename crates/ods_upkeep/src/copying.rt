@@ -241,7 +241,7 @@ pub(crate) fn bytes_on(alloc: Global, disk: &Disk<'_>, file: FileId) -> Result<V
 }
 
 /// Why the bytes of a file are not read.
-fn why_unread(fault: FileFault) -> Why
+pub(crate) fn why_unread(fault: FileFault) -> Why
     ensures { result ≡ why_for fault }
 {
     match fault {

@@ -197,7 +197,7 @@ fn names_behind(names: &[Name], depth: usize) -> &[Name]
 }
 
 /// The directory to which these names lead from this one. Those that are not there are made.
-fn place_below(
+pub(crate) fn place_below(
     alloc: Global,
     filing: &mut Filing,
     stamp: Stamp,

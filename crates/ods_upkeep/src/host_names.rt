@@ -40,7 +40,7 @@ fn host_name(alloc: Global, name: &str) -> Result<Name, Why>
 }
 
 /// What stands before the first dot, or all, and what stands behind it.
-fn parts(name: &[u8]) -> (&[u8], &[u8])
+pub(crate) fn parts(name: &[u8]) -> (&[u8], &[u8])
     ensures { (result.0.now ≡ title_of name.now) × (result.1.now ≡ type_of name.now) }
 {
     match cut_at(b'.', name) {
@@ -50,14 +50,14 @@ fn parts(name: &[u8]) -> (&[u8], &[u8])
 }
 
 /// Whether it is the name of no file: it is empty, or says a version.
-fn is_no_name(name: &[u8]) -> bool
+pub(crate) fn is_no_name(name: &[u8]) -> bool
     ensures { IsTrue result ↔ IsNoName name.now }
 {
     name.is_empty() || has_byte(b';', name)
 }
 
 /// The first one of three characters that the name has, each of which stands for one that RSX cannot type.
-fn untyped(name: &[u8]) -> Option<char>
+pub(crate) fn untyped(name: &[u8]) -> Option<char>
     ensures { MatchOption result (IsTyped name.now) (IsUntyped name.now) }
 {
     if has_byte(b'_', name) {

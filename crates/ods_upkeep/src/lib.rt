@@ -3,6 +3,7 @@
 //! `tests/fs_changes` checks it on the built program.
 #![tactic(auto)]
 
+mod appending;
 mod asked;
 mod asking;
 mod attributes;
@@ -27,16 +28,19 @@ mod parts;
 mod purging;
 mod put_fault;
 mod putting;
+mod putting_tree;
 mod removing;
 mod rooms;
 mod sources;
 mod target;
 mod targets;
+mod tree_names;
 mod truncating;
 mod untarring;
 mod versions;
 mod written;
 
+pub use appending::{append_bytes, open_end, room_behind};
 pub use asked::{CopyFrom, HostFile, Placing, PutForm, Removal};
 pub use copying::copy_files;
 pub use copying_from::copy_from;
@@ -44,11 +48,13 @@ pub use copying_tree::copy_tree_from;
 pub use directories::{is_below_another, make_directories, remove_directories};
 pub use failure::{Failure, Why};
 pub use giving::{give_owner, give_protection};
-pub use laws::{get_gives_what_was_put, mv_there_and_back, rm_undoes_put};
+pub use laws::{append_puts_behind, get_gives_what_was_put, mv_there_and_back, rm_undoes_put};
 pub use moving::move_names;
 pub use purging::purge_files;
 pub use put_fault::PutFault;
 pub use putting::Putting;
+pub use putting_tree::{TreeForm, make_folders, put_leaf, tree_root};
 pub use removing::remove_files;
+pub use tree_names::judge_path;
 pub use truncating::truncate_file;
 pub use untarring::{Packed, untar_file};

@@ -79,7 +79,7 @@ fn of_folder<'a>(alloc: Global, folder: Folder<'a>) -> Result<Meant<'a>, Why>
 }
 
 /// The name that a step says, or the pattern for it.
-fn name_said(alloc: Global, step: &Step<'_>) -> Result<Vec<u8>, Why>
+pub(crate) fn name_said(alloc: Global, step: &Step<'_>) -> Result<Vec<u8>, Why>
     ensures { MatchResult result (λ name. SaysName (said_step step.now) (capitals name.items)) (SaysNoName (said_step step.now)) }
 {
     match step {

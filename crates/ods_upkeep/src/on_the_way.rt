@@ -52,7 +52,7 @@ pub(crate) fn last_part(path: &str) -> &str
 
 /// What stands before the first slash of a path, and what stands behind it.
 #[tactic(auto, using(crate::proofs::CutTexts::cut_some, crate::proofs::CutTexts::cut_none))]
-fn cut_path(path: &str) -> Option<(&str, &str)>
+pub(crate) fn cut_path(path: &str) -> Option<(&str, &str)>
     ensures cut { MatchOption result (cut_of 47 path.now ≡ None) (λ p. cut_of 47 path.now ≡ Some (p.0.now, p.1.now)) }
 {
     path.split_once('/')
@@ -99,7 +99,12 @@ fn push_part(way: &mut String, part: &str) -> Result<(), AllocError>
 }
 
 /// Sees that the directory of a path is there.
-fn make_there(alloc: Global, filing: &mut Filing, stamp: Stamp, path: &str) -> Result<(), Why>
+pub(crate) fn make_there(
+    alloc: Global,
+    filing: &mut Filing,
+    stamp: Stamp,
+    path: &str,
+) -> Result<(), Why>
     ensures { MatchResult result (λ _. IsThereThen stamp path.now filing.old filing.new) (IsNotThere stamp path.now filing.old filing.new) }
 {
     match find_directory(alloc, filing.mounted(), path) {

@@ -20,6 +20,15 @@ pub enum PutFault {
     /// The longest run of free blocks has so many, and the file, which is to be in one piece, has more.
     #[error("VolumeFull: the longest run of free blocks has {0} blocks, and the file needs {1}")]
     NoRun(u32, usize),
+    /// The attributes of the file are zeros, so nothing says where it ends.
+    #[error("its attributes are zeros, so nothing says where it ends; 'get --raw' gives all blocks")]
+    NoEnd,
+    /// Bytes go behind files whose F.RTYP is 0, 1 or 2, and this file has another.
+    #[error("F.RTYP is {0}, and bytes go behind those of 0 and 1 alone, texts behind those of 2")]
+    OtherKind(u8),
+    /// The end of file lies past the blocks.
+    #[error("its end lies past its blocks; 'get --raw' gives all blocks")]
+    PastBlocks,
 }
 
 impl PutFault {
@@ -28,9 +37,12 @@ impl PutFault {
         ensures { HasPutStatus self.now result }
     {
         match self {
-            PutFault::NoRecords(_) | PutFault::LongRecord(_, _) | PutFault::NoRun(_, _) => {
-                Status::Refused
-            }
+            PutFault::NoRecords(_)
+            | PutFault::LongRecord(_, _)
+            | PutFault::NoRun(_, _)
+            | PutFault::NoEnd
+            | PutFault::OtherKind(_)
+            | PutFault::PastBlocks => Status::Refused,
             PutFault::Untyped(_) => Status::Words,
         }
     }

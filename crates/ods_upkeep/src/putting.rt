@@ -123,8 +123,30 @@ impl Putting {
         }
     }
 
+    /// How one file is put to a target, by its contents or in a form that is said.
+    pub(crate) fn one(
+        target: Target,
+        stamp: Stamp,
+        form: PutForm,
+        placing: Placing,
+        whose: Option<Uic>,
+    ) -> Putting
+        ensures { result ≡ record { target = target; stamp = stamp; form = form; like = None; placing = placing; owner = whose; names = None; highest = None } }
+    {
+        Putting {
+            target,
+            stamp,
+            form,
+            like: None,
+            placing,
+            owner: whose,
+            names: None,
+            highest: None,
+        }
+    }
+
     /// Puts one.
-    fn put_one(
+    pub(crate) fn put_one(
         &mut self,
         alloc: Global,
         filing: &mut Filing,

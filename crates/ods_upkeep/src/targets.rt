@@ -20,7 +20,7 @@ use crate::target::Target;
 use ods_base::{FileId, Name, Pick, parse_name};
 use ods_mount::Mounted;
 use ods_paths::{Files, Folder, Path, Versions, has_wildcard, parse_path};
-use ods_shell::mounted::{facts_by_id, facts_of, find_names, find_open};
+use ods_shell::mounted::{facts_by_id, facts_of, find_directories, find_names};
 use ods_shell::{Found, Kind, PathFault};
 use std::alloc::Global;
 
@@ -121,8 +121,8 @@ pub(crate) fn the_directory(
     ensures { MatchResult result (IsTheDirectory volume.now.image volume.now.layout (said_folder folder.now))
         (IsNoDirectory volume.now.image volume.now.layout (said_folder folder.now)) }
 {
-    let finding = find_open(alloc, volume, folder, &None, Versions::Highest, &[])?;
-    match finding.directories.as_slice() {
+    let found = find_directories(alloc, volume, folder)?;
+    match found.as_slice() {
         [] => Err(Why::Path(PathFault::Nothing)),
         [one] => match facts_of(volume, one.number) {
             Some(facts) => Ok(facts.file),

@@ -184,7 +184,7 @@ fn records_like(own: [u8; 32], like: &Option<[u8; 32]>) -> [u8; 32]
 }
 
 /// Whether the last line has no LF.
-fn lacks_last_lf(bytes: &[u8]) -> bool
+pub(crate) fn lacks_last_lf(bytes: &[u8]) -> bool
     ensures { IsTrue result ↔ IsUnended bytes.now }
 {
     !bytes.is_empty() && bytes[bytes.len() - 1] != b'\n'

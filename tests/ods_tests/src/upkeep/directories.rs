@@ -2,8 +2,10 @@
 use super::{
     asked, done, is_refused, make_directories, paths, put, remove_directories, the, volume_of,
 };
+use ods_paths::{Path, parse_path};
 use ods_request::Refusal;
 use ods_shell::PathFault;
+use ods_shell::mounted::find_directories;
 use ods_upkeep::Why;
 use std::process::Abort;
 use std::test::Fail;
@@ -68,5 +70,22 @@ fn empty_directories_go(rt: HostRuntime) -> Result<(), Fail> {
     assert!(rt; is_refused(full, "[0,0]A.DIR;1", Why::Request(Refusal::NotEmpty)));
     let none = remove_directories(alloc, volume_of(alloc, 40)?, &asked, &["A"]);
     assert!(rt; is_refused(none, "A", Why::Path(PathFault::Nothing)));
+    Ok(())
+}
+
+#[test]
+fn directories_of_a_folder(rt: HostRuntime) -> Result<(), Fail> {
+    let alloc = rt.alloc();
+    let words = ["A", "A/B", "[1,2]"];
+    let volume = done(
+        alloc,
+        make_directories(alloc, volume_of(alloc, 40)?, &asked()?, &words, 0, None),
+    )?;
+    for (path, count) in [("[A]", 1), ("[A.*]", 1), ("[1,*]", 1), ("[X]", 0)] {
+        let Ok(Path::Within(folder, None)) = parse_path(path.as_bytes()) else {
+            return Err(Fail::from("a folder"));
+        };
+        assert!(rt; find_directories(alloc, &volume, &folder)?.len() == count);
+    }
     Ok(())
 }
