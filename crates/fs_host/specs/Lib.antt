@@ -14,3 +14,4 @@ pub mod Holes
 pub mod Blocks
 pub mod Stopped
 pub mod Dates
+pub mod Trees

@@ -39,6 +39,7 @@ whole_simple verb.Purge = refl
 whole_simple verb.Mkdir = refl
 whole_simple verb.Rmdir = refl
 whole_simple verb.Truncate = refl
+whole_simple verb.Append = refl
 whole_simple verb.Chmod = refl
 whole_simple verb.Chown = refl
 whole_simple verb.Label = refl

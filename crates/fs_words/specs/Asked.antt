@@ -89,6 +89,11 @@ pub record IsPutSo (m : ArgMatches) (p : PutWords) : Type 0 where
   pub contiguous : IsContiguity m p.contiguous
   pub replace : IsSet m (codes "--replace") p.replace
   pub owner : IsValue IsSaid (text_of m (codes "--owner")) p.owner
+  pub below : IsSet m (codes "-r") p.below
+  pub skip : IsSet m (codes "--skip") p.skip
+  -- --skip does nothing without -r, and --replace and --like nothing with it
+  pub skips_below : p.skip ≡ true → p.below ≡ true
+  pub anew : p.below ≡ true → (p.replace ≡ false) × (text_of m (codes "--like") ≡ None)
 
 abbrev pub IsPut : ArgMatches → Action → Type 0
 IsPut m a = (p : PutWords) × IsPutSo m p × (a ≡ action.Change (change.Put p))
@@ -123,6 +128,10 @@ IsMkdir m a = (names : Option ℕ) × (owner : Option Uic) × IsValue IsNumber (
 
 abbrev pub IsTruncate : ArgMatches → Action → Type 0
 IsTruncate m a = (bytes : ℕ) × IsValue IsLargeNumber (text_of m (codes "bytes")) (Some bytes) × (a ≡ action.Change (change.Truncate bytes))
+
+-- a path and a host file are said
+abbrev pub IsAppend : ArgMatches → Action → Type 0
+IsAppend m a = (length (texts_of m (codes "path")) ≡ 2) × (a ≡ action.Change change.Append)
 
 abbrev pub IsChmod : ArgMatches → Action → Type 0
 IsChmod m a = (protection : ℕ) × IsValue IsProtection (text_of m (codes "protection")) (Some protection) × (a ≡ action.Change (change.Chmod protection))
@@ -169,6 +178,7 @@ Asks verb.Purge m out a = IsPurge m a
 Asks verb.Mkdir m out a = IsMkdir m a
 Asks verb.Rmdir m out a = a ≡ action.Change change.Rmdir
 Asks verb.Truncate m out a = IsTruncate m a
+Asks verb.Append m out a = IsAppend m a
 Asks verb.Chmod m out a = IsChmod m a
 Asks verb.Chown m out a = IsChown m a
 Asks verb.Label m out a = IsLabel m a

@@ -26,6 +26,7 @@ verb_text verb.Purge = codes "purge"
 verb_text verb.Mkdir = codes "mkdir"
 verb_text verb.Rmdir = codes "rmdir"
 verb_text verb.Truncate = codes "truncate"
+verb_text verb.Append = codes "append"
 verb_text verb.Chmod = codes "chmod"
 verb_text verb.Chown = codes "chown"
 verb_text verb.Label = codes "label"
@@ -36,7 +37,7 @@ verb_text verb.File = codes "-f"
 
 -- the commands, in the order of the help
 abbrev pub verbs : List Verb
-verbs = verb.Ls ∷ verb.Find ∷ verb.Stat ∷ verb.Cat ∷ verb.Get ∷ verb.Tar ∷ verb.Df ∷ verb.Info ∷ verb.Du ∷ verb.Check ∷ verb.Rescue ∷ verb.Cmp ∷ verb.Put ∷ verb.Untar ∷ verb.Cp ∷ verb.Mv ∷ verb.Rm ∷ verb.Purge ∷ verb.Mkdir ∷ verb.Rmdir ∷ verb.Truncate ∷ verb.Chmod ∷ verb.Chown ∷ verb.Label ∷ verb.Repair ∷ verb.Init ∷ []
+verbs = verb.Ls ∷ verb.Find ∷ verb.Stat ∷ verb.Cat ∷ verb.Get ∷ verb.Tar ∷ verb.Df ∷ verb.Info ∷ verb.Du ∷ verb.Check ∷ verb.Rescue ∷ verb.Cmp ∷ verb.Put ∷ verb.Untar ∷ verb.Cp ∷ verb.Mv ∷ verb.Rm ∷ verb.Purge ∷ verb.Mkdir ∷ verb.Rmdir ∷ verb.Truncate ∷ verb.Append ∷ verb.Chmod ∷ verb.Chown ∷ verb.Label ∷ verb.Repair ∷ verb.Init ∷ []
 
 -- the command of this name
 abbrev pub verb_named : List ℕ → Option Verb

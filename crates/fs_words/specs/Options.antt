@@ -15,6 +15,7 @@ verb_changes verb.Purge = true
 verb_changes verb.Mkdir = true
 verb_changes verb.Rmdir = true
 verb_changes verb.Truncate = true
+verb_changes verb.Append = true
 verb_changes verb.Chmod = true
 verb_changes verb.Chown = true
 verb_changes verb.Label = true

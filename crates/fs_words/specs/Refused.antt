@@ -67,15 +67,20 @@ pub data IsBeside (s : Said) (v : Verb) : Type 0 where
   no_blocks : IsNoValue IsNumber (text_said s (codes "--blocks")) → IsBeside s v
   no_order : IsNoValue IsLayering (text_said s (codes "--order")) → IsBeside s v
 
+-- what does nothing for a put: --skip without -r, or --replace or --like with it
+abbrev pub IsIdleForPut : ArgMatches → Type 0
+IsIdleForPut m = (IsSet m (codes "--skip") true × IsSet m (codes "-r") false) ⊎ (IsSet m (codes "-r") true × (IsSet m (codes "--replace") true ⊎ (is_some (text_of m (codes "--like")) ≡ true)))
+
 -- What is wrong with the own words of each command, of which a parse found these.
 abbrev pub IsUnasked : Verb → ArgMatches → Type 0
 IsUnasked verb.Find m = IsSet m (codes "-l") true × IsSet m (codes "--deleted") false
 IsUnasked verb.Get m = (IsSet m (codes "--partial") true × IsSet m (codes "--deleted") false) ⊎ (IsSet m (codes "-r") true × IsSet m (codes "--deleted") true)
 IsUnasked verb.Du m = IsNoValue IsNumber (text_of m (codes "--top"))
-IsUnasked verb.Put m = IsNoValue IsForm (text_of m (codes "--form")) ⊎ IsNoValue IsSaid (text_of m (codes "--owner"))
+IsUnasked verb.Put m = IsNoValue IsForm (text_of m (codes "--form")) ⊎ (IsNoValue IsSaid (text_of m (codes "--owner")) ⊎ IsIdleForPut m)
 IsUnasked verb.Mkdir m = IsNoValue IsNumber (text_of m (codes "--names")) ⊎ IsNoValue IsSaid (text_of m (codes "--owner"))
 IsUnasked verb.Purge m = IsNoValue IsNumber (text_of m (codes "-k")) ⊎ IsValue IsNumber (text_of m (codes "-k")) (Some 0)
 IsUnasked verb.Truncate m = (bytes : ℕ) → IsValue IsLargeNumber (text_of m (codes "bytes")) (Some bytes) → ⊥
+IsUnasked verb.Append m = length (texts_of m (codes "path")) ≢ 2
 IsUnasked verb.Chmod m = (protection : ℕ) → IsValue IsProtection (text_of m (codes "protection")) (Some protection) → ⊥
 IsUnasked verb.Chown m = (owner : Uic) → IsValue IsSaid (text_of m (codes "owner")) (Some owner) → ⊥
 IsUnasked verb.Label m = text_of m (codes "label") ≡ None

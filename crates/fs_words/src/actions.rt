@@ -113,6 +113,8 @@ pub enum Change<'a> {
     Truncate {
         bytes: u64,
     },
+    /// Puts the bytes of a host file, which the second word says, behind the end of a file.
+    Append,
     /// Gives files this protection word.
     Chmod {
         protection: u16,
@@ -172,4 +174,8 @@ pub struct PutWords<'a> {
     pub replace: bool,
     /// Whose the new files are, where an owner is said.
     pub owner: Option<Uic>,
+    /// All that is in a folder of the host and below it.
+    pub below: bool,
+    /// What has no name on the volume is left out.
+    pub skip: bool,
 }

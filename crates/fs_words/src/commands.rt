@@ -3,6 +3,7 @@ ghost use Rattle.std.specs.Prelude.{◌≡◌, IfErr, IfOk};
 ghost use Rattle.clap.specs.Simple.{app_of};
 ghost use Rattle.fs_words.specs.{Asked.Asks, Refused.HasReason, Refused.IsUnasked, Rules.command_app, Rules.own_rules, Rules.rules_in};
 
+mod append;
 mod cat;
 mod check;
 mod chmod;
@@ -66,6 +67,7 @@ pub(crate) fn command_of<'a>(alloc: Global, verb: Verb) -> Result<Command<'a>, A
         Verb::Mkdir => row_command(alloc, verb, &mkdir::ROW),
         Verb::Rmdir => row_command(alloc, verb, &rmdir::ROW),
         Verb::Truncate => row_command(alloc, verb, &truncate::ROW),
+        Verb::Append => row_command(alloc, verb, &append::ROW),
         Verb::Chmod => row_command(alloc, verb, &chmod::ROW),
         Verb::Chown => row_command(alloc, verb, &chown::ROW),
         Verb::Label => row_command(alloc, verb, &label::ROW),
@@ -116,6 +118,7 @@ pub(crate) fn action_of<'a>(
         Verb::Mkdir => mkdir::action(alloc, own),
         Verb::Rmdir => Ok(Action::Change(Change::Rmdir)),
         Verb::Truncate => truncate::action(alloc, own),
+        Verb::Append => append::action(alloc, own),
         Verb::Chmod => chmod::action(alloc, own),
         Verb::Chown => chown::action(alloc, own),
         Verb::Label => label::action(alloc, own),

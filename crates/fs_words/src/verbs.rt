@@ -49,6 +49,8 @@ pub enum Verb {
     Rmdir,
     /// `truncate`: cuts a file.
     Truncate,
+    /// `append`: puts a file of the host behind one of the volume.
+    Append,
     /// `chmod`: gives files another protection.
     Chmod,
     /// `chown`: gives files another owner.
@@ -66,7 +68,7 @@ pub enum Verb {
 }
 
 /// The commands, in the order of the help.
-pub(crate) const VERBS: [Verb; 26] = [
+pub(crate) const VERBS: [Verb; 27] = [
     Verb::Ls,
     Verb::Find,
     Verb::Stat,
@@ -88,6 +90,7 @@ pub(crate) const VERBS: [Verb; 26] = [
     Verb::Mkdir,
     Verb::Rmdir,
     Verb::Truncate,
+    Verb::Append,
     Verb::Chmod,
     Verb::Chown,
     Verb::Label,
@@ -121,6 +124,7 @@ impl Verb {
             Verb::Mkdir => "mkdir",
             Verb::Rmdir => "rmdir",
             Verb::Truncate => "truncate",
+            Verb::Append => "append",
             Verb::Chmod => "chmod",
             Verb::Chown => "chown",
             Verb::Label => "label",
@@ -152,6 +156,7 @@ impl Verb {
                 | Verb::Mkdir
                 | Verb::Rmdir
                 | Verb::Truncate
+                | Verb::Append
                 | Verb::Chmod
                 | Verb::Chown
                 | Verb::Label

@@ -12,7 +12,7 @@ use crate::users::owner_of;
 use crate::verbs::Verb;
 use clap::ArgMatches;
 use ods_records::parse_form;
-use ods_words::WordsFault;
+use ods_words::{WordsFault, say_wrong};
 use std::alloc::Global;
 
 /// What the help says of forms.
@@ -23,7 +23,7 @@ SIZE is the record size, at most 32767";
 
 /// How `put` is written.
 pub(crate) const ROW: Row<'static> = Row {
-    usage: "f11fs IMAGE put [OPTIONS] [-t|-b] [--form FORM | --like PATH] [--contiguous] [--replace] [--owner OWNER] HOST.. [PATH]",
+    usage: "f11fs IMAGE put [OPTIONS] [-t|-b] [--form FORM | --like PATH] [--contiguous] [--replace] [--owner OWNER] [-r [--skip]] HOST.. [PATH]",
     about: "Copy host files (- is standard input) into the volume. A file is stored as text records if that is lossless, otherwise as bytes",
     arguments: &[
         Argument::Flag("-t", "Store each line as a record"),
@@ -48,6 +48,14 @@ pub(crate) const ROW: Row<'static> = Row {
             "OWNER",
             "Create the new files as this owner. The user of -u enters them in the directory",
         ),
+        Argument::Flag(
+            "-r",
+            "Copy all that is in the folder HOST and below it into the directory PATH. Make directories that are missing",
+        ),
+        Argument::Flag(
+            "--skip",
+            "With -r: leave out what has no name on the volume, and say which. Default: refuse it",
+        ),
         Argument::SomePaths,
     ],
     conflicts: &[
@@ -59,21 +67,35 @@ pub(crate) const ROW: Row<'static> = Row {
     ],
 };
 
-/// What its words ask for.
+/// What its words ask for. `--skip` does nothing alone, and some options nothing for a folder.
 pub(crate) fn action<'a>(alloc: Global, own: &ArgMatches<'a>) -> Result<Action<'a>, WordsFault>
     ensures asked { IfOk result (IsPut own.now) }
     ensures refused { IfErr result (HasReason (IsUnasked Verb.Put own.now)) }
 {
     let form = form_of(alloc, own.get_str("--form"))?;
     let owner = owner_of(alloc, own)?;
+    let like = own.get_str("--like");
+    let replace = own.get_flag("--replace");
+    let below = own.get_flag("-r");
+    let skip = own.get_flag("--skip");
+    if skip && !below {
+        let text = "error: --skip does nothing for put without -r";
+        return Err(say_wrong(alloc, text)?);
+    }
+    if below && (replace || like.is_some()) {
+        let text = "error: --replace and --like do nothing for put with -r";
+        return Err(say_wrong(alloc, text)?);
+    }
     Ok(Action::Change(Change::Put(PutWords {
         text: own.get_flag("-t"),
         binary: own.get_flag("-b"),
         form,
-        like: own.get_str("--like"),
+        like,
         contiguous: contiguity(own),
-        replace: own.get_flag("--replace"),
+        replace,
         owner,
+        below,
+        skip,
     })))
 }
 

@@ -34,7 +34,7 @@ pub(crate) fn action<'a>(alloc: Global, own: &ArgMatches<'_>) -> Result<Action<'
 }
 
 /// How many words stand behind the command.
-fn word_count(own: &ArgMatches<'_>) -> usize
+pub(crate) fn word_count(own: &ArgMatches<'_>) -> usize
     ensures { result ≡ length (texts_of own.now (codes "path")) }
 {
     match own.get_strs("path") {

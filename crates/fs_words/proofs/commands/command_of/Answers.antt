@@ -83,6 +83,10 @@ pub row_command-requires-in-Truncate : goal.row_command-requires-in-Truncate
 unfolding own_rules
 row_command-requires-in-Truncate c = rw c.in-Truncate.is refl
 
+pub row_command-requires-in-Append : goal.row_command-requires-in-Append
+unfolding own_rules
+row_command-requires-in-Append c = rw c.in-Append.is refl
+
 pub row_command-requires-in-Chmod : goal.row_command-requires-in-Chmod
 unfolding own_rules
 row_command-requires-in-Chmod c = rw c.in-Chmod.is refl
