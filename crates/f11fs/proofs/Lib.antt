@@ -8,10 +8,13 @@ mod PutAll
 mod Refusals
 mod Slashed
 mod Told
-mod Growing
+mod Reading
+mod Whole
 mod MoreVersions
 mod Opened
 mod Unpacking
 pub mod Other
 pub mod Giving
 pub mod ShownRights
+pub mod Appended
+mod TreeLists

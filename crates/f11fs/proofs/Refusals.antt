@@ -76,6 +76,9 @@ put_refused (put.NoRecords fault) s e = ap is_refused e
 put_refused (put.LongRecord longest size) s e = ap is_refused e
 put_refused (put.Untyped character) s e = ap is_refused e
 put_refused (put.NoRun longest blocks) s e = ap is_refused e
+put_refused put.NoEnd s e = ap is_refused e
+put_refused (put.OtherKind kind) s e = ap is_refused e
+put_refused put.PastBlocks s e = ap is_refused e
 
 why_refused : (w : Why) (s : Status) → HasStatus w s → is_refused s ≡ true
 why_refused (why.Path fault) s e = path_refused fault s e

@@ -19,8 +19,9 @@ use Rattle.fs_reads.specs.declared.stop.Stop.TheVariants as stop
 use Rattle.ods_filing.specs.Amended.{HasGiven, HasGotLabel}
 use Rattle.ods_filing.specs.Filed.{Filed, for_another}
 use Rattle.ods_filing.specs.Led.{IsLed}
+use Rattle.ods_upkeep.specs.Appended.{IsGrown, IsOpened}
 use Rattle.ods_upkeep.specs.Begun.{IsBegun}
-use Rattle.ods_upkeep.specs.Kinds.{Cuts, Removes, Renames}
+use Rattle.ods_upkeep.specs.Kinds.{Appends, Cuts, Removes, Renames}
 use Rattle.ods_upkeep.specs.Copied.{IsCopiedTo}
 use Rattle.ods_upkeep.specs.Cut.{IsTruncated}
 use Rattle.ods_upkeep.specs.Emptied.{AreEmptied}
@@ -32,9 +33,11 @@ use Rattle.ods_upkeep.specs.Removed.{IsRemoved}
 use Rattle.ods_upkeep.specs.HostPut.{IsHostPut}
 use Rattle.ods_upkeep.specs.Left.{InPut}
 use Rattle.ods_upkeep.specs.declared.asked.Placing.{Placing}
+use Rattle.ods_shell.specs.declared.facts.Facts.{Facts}
 use Rattle.f11fs.specs.CopiedOver.{CopiesBelow}
 use Rattle.f11fs.specs.Forms.{form_said, placing_for, placing_said}
 use Rattle.f11fs.specs.Ready.{MayBeReady}
+use Rattle.f11fs.specs.TreePut.{IsTreePut}
 use Rattle.f11fs.specs.Unpacked.{AreUntarred}
 use Rattle.f11fs.specs.Readings.{IsLastPart}
 
@@ -68,6 +71,11 @@ pub record ArePut (how : PutWords) (words : List (Bor (List ℕ))) (stamp : List
   pub known : InPut
   pub put : ArePutNext begun (hosts_among words) ready known new
 
+-- what a put leaves: a tree of a folder, where that is asked for, and else host files one by one
+abbrev pub PutsBelow : Bool → PutWords → List (Bor (List ℕ)) → List ℕ → Filed → Filed → Type 0
+PutsBelow true how words stamp old new = IsTreePut how words stamp old new
+PutsBelow false how words stamp old new = ArePut how words stamp old new
+
 -- the names of these words have moved to the last one
 abbrev pub MovesToLast : List (Bor (List ℕ)) → Filed → Filed → Type 0
 MovesToLast words old new = (from : List (Bor (List ℕ))) × ((to : Bor (List ℕ)) × (words ≡ from ++ to ∷ []) × IsMoved from to.now old new)
@@ -80,6 +88,14 @@ CopiesToLast placing words stamp old new = (from : List (Bor (List ℕ))) × ((t
 abbrev pub CutsFirst : List (Bor (List ℕ)) → ℕ → Filed → Filed → Type 0
 CutsFirst words bytes old new = (path : Bor (List ℕ)) × ((others : List (Bor (List ℕ))) × (words ≡ path ∷ others) × IsTruncated path.now bytes old new)
 
+-- behind the end of the file that the path names are the bytes of a host file; the host gave them
+abbrev pub AppendsTo : List ℕ → Filed → Filed → Type 0
+AppendsTo path old new = (facts : Facts) × ((bytes : List ℕ) × IsOpened old.image old.layout path facts × IsGrown facts bytes old new)
+
+-- the first word is the path, and the second the host file
+abbrev pub AppendsToFirst : List (Bor (List ℕ)) → Filed → Filed → Type 0
+AppendsToFirst words old new = (path : Bor (List ℕ)) × ((host : Bor (List ℕ)) × (slice_get words 0 ≡ Some path) × (slice_get words 1 ≡ Some host) × AppendsTo path.now old new)
+
 -- the text is a label, and the volume has got it
 abbrev pub IsLabelled : List ℕ → Filed → Filed → Type 0
 IsLabelled text old new = IsTrue (is_label_text text) × HasGotLabel old (label_of text) new
@@ -90,7 +106,7 @@ IsNoLabel text = ¬ IsTrue (is_label_text text)
 
 -- What a change leaves that is made whole, by the words behind its name, and by the time that new files get.
 abbrev pub IsChanged : Change → List (Bor (List ℕ)) → List ℕ → Filed → Filed → Type 0
-IsChanged (change.Put how) words stamp old new = ArePut how words stamp old new
+IsChanged (change.Put how) words stamp old new = PutsBelow how.below how words stamp old new
 IsChanged change.Untar words stamp old new = (said : Bool) × AreUntarred said words stamp old new
 IsChanged (change.CpFrom how) words stamp old new = CopiesBelow how.below how.contiguous how.next words stamp old new
 IsChanged (change.Cp contiguous) words stamp old new = CopiesToLast (placing_for contiguous) words stamp old new
@@ -100,6 +116,7 @@ IsChanged (change.Purge keep) words stamp old new = IsPurged keep words old new
 IsChanged (change.Mkdir names owner) words stamp old new = AreMade owner (unwrap_or names 0) stamp words old new
 IsChanged change.Rmdir words stamp old new = AreEmptied words old new
 IsChanged (change.Truncate bytes) words stamp old new = CutsFirst words bytes old new
+IsChanged change.Append words stamp old new = AppendsToFirst words old new
 IsChanged (change.Chmod protection) words stamp old new = AreGiven None (Some protection) words old new
 IsChanged (change.Chown owner) words stamp old new = AreGiven (Some owner) None words old new
 IsChanged (change.Label text) words stamp old new = IsLabelled text.now old new
@@ -125,6 +142,7 @@ KeepsTo (change.Purge keep) old new = IsLed (Removes false) old new
 KeepsTo (change.Mkdir names owner) old new = Unit {0}
 KeepsTo change.Rmdir old new = IsLed (Removes false) old new
 KeepsTo (change.Truncate bytes) old new = IsLed Cuts old new
+KeepsTo change.Append old new = IsLed Appends old new
 KeepsTo (change.Chmod protection) old new = SomeGot None (Some protection) old new
 KeepsTo (change.Chown owner) old new = SomeGot (Some owner) None old new
 KeepsTo (change.Label text) old new = (new ≡ old) ⊎ IsLabelled text.now old new

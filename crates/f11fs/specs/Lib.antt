@@ -12,3 +12,4 @@ pub mod Saved
 pub mod Seen
 pub mod Unpacked
 pub mod Wrong
+pub mod TreePut

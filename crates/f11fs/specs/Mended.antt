@@ -10,6 +10,7 @@ use Rattle.ods_mount.specs.Faults.{FaultIsTrue, IsTrueOf}
 use Rattle.ods_mount.specs.Sound.{IsSoundBy}
 use Rattle.ods_mount.specs.declared.fault.MountFault.{MountFault}
 use Rattle.ods_mount.specs.declared.fault.MountFault.TheVariants.{DuplicateName}
+use Rattle.ods_mount.specs.declared.fault.MountFault.TheVariants as faulty
 use Rattle.ods_check.specs.Findings.{IsLostFile}
 use Rattle.ods_check.specs.declared.dangling_list.Dangling.{Dangling}
 use Rattle.ods_check.specs.declared.finding.Finding.{Finding}
@@ -20,14 +21,21 @@ use Rattle.ods_repair.specs.Doubled.{HasRenumbered, IsNotRenumbered}
 use Rattle.ods_repair.specs.Found.{IsFound}
 use Rattle.ods_repair.specs.Freed.{IsFreed, IsNotFreed}
 use Rattle.ods_repair.specs.Used.{AreUsed, IsBitmapFault}
+use Rattle.ods_repair.specs.Wholly.{IsAllRenumbered, IsAllUsed}
 use Rattle.ods_repair.specs.declared.fault.RepairFault.{RepairFault}
+use Rattle.ods_repair.specs.declared.fault.RepairFault.TheVariants as unmended
 use Rattle.ods_repair.specs.declared.lost_file.LostFile.{LostFile}
 use Rattle.ods_shell.specs.Named.{AreNamedBy, highest}
 use Rattle.ods_shell.specs.declared.alone.Alone.TheVariants as alone
 use Rattle.ods_shell.specs.declared.facts.Facts.{Facts}
 use Rattle.ods_shell.specs.declared.facts.Kind.TheVariants as kind
 use Rattle.ods_shell.specs.declared.found.Found.{Found as Named}
+use Rattle.ods_shell.specs.declared.status.Status.TheVariants as status
 use Rattle.ods_upkeep.specs.Made.{AreMade}
+use Rattle.fs_reads.specs.Ends.{StopsWith}
+use Rattle.fs_reads.specs.declared.stop.Stop.{Stop}
+use Rattle.fs_reads.specs.declared.stop.Stop.TheVariants as stop
+use Rattle.fs_reads.specs.declared.volume.VolumeFault.TheVariants as image_fault
 use Rattle.fs_words.specs.declared.actions.Repairs.{Repairs}
 
 -- who asks for repairs: the keeper of the image, [1,1]
@@ -106,6 +114,16 @@ LeavesSound kinds stamp into old new = (named : Filed) × (found : Filed) × Lea
 abbrev pub wants_sound : Repairs → Bool
 wants_sound kinds = kinds.names || (kinds.lost || kinds.free)
 
+-- the image has no layout for this fault: the image is refused, or there is no memory
+abbrev pub IsNotLaidOut : Bor (List ℕ) → MountFault → Stop → Type 0
+IsNotLaidOut path faulty.NoMemory s = s ≡ stop.NoMemory
+IsNotLaidOut path fault s = s ≡ stop.Image path (image_fault.Volume fault None)
+
+-- a repair is refused in the middle for this fault: the status says so, or there is no memory
+abbrev pub IsNotMended : RepairFault → Stop → Type 0
+IsNotMended unmended.NoMemory s = s ≡ stop.NoMemory
+IsNotMended fault s = StopsWith s status.Refused ⊎ (s ≡ stop.NoMemory)
+
 -- the image is sound, and this is what the repairs of a sound volume leave; or a fault of it is known, and nothing is done
 abbrev pub LeavesMounted : Repairs → List ℕ → Bor (List ℕ) → List (List ℕ) → List (List ℕ) → Type 0
 LeavesMounted kinds stamp into I J =
@@ -120,3 +138,47 @@ LeavesRest true kinds stamp into I J = LeavesMounted kinds stamp into I J
 -- What `repair` leaves of the blocks of an image.
 abbrev pub IsMended : Repairs → List ℕ → Bor (List ℕ) → List (List ℕ) → List (List ℕ) → Type 0
 IsMended kinds stamp into I J = (H : List (List ℕ)) × (K : List (List ℕ)) × LeavesUsed kinds.used I H × LeavesDouble kinds.double H K × LeavesRest (wants_sound kinds) kinds stamp into K J
+
+-- nothing is told as left now, and so nothing was before, and this holds
+abbrev pub Wholly : Bool → Bool → Type 0 → Type 0
+Wholly before now P = now ≡ false → (before ≡ false) × P
+
+-- `used` was made, where it is asked for
+abbrev pub IsWhollyUsed : Bool → List (List ℕ) → List (List ℕ) → Type 0
+IsWhollyUsed false I J = J ≡ I
+IsWhollyUsed true I J = IsAllUsed I J
+
+-- so was `double`, in each directory that had two names which are one
+abbrev pub IsWhollyRenumbered : Bool → List (List ℕ) → List (List ℕ) → Type 0
+IsWhollyRenumbered false I J = J ≡ I
+IsWhollyRenumbered true I J = IsAllRenumbered I J
+
+-- no file is lost any more, where `lost` is asked for
+abbrev pub LosesNone : Bool → Filed → Type 0
+LosesNone false volume = Unit {0}
+LosesNone true volume = HasNoLost volume
+
+-- `free` was made, where it is asked for
+abbrev pub IsWhollyFreed : Bool → Filed → Filed → Type 0
+IsWhollyFreed false old new = new ≡ old
+IsWhollyFreed true old new = (told : List Finding) × IsFreed old told new
+
+-- the repairs of a sound volume were made, of those that are asked for
+abbrev pub IsSoundWhollyMended : Repairs → List ℕ → Bor (List ℕ) → Filed → Filed → Type 0
+IsSoundWhollyMended kinds stamp into old new =
+    (named : Filed) × (found : Filed) × LeavesNames kinds.names old named × LeavesLost kinds.lost stamp into named found × LosesNone kinds.lost found × IsWhollyFreed kinds.free found new
+
+-- the image is sound, and they were made
+abbrev pub IsMountedWhollyMended : Repairs → List ℕ → Bor (List ℕ) → List (List ℕ) → List (List ℕ) → Type 0
+IsMountedWhollyMended kinds stamp into I J =
+    (L : VolumeLayout) × (new : Filed) × IsSoundBy I L × IsSoundWhollyMended kinds stamp into (record { image = I; layout = L; user = keeper }) new × (J ≡ new.image)
+
+-- so it is, where one of them is asked for
+abbrev pub IsRestWhollyMended : Bool → Repairs → List ℕ → Bor (List ℕ) → List (List ℕ) → List (List ℕ) → Type 0
+IsRestWhollyMended false kinds stamp into I J = J ≡ I
+IsRestWhollyMended true kinds stamp into I J = IsMountedWhollyMended kinds stamp into I J
+
+-- What `repair` leaves where it tells of nothing that is left: each kind that is asked for was made, and nothing of it is there any more.
+abbrev pub IsWhollyMended : Repairs → List ℕ → Bor (List ℕ) → List (List ℕ) → List (List ℕ) → Type 0
+IsWhollyMended kinds stamp into I J =
+    (H : List (List ℕ)) × (K : List (List ℕ)) × IsWhollyUsed kinds.used I H × IsWhollyRenumbered kinds.double H K × IsRestWhollyMended (wants_sound kinds) kinds stamp into K J

@@ -24,15 +24,24 @@ IsLastPart path name = LacksSlash name × ((path ≡ name) ⊎ ((folder : List �
 abbrev pub first_at : List ℕ → List Taken → Option ℕ
 first_at path taken = position (λ one. bytes_eq (string_bytes one.path) path) taken
 
--- nothing is read early for another command than a put and an untar
+-- nothing is read early for another command than a put, an append and an untar
 abbrev pub ReadsNothing : Action → Type 0
-ReadsNothing asked = ((how : PutWords) → asked ≢ action.Change (change.Put how)) × (asked ≢ action.Change change.Untar)
+ReadsNothing asked = ((how : PutWords) → asked ≢ action.Change (change.Put how)) × (asked ≢ action.Change change.Append) × (asked ≢ action.Change change.Untar)
 
 -- A file was read to the end, behind those that were read before, and so much less may be read from now on; where there was no room, nothing was.
 abbrev pub AddsReading : List ℕ → Early → Early → Type 0
 AddsReading path old new = MatchOption old.room (new ≡ old) (λ room.
     (one : Taken) × (new.taken.items ≡ old.taken.items ++ one ∷ []) × (string_bytes one.path ≡ path)
     × IfOk one.bytes (λ bytes. (vec_len bytes ≤ room) × (new.room ≡ Some (room - vec_len bytes))) × IfErr one.bytes (λ _. new.room ≡ Some room))
+
+-- Such a file was read, or nothing was.
+abbrev pub MayAddReading : List ℕ → Early → Early → Type 0
+MayAddReading path old new = (new ≡ old) ⊎ AddsReading path old new
+
+-- so it is with each of these paths, one after another
+abbrev pub MayAddReadings : List (Bor (List ℕ)) → Early → Early → Type 0
+MayAddReadings [] old new = new ≡ old
+MayAddReadings (path ∷ paths) old new = (mid : Early) × MayAddReading path.now old mid × MayAddReadings paths mid new
 
 -- there is no room for the bytes of this file
 abbrev pub IsTooLarge : Bor (List ℕ) → ℕ → Stop → Type 0

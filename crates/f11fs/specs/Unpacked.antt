@@ -1,5 +1,5 @@
 -- What untar leaves of a volume.
-use Rattle.std.specs.Prelude.{◌≡◌, ◌≤◌, ◌⊎◌, ℕ, Bool, true, false, if◌then◌else◌, nat_le, List, [], ◌∷◌, length, slice_get, Option, Some, None}
+use Rattle.std.specs.Prelude.{◌≡◌, ◌≤◌, ◌⊎◌, ℕ, Bool, true, false, if◌then◌else◌, nat_le, List, [], ◌∷◌, codes, length, slice_get, Option, Some, None}
 use Rattle.std.specs.Borrow.{Bor}
 use Rattle.fs_host.specs.Times.{IsStampAt}
 use Rattle.ods_archive.specs.Members.{entry_of}
@@ -12,6 +12,11 @@ use Rattle.ods_upkeep.specs.declared.asked.Placing.{Placing}
 use Rattle.ods_upkeep.specs.declared.asked.Placing.TheVariants.{Anywhere, InOnePiece}
 use Rattle.ods_upkeep.specs.declared.untarring.Packed.{Packed}
 use Rattle.f11fs.specs.Ready.{MayBeReady}
+
+-- the first word is the archive; without words it is standard input
+abbrev pub archive_among : List (Bor (List ℕ)) → List ℕ
+archive_among [] = codes "-"
+archive_among (word ∷ words) = word.now
 
 -- the second word is the directory below which files go
 abbrev pub directory_among : List (Bor (List ℕ)) → Option (Bor (List ℕ))

@@ -1,4 +1,4 @@
-//! The commands that change a volume: put, cp, mv, rm, purge, mkdir, rmdir, truncate, chmod, chown and label.
+//! The commands that change a volume: put, cp, mv, rm, purge, mkdir, rmdir, truncate, append, chmod, chown and label.
 ghost use Rattle.std.specs.Prelude.{◌≡◌, ◌⊎◌, ◌&&◌, true, false, None, IfErr, IfOk, IfSome, IsOk, IsSomeAnd, MatchOption, OnErr, OnOk, is_some, length, not, unwrap_or};
 ghost use Rattle.fs_host.specs.{Found.SaysShort, Kept.force_kept, Kept.is_floppy, Kept.remark_kept, Times.IsStampOfLocal};
 ghost use Rattle.ods_shell.specs.declared.status.Status.{Status as Code};
@@ -8,11 +8,13 @@ ghost use Rattle.fs_reads.specs.declared.stop.Stop.{Stop as End};
 ghost use Rattle.fs_reads.specs.declared.stop.WordFault.{WordFault as AWordFault};
 ghost use Rattle.f11fs.specs.{Changed.IsChanged, Changed.IsLabelled, Changed.IsNoLabel, Changed.IsRefusal, Changed.KeepsTo, Saved.EndsSaved, Saved.IsNotLocked, Saved.IsNotSaved, Saved.IsSavedStatus, Saved.IsWrittenTo};
 
+use crate::appending::append;
 use crate::copying_from::copy_from_image;
 use crate::early::Early;
 use crate::host::Host;
 use crate::orders::layers_of;
-use crate::putting::{placing_for, put};
+use crate::putting::placing_for;
+use crate::putting_tree::put_files;
 use crate::telling::plan_text;
 use crate::untarring::untar;
 use fs_host::{Locked, Shown, Unfinished, stamp_of_now};
@@ -267,7 +269,7 @@ pub fn change_volume<'a, R: Host>(
     let alloc = rt.alloc();
     let paths = words.paths.as_slice();
     match change {
-        Change::Put(how) => put(rt, filing, stamp, words, how, early),
+        Change::Put(how) => put_files(rt, filing, stamp, words, how, early),
         Change::Untar => untar(rt, filing, stamp, words, early),
         Change::CpFrom(how) => copy_from_image(rt, filing, stamp, words, how),
         Change::Cp { contiguous } => match paths.split_last() {
@@ -306,6 +308,7 @@ pub fn change_volume<'a, R: Host>(
             Some(path) => end_change(alloc, truncate_file(alloc, filing, *path, bytes)),
             None => Err(Stop::Lines(String::new(alloc), Status::Words)),
         },
+        Change::Append => append(rt, filing, words, early),
         Change::Chmod { protection } => {
             end_change(alloc, give_protection(alloc, filing, paths, protection))
         }

@@ -351,7 +351,8 @@ fn obey_action<R: Host>(
     ensures refused { result.1 ≡ false → is_refused result.0 ≡ true }
 {
     match own.action {
-        Action::Change(Change::Put(_) | Change::Untar) if reads_input(run.outer, own) => {
+        Action::Change(Change::Put(_) | Change::Append | Change::Untar)
+            if reads_input(run.outer, own) => {
             (
                 say_wrong(rt, "error: standard input has the commands"),
                 true,

@@ -1,9 +1,9 @@
-//! Host files that are no plain files, as pipes and standard input: `put` and `untar` read them before the image is locked, so that nobody waits under the
+//! Host files that are no plain files, as pipes and standard input: `put`, `append` and `untar` read them before the image is locked, so that nobody waits under the
 //! lock.
 ghost use Rattle.std.specs.Prelude.{◌≡◌, ◌<◌, ◌≤◌, ◌-◌, ◌∷◌, ◌++◌, ◌⊎◌, ℕ, [], MatchOption, None, Some, IfErr, IfOk, IfSome, IsTrue, MatchResult, OnOk, length, slice_get, vec_len};
 ghost use Rattle.fs_host.specs.Faults.{is_reason};
 ghost use Rattle.std.specs.List.{remove};
-ghost use Rattle.f11fs.specs.{Changed.host_count, Changed.hosts_among, Readings.AddsReading, Readings.ReadsNothing, Readings.first_at};
+ghost use Rattle.f11fs.specs.{Changed.host_count, Changed.hosts_among, Readings.AddsReading, Readings.MayAddReading, Readings.MayAddReadings, Readings.ReadsNothing, Readings.first_at};
 ghost use Rattle.f11fs.specs.declared.early.Taken.{Taken as Read};
 
 use crate::untarring::archive_among;
@@ -47,7 +47,7 @@ impl Early {
         }
     }
 
-    /// Reads what the words of a `put` or an `untar` name and is no plain file. Why reading failed is kept, for that command.
+    /// Reads what the words of a `put`, an `append` or an `untar` name and is no plain file. Why reading failed is kept, for that command.
     pub fn read_words<'a, R: Files<File = File> + Input + AllocGlobal>(
         &mut self,
         rt: &R,
@@ -57,6 +57,10 @@ impl Early {
     {
         match words.action {
             Action::Change(Change::Put(_)) => self.read_all(rt, hosts(words.paths.as_slice())),
+            Action::Change(Change::Append) => self.read_all(
+                rt,
+                behind_first(words.paths.as_slice()),
+            ),
             Action::Change(Change::Untar) => {
                 self.room = archive_room(self.room);
                 self.read_stream(rt, archive_among(words.paths.as_slice()))
@@ -70,7 +74,9 @@ impl Early {
         &mut self,
         rt: &R,
         paths: &[&str],
-    ) -> Result<(), Stop<'a>> {
+    ) -> Result<(), Stop<'a>>
+        ensures { OnOk result (MayAddReadings paths.now self.old self.new) }
+    {
         for path in paths {
             self.read_stream(rt, *path)?;
         }
@@ -83,7 +89,7 @@ impl Early {
         rt: &R,
         path: &str,
     ) -> Result<(), Stop<'a>>
-        ensures { OnOk result ((self.new ≡ self.old) ⊎ AddsReading path.now self.old self.new) }
+        ensures { OnOk result (MayAddReading path.now self.old self.new) }
     {
         if path == "-" || is_stream(rt, path) {
             return self.read(rt, path);
@@ -181,6 +187,14 @@ pub fn hosts<'w, 'a>(words: &'w [&'a str]) -> &'w [&'a str]
 {
     let count = count_hosts(words.len());
     &words[..count]
+}
+
+/// The words behind the first.
+fn behind_first<'w, 'a>(words: &'w [&'a str]) -> &'w [&'a str] {
+    match words.split_first() {
+        Some((_, behind)) => behind,
+        None => words,
+    }
 }
 
 /// How many of so many words name host files.

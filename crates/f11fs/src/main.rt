@@ -5,6 +5,7 @@
 ghost use Rattle.std.specs.Prelude.{◌≡◌, ◌≤◌, IfSome};
 ghost use Rattle.ods_shell.specs.declared.status.Status.{Status as Code};
 
+mod appending;
 mod changing;
 mod command_files;
 mod commands;
@@ -18,6 +19,7 @@ mod making;
 mod mending;
 mod orders;
 mod putting;
+mod putting_tree;
 mod repair_lines;
 mod repairing;
 mod telling;

@@ -1,14 +1,16 @@
 //! What `repair` makes of the blocks of an image: each kind that is asked for, one after another, with a line for each thing that is done.
-ghost use Rattle.std.specs.Prelude.{◌≡◌, ◌≢◌, ◌⊎◌, ◌++◌, ◌∷◌, [], ℕ, IfOk, IfSome, MatchBool, OnOk, true};
+ghost use Rattle.std.specs.Prelude.{◌≡◌, ◌≢◌, ◌⊎◌, ◌++◌, ◌∷◌, [], ℕ, IfOk, IfSome, MatchBool, MatchOption, OnOk, true};
 ghost use Rattle.std.specs.List.{All, Contains};
 ghost use Rattle.ods_mount.specs.declared.fault.MountFault.TheVariants.{DuplicateName, NoMemory};
 ghost use Rattle.ods_check.specs.declared.fault_line.FaultLine.TheVariants.{Plain};
 ghost use Rattle.ods_space.specs.Files.{IsLayoutOf};
-ghost use Rattle.f11fs.specs.Mended.{EntersLost, HasDirectory, HasNoLost, IsDirectoryFound, IsDirectoryOf, IsMended, IsOneDirectory, LeavesDirectories, LeavesDirectory, LeavesDouble, LeavesFree, LeavesLost, LeavesMounted, LeavesNames, LeavesSound, LeavesUsed, wants_sound};
+ghost use Rattle.ods_repair.specs.{Doubled.HasRenumbered, Wholly.AreRenumberedIn, Wholly.IsAllUsed};
+ghost use Rattle.fs_reads.specs.declared.stop.Stop.{Stop as End};
+ghost use Rattle.f11fs.specs.Mended.{EntersLost, HasDirectory, HasNoLost, IsDirectoryFound, IsDirectoryOf, IsMended, IsMountedWhollyMended, IsNotLaidOut, IsNotMended, IsOneDirectory, IsSoundWhollyMended, IsWhollyFreed, IsWhollyMended, IsWhollyRenumbered, IsWhollyUsed, LeavesDirectories, LeavesDirectory, LeavesDouble, LeavesFree, LeavesLost, LeavesMounted, LeavesNames, LeavesSound, LeavesUsed, LosesNone, Wholly, wants_sound};
 
 use crate::changing::{KEEPER, stop_failed};
 use crate::repair_lines::{Report, push_free, push_lost, push_names, push_used};
-use fs_reads::{Stop, VolumeFault, WordFault, stop_about};
+use fs_reads::{Stop, VolumeFault, stop_about};
 use fs_words::Repairs;
 use ods_base::{FileId, Image};
 use ods_check::{Checked, FaultLine, check_all, find_lost};
@@ -43,7 +45,9 @@ pub fn mend<'a>(
     wishes: &Wishes<'a>,
     report: &mut Report,
 ) -> Result<Image, Stop<'a>>
-    ensures { IfOk result (IsMended wishes.now.kinds wishes.now.stamp wishes.now.into image) }
+    ensures leaves { IfOk result (IsMended wishes.now.kinds wishes.now.stamp wishes.now.into image) }
+    // Where nothing is told as left, each kind that is asked for was made.
+    ensures whole { IfOk result (λ J. Wholly report.old.is_left report.new.is_left (IsWhollyMended wishes.now.kinds wishes.now.stamp wishes.now.into image J)) }
 {
     let image = mend_used(alloc, image, wishes, report)?;
     let image = mend_double(alloc, image, wishes, report)?;
@@ -67,7 +71,8 @@ fn mend_used<'a>(
     wishes: &Wishes<'a>,
     report: &mut Report,
 ) -> Result<Image, Stop<'a>>
-    ensures { IfOk result (LeavesUsed wishes.now.kinds.used image) }
+    ensures leaves { IfOk result (LeavesUsed wishes.now.kinds.used image) }
+    ensures whole { IfOk result (λ J. Wholly report.old.is_left report.new.is_left (IsWhollyUsed wishes.now.kinds.used image J)) }
 {
     if !wishes.kinds.used {
         return Ok(image);
@@ -80,7 +85,9 @@ fn mend_used<'a>(
 }
 
 /// The end of a repair of an image without a layout.
-fn not_laid_out<'a>(path: &'a str, fault: MountFault) -> Stop<'a> {
+fn not_laid_out<'a>(path: &'a str, fault: MountFault) -> Stop<'a>
+    ensures { IsNotLaidOut path.entry fault result }
+{
     match fault {
         MountFault::NoMemory => Stop::NoMemory,
         fault => Stop::Image(path, VolumeFault::Volume(fault, None)),
@@ -95,7 +102,8 @@ fn mark_held<'a>(
     report: &mut Report,
 ) -> Result<Image, Stop<'a>>
     requires { IsLayoutOf image layout.now }
-    ensures { IfOk result (LeavesUsed true image) }
+    ensures leaves { IfOk result (LeavesUsed true image) }
+    ensures whole { IfOk result (λ J. Wholly report.old.is_left report.new.is_left (IsAllUsed image J)) }
 {
     let mut image = image;
     match mark_used(alloc, &mut image, layout) {
@@ -113,7 +121,8 @@ fn mend_double<'a>(
     wishes: &Wishes<'a>,
     report: &mut Report,
 ) -> Result<Image, Stop<'a>>
-    ensures { IfOk result (LeavesDouble wishes.now.kinds.double image) }
+    ensures leaves { IfOk result (LeavesDouble wishes.now.kinds.double image) }
+    ensures whole { IfOk result (λ J. Wholly report.old.is_left report.new.is_left (IsWhollyRenumbered wishes.now.kinds.double image J)) }
 {
     if !wishes.kinds.double {
         return Ok(image);
@@ -128,11 +137,14 @@ fn mend_double<'a>(
         return Err(unread(wishes.path, answer));
     };
     let doubled = doubled_among(alloc, faults.kept_lines(), report)?;
+    report.tell_more(faults.more())?;
     renumber_each(alloc, image, &layout, &doubled, report)
 }
 
 /// The end of a repair of an image without a layout, of which a mount answers this.
-fn unread<'a>(path: &'a str, answer: Option<MountFault>) -> Stop<'a> {
+fn unread<'a>(path: &'a str, answer: Option<MountFault>) -> Stop<'a>
+    ensures { MatchOption answer (result ≡ End.NoMemory) (λ fault. IsNotLaidOut path.entry fault result) }
+{
     match answer {
         Some(fault) => not_laid_out(path, fault),
         None => Stop::NoMemory,
@@ -145,7 +157,8 @@ fn doubled_among(
     lines: &[FaultLine],
     report: &mut Report,
 ) -> Result<Vec<u16>, AllocError>
-    ensures { IfOk result (λ ds. All (λ d. Contains lines.now (Plain (DuplicateName d))) ds.items) }
+    ensures each { IfOk result (λ ds. All (λ d. Contains lines.now (Plain (DuplicateName d))) ds.items) }
+    ensures whole { IfOk result (λ ds. Wholly report.old.is_left report.new.is_left ((d : ℕ) → Contains lines.now (Plain (DuplicateName d)) → Contains ds.items d)) }
 {
     let mut doubled = Vec::new(alloc);
     for line in lines {
@@ -160,7 +173,8 @@ fn push_doubled(
     line: &FaultLine,
     report: &mut Report,
 ) -> Result<(), AllocError>
-    ensures { OnOk result ((doubled.new.items ≡ doubled.old.items) ⊎ ((d : ℕ) × (line.now ≡ Plain (DuplicateName d)) × (doubled.new.items ≡ doubled.old.items ++ d ∷ []))) }
+    ensures adds { OnOk result ((doubled.new.items ≡ doubled.old.items) ⊎ ((d : ℕ) × (line.now ≡ Plain (DuplicateName d)) × (doubled.new.items ≡ doubled.old.items ++ d ∷ []))) }
+    ensures whole { OnOk result (Wholly report.old.is_left report.new.is_left ((d : ℕ) → line.now ≡ Plain (DuplicateName d) → Contains doubled.new.items d)) }
 {
     let Some(directory) = doubled_in(line) else {
         return Ok(());
@@ -174,7 +188,7 @@ fn push_doubled(
 
 /// The directory that has two names which are one, where a line says so.
 fn doubled_in(line: &FaultLine) -> Option<u16>
-    ensures { IfSome result (λ d. line.now ≡ Plain (DuplicateName d)) }
+    ensures { MatchOption result ((d : ℕ) → line.now ≢ Plain (DuplicateName d)) (λ d. line.now ≡ Plain (DuplicateName d)) }
 {
     match line {
         FaultLine::Plain(MountFault::DuplicateName(directory)) => Some(*directory),
@@ -191,7 +205,8 @@ fn renumber_each<'a>(
     report: &mut Report,
 ) -> Result<Image, Stop<'a>>
     requires { IsLayoutOf image layout.now }
-    ensures { IfOk result (LeavesDirectories layout.now directories.now image) }
+    ensures leaves { IfOk result (LeavesDirectories layout.now directories.now image) }
+    ensures whole { IfOk result (λ J. Wholly report.old.is_left report.new.is_left (AreRenumberedIn layout.now directories.now image J)) }
 {
     let mut image = image;
     for directory in directories {
@@ -210,6 +225,7 @@ fn renumber_one<'a>(
 ) -> Result<Image, Stop<'a>>
     requires { IsLayoutOf image layout.now }
     ensures left { IfOk result (LeavesDirectory layout.now directory image) }
+    ensures whole { IfOk result (λ J. Wholly report.old.is_left report.new.is_left (HasRenumbered image layout.now directory J)) }
     ensures layout { IfOk result (λ new. IsLayoutOf new layout.now) }
 {
     let mut image = image;
@@ -228,7 +244,8 @@ fn mend_mounted<'a>(
     wishes: &Wishes<'a>,
     report: &mut Report,
 ) -> Result<Image, Stop<'a>>
-    ensures { IfOk result (LeavesMounted wishes.now.kinds wishes.now.stamp wishes.now.into image) }
+    ensures leaves { IfOk result (LeavesMounted wishes.now.kinds wishes.now.stamp wishes.now.into image) }
+    ensures whole { IfOk result (λ J. Wholly report.old.is_left report.new.is_left (IsMountedWhollyMended wishes.now.kinds wishes.now.stamp wishes.now.into image J)) }
 {
     match mount(alloc, image) {
         Ok(volume) => mend_volume(alloc, volume, wishes, report),
@@ -256,7 +273,8 @@ fn mend_volume<'a>(
     wishes: &Wishes<'a>,
     report: &mut Report,
 ) -> Result<Image, Stop<'a>>
-    ensures { IfOk result (LeavesMounted wishes.now.kinds wishes.now.stamp wishes.now.into volume.image) }
+    ensures leaves { IfOk result (LeavesMounted wishes.now.kinds wishes.now.stamp wishes.now.into volume.image) }
+    ensures whole { IfOk result (λ J. Wholly report.old.is_left report.new.is_left (IsMountedWhollyMended wishes.now.kinds wishes.now.stamp wishes.now.into volume.image J)) }
 {
     let _ = volume.disk();
     let mut filing = Filing::new(alloc, volume, KEEPER)?;
@@ -272,7 +290,8 @@ fn mend_sound<'a>(
     wishes: &Wishes<'a>,
     report: &mut Report,
 ) -> Result<(), Stop<'a>>
-    ensures { OnOk result (LeavesSound wishes.now.kinds wishes.now.stamp wishes.now.into filing.old filing.new) }
+    ensures leaves { OnOk result (LeavesSound wishes.now.kinds wishes.now.stamp wishes.now.into filing.old filing.new) }
+    ensures whole { OnOk result (Wholly report.old.is_left report.new.is_left (IsSoundWhollyMended wishes.now.kinds wishes.now.stamp wishes.now.into filing.old filing.new)) }
 {
     mend_names(alloc, filing, wishes.kinds.names, report)?;
     mend_lost(alloc, filing, wishes, report)?;
@@ -286,7 +305,8 @@ fn mend_names<'a>(
     wanted: bool,
     report: &mut Report,
 ) -> Result<(), Stop<'a>>
-    ensures { OnOk result (LeavesNames wanted filing.old filing.new) }
+    ensures leaves { OnOk result (LeavesNames wanted filing.old filing.new) }
+    ensures told { report.new.is_left ≡ report.old.is_left }
 {
     if !wanted {
         return Ok(());
@@ -301,7 +321,9 @@ fn mend_names<'a>(
 }
 
 /// The end of a repair that is refused in the middle.
-fn not_mended<'a>(alloc: Global, kind: &str, fault: RepairFault) -> Stop<'a> {
+fn not_mended<'a>(alloc: Global, kind: &str, fault: RepairFault) -> Stop<'a>
+    ensures { IsNotMended fault result }
+{
     match fault {
         RepairFault::NoMemory => Stop::NoMemory,
         fault => stop_about(alloc, kind, fault, Status::Refused),
@@ -315,7 +337,8 @@ fn mend_lost<'a>(
     wishes: &Wishes<'a>,
     report: &mut Report,
 ) -> Result<(), Stop<'a>>
-    ensures { OnOk result (LeavesLost wishes.now.kinds.lost wishes.now.stamp wishes.now.into filing.old filing.new) }
+    ensures leaves { OnOk result (LeavesLost wishes.now.kinds.lost wishes.now.stamp wishes.now.into filing.old filing.new) }
+    ensures whole { OnOk result (Wholly report.old.is_left report.new.is_left (LosesNone wishes.now.kinds.lost filing.new)) }
 {
     if !wishes.kinds.lost {
         return Ok(());
@@ -344,7 +367,8 @@ fn enter_all<'a>(
     wishes: &Wishes<'a>,
     report: &mut Report,
 ) -> Result<(), Stop<'a>>
-    ensures { OnOk result (EntersLost wishes.now.stamp wishes.now.into filing.old filing.new) }
+    ensures leaves { OnOk result (EntersLost wishes.now.stamp wishes.now.into filing.old filing.new) }
+    ensures whole { OnOk result (Wholly report.old.is_left report.new.is_left (HasNoLost filing.new)) }
 {
     let dir = directory_for(alloc, filing, wishes.into, wishes.stamp)?;
     match enter_lost(alloc, filing, dir) {
@@ -399,7 +423,7 @@ fn directory_of<'a>(alloc: Global, filing: &Filing, path: &'a str) -> Result<Fil
     };
     match directory_in(&found) {
         Some(dir) => Ok(dir),
-        None => Err(Stop::Word(path, WordFault::OneDirectory)),
+        None => Err(stop_about(alloc, path, "lost files go to one directory", Status::Words)),
     }
 }
 
@@ -434,7 +458,8 @@ fn mend_free<'a>(
     wanted: bool,
     report: &mut Report,
 ) -> Result<(), Stop<'a>>
-    ensures { OnOk result (LeavesFree wanted filing.old filing.new) }
+    ensures leaves { OnOk result (LeavesFree wanted filing.old filing.new) }
+    ensures whole { OnOk result (Wholly report.old.is_left report.new.is_left (IsWhollyFreed wanted filing.old filing.new)) }
 {
     if !wanted {
         return Ok(());

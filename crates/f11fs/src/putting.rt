@@ -78,7 +78,7 @@ fn path_among<'a>(words: &[&'a str]) -> Option<&'a str>
 }
 
 /// The form that the words say.
-fn form_of(how: &PutWords<'_>) -> PutForm
+pub(crate) fn form_of(how: &PutWords<'_>) -> PutForm
     ensures { result ≡ form_said how.now }
 {
     if let Some(four) = how.form {
@@ -93,7 +93,7 @@ fn form_of(how: &PutWords<'_>) -> PutForm
 }
 
 /// Where the blocks of new files stand, where the words say it.
-fn placing_of(how: &PutWords<'_>) -> Option<Placing>
+pub(crate) fn placing_of(how: &PutWords<'_>) -> Option<Placing>
     ensures { result ≡ placing_said how.now }
 {
     match how.contiguous {
@@ -154,7 +154,7 @@ fn last_part(path: &str) -> &str
 }
 
 /// The bytes of a host file, at most as many as there is room for on the volume. No form of a file has fewer bytes than the host file.
-fn host_bytes<'a, R: Files<File = File> + AllocGlobal>(
+pub(crate) fn host_bytes<'a, R: Files<File = File> + AllocGlobal>(
     rt: &R,
     path: &'a str,
     room: u64,
@@ -174,7 +174,7 @@ fn host_bytes<'a, R: Files<File = File> + AllocGlobal>(
 }
 
 /// What was read early of a host file, or else what is read now.
-fn taken_or_read<R: Files<File = File> + AllocGlobal>(
+pub fn taken_or_read<R: Files<File = File> + AllocGlobal>(
     rt: &R,
     path: &str,
     room: u64,

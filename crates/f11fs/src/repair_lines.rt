@@ -1,5 +1,5 @@
 //! What `repair` tells: a line for each thing that is done, and one for each thing that is not.
-ghost use Rattle.std.specs.Prelude.{◌≡◌, ◌+◌, ◌<◌, ◌≤◌, ◌==◌, OnOk, false, length, string_bytes, true};
+ghost use Rattle.std.specs.Prelude.{◌≡◌, ◌+◌, ◌<◌, ◌≤◌, ◌==◌, if◌then◌else◌, OnOk, false, length, string_bytes, true};
 ghost use Rattle.fs_reads.specs.Shown.{Extends};
 ghost use Rattle.f11fs.specs.Mended.{is_left_by};
 
@@ -65,6 +65,21 @@ impl Report {
         )
     }
 
+    /// Tells that so many faults are not looked at in this run, where there are some.
+    pub fn tell_more(&mut self, more: u64) -> Result<(), AllocError>
+        ensures more { OnOk result (Extends (string_bytes self.old.text) (string_bytes self.new.text)) }
+        ensures left { self.new.is_left ≡ (if more == 0 then self.old.is_left else true) }
+    {
+        if more == 0 {
+            return Ok(());
+        }
+        self.is_left = true;
+        writeln!(
+            self.text,
+            "double: the image has {more} more faults than this run looks at; run it once more"
+        )
+    }
+
     /// Tells of a kind that is not repaired, and why.
     pub fn tell_left(
         &mut self,
@@ -87,7 +102,10 @@ impl Report {
     {
         self.is_left = true;
         let said = format!(in alloc; "{why}")?;
-        writeln!(self.text, "names, lost, free: not done: {said}")
+        writeln!(
+            self.text,
+            "names, lost, free: not done: the image is refused: {said}"
+        )
     }
 
     /// Tells of lost files that have no name, and stay lost.
@@ -103,7 +121,7 @@ impl Report {
 }
 
 /// Appends a line for each run of these blocks, ascending, which were marked as free and are used.
-#[tactic(auto, using(crate::proofs::Growing::extends_on, crate::proofs::Growing::extends_same))]
+#[tactic(auto, using(fs_reads::proofs::Growing::extends_on, fs_reads::proofs::Growing::extends_same))]
 pub fn push_used(text: &mut String, blocks: &[u32]) -> Result<(), AllocError>
     ensures { OnOk result (Extends (string_bytes text.old) (string_bytes text.new)) }
 {
@@ -127,7 +145,7 @@ fn push_run(text: &mut String, first: u32, last: u32) -> Result<(), AllocError>
 }
 
 /// Appends a line for each entry that is removed.
-#[tactic(auto, using(crate::proofs::Growing::extends_on, crate::proofs::Growing::extends_same))]
+#[tactic(auto, using(fs_reads::proofs::Growing::extends_on, fs_reads::proofs::Growing::extends_same))]
 pub fn push_names(alloc: Global, text: &mut String, found: &[Dangling]) -> Result<(), AllocError>
     ensures { OnOk result (Extends (string_bytes text.old) (string_bytes text.new)) }
 {
@@ -151,7 +169,7 @@ fn push_finding(
 }
 
 /// Appends a line for each lost file that is entered in the directory of this path.
-#[tactic(auto, using(crate::proofs::Growing::extends_on, crate::proofs::Growing::extends_same))]
+#[tactic(auto, using(fs_reads::proofs::Growing::extends_on, fs_reads::proofs::Growing::extends_same))]
 pub fn push_lost(text: &mut String, found: &[LostFile], path: &str) -> Result<(), AllocError>
     ensures { OnOk result (Extends (string_bytes text.old) (string_bytes text.new)) }
 {
@@ -174,7 +192,7 @@ fn push_entered(text: &mut String, one: &LostFile, path: &str) -> Result<(), All
 }
 
 /// Appends a line for each lost file that has no name.
-#[tactic(auto, using(crate::proofs::Growing::extends_on, crate::proofs::Growing::extends_same))]
+#[tactic(auto, using(fs_reads::proofs::Growing::extends_on, fs_reads::proofs::Growing::extends_same))]
 fn push_nameless(text: &mut String, files: &[FileId]) -> Result<(), AllocError>
     ensures { OnOk result (Extends (string_bytes text.old) (string_bytes text.new)) }
 {
@@ -196,7 +214,7 @@ fn push_one_nameless(text: &mut String, file: FileId) -> Result<(), AllocError>
 }
 
 /// Appends a line for each finding of blocks that are freed.
-#[tactic(auto, using(crate::proofs::Growing::extends_on, crate::proofs::Growing::extends_same))]
+#[tactic(auto, using(fs_reads::proofs::Growing::extends_on, fs_reads::proofs::Growing::extends_same))]
 pub fn push_free(alloc: Global, text: &mut String, found: &[Finding]) -> Result<(), AllocError>
     ensures { OnOk result (Extends (string_bytes text.old) (string_bytes text.new)) }
 {

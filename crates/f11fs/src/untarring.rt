@@ -1,11 +1,12 @@
 //! `untar`: the files of an archive of the host, put into a volume.
-ghost use Rattle.std.specs.Prelude.{◌≡◌, false, is_some, length, not, IfErr, IfOk, OnOk, slice_get};
-ghost use Rattle.f11fs.specs.{Changed.IsRefusal, Ready.MayBeReady, Unpacked.ArePutFrom, Unpacked.AreUntarred, Unpacked.IsPut, Unpacked.IsTimeOf, Unpacked.directory_among, Unpacked.placing_told};
+ghost use Rattle.std.specs.Prelude.{◌≡◌, ◌*◌, ◌≤◌, false, is_some, length, not, IfErr, IfOk, OnOk, slice_get};
+ghost use Rattle.f11fs.specs.{Changed.IsRefusal, Ready.MayBeReady, Unpacked.ArePutFrom, Unpacked.AreUntarred, Unpacked.IsPut, Unpacked.IsTimeOf, Unpacked.archive_among, Unpacked.directory_among, Unpacked.placing_told};
 
 use crate::changing::stop_failed;
 use crate::early::{Early, archive_room};
 use crate::host::Host;
-use fs_host::{HostFault, HostZone, read_host};
+use crate::putting::taken_or_read;
+use fs_host::HostZone;
 use fs_reads::{Stop, WordFault, stop_about};
 use fs_words::Words;
 use ods_archive::{next_member, path_of};
@@ -15,8 +16,6 @@ use ods_shell::Status;
 use ods_untar::{AskFault, Wanted, members_in, path_below};
 use ods_upkeep::{Packed, Placing, untar_file};
 use std::alloc::Global;
-use std::fs::File;
-use std::rt::Files;
 use std::str;
 
 /// The bit of UC.CON among the characteristics of the user.
@@ -37,7 +36,7 @@ pub fn untar<'a, R: Host>(
     let archive = archive_among(words.paths.as_slice());
     let directory = directory_among(words.paths.as_slice());
     let most = most_bytes(filing);
-    let bytes = match archive_bytes(rt, archive, most, early) {
+    let bytes = match taken_or_read(rt, archive, most, early) {
         Ok(bytes) => bytes,
         Err(fault) => return Err(Stop::Word(archive, WordFault::Unread(fault))),
     };
@@ -106,7 +105,9 @@ fn zone_for<R: Host>(rt: &R, said: Option<Stamp>) -> Option<HostZone>
 }
 
 /// The archive that the words name: the first one, or standard input.
-pub fn archive_among<'a>(words: &[&'a str]) -> &'a str {
+pub fn archive_among<'a>(words: &[&'a str]) -> &'a str
+    ensures { result.now ≡ archive_among words.now }
+{
     match words.first() {
         Some(word) => *word,
         None => "-",
@@ -121,26 +122,15 @@ fn directory_among<'a>(words: &[&'a str]) -> Option<&'a str>
 }
 
 /// How many bytes an archive has at most whose files go into this volume.
-fn most_bytes(filing: &Filing) -> u64 {
+fn most_bytes(filing: &Filing) -> u64
+    ensures { length filing.now.image * 512 ≤ result }
+{
     let bytes = (filing.mounted().image().len() as u64).saturating_mul(512);
     archive_room(Some(bytes)).unwrap_or(bytes)
 }
 
-/// What was read early of an archive, or else what is read now.
-fn archive_bytes<R: Files<File = File> + AllocGlobal>(
-    rt: &R,
-    path: &str,
-    most: u64,
-    early: &mut Early,
-) -> Result<Vec<u8>, HostFault> {
-    match early.take(path) {
-        Some(read) => read,
-        None => read_host(rt, path, most),
-    }
-}
-
 /// Asks for the headers of so many files at once. Refused, it changes nothing, and each file asks for its own.
-fn make_ready(filing: &mut Filing, files: usize)
+pub(crate) fn make_ready(filing: &mut Filing, files: usize)
     ensures { MayBeReady false files filing.old filing.new }
 {
     if files > 1 {

@@ -3,7 +3,7 @@ mod Closing
 mod DeletedShown
 mod FilesGot
 mod TreeFiles
-mod Growing
+pub mod Growing
 mod InfoEnds
 mod Likeness
 mod Lines

@@ -1,0 +1,46 @@
+-- What stands in a tree of the host, put one after another.
+use Rattle.std.proofs.Common.{◌≡◌, ◌<◌, ◌+◌, ℕ, suc, false, List, Bor, Result, Ok, Err, length, sym, subst, get_or, drop, arith, string_bytes}
+use Rattle.std.proofs.Math.Seq.{drop-cons}
+use Rattle.std.specs.Prelude.{OnOk}
+use Rattle.fs_host.specs.declared.host_tree.TreeEntry.{TreeEntry}
+use Rattle.ods_base.specs.declared.file_id.FileId.{FileId}
+use Rattle.ods_filing.specs.Filed.{Filed}
+use Rattle.ods_upkeep.specs.declared.putting_tree.TreeForm.{TreeForm}
+use Rattle.fs_host.specs.declared.host_tree.TreeKind.TheVariants as tree_kind
+use Rattle.fs_words.specs.declared.actions.PutWords.{PutWords}
+use Rattle.ods_upkeep.specs.TreePut.{IsLeafPut, IsRoot}
+use Rattle.f11fs.specs.Ready.{MayBeReady}
+use Rattle.f11fs.specs.TreePut.{AreEntriesPut, AreTreeWords, IsEntryPut, IsKindPut, IsTreePut, tree_form}
+
+-- the first of the rest is put, and then the rest of it
+pub entries_on : (how : TreeForm) (dir : FileId) (es : List TreeEntry) (i : ℕ) (d : TreeEntry) (old mid : Filed) (goal : Filed → Type 0) → i < length es
+    → ((new : Filed) → AreEntriesPut how dir (drop i es) old new → goal new) → IsEntryPut how dir (get_or es i d) old mid
+    → (new : Filed) → AreEntriesPut how dir (drop (i + 1) es) mid new → goal new
+entries_on how dir es i d old mid goal lt before one new rest =
+    let place : i + 1 ≡ suc i = omega arith in
+    before new (subst (λ l. AreEntriesPut how dir l old new) (sym (drop-cons es i d lt)) (mid, one, subst (λ k. AreEntriesPut how dir (drop k es) mid new) place rest))
+
+-- a file of a tree is put
+pub file_put : {A E : Type 0} (how : TreeForm) (dir : FileId) (entry : TreeEntry) (path : List ℕ) (old new : Filed) (r : Result A E) → entry.kind ≡ tree_kind.File → path ≡ string_bytes entry.path
+    → OnOk r ((bytes : List ℕ) × IsLeafPut how dir path bytes old new) → OnOk r (IsEntryPut how dir entry old new)
+file_put how dir entry path old new (Ok a) is same put =
+    subst (λ k. IsKindPut k how dir (string_bytes entry.path) old new) (sym is) (subst (λ p. (bytes : List ℕ) × IsLeafPut how dir p bytes old new) same put)
+file_put how dir entry path old new (Err e) is same put = tt
+
+-- all of a tree is put
+pub tree_put : {A E : Type 0} (how : PutWords) (words shown : List (Bor (List ℕ))) (stamp folder to : List ℕ) (entries : List TreeEntry) (form : TreeForm) (old ready there new : Filed) (dir : FileId)
+    (r : Result A E) → AreTreeWords shown folder to → shown ≡ words → MayBeReady false (length entries) old ready → IsRoot stamp to ready dir there → form ≡ tree_form how stamp
+    → OnOk r (AreEntriesPut form dir entries there new) → OnOk r (IsTreePut how words stamp old new)
+tree_put how words shown stamp folder to entries form old ready there new dir (Ok a) said same made root is put = record {
+  folder = folder;
+  to = to;
+  said = subst (λ w. AreTreeWords w folder to) same said;
+  entries = entries;
+  ready = ready;
+  made_ready = made;
+  dir = dir;
+  there = there;
+  root = root;
+  put = subst (λ f. AreEntriesPut f dir entries there new) is put;
+}
+tree_put how words shown stamp folder to entries form old ready there new dir (Err e) said same made root is put = tt

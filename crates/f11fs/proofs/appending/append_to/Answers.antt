@@ -1,0 +1,8 @@
+use Rattle.std.proofs.lemmas.Result.{on_ok_weaker}
+use Rattle.ods_upkeep.specs.Appended.{IsOpened}
+use Rattle.ods_upkeep.proofs.Naming.{same_disk}
+use Rattle.f11fs.proofs.appending.append_to.Goals as goal
+
+pub returns-clause-done : goal.returns-clause-done
+returns-clause-done g c =
+    on_ok_weaker c.append_read.result (λ grown. (c.in-Ok.facts, (_, same_disk (λ J M. IsOpened J M c.args.path.now c.in-Ok.facts) c.mounted.ensures.0 c.mounted.ensures.1 c.in-Ok.ensures, grown))) c.append_read.ensures.done

@@ -1,0 +1,60 @@
+-- What a put of a folder of the host leaves.
+use Rattle.std.specs.Prelude.{◌≡◌, ℕ, false, List, [], ◌∷◌, length, codes, string_bytes, unwrap_or}
+use Rattle.std.specs.Borrow.{Bor}
+use Rattle.fs_host.specs.declared.host_tree.TreeEntry.{TreeEntry}
+use Rattle.fs_host.specs.declared.host_tree.TreeKind.{TreeKind}
+use Rattle.fs_host.specs.declared.host_tree.TreeKind.TheVariants as tree_kind
+use Rattle.fs_words.specs.declared.actions.PutWords.{PutWords}
+use Rattle.ods_base.specs.declared.file_id.FileId.{FileId}
+use Rattle.ods_filing.specs.Filed.{Filed}
+use Rattle.ods_upkeep.specs.TreeNames.{SaysPlace}
+use Rattle.ods_upkeep.specs.TreePut.{IsFolderPut, IsLeafPut, IsRoot}
+use Rattle.ods_upkeep.specs.declared.asked.Placing.TheVariants.{Anywhere}
+use Rattle.ods_upkeep.specs.declared.putting_tree.TreeForm.{TreeForm}
+use Rattle.f11fs.specs.Forms.{form_said, placing_said}
+use Rattle.f11fs.specs.Ready.{MayBeReady}
+
+-- the first word is a folder of the host, and the second a directory of the volume, or the master directory where none is said
+abbrev pub AreTreeWords : List (Bor (List ℕ)) → List ℕ → List ℕ → Type 0
+AreTreeWords [] folder to = ⊥
+AreTreeWords (one ∷ []) folder to = (folder ≡ one.now) × (to ≡ codes "[0,0]")
+AreTreeWords (one ∷ other ∷ []) folder to = (folder ≡ one.now) × (to ≡ other.now)
+AreTreeWords (one ∷ other ∷ third ∷ more) folder to = ⊥
+
+-- how its files are put
+abbrev pub tree_form : PutWords → List ℕ → TreeForm
+tree_form how stamp = record { stamp = stamp; form = form_said how; placing = unwrap_or (placing_said how) Anywhere; owner = how.owner }
+
+-- the path of what stands in a tree says a place on the volume
+abbrev pub IsPlaced : TreeEntry → Type 0
+IsPlaced entry = SaysPlace (string_bytes entry.path)
+
+-- a folder is a directory then, and a file is put; nothing is done of anything else
+abbrev pub IsKindPut : TreeKind → TreeForm → FileId → List ℕ → Filed → Filed → Type 0
+IsKindPut tree_kind.Folder how dir path old new = IsFolderPut how.stamp dir path old new
+IsKindPut tree_kind.File how dir path old new = (bytes : List ℕ) × IsLeafPut how dir path bytes old new
+IsKindPut tree_kind.Other how dir path old new = new ≡ old
+IsKindPut tree_kind.OwnTree how dir path old new = new ≡ old
+IsKindPut (tree_kind.Unread fault) how dir path old new = new ≡ old
+
+abbrev pub IsEntryPut : TreeForm → FileId → TreeEntry → Filed → Filed → Type 0
+IsEntryPut how dir entry old new = IsKindPut entry.kind how dir (string_bytes entry.path) old new
+
+-- these, one after another
+abbrev pub AreEntriesPut : TreeForm → FileId → List TreeEntry → Filed → Filed → Type 0
+AreEntriesPut how dir [] old new = new ≡ old
+AreEntriesPut how dir (e ∷ entries) old new = (mid : Filed) × IsEntryPut how dir e old mid × AreEntriesPut how dir entries mid new
+
+-- The folders and files of a tree are put below the directory that the words say, which is made where it is not there. The host gave the tree and the bytes of its files. Before that INDEXF.SYS may get
+-- the headers that it lacks for all of them. Nothing else was done.
+pub record IsTreePut (how : PutWords) (words : List (Bor (List ℕ))) (stamp : List ℕ) (old new : Filed) : Type 0 where
+  pub folder : List ℕ
+  pub to : List ℕ
+  pub said : AreTreeWords words folder to
+  pub entries : List TreeEntry
+  pub ready : Filed
+  pub made_ready : MayBeReady false (length entries) old ready
+  pub dir : FileId
+  pub there : Filed
+  pub root : IsRoot stamp to ready dir there
+  pub put : AreEntriesPut (tree_form how stamp) dir entries there new
