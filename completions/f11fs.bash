@@ -38,7 +38,7 @@ _f11fs_of() {
     check) options='--all --json -q --blocks --order -h --help' takes='' ;;
     rescue) options='--text --scan --partial -n --json -q --blocks --order -h --help' takes='folder' ;;
     cmp) options='--all --json -u -q --blocks --order -h --help' takes='host' ;;
-    put) options='-t -b --form --like --contiguous --no-contiguous --replace --owner -o --backup --break-links -n --force --json --stamp -u -q --blocks --order -h --help' takes='host path' ;;
+    put) options='-t -b --form --like --contiguous --no-contiguous --replace --owner -r --skip -o --backup --break-links -n --force --json --stamp -u -q --blocks --order -h --help' takes='host path' ;;
     untar) options='-o --backup --break-links -n --force --json --stamp -u -q --blocks --order -h --help' takes='host path' ;;
     cp) options='--from -r --next --contiguous --no-contiguous -o --backup --break-links -n --force --json --stamp -u -q --blocks --order -h --help' takes='path' ;;
     mv) options='-o --backup --break-links -n --force --json -u -q --blocks --order -h --help' takes='path' ;;
@@ -47,6 +47,7 @@ _f11fs_of() {
     mkdir) options='--names --owner -o --backup --break-links -n --force --json --stamp -u -q --blocks --order -h --help' takes='path' ;;
     rmdir) options='-o --backup --break-links -n --force --json -u -q --blocks --order -h --help' takes='path' ;;
     truncate) options='-o --backup --break-links -n --force --json -u -q --blocks --order -h --help' takes='path' ;;
+    append) options='-o --backup --break-links -n --force --json -u -q --blocks --order -h --help' takes='path host' ;;
     chmod) options='-o --backup --break-links -n --force --json -u -q --blocks --order -h --help' takes='path' ;;
     chown) options='-o --backup --break-links -n --force --json -u -q --blocks --order -h --help' takes='path' ;;
     label) options='-o --backup --break-links -n --force --json -q --blocks --order -h --help' takes='' ;;
@@ -100,7 +101,7 @@ _f11fs() {
     elif [[ -z $image ]]; then
         takes=host
     elif [[ -z $command ]]; then
-        mapfile -t COMPREPLY < <(compgen -W 'ls find stat cat get tar df info du check rescue cmp put untar cp mv rm purge mkdir rmdir truncate chmod chown label repair init' -- "$cur")
+        mapfile -t COMPREPLY < <(compgen -W 'ls find stat cat get tar df info du check rescue cmp put untar cp mv rm purge mkdir rmdir truncate append chmod chown label repair init' -- "$cur")
         return
     fi
     for one in $takes; do

@@ -14,7 +14,7 @@ from fs_volumes import RESERVED, plain_volume
 
 FREED = "free: blocks 65 to 66 are marked as used and no file holds them\n"
 MARKED = "used: block 47 was marked as free\n"
-NOT_DONE = "names, lost, free: not done: "
+NOT_DONE = "names, lost, free: not done: the image is refused: "
 
 
 def repairs(room: Room, *words: str, status: int = 0, lines: str = "") -> None:
@@ -209,6 +209,12 @@ def paths_that_are_no_directory(room: Room) -> None:
         assert room.is_untouched(), f"{into}: the image was touched"
 
 
+@row(image=lambda: lost_volume().bytes())
+def lost_files_go_to_one_directory(room: Room) -> None:
+    for into in ("[1,2]OTHER.TXT", "[*]"):
+        refused(room, 2, f"{into}: lost files go to one directory", "disk", "repair", "--into", into, "lost")
+
+
 @row(image=lambda: changed(lost_volume().bytes(), 2 + 9, 46, struct.pack("<H", 64_000)))
 def a_lost_file_without_a_name_stays_lost(room: Room) -> None:
     repairs(room, "all", status=7, lines="lost: file 11,1 is entered as NOTES.TXT in [1,3]\nlost: file 9,1 has no name in its header, and stays lost\n")
@@ -361,6 +367,25 @@ def the_later_of_equal_names_gets_the_next_version(room: Room) -> None:
     equal([lbn for lbn in range(80) if after.block(lbn) != before.block(lbn)], [*(before.files[13].blocks or ())], "blocks that changed")
     room.volume()
     equal(room.run("disk", "check", "--all"), (0, b"sound\n", b""), "check")
+
+
+def crowded() -> bytes:
+    """A volume with more faults than a check lists, behind which a directory has two equal names."""
+    volume = plain_volume(blocks=4000)
+    for number in (14, 15, 16):
+        volume.file(number, f"BIG.DAT;{number}", None, places=range(60, 3960), kind=1)
+    volume.directory(20, "SUB.DIR;1", ("A.TXT;1", 9, 1), ("A.TXT;1", 10, 1))
+    return volume.bytes(free=range(60, 3960))
+
+
+@row(image=crowded)
+def equal_names_behind_many_faults(room: Room) -> None:
+    status, out, err = room.run("disk", "repair", "double")
+    assert out.startswith(b"double: the image has ") and out.endswith(b" more faults than this run looks at; run it once more\n"), out
+    equal((status, err, out.count(b"\n"), room.is_untouched()), (7, b"", 1, True), "repair double")
+    lines = "used: blocks 60 to 3959 were marked as free\ndouble: directory 20 had two entries with one name and version\n"
+    repairs(room, "used", "double", lines=lines)
+    equal(Loose(room.image.read_bytes()).faults(), {"DoublyUsed"}, "the faults that are left")
 
 
 @row(image=lambda: doubled(32767, 2, 32767))

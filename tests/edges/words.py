@@ -173,13 +173,14 @@ IDLE = {
     "mkdir": "--keep-going",
     "rmdir": "--keep-going --stamp",
     "truncate": "--keep-going --stamp",
+    "append": "--keep-going --stamp",
     "chmod": "--keep-going --stamp",
     "chown": "--keep-going --stamp",
     "label": "--keep-going --stamp -u",
     "repair": "--keep-going --json -u",
 }
 VALUES = {"-o": ["x.out"], "--stamp": [STAMP], "-u": ["1,2"]}
-WORDS = {"ls": [], "find": [], "df": [], "info": [], "du": [], "check": [], "cp": ["A", "B"], "mv": ["A", "B"], "truncate": ["A", "0"], "chmod": ["000000", "A"],
+WORDS = {"ls": [], "find": [], "df": [], "info": [], "du": [], "check": [], "cp": ["A", "B"], "mv": ["A", "B"], "truncate": ["A", "0"], "append": ["A", "b"], "chmod": ["000000", "A"],
          "chown": ["1,2", "A"], "repair": ["all"]}
 ALL = "-o --backup --break-links -n --force --stamp --json -u -q --keep-going --blocks --order".split()
 
@@ -197,7 +198,7 @@ def options_that_do_nothing(room: Room) -> None:
 
 @row
 def json_without_a_plan(room: Room) -> None:
-    for command in ("put", "untar", "cp", "mv", "rm", "mkdir", "rmdir", "truncate", "chmod", "chown", "label", "get"):
+    for command in ("put", "untar", "cp", "mv", "rm", "mkdir", "rmdir", "truncate", "append", "chmod", "chown", "label", "get"):
         refused(room, f"error: --json does nothing for {command} without -n\n", "--json", "disk", command, *WORDS.get(command, ["A"]))
 
 
