@@ -1,6 +1,6 @@
 //! Host files that are no plain files, as pipes and standard input: `put`, `append` and `untar` read them before the image is locked, so that nobody waits under the
 //! lock.
-ghost use Rattle.std.specs.Prelude.{◌≡◌, ◌<◌, ◌≤◌, ◌-◌, ◌∷◌, ◌++◌, ◌⊎◌, ℕ, [], MatchOption, None, Some, IfErr, IfOk, IfSome, IsTrue, MatchResult, OnOk, length, slice_get, vec_len};
+ghost use Rattle.std.specs.Prelude.{◌≡◌, ◌<◌, ◌≤◌, ◌-◌, ◌∷◌, ◌++◌, ◌⊎◌, ℕ, [], MatchOption, None, Some, IfErr, IfOk, IfSome, IsTrue, MatchResult, OnOk, drop, length, min, slice_get, vec_len};
 ghost use Rattle.fs_host.specs.Faults.{is_reason};
 ghost use Rattle.std.specs.List.{remove};
 ghost use Rattle.f11fs.specs.{Changed.host_count, Changed.hosts_among, Readings.AddsReading, Readings.MayAddReading, Readings.MayAddReadings, Readings.ReadsNothing, Readings.first_at};
@@ -190,11 +190,11 @@ pub fn hosts<'w, 'a>(words: &'w [&'a str]) -> &'w [&'a str]
 }
 
 /// The words behind the first.
-fn behind_first<'w, 'a>(words: &'w [&'a str]) -> &'w [&'a str] {
-    match words.split_first() {
-        Some((_, behind)) => behind,
-        None => words,
-    }
+fn behind_first<'w, 'a>(words: &'w [&'a str]) -> &'w [&'a str]
+    ensures { result.now ≡ drop (min (length words.now) 1) words.now }
+{
+    let first = words.len().min(1);
+    &words[first..]
 }
 
 /// How many of so many words name host files.
