@@ -54,6 +54,9 @@ def commands_for_keepers_run(room: Room) -> None:
     for name in ("disk.dsk", "bad.dsk"):
         shutil.copy2(SAMPLE, room.folder / name)
     (room.folder / "notes.txt").write_bytes(b"one\ntwo\n")
+    (room.folder / "more.txt").write_bytes(b"three\n")
+    (room.folder / "src" / "sub").mkdir(parents=True)
+    (room.folder / "src" / "sub" / "deep.txt").write_bytes(b"deep\n")
     (room.folder / "f11fs").symlink_to(room.program)
     (room.folder / "examples").symlink_to(TOP / "examples")
     for words in (["init", "RX01"], ["mkdir", "1,2", "1,3"], ["put", "notes.txt", "1,2/OLD.TXT"], ["put", "notes.txt", "1,3/NOTES.TXT"]):
@@ -64,7 +67,7 @@ def commands_for_keepers_run(room: Room) -> None:
         ran = subprocess.run(["sh", "-c", line], cwd=room.folder, capture_output=True, timeout=300)
         # The sample has a lost file, which a check finds.
         equal((ran.returncode, ran.stderr), (7 if "check" in line else 0, b""), line)
-    equal((room.folder / "back.txt").read_bytes(), b"one\ntwo\n", "the text that came back")
+    equal((room.folder / "back.txt").read_bytes(), b"one\ntwo\nthree\n", "the text that came back")
     equal(room.run("new.dsk", "check"), (0, b"sound\n", b""), "the new volume")
 
 
