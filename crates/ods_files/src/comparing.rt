@@ -6,8 +6,8 @@ ghost use Rattle.ods_files.specs.Body.{padded};
 use crate::sending::block_or_zeros;
 use ods_base::{Block, Image};
 
-/// Whether the first `size` bytes of the blocks at these LBNs of an image are the first `other_size` bytes of those at the others of another image, with
-/// zeros for blocks past an image.
+/// Whether two lists of blocks begin with the same bytes. Of the first list `size` bytes count, and of the other `other_size`. A block past its image counts
+/// as zeros.
 pub(crate) fn have_same_sized(
     image: &Image,
     lbns: &[u32],

@@ -14,8 +14,8 @@ use ods_paths::read_step;
 use ods_text::{cut_at, is_text, read_small};
 use std::alloc::Global;
 
-/// Whether a path of a tree says a place on the volume: each of its folders is named as a directory, and what stands behind the last slash, if anything, as
-/// a file.
+/// Whether a path of a tree says a place on the volume. Each of its folders has the name of a directory. What stands behind the last slash has that of a
+/// file, or is nothing.
 pub fn judge_path(alloc: Global, path: &str) -> Result<(), Why>
     ensures { MatchResult result (λ _. SaysPlace path.now) (SaysNoPlace path.now) }
 {
