@@ -10,3 +10,4 @@ mod Storing
 mod Ordered
 mod ZeroPieces
 mod CutImages
+mod ListedTrees

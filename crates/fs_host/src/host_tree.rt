@@ -1,12 +1,16 @@
 //! A folder of the host with all that is in it and below it. No contract of std says what is in a folder: clauses say what is made of the names that are read.
-ghost use Rattle.std.specs.Prelude.{◌≡◌, ◌++◌, ◌∷◌, ◌↔◌, [], IfErr, IfOk, IsTrue, OnOk, string_bytes};
+ghost use Rattle.std.specs.Prelude.{◌≡◌, ◌++◌, ◌∷◌, ◌↔◌, [], reverse, String as Text, IfErr, IfOk, IsTrue, OnOk, string_bytes};
+ghost use Rattle.std.specs.List.{All};
+ghost use Rattle.std.specs.declared.alloc.Global.{Global as HostMemory};
 ghost use Rattle.fs_host.specs.Faults.{is_reason};
-ghost use Rattle.fs_host.specs.Trees.{AreInOrder, IsAtOrBelow};
+ghost use Rattle.fs_host.specs.Names.{LacksSlash};
+ghost use Rattle.fs_host.specs.Trees.{AreInOrder, HasReason, IsAtOrBelow, IsEntry, IsFolderPath, IsSaid, IsTree, ListsFolder, ListsName, kind_of_folder as folder_kind_of};
+ghost use Rattle.fs_host.specs.declared.host_tree.TreeEntry.{TreeEntry as Entry};
 
 use crate::host_fault::HostFault;
 use std::alloc::{AllocError, Global};
 use std::fs;
-use std::fs::File;
+use std::fs::{File, Metadata};
 use std::rt::Files;
 
 /// What stands at a path of a tree.
@@ -45,6 +49,7 @@ pub fn list_tree<R: Files<File = File> + AllocGlobal + Clone + Drop>(
     rt: &R,
     root: &str,
 ) -> Result<Vec<TreeEntry>, HostFault>
+    ensures tree { IfOk result (λ listed. IsTree listed.items) }
     ensures err { IfErr result (λ fault. IsTrue (is_reason fault)) }
 {
     let mut listed = Vec::new(rt.alloc());
@@ -54,7 +59,7 @@ pub fn list_tree<R: Files<File = File> + AllocGlobal + Clone + Drop>(
         own: 0,
     };
     push(&mut pile, first)?;
-    for _ in 0..u64::MAX {
+    'folders: for _ in 0..u64::MAX {
         let Some(folder) = pile.pop() else {
             return Ok(listed);
         };
@@ -78,7 +83,9 @@ fn list_folder<R: Files<File = File> + AllocGlobal + Clone + Drop>(
     folder: &str,
     listed: &mut Vec<TreeEntry>,
     pile: &mut Vec<Pending>,
-) -> Result<(), AllocError> {
+) -> Result<(), AllocError>
+    ensures { OnOk result (ListsFolder own folder.now listed.old.items listed.new.items pile.old.items pile.new.items) }
+{
     let names = match names_in(rt, root, folder) {
         Ok(names) => names,
         Err(fault) => return add(rt.alloc(), listed, own, folder, TreeKind::Unread(fault)),
@@ -86,17 +93,40 @@ fn list_folder<R: Files<File = File> + AllocGlobal + Clone + Drop>(
     add(rt.alloc(), listed, own, folder, TreeKind::Folder)?;
     let mut below = Vec::new(rt.alloc());
     for name in &names {
-        let path = joined(rt.alloc(), folder, name.as_str())?;
-        match kind_at(rt, root, folder, path.as_str()) {
-            TreeKind::Folder => below.push(Pending {
-                path: joined(rt.alloc(), path.as_str(), "/")?,
-                own: folder.len(),
-            })?,
-            kind => add(rt.alloc(), listed, folder.len(), path.as_str(), kind)?,
-        }
+        list_name(rt, root, folder, name.as_str(), listed, &mut below)?;
     }
-    while let Some(path) = below.pop() {
-        pile.push(path)?;
+    put_on_top(pile, below)
+}
+
+/// Lists what has a name in a folder, or where it is a folder leaves it for later.
+fn list_name<R: Files<File = File> + AllocGlobal + Clone + Drop>(
+    rt: &R,
+    root: &str,
+    folder: &str,
+    name: &str,
+    listed: &mut Vec<TreeEntry>,
+    below: &mut Vec<Pending>,
+) -> Result<(), AllocError>
+    requires { LacksSlash name.now }
+    ensures { OnOk result (ListsName folder.now listed.old.items listed.new.items below.old.items below.new.items) }
+{
+    let path = joined(rt.alloc(), folder, name)?;
+    match kind_at(rt, root, folder, path.as_str()) {
+        TreeKind::Folder => {
+            let path = joined(rt.alloc(), path.as_str(), "/")?;
+            let own = folder.len();
+            push(below, Pending { path, own })
+        }
+        kind => add(rt.alloc(), listed, folder.len(), path.as_str(), kind),
+    }
+}
+
+/// Puts folders that are to be listed on the pile, the first one on top.
+fn put_on_top(pile: &mut Vec<Pending>, mut below: Vec<Pending>) -> Result<(), AllocError>
+    ensures { OnOk result (pile.new.items ≡ pile.old.items ++ reverse below.items) }
+{
+    while let Some(folder) = below.pop() {
+        push(pile, folder)?;
     }
     Ok(())
 }
@@ -108,7 +138,9 @@ fn add(
     own: usize,
     path: &str,
     kind: TreeKind,
-) -> Result<(), AllocError> {
+) -> Result<(), AllocError>
+    ensures { OnOk result ((entry : Entry) × IsEntry path.now own kind entry × (listed.new.items ≡ listed.old.items ++ entry ∷ [])) }
+{
     let path = String::from_str(alloc, path)?;
     push(listed, TreeEntry { path, own, kind })
 }
@@ -123,13 +155,14 @@ fn push<T: Drop>(list: &mut Vec<T>, one: T) -> Result<(), AllocError>
     }
 }
 
-/// The names in a folder of a tree, in their order as bytes.
+/// The names in a folder of a tree, in their order as bytes. std does not say that these are all, that each comes once, or that none is empty.
 fn names_in<R: Files<File = File> + AllocGlobal + Clone + Drop>(
     rt: &R,
     root: &str,
     folder: &str,
 ) -> Result<Vec<String>, HostFault>
     ensures order { IfOk result (λ names. AreInOrder names.items) }
+    ensures names { IfOk result (λ names. All (λ (name : Text HostMemory). LacksSlash (string_bytes name)) names.items) }
     ensures err { IfErr result (λ fault. IsTrue (is_reason fault)) }
 {
     let path = place_of(rt.alloc(), root, folder)?;
@@ -142,26 +175,45 @@ fn names_in<R: Files<File = File> + AllocGlobal + Clone + Drop>(
     Ok(names)
 }
 
-/// What stands at a path in this folder of a tree.
+/// What stands at a path in this folder of a tree. std does not say what the host answers for a path: `kind_said` has the clause of that.
 fn kind_at<R: Files<File = File> + AllocGlobal + Clone + Drop>(
     rt: &R,
     root: &str,
     folder: &str,
     path: &str,
-) -> TreeKind {
+) -> TreeKind
+    ensures { HasReason result }
+{
     let Ok(place) = place_of(rt.alloc(), root, path) else {
         return TreeKind::Unread(HostFault::NoMemory);
     };
     let Ok(found) = fs::metadata(rt, place.as_str()) else {
         return TreeKind::Other;
     };
+    match kind_said(&found) {
+        TreeKind::Folder => kind_of_folder(leads_back(rt, root, folder, place.as_str())),
+        kind => kind,
+    }
+}
+
+/// What the host says of a place: a file, a folder, or neither.
+fn kind_said(found: &Metadata) -> TreeKind
+    ensures { IsSaid found.now result }
+{
     if found.is_file() {
-        return TreeKind::File;
+        TreeKind::File
+    } else if found.is_dir() {
+        TreeKind::Folder
+    } else {
+        TreeKind::Other
     }
-    if !found.is_dir() {
-        return TreeKind::Other;
-    }
-    match leads_back(rt, root, folder, place.as_str()) {
+}
+
+/// What a folder is, by whether it leads back into its own tree.
+fn kind_of_folder(back: Result<bool, HostFault>) -> TreeKind
+    ensures { result ≡ folder_kind_of back }
+{
+    match back {
         Ok(false) => TreeKind::Folder,
         Ok(true) => TreeKind::OwnTree,
         Err(fault) => TreeKind::Unread(fault),
@@ -208,7 +260,9 @@ fn has_way<R: Files<File = File> + AllocGlobal + Clone + Drop>(
 }
 
 /// Whether a path in a tree is that of a folder: it is empty, or ends with a slash.
-fn is_folder(path: &str) -> bool {
+fn is_folder(path: &str) -> bool
+    ensures { IsTrue result ↔ IsFolderPath path.now }
+{
     path.is_empty() || path.ends_with('/')
 }
 
