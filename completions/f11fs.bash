@@ -30,7 +30,7 @@ _f11fs_of() {
     find) options='--lost --deleted -l --json -u -q --blocks --order -h --help' takes='path' ;;
     stat) options='--json -u -q --blocks --order -h --help' takes='path' ;;
     cat) options='-t -b --raw -u -q --blocks --order -h --help' takes='path' ;;
-    get) options='-t -b --raw -r --deleted --partial -o -n --force --json -u -q --blocks --order -h --help' takes='path host' ;;
+    get) options='-t -b --raw -p -r --deleted --partial -o -n --force --json -u -q --blocks --order -h --help' takes='path host' ;;
     tar) options='-t -u -q --blocks --order -h --help' takes='path' ;;
     df) options='--json -q --blocks --order -h --help' takes='' ;;
     info) options='--json -q --blocks --order -h --help' takes='' ;;
@@ -38,7 +38,7 @@ _f11fs_of() {
     check) options='--all --json -q --blocks --order -h --help' takes='' ;;
     rescue) options='--text --scan --partial -n --json -q --blocks --order -h --help' takes='folder' ;;
     cmp) options='--all --json -u -q --blocks --order -h --help' takes='host' ;;
-    put) options='-t -b --form --like --contiguous --no-contiguous --replace --owner -r --skip -o --backup --break-links -n --force --json --stamp -u -q --blocks --order -h --help' takes='host path' ;;
+    put) options='-t -b --form --like --contiguous --no-contiguous --replace --owner -p -r --skip -o --backup --break-links -n --force --json --stamp -u -q --blocks --order -h --help' takes='host path' ;;
     untar) options='-o --backup --break-links -n --force --json --stamp -u -q --blocks --order -h --help' takes='host path' ;;
     cp) options='--from -r --next --contiguous --no-contiguous -o --backup --break-links -n --force --json --stamp -u -q --blocks --order -h --help' takes='path' ;;
     mv) options='-o --backup --break-links -n --force --json -u -q --blocks --order -h --help' takes='path' ;;

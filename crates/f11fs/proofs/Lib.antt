@@ -18,3 +18,5 @@ pub mod Giving
 pub mod ShownRights
 pub mod Appended
 mod TreeLists
+pub mod HostTimes
+mod TreesKept

@@ -1,5 +1,5 @@
 -- What commands that change a volume leave of it.
-use Rattle.std.specs.Prelude.{◌≡◌, ◌⊎◌, ◌-◌, ℕ, zero, suc, min, nat_lt, if◌then◌else◌, List, [], ◌∷◌, ◌++◌, length, take, slice_get, Bool, true, false, IsTrue, Option, Some, None, unwrap_or}
+use Rattle.std.specs.Prelude.{◌≡◌, ◌⊎◌, ◌-◌, ℕ, zero, suc, min, nat_lt, if◌then◌else◌, List, [], ◌∷◌, ◌++◌, length, take, slice_get, Bool, true, false, IsTrue, Option, Some, None, unwrap_or, not}
 use Rattle.std.specs.Borrow.{Bor}
 use Rattle.ods_base.specs.declared.file_id.FileId.{FileId}
 use Rattle.ods_base.specs.declared.file_id.Uic.{Uic}
@@ -31,10 +31,11 @@ use Rattle.ods_upkeep.specs.Moved.{IsMoved}
 use Rattle.ods_upkeep.specs.Purged.{IsPurged}
 use Rattle.ods_upkeep.specs.Removed.{IsRemoved}
 use Rattle.ods_upkeep.specs.HostPut.{IsHostPut}
-use Rattle.ods_upkeep.specs.Left.{InPut}
+use Rattle.ods_upkeep.specs.Left.{InPut, at_time}
 use Rattle.ods_upkeep.specs.declared.asked.Placing.{Placing}
 use Rattle.ods_shell.specs.declared.facts.Facts.{Facts}
 use Rattle.f11fs.specs.CopiedOver.{CopiesBelow}
+use Rattle.f11fs.specs.Dated.{IsHostTime, takes_times}
 use Rattle.f11fs.specs.Forms.{form_said, placing_for, placing_said}
 use Rattle.f11fs.specs.Ready.{MayBeReady}
 use Rattle.f11fs.specs.TreePut.{IsTreePut}
@@ -55,26 +56,31 @@ hosts_among words = take (host_count (length words)) words
 abbrev pub path_among : List (Bor (List ℕ)) → Option (Bor (List ℕ))
 path_among words = if nat_lt 1 (length words) then slice_get words (length words - 1) else None
 
--- Host files were put, one after another, by what was known before each; the host gave their bytes. A name is what stands behind the last slash of a path.
-abbrev pub ArePutNext : InPut → List (Bor (List ℕ)) → Filed → InPut → Filed → Type 0
-ArePutNext p [] old q new = (q ≡ p) × (new ≡ old)
-ArePutNext p (host ∷ hosts) old q new =
-    (name : List ℕ) × ((bytes : List ℕ) × ((r : InPut) × ((mid : Filed) × IsLastPart host.now name × IsHostPut p name bytes old r mid × ArePutNext r hosts mid q new)))
+-- A host file with these bytes was put, by what was known before. Its name is what stands behind the last slash of its path. It has the time of the run, or where it is dated that of its host file.
+abbrev pub IsOnePut : Bool → List ℕ → InPut → List ℕ → List ℕ → Filed → InPut → Filed → Type 0
+IsOnePut dated run p host bytes old q new =
+    (name : List ℕ) × ((stamp : List ℕ) × IsLastPart host name × IsHostTime (not dated) run stamp × IsHostPut (at_time p stamp) name bytes old q new)
 
--- Each host file that the words name was put where they say, in the form and for the owner that they say. Nothing else was done.
-pub record ArePut (how : PutWords) (words : List (Bor (List ℕ))) (stamp : List ℕ) (old new : Filed) : Type 0 where
+-- Host files were put, one after another; the host gave their bytes.
+abbrev pub ArePutNext : Bool → List ℕ → InPut → List (Bor (List ℕ)) → Filed → InPut → Filed → Type 0
+ArePutNext dated run p [] old q new = (q ≡ p) × (new ≡ old)
+ArePutNext dated run p (host ∷ hosts) old q new =
+    (bytes : List ℕ) × ((r : InPut) × ((mid : Filed) × IsOnePut dated run p host.now bytes old r mid × ArePutNext dated run r hosts mid q new))
+
+-- Each host file that the words name was put where they say, in the form, at the time and for the owner that they say; `said` is whether they say a time. Nothing else was done.
+pub record ArePut (said : Bool) (how : PutWords) (words : List (Bor (List ℕ))) (stamp : List ℕ) (old new : Filed) : Type 0 where
   -- what is looked up before the first
   pub begun : InPut
   pub begins : IsBegun old.image old.layout stamp (path_among words) (nat_lt 1 (length (hosts_among words))) (form_said how) how.like (placing_said how) how.replace how.owner begun
   pub ready : Filed
   pub made_ready : MayBeReady how.replace (length (hosts_among words)) old ready
   pub known : InPut
-  pub put : ArePutNext begun (hosts_among words) ready known new
+  pub put : ArePutNext (takes_times how said) stamp begun (hosts_among words) ready known new
 
 -- what a put leaves: a tree of a folder, where that is asked for, and else host files one by one
-abbrev pub PutsBelow : Bool → PutWords → List (Bor (List ℕ)) → List ℕ → Filed → Filed → Type 0
-PutsBelow true how words stamp old new = IsTreePut how words stamp old new
-PutsBelow false how words stamp old new = ArePut how words stamp old new
+abbrev pub PutsBelow : Bool → Bool → PutWords → List (Bor (List ℕ)) → List ℕ → Filed → Filed → Type 0
+PutsBelow true said how words stamp old new = IsTreePut said how words stamp old new
+PutsBelow false said how words stamp old new = ArePut said how words stamp old new
 
 -- the names of these words have moved to the last one
 abbrev pub MovesToLast : List (Bor (List ℕ)) → Filed → Filed → Type 0
@@ -106,7 +112,7 @@ IsNoLabel text = ¬ IsTrue (is_label_text text)
 
 -- What a change leaves that is made whole, by the words behind its name, and by the time that new files get.
 abbrev pub IsChanged : Change → List (Bor (List ℕ)) → List ℕ → Filed → Filed → Type 0
-IsChanged (change.Put how) words stamp old new = PutsBelow how.below how words stamp old new
+IsChanged (change.Put how) words stamp old new = (said : Bool) × PutsBelow how.below said how words stamp old new
 IsChanged change.Untar words stamp old new = (said : Bool) × AreUntarred said words stamp old new
 IsChanged (change.CpFrom how) words stamp old new = CopiesBelow how.below how.contiguous how.next words stamp old new
 IsChanged (change.Cp contiguous) words stamp old new = CopiesToLast (placing_for contiguous) words stamp old new

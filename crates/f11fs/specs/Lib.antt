@@ -1,5 +1,6 @@
 pub mod Changed
 pub mod CopiedOver
+pub mod Dated
 pub mod Forms
 pub mod Laws
 pub mod Looks
@@ -13,3 +14,4 @@ pub mod Seen
 pub mod Unpacked
 pub mod Wrong
 pub mod TreePut
+pub mod TreeFaults

@@ -1,17 +1,17 @@
 -- What untar leaves of a volume.
 use Rattle.std.specs.Prelude.{◌≡◌, ◌≤◌, ◌⊎◌, ℕ, Bool, true, false, if◌then◌else◌, nat_le, List, [], ◌∷◌, codes, length, slice_get, Option, Some, None}
 use Rattle.std.specs.Borrow.{Bor}
-use Rattle.fs_host.specs.Times.{IsStampAt}
 use Rattle.ods_archive.specs.Members.{entry_of}
 use Rattle.ods_filing.specs.Filed.{Filed}
 use Rattle.ods_untar.specs.Below.{below}
 use Rattle.ods_untar.specs.Wanted.{AsksFor}
+use Rattle.ods_upkeep.specs.Ready.{MayHaveGrown}
 use Rattle.ods_untar.specs.declared.wanted.Wanted.{Wanted}
 use Rattle.ods_upkeep.specs.Untarred.{IsUntarred}
 use Rattle.ods_upkeep.specs.declared.asked.Placing.{Placing}
 use Rattle.ods_upkeep.specs.declared.asked.Placing.TheVariants.{Anywhere, InOnePiece}
 use Rattle.ods_upkeep.specs.declared.untarring.Packed.{Packed}
-use Rattle.f11fs.specs.Ready.{MayBeReady}
+use Rattle.f11fs.specs.Dated.{IsTimeOf}
 
 -- the first word is the archive; without words it is standard input
 abbrev pub archive_among : List (Bor (List ℕ)) → List ℕ
@@ -26,11 +26,6 @@ directory_among words = slice_get words 1
 abbrev pub placing_told : Option (ℕ × ℕ) → Placing
 placing_told None = Anywhere
 placing_told (Some characteristics) = if nat_le 128 characteristics.0 then InOnePiece else Anywhere
-
--- The time that a file of an archive gets: the one that is said; else the local time of its member, or the time of the run where there is no such time.
-abbrev pub IsTimeOf : Bool → List ℕ → ℕ → List ℕ → Type 0
-IsTimeOf true run second stamp = stamp ≡ run
-IsTimeOf false run second stamp = (stamp ≡ run) ⊎ IsStampAt second stamp
 
 -- what is put of a file that an archive asks for: below the directory that is said, at its time, with its bytes and all that its records say
 pub record IsPackedFrom (said : Bool) (directory : Option (Bor (List ℕ))) (run : List ℕ) (wanted : Wanted) (packed : Packed) : Type 0 where
@@ -58,5 +53,5 @@ pub record AreUntarred (said : Bool) (words : List (Bor (List ℕ))) (stamp : Li
   pub wanted : List Wanted
   pub asked : AsksFor bytes wanted
   pub ready : Filed
-  pub made_ready : MayBeReady false (length wanted) old ready
+  pub made_ready : MayHaveGrown (length wanted) old ready
   pub put : ArePutFrom said (directory_among words) stamp wanted ready new

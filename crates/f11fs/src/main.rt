@@ -10,6 +10,7 @@ mod changing;
 mod command_files;
 mod commands;
 mod copying_from;
+mod dating;
 mod early;
 mod host;
 mod laws;

@@ -1,12 +1,14 @@
 //! `put`: files of the host, put into a volume.
-ghost use Rattle.std.specs.Prelude.{◌≡◌, ◌≤◌, ◌⊎◌, ℕ, List, Ok, Some, IfErr, IfOk, OnOk, slice_get, vec_len};
-ghost use Rattle.f11fs.specs.{Changed.ArePut, Changed.IsRefusal, Changed.path_among, Forms.form_said, Forms.placing_for as placing_by, Forms.placing_said, Readings.IsLastPart, Readings.IsTooLarge, Readings.IsUnread, Readings.first_at};
+ghost use Rattle.std.specs.Prelude.{◌≡◌, ◌≤◌, ◌⊎◌, ℕ, List, Ok, Some, IfErr, IfOk, OnOk, is_some, slice_get, vec_len};
+ghost use Rattle.f11fs.specs.{Changed.ArePut, Changed.ArePutNext, Changed.IsRefusal, Changed.path_among, Forms.form_said, Forms.placing_for as placing_by, Forms.placing_said, Readings.IsLastPart, Readings.IsTooLarge, Readings.IsUnread, Readings.first_at};
 ghost use Rattle.f11fs.specs.declared.early.Taken.{Taken as Read};
 ghost use Rattle.ods_upkeep.specs.HostPut.{IsHostPut};
 
 use crate::changing::stop_failed;
+use crate::dating::{host_time, takes_times};
 use crate::early::{Early, hosts};
-use fs_host::{HostFault, Shown, read_host};
+use crate::host::Host;
+use fs_host::{HostFault, HostZone, Shown, read_host};
 use fs_reads::{Stop, WordFault};
 use fs_words::{PutWords, Words};
 use ods_filing::Filing;
@@ -17,8 +19,7 @@ use std::fs::File;
 use std::rt::Files;
 
 /// `put`: with two words or more the last is the path on the volume.
-#[tactic(auto, using(crate::proofs::Refusals::unread_refusal))]
-pub fn put<'a, R: Files<File = File> + AllocGlobal + Eprint>(
+pub fn put<'a, R: Host>(
     rt: &R,
     filing: &mut Filing,
     stamp: Stamp,
@@ -26,7 +27,7 @@ pub fn put<'a, R: Files<File = File> + AllocGlobal + Eprint>(
     how: PutWords<'a>,
     early: &mut Early,
 ) -> Result<(), Stop<'a>>
-    ensures done { OnOk result (ArePut how.entry words.now.paths.items stamp filing.old filing.new) }
+    ensures done { OnOk result (ArePut (is_some words.now.stamp) how.entry words.now.paths.items stamp filing.old filing.new) }
     ensures refused { IfErr result IsRefusal }
 {
     let hosts = hosts(words.paths.as_slice());
@@ -52,16 +53,40 @@ pub fn put<'a, R: Files<File = File> + AllocGlobal + Eprint>(
         Err(failure) => return Err(stop_failed(rt.alloc(), &failure)),
     };
     putting.make_ready(filing, hosts.len());
+    let zone = HostZone::read_where(rt, takes_times(&how, words.stamp));
+    put_each(
+        rt,
+        &mut putting,
+        filing,
+        stamp,
+        &zone,
+        hosts,
+        room,
+        early,
+        words.quiet,
+    )
+}
+
+/// Puts host files, one after another. Where a zone is given, each gets the local time at which its host file was changed.
+#[tactic(auto, using(crate::proofs::Refusals::unread_refusal))]
+fn put_each<'a, R: Host>(
+    rt: &R,
+    putting: &mut Putting,
+    filing: &mut Filing,
+    stamp: Stamp,
+    zone: &Option<HostZone>,
+    hosts: &[&'a str],
+    room: u64,
+    early: &mut Early,
+    quiet: bool,
+) -> Result<(), Stop<'a>>
+    ensures done { OnOk result (ArePutNext (is_some zone.now) stamp putting.old hosts.now filing.old putting.new filing.new) }
+    ensures refused { IfErr result IsRefusal }
+{
     for host in hosts {
         let bytes = host_bytes(rt, *host, room, early)?;
-        put_one(
-            rt,
-            &mut putting,
-            filing,
-            *host,
-            bytes.as_slice(),
-            words.quiet,
-        )?;
+        putting.set_time(host_time(rt, zone, *host, stamp));
+        put_one(rt, putting, filing, *host, bytes.as_slice(), quiet)?;
     }
     Ok(())
 }

@@ -1,15 +1,17 @@
 //! `put -r`: all that is in a folder of the host and below it, put into a directory of a volume.
-ghost use Rattle.std.specs.Prelude.{◌≡◌, ◌≤◌, ◌++◌, ◌∷◌, [], ℕ, List, false, true, is_none, is_some, IfErr, IfOk, OnOk, vec_len};
+ghost use Rattle.std.specs.Prelude.{◌≡◌, ◌≤◌, ◌⊎◌, ◌++◌, ◌∷◌, [], ℕ, List, false, true, is_some, IfErr, IfOk, MatchBool, MatchOption, OnOk, string_bytes, vec_len};
 ghost use Rattle.std.specs.List.{All};
-ghost use Rattle.ods_upkeep.specs.{TreeNames.SaysPlace, TreePut.IsFolderPut, TreePut.IsLeafPut};
-ghost use Rattle.f11fs.specs.{Changed.IsRefusal, Changed.PutsBelow, Changed.is_refused, TreePut.AreEntriesPut, TreePut.AreTreeWords, TreePut.IsEntryPut, TreePut.IsPlaced, TreePut.IsTreePut, TreePut.tree_form as form_for_tree};
+ghost use Rattle.ods_upkeep.specs.{TreeNames.SaysPlace, TreePut.IsFolderPut};
+ghost use Rattle.f11fs.specs.{Changed.IsRefusal, Changed.PutsBelow, Changed.is_refused, TreePut.AreEntriesPut, TreePut.AreTreeWords, TreePut.IsEntryPut, TreePut.IsFilePut, TreePut.IsPlaced, TreePut.IsTreePut, TreePut.tree_form as form_for_tree};
+ghost use Rattle.f11fs.specs.TreeFaults.{AddsLine, AreKept, HasTreeStatus, IsFault, IsHostPath, IsKept, IsLeft, IsTooLarge, IsUnplaced, fault_of_kind, may_be_left, tree_line};
+ghost use Rattle.fs_reads.specs.declared.stop.WordFault.TheVariants.{Large as IsLarge, LargeStream as IsLargeStream};
 
 use crate::changing::stop_failed;
+use crate::dating::{host_time, takes_times};
 use crate::early::Early;
 use crate::host::Host;
 use crate::putting::{form_of, placing_of, put};
-use crate::untarring::make_ready;
-use fs_host::{HostFault, Shown, TreeEntry, TreeKind, list_tree, read_host};
+use fs_host::{HostFault, HostZone, Shown, TreeEntry, TreeKind, list_tree, read_host};
 use fs_reads::{Stop, WordFault, stop_about};
 use fs_words::{PutWords, Words};
 use ods_base::FileId;
@@ -17,11 +19,12 @@ use ods_filing::Filing;
 use ods_request::{Refusal, Stamp};
 use ods_shell::Status;
 use ods_upkeep::{
-    Failure, HostFile, Placing, TreeForm, Why, judge_path, make_folders, put_leaf, tree_root,
+    Failure, HostFile, Placing, TreeForm, Why, judge_path, make_folders, make_ready, put_leaf,
+    tree_root,
 };
 use std::alloc::{AllocError, Global};
 use std::fs;
-use std::fs::File;
+use std::fs::{File, Metadata};
 use std::rt::Files;
 use thiserror::Error;
 
@@ -47,7 +50,9 @@ enum TreeFault {
 
 impl TreeFault {
     /// The exit status of a command that is refused so.
-    fn status(&self) -> Status {
+    fn status(&self) -> Status
+        ensures { HasTreeStatus self.now result }
+    {
         match self {
             TreeFault::Name(why) => why.status(),
             TreeFault::Folder => Status::Words,
@@ -56,7 +61,9 @@ impl TreeFault {
     }
 
     /// Whether `--skip` leaves it out.
-    fn is_skipped(&self) -> bool {
+    fn is_skipped(&self) -> bool
+        ensures { result ≡ may_be_left self.now }
+    {
         match self {
             TreeFault::Name(_) | TreeFault::Folder | TreeFault::Other => true,
             TreeFault::OwnTree | TreeFault::Unread(_) => false,
@@ -80,7 +87,7 @@ pub fn put_files<'a, R: Host>(
     how: PutWords<'a>,
     early: &mut Early,
 ) -> Result<(), Stop<'a>>
-    ensures done { OnOk result (PutsBelow how.entry.below how.entry words.now.paths.items stamp filing.old filing.new) }
+    ensures done { OnOk result (PutsBelow how.entry.below (is_some words.now.stamp) how.entry words.now.paths.items stamp filing.old filing.new) }
     ensures refused { IfErr result IsRefusal }
 {
     if how.below {
@@ -99,7 +106,7 @@ fn put_tree<'a, R: Host>(
     how: PutWords<'a>,
     skip: bool,
 ) -> Result<(), Stop<'a>>
-    ensures done { OnOk result (IsTreePut how.entry words.now.paths.items stamp filing.old filing.new) }
+    ensures done { OnOk result (IsTreePut (is_some words.now.stamp) how.entry words.now.paths.items stamp filing.old filing.new) }
     ensures refused { IfErr result IsRefusal }
 {
     let (folder, to) = tree_words(rt.alloc(), words.paths.as_slice())?;
@@ -115,7 +122,8 @@ fn put_tree<'a, R: Host>(
         Err(failure) => return Err(stop_failed(rt.alloc(), &failure)),
     };
     let form = tree_form(&how, stamp);
-    put_entries(rt, filing, &form, dir, folder, entries, words.quiet)
+    let zone = HostZone::read_where(rt, takes_times(&how, words.stamp));
+    put_entries(rt, filing, &form, &zone, dir, folder, entries, words.quiet)
 }
 
 /// The folder of the host, and the path of the directory on the volume.
@@ -148,6 +156,7 @@ fn tree_form(how: &PutWords<'_>, stamp: Stamp) -> TreeForm
 }
 
 /// What is put of a tree. All that is not is told: it refuses the command, or with `skip` it is left out where that may be.
+#[tactic(auto, using(crate::proofs::TreesKept::left_more))]
 fn judge_tree<'a, R: Host>(
     rt: &R,
     folder: &str,
@@ -157,6 +166,8 @@ fn judge_tree<'a, R: Host>(
 ) -> Result<Vec<TreeEntry>, Stop<'a>>
     // Each has a place on the volume.
     ensures placed { IfOk result (λ entries. All IsPlaced entries.items) }
+    // Just those are kept that are put, in their order.
+    ensures kept { IfOk result (λ entries. AreKept listed.items entries.items) }
     // Without skip nothing is left out.
     ensures whole { skip ≡ false → IfOk result (λ entries. entries.items ≡ listed.items) }
     ensures refused { IfErr result IsRefusal }
@@ -233,7 +244,8 @@ fn push_entry(entries: &mut Vec<TreeEntry>, entry: TreeEntry) -> Result<(), Allo
 
 /// Whether something in a tree is put: a folder or a file whose path says a place on the volume.
 fn is_kept(alloc: Global, entry: &TreeEntry) -> Result<bool, AllocError>
-    ensures { IfOk result (λ kept. kept ≡ true → IsPlaced entry.now) }
+    ensures placed { IfOk result (λ kept. kept ≡ true → IsPlaced entry.now) }
+    ensures judged { IfOk result (λ kept. MatchBool kept (IsKept entry.now) (IsLeft entry.now)) }
 {
     match entry.kind {
         TreeKind::Folder | TreeKind::File => {
@@ -245,7 +257,9 @@ fn is_kept(alloc: Global, entry: &TreeEntry) -> Result<bool, AllocError>
 }
 
 /// Why something in a tree is not put; `None` where that is told of a folder in which it is.
-fn fault_of(alloc: Global, entry: &TreeEntry, skip: bool) -> Result<Option<TreeFault>, AllocError> {
+fn fault_of(alloc: Global, entry: &TreeEntry, skip: bool) -> Result<Option<TreeFault>, AllocError>
+    ensures { IfOk result (IsFault entry.now skip) }
+{
     let path = entry.path.as_str();
     if name_fault(alloc, path)?.is_none() {
         return Ok(kind_fault(entry.kind));
@@ -263,7 +277,9 @@ fn fault_of(alloc: Global, entry: &TreeEntry, skip: bool) -> Result<Option<TreeF
 }
 
 /// Why something of this kind is not put.
-fn kind_fault(kind: TreeKind) -> Option<TreeFault> {
+fn kind_fault(kind: TreeKind) -> Option<TreeFault>
+    ensures { result ≡ fault_of_kind kind }
+{
     match kind {
         TreeKind::Folder | TreeKind::File => None,
         TreeKind::Other => Some(TreeFault::Other),
@@ -274,7 +290,7 @@ fn kind_fault(kind: TreeKind) -> Option<TreeFault> {
 
 /// Why a path of a tree says no place on the volume; `None` where it says one.
 fn name_fault(alloc: Global, path: &str) -> Result<Option<Why>, AllocError>
-    ensures { IfOk result (λ fault. is_none fault ≡ true → SaysPlace path.now) }
+    ensures { IfOk result (λ fault. MatchOption fault (SaysPlace path.now) (IsUnplaced path.now)) }
 {
     match judge_path(alloc, path) {
         Ok(()) => Ok(None),
@@ -284,7 +300,9 @@ fn name_fault(alloc: Global, path: &str) -> Result<Option<Why>, AllocError>
 }
 
 /// The path on the host of something in a tree.
-fn host_path(alloc: Global, folder: &str, path: &str) -> Result<String, AllocError> {
+fn host_path(alloc: Global, folder: &str, path: &str) -> Result<String, AllocError>
+    ensures { IfOk result (λ text. IsHostPath folder.now path.now (string_bytes text)) }
+{
     let front = folder.trim_end_matches('/');
     if path.is_empty() {
         return String::from_str(alloc, folder);
@@ -309,17 +327,28 @@ fn say_left<R: AllocGlobal + Eprint>(
     Ok(())
 }
 
-/// Adds a line that says why something is not put.
+/// Adds a line that says why something is not put. The texts of faults have no clause.
 fn push_line(
     alloc: Global,
     lines: &mut String,
     folder: &str,
     entry: &TreeEntry,
     fault: TreeFault,
-) -> Result<(), AllocError> {
+) -> Result<(), AllocError>
+    ensures { OnOk result (AddsLine folder.now (string_bytes entry.now.path) (string_bytes lines.old) (string_bytes lines.new)) }
+{
     let path = host_path(alloc, folder, entry.path.as_str())?;
-    let path = Shown(path.as_str());
-    let line = format!(in alloc; "{path}: {fault}\n")?;
+    let why = format!(in alloc; "{fault}")?;
+    add_line(alloc, lines, path.as_str(), why.as_str())?;
+    Ok(())
+}
+
+/// Adds a line about a path.
+fn add_line(alloc: Global, lines: &mut String, path: &str, why: &str) -> Result<(), AllocError>
+    ensures { OnOk result (string_bytes lines.new ≡ string_bytes lines.old ++ tree_line path.now why.now) }
+{
+    let path = Shown(path);
+    let line = format!(in alloc; "{path}: {why}\n")?;
     lines.push_str(line.as_str())
 }
 
@@ -328,16 +357,17 @@ fn put_entries<'a, R: Host>(
     rt: &R,
     filing: &mut Filing,
     how: &TreeForm,
+    zone: &Option<HostZone>,
     dir: FileId,
     folder: &str,
     entries: &[TreeEntry],
     quiet: bool,
 ) -> Result<(), Stop<'a>>
-    ensures done { OnOk result (AreEntriesPut how.now dir entries.now filing.old filing.new) }
+    ensures done { OnOk result (AreEntriesPut (is_some zone.now) how.now dir entries.now filing.old filing.new) }
     ensures refused { IfErr result IsRefusal }
 {
     for entry in entries {
-        put_entry(rt, filing, how, dir, folder, entry, quiet)?;
+        put_entry(rt, filing, how, zone, dir, folder, entry, quiet)?;
     }
     Ok(())
 }
@@ -347,12 +377,13 @@ fn put_entry<'a, R: Host>(
     rt: &R,
     filing: &mut Filing,
     how: &TreeForm,
+    zone: &Option<HostZone>,
     dir: FileId,
     folder: &str,
     entry: &TreeEntry,
     quiet: bool,
 ) -> Result<(), Stop<'a>>
-    ensures done { OnOk result (IsEntryPut how.now dir entry.now filing.old filing.new) }
+    ensures done { OnOk result (IsEntryPut (is_some zone.now) how.now dir entry.now filing.old filing.new) }
     ensures refused { IfErr result IsRefusal }
 {
     match entry.kind {
@@ -364,7 +395,16 @@ fn put_entry<'a, R: Host>(
             folder,
             entry.path.as_str(),
         ),
-        TreeKind::File => put_file(rt, filing, how, dir, folder, entry.path.as_str(), quiet),
+        TreeKind::File => put_file(
+            rt,
+            filing,
+            how,
+            zone,
+            dir,
+            folder,
+            entry.path.as_str(),
+            quiet,
+        ),
         _ => Ok(()),
     }
 }
@@ -392,12 +432,13 @@ fn put_file<'a, R: Host>(
     rt: &R,
     filing: &mut Filing,
     how: &TreeForm,
+    zone: &Option<HostZone>,
     dir: FileId,
     folder: &str,
     path: &str,
     quiet: bool,
 ) -> Result<(), Stop<'a>>
-    ensures done { OnOk result ((bytes : List ℕ) × IsLeafPut how.now dir path.now bytes filing.old filing.new) }
+    ensures done { OnOk result (IsFilePut (is_some zone.now) how.now dir path.now filing.old filing.new) }
     ensures refused { IfErr result IsRefusal }
 {
     let host = host_path(rt.alloc(), folder, path)?;
@@ -407,7 +448,13 @@ fn put_file<'a, R: Host>(
         name: path,
         bytes: bytes.as_slice(),
     };
-    match put_leaf(rt.alloc(), filing, how, dir, &file) {
+    let form = TreeForm {
+        stamp: host_time(rt, zone, host.as_str(), how.stamp),
+        form: how.form,
+        placing: how.placing,
+        owner: how.owner,
+    };
+    match put_leaf(rt.alloc(), filing, &form, dir, &file) {
         Ok(remark) => {
             say_remark(rt, host.as_str(), &remark, quiet);
             Ok(())
@@ -459,9 +506,22 @@ fn tree_bytes<'a, R: Files<File = File> + AllocGlobal>(
 }
 
 /// What is said of a host file that is larger than the room on the volume.
-fn too_large<R: Files>(rt: &R, path: &str, room: u64) -> WordFault {
+fn too_large<R: Files>(rt: &R, path: &str, room: u64) -> WordFault
+    ensures { (result ≡ IsLargeStream room) ⊎ ((size : ℕ) × (result ≡ IsLarge size room)) }
+{
     match fs::metadata(rt, path) {
-        Ok(found) if found.is_file() => WordFault::Large(found.len(), room),
-        _ => WordFault::LargeStream(room),
+        Ok(found) => large(&found, room),
+        Err(_) => WordFault::LargeStream(room),
+    }
+}
+
+/// The same, by what the host says of it.
+fn large(found: &Metadata, room: u64) -> WordFault
+    ensures { IsTooLarge found.now room result }
+{
+    if found.is_file() {
+        WordFault::Large(found.len(), room)
+    } else {
+        WordFault::LargeStream(room)
     }
 }

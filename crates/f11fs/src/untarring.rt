@@ -1,8 +1,9 @@
 //! `untar`: the files of an archive of the host, put into a volume.
 ghost use Rattle.std.specs.Prelude.{◌≡◌, ◌*◌, ◌≤◌, false, is_some, length, not, IfErr, IfOk, OnOk, slice_get};
-ghost use Rattle.f11fs.specs.{Changed.IsRefusal, Ready.MayBeReady, Unpacked.ArePutFrom, Unpacked.AreUntarred, Unpacked.IsPut, Unpacked.IsTimeOf, Unpacked.archive_among, Unpacked.directory_among, Unpacked.placing_told};
+ghost use Rattle.f11fs.specs.{Changed.IsRefusal, Dated.IsTimeOf, Unpacked.ArePutFrom, Unpacked.AreUntarred, Unpacked.IsPut, Unpacked.archive_among, Unpacked.directory_among, Unpacked.placing_told};
 
 use crate::changing::stop_failed;
+use crate::dating::time_at;
 use crate::early::{Early, archive_room};
 use crate::host::Host;
 use crate::putting::taken_or_read;
@@ -14,7 +15,7 @@ use ods_filing::Filing;
 use ods_request::Stamp;
 use ods_shell::Status;
 use ods_untar::{AskFault, Wanted, members_in, path_below};
-use ods_upkeep::{Packed, Placing, untar_file};
+use ods_upkeep::{Packed, Placing, make_ready, untar_file};
 use std::alloc::Global;
 use std::str;
 
@@ -48,7 +49,7 @@ pub fn untar<'a, R: Host>(
     make_ready(filing, files.len());
     let times = Times {
         run: stamp,
-        zone: zone_for(rt, words.stamp),
+        zone: HostZone::read_where(rt, words.stamp.is_none()),
     };
     put_all(alloc, filing, &times, directory, files)
 }
@@ -67,40 +68,7 @@ impl Times {
     fn of(&self, second: u64) -> Stamp
         ensures { IsTimeOf (not (is_some self.now.zone)) self.now.run second result }
     {
-        match &self.zone {
-            None => self.run,
-            Some(zone) => time_in(zone, second, self.run),
-        }
-    }
-}
-
-/// The local time at this second in a zone; else this one.
-fn time_in(zone: &HostZone, second: u64, run: Stamp) -> Stamp
-    ensures { IsTimeOf false run second result }
-{
-    let Ok(small) = u32::try_from(second) else {
-        return run;
-    };
-    small_time_in(zone, small, run)
-}
-
-/// The local time at this second in a zone; else this one.
-fn small_time_in(zone: &HostZone, second: u32, run: Stamp) -> Stamp
-    ensures { IsTimeOf false run second result }
-{
-    match zone.stamp_at(second) {
-        Some(stamp) => stamp,
-        None => run,
-    }
-}
-
-/// The zone of the host, where no time is said.
-fn zone_for<R: Host>(rt: &R, said: Option<Stamp>) -> Option<HostZone>
-    ensures { is_some result ≡ not (is_some said) }
-{
-    match said {
-        Some(_) => None,
-        None => Some(HostZone::read(rt)),
+        time_at(&self.zone, second, self.run)
     }
 }
 
@@ -127,15 +95,6 @@ fn most_bytes(filing: &Filing) -> u64
 {
     let bytes = (filing.mounted().image().len() as u64).saturating_mul(512);
     archive_room(Some(bytes)).unwrap_or(bytes)
-}
-
-/// Asks for the headers of so many files at once. Refused, it changes nothing, and each file asks for its own.
-pub(crate) fn make_ready(filing: &mut Filing, files: usize)
-    ensures { MayBeReady false files filing.old filing.new }
-{
-    if files > 1 {
-        let _ = filing.make_ready(files.min(65_535) as u32);
-    }
 }
 
 /// Puts these files, one after another.

@@ -16,6 +16,7 @@ use std::fs::{File, OpenOptions, Permissions, TryLockError};
 use std::io::{ErrorKind, Seek, SeekFrom};
 use std::os::unix::fs::{OpenOptionsExt, PermissionsExt};
 use std::rt::Files;
+use std::time::{Duration, UNIX_EPOCH};
 use std::{fs, io};
 
 /// How often the hidden name is tried: another run may take it away, or leave it, meanwhile.
@@ -79,14 +80,15 @@ impl HiddenFile {
         has_bytes(&mut self.file, image, behind, false)
     }
 
-    /// Gives the file this mode, where one is said, and this name. With `replaces` a file that has the name by then goes, and else
-    /// it stays; then the new file has the hidden name too.
+    /// Gives the file this mode, this time of its last change in seconds since 1970, each where one is said, and this name. With `replaces` a file that
+    /// has the name by then goes, and else it stays; then the new file has the hidden name too.
     #[tactic(auto, using(crate::proofs::MayEnd::error_ends_naming, crate::proofs::MayEnd::changed_ends_naming, crate::proofs::MayEnd::reasons_end_naming))]
     pub fn take_name<R: Files<File = File>>(
         &mut self,
         rt: &R,
         name: &str,
         mode: Option<u32>,
+        changed: Option<u32>,
         replaces: bool,
     ) -> Result<(), HostFault>
         ensures stays { path_hidden self.new ≡ path_hidden self.old }
@@ -95,6 +97,7 @@ impl HiddenFile {
         if let Some(mode) = mode {
             self.file.set_permissions(Permissions::from_mode(mode))?;
         }
+        set_time(&self.file, changed)?;
         ask_name(rt, self.path.as_str(), &self.file)?;
         if replaces {
             fs::rename(rt, self.path.as_str(), name)?;
@@ -102,7 +105,7 @@ impl HiddenFile {
         }
         match fs::hard_link(rt, self.path.as_str(), name) {
             Ok(()) => Ok(()),
-            Err(error) if has_no_links(error.kind()) => self.copy_out(rt, name, mode),
+            Err(error) if has_no_links(error.kind()) => self.copy_out(rt, name, mode, changed),
             Err(error) => Err(HostFault::of(&error)),
         }
     }
@@ -128,6 +131,7 @@ impl HiddenFile {
         rt: &R,
         name: &str,
         mode: Option<u32>,
+        changed: Option<u32>,
     ) -> Result<(), HostFault>
         ensures stays { path_hidden self.new ≡ path_hidden self.old }
         ensures err { IfErr result (λ fault. IsTrue (is_reason fault)) }
@@ -138,16 +142,21 @@ impl HiddenFile {
             options.mode(0o600);
         }
         let mut copy = options.open(rt, name)?;
-        let done = self.fill(&mut copy, mode);
+        let done = self.fill(&mut copy, mode, changed);
         if done.is_err() {
             let _ = fs::remove_file(rt, name);
         }
         done
     }
 
-    /// Writes the bytes to another file too, and gives it the mode.
+    /// Writes the bytes to another file too, and gives it the mode and the time.
     #[tactic(auto, using(crate::proofs::MayEnd::reason_given))]
-    fn fill(&mut self, copy: &mut File, mode: Option<u32>) -> Result<(), HostFault>
+    fn fill(
+        &mut self,
+        copy: &mut File,
+        mode: Option<u32>,
+        changed: Option<u32>,
+    ) -> Result<(), HostFault>
         ensures stays { path_hidden self.new ≡ path_hidden self.old }
         ensures err { IfErr result (λ fault. IsTrue (is_reason fault)) }
     {
@@ -156,6 +165,7 @@ impl HiddenFile {
         if let Some(mode) = mode {
             copy.set_permissions(Permissions::from_mode(mode))?;
         }
+        set_time(copy, changed)?;
         copy.sync_all()?;
         Ok(())
     }
@@ -181,6 +191,20 @@ fn write_sparse(file: &File, image: &Image, behind: &[u8]) -> Result<(), SaveFau
         Ok(_) => Ok(()),
         Err(why) => Err(SaveFault::Write(why)),
     }
+}
+
+/// Gives a file this time of its last change in seconds since 1970, where one is said.
+#[tactic(auto, using(crate::proofs::MayEnd::reason_given))]
+fn set_time(file: &File, changed: Option<u32>) -> Result<(), HostFault>
+    ensures { IfErr result (λ fault. IsTrue (is_reason fault)) }
+{
+    let Some(second) = changed else {
+        return Ok(());
+    };
+    if let Some(time) = UNIX_EPOCH.checked_add(Duration::from_secs(u64::from(second))) {
+        file.set_modified(time)?;
+    }
+    Ok(())
 }
 
 /// Whether an error says that a file system has no hard links.

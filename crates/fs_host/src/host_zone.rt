@@ -1,5 +1,5 @@
 //! The host's time zone, by which dates of files are read.
-ghost use Rattle.std.specs.Prelude.{◌≡◌, ◌⊎◌, ◌<◌, ◌+◌, ◌≤◌, ◌↔◌, pos, int_div, IfSome, IsTrue};
+ghost use Rattle.std.specs.Prelude.{◌≡◌, ◌⊎◌, ◌<◌, ◌+◌, ◌≤◌, ◌↔◌, pos, int_div, is_some, IfSome, IsTrue};
 ghost use Rattle.fs_host.specs.Dates.{IsDated, IsSecondAt, IsSecondOf, full_year, two_at};
 ghost use Rattle.fs_host.specs.Times.{IsLocal, IsMonth, IsStampAt};
 
@@ -43,6 +43,20 @@ impl HostZone {
                 system: None,
                 all: none,
             },
+        }
+    }
+
+    /// The zone of the host, where it is wanted.
+    pub fn read_where<R: Env + Files + AllocGlobal + Clone + Drop>(
+        rt: &R,
+        is_wanted: bool,
+    ) -> Option<HostZone>
+        ensures { is_some result ≡ is_wanted }
+    {
+        if is_wanted {
+            Some(HostZone::read(rt))
+        } else {
+            None
         }
     }
 

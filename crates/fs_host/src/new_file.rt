@@ -50,15 +50,20 @@ impl NewFile {
         &mut self.made.file
     }
 
-    /// Gives the file its mode and name. With `replaces` a file that has the name by then goes, and else it stays, and the new file
+    /// Gives the file its mode, this time of its last change where one is said, in seconds since 1970, and its name. With `replaces` a file that has the name by then goes, and else it stays, and the new file
     /// is gone. After any failure the new file is gone, but after `Left`: then it has its name, and the hidden one too.
     #[tactic(auto, using(crate::proofs::MayEnd::naming_ends_finish))]
-    pub fn finish<R: Files<File = File>>(mut self, rt: &R, replaces: bool) -> Result<(), HostFault>
+    pub fn finish<R: Files<File = File>>(
+        mut self,
+        rt: &R,
+        changed: Option<u32>,
+        replaces: bool,
+    ) -> Result<(), HostFault>
         ensures { IfErr result (λ fault. IsTrue (may_end_finish replaces fault)) }
     {
         let taken = self
             .made
-            .take_name(rt, self.path.as_str(), self.mode, replaces);
+            .take_name(rt, self.path.as_str(), self.mode, changed, replaces);
         if let Err(fault) = taken {
             self.give_up(rt);
             return Err(fault);

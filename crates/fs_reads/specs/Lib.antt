@@ -14,6 +14,7 @@ pub mod Readable
 pub mod Host
 pub mod Folders
 pub mod Gets
+pub mod Dates
 pub mod Undeleted
 pub mod Scans
 pub mod Trees

@@ -1,9 +1,10 @@
 //! `get`: files of a volume, written to files of the host.
-ghost use Rattle.std.specs.Prelude.{◌≡◌, ◌≤◌, ◌<◌, ◌↔◌, ◌++◌, ◌⊎◌, ◌==◌, ℕ, List, Option, Ok, Err, false, true, IfErr, IfOk, IfSome, IsSome, IsTrue, MatchResult, length, string_bytes};
+ghost use Rattle.std.specs.Prelude.{◌≡◌, ◌≤◌, ◌<◌, ◌↔◌, ◌++◌, ◌⊎◌, ◌==◌, ℕ, List, Option, Ok, Err, false, true, IfErr, IfOk, IfSome, IsSome, IsTrue, MatchResult, is_some, length, string_bytes};
 ghost use Rattle.std.specs.Borrow.{Bor};
 ghost use Rattle.std.specs.Fs.{IsDir, file_type};
 ghost use Rattle.std.specs.List.{All, ends_with, list_any};
 ghost use Rattle.std.specs.Option.{option_to_list};
+ghost use Rattle.fs_reads.specs.Dates.{IsDateAt, IsDatedBy};
 ghost use Rattle.fs_reads.specs.Ends.{may_name};
 ghost use Rattle.fs_reads.specs.Gets.{AreGot, AreSaid, EndsGet, GoesTo, IsAmong, IsGettable, path_within, says_all_versions as says_all};
 ghost use Rattle.fs_reads.specs.Written.{status_written};
@@ -19,10 +20,10 @@ use crate::printing::{Reader, add_named, cat_file, say_remark, say_unread};
 use crate::progress::Progress;
 use crate::reading::open_found;
 use crate::stop::{Stop, WordFault, send};
-use fs_host::{HostFault, Shown};
+use fs_host::{HostFault, HostZone, Shown};
 use fs_words::Words;
 use ods_base::Uic;
-use ods_shell::{Contents, Found, Status, Versioned, Wanted, pair_object};
+use ods_shell::{Contents, Facts, Found, Status, Versioned, Wanted, pair_object};
 use ods_space::Disk;
 use std::alloc::{AllocError, Global};
 use std::collections::BTreeSet;
@@ -57,15 +58,19 @@ pub(crate) struct How<'a> {
     pub only_tells: bool,
     pub json: bool,
     pub reader: Reader,
+    /// The zone by which each file of the host gets the creation date of its file, where that is asked for.
+    pub zone: Option<&'a HostZone>,
 }
 
-/// `get`: the files that the paths name, to a destination; where none is said the last word is it, of two or more.
+/// `get`: the files that the paths name, to a destination; where none is said the last word is it, of two or more. With a zone each file of the host gets
+/// the creation date of its file.
 pub(crate) fn get<'a, R: Files<File = File> + Clock + AllocGlobal + Print + Eprint>(
     rt: &R,
     disk: &Disk<'_>,
     words: &Words<'a>,
     said: Option<&'a str>,
     wanted: Wanted,
+    zone: Option<&HostZone>,
     progress: &mut Progress,
 ) -> Result<Status, Stop<'a>>
     requires { on FindsFiles disk.now }
@@ -86,6 +91,7 @@ pub(crate) fn get<'a, R: Files<File = File> + Clock + AllocGlobal + Print + Epri
         only_tells: words.saving.only_tells,
         json: words.json,
         reader: Reader::of(words),
+        zone,
     };
     Ok(named.or(get_all(rt, disk, &all, to, how, progress)?))
 }
@@ -318,9 +324,41 @@ fn get_file<'a, R: Files<File = File> + AllocGlobal + Print + Eprint>(
     match open_found(rt.alloc(), disk, found, how.wanted, how.reader.user) {
         Ok(got) => {
             say_remark(rt, path, &got.remark, how.reader.quiet);
-            keep(rt, path, &got.contents, host, how)
+            let changed = second_for(how.zone, found.facts());
+            keep(rt, path, &got.contents, host, changed, how)
         }
         Err(fault) => say_unread(rt, path, fault),
+    }
+}
+
+/// The second since 1970 that a file of the host gets as the time of its last change: that of the creation of its file, by a clock in this zone. None
+/// where no zone is said, and where the file has no such date.
+pub(crate) fn second_for(zone: Option<&HostZone>, facts: Option<Facts>) -> Option<u32>
+    ensures { IsDatedBy (is_some zone.entry) facts result }
+{
+    match zone {
+        Some(zone) => second_in(zone, facts),
+        None => None,
+    }
+}
+
+/// The second of the creation of a file, by a clock in this zone.
+fn second_in(zone: &HostZone, facts: Option<Facts>) -> Option<u32>
+    ensures { IsDatedBy true facts result }
+{
+    match facts {
+        Some(facts) => second_at(zone, &facts.creation_date()),
+        None => None,
+    }
+}
+
+/// The second of a date by a clock in this zone; None where there is none.
+fn second_at(zone: &HostZone, date: &[u8; 13]) -> Option<u32>
+    ensures { IsDateAt date.now result }
+{
+    match zone.second_at(date) {
+        0 => None,
+        second => Some(second),
     }
 }
 
@@ -330,6 +368,7 @@ pub(crate) fn keep<'a, R: Files<File = File> + AllocGlobal + Print + Eprint>(
     path: &str,
     contents: &Contents<'_>,
     host: &str,
+    changed: Option<u32>,
     how: How<'_>,
 ) -> Result<Status, Stop<'a>>
     ensures { IfOk result (λ s. (s ≡ Code.Done) ⊎ (s ≡ Code.Host)) }
@@ -340,7 +379,7 @@ pub(crate) fn keep<'a, R: Files<File = File> + AllocGlobal + Print + Eprint>(
         return Ok(Status::Host);
     }
     let written = if !how.only_tells {
-        write_host(rt, contents, host, how.force)
+        write_host(rt, contents, host, changed, how.force)
     } else if host == "-" {
         Written::Done
     } else {

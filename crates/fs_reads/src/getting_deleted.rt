@@ -11,13 +11,15 @@ ghost use Rattle.fs_reads.specs.Ends.{may_name};
 ghost use Rattle.fs_reads.specs.Gets.{AreSaid};
 ghost use Rattle.fs_reads.specs.Undeleted.{AreIdsGot, EndsBy, IsFormerGot, IsIdGot, SaysId};
 
-use crate::getting::{Destination, How, choose_destination, keep, path_within, split_words};
+use crate::getting::{
+    Destination, How, choose_destination, keep, path_within, second_for, split_words,
+};
 use crate::pouring::pour;
 use crate::printing::{Reader, say_remark, say_unread};
 use crate::progress::Progress;
 use crate::reading::{Unread, check_right};
 use crate::stop::{Stop, say_about, stop_about};
-use fs_host::Shown;
+use fs_host::{HostZone, Shown};
 use fs_words::Words;
 use ods_base::FileId;
 use ods_paths::{Path, parse_path};
@@ -35,7 +37,7 @@ use std::rt::Files;
 use std::time::Clock;
 
 /// `get --deleted`: the deleted files that the IDs name, to a destination; where none is said the last word is it, of two or more. Where
-/// `partial`, what is left of those that are not whole too. No file is written where a path is no ID.
+/// `partial`, what is left of those that are not whole too. With a zone each file of the host gets the creation date of its file. No file is written where a path is no ID.
 pub(crate) fn get_deleted<'a, R: Files<File = File> + Clock + AllocGlobal + Print + Eprint>(
     rt: &R,
     disk: &Disk<'_>,
@@ -43,6 +45,7 @@ pub(crate) fn get_deleted<'a, R: Files<File = File> + Clock + AllocGlobal + Prin
     said: Option<&'a str>,
     wanted: Wanted,
     partial: bool,
+    zone: Option<&HostZone>,
     progress: &mut Progress,
 ) -> Result<Status, Stop<'a>>
     ensures status { IfOk result (λ s. may_name s ≡ true) }
@@ -61,6 +64,7 @@ pub(crate) fn get_deleted<'a, R: Files<File = File> + Clock + AllocGlobal + Prin
         only_tells: words.saving.only_tells,
         json: words.json,
         reader: Reader::of(words),
+        zone,
     };
     get_all(rt, disk, &shares, paths, to, how, partial, progress)
 }
@@ -202,16 +206,17 @@ fn put_got<'a, R: Files<File = File> + AllocGlobal + Print + Eprint>(
 {
     let path = former.found.path.as_str();
     say_remark(rt, path, &got.remark, how.reader.quiet);
+    let changed = second_for(how.zone, former.found.facts());
     match to {
-        Destination::Output if how.only_tells => keep(rt, path, &got.contents, "-", how),
+        Destination::Output if how.only_tells => keep(rt, path, &got.contents, "-", None, how),
         Destination::Output => match pour(&got.contents, &mut io::writer(rt)) {
             Ok(()) => Ok(Status::Done),
             Err(why) => Err(Stop::Unwritten(why)),
         },
-        Destination::File(host) => keep(rt, path, &got.contents, host, how),
+        Destination::File(host) => keep(rt, path, &got.contents, host, changed, how),
         Destination::Folder(folder) => {
             let name = former.found.host_name(rt.alloc(), false)?;
-            put_into(rt, path, &got.contents, folder, name, how, written)
+            put_into(rt, path, &got.contents, folder, name, changed, how, written)
         }
     }
 }
@@ -223,6 +228,7 @@ fn put_into<'a, R: Files<File = File> + AllocGlobal + Print + Eprint>(
     contents: &Contents<'_>,
     folder: &str,
     name: String,
+    changed: Option<u32>,
     how: How<'_>,
     written: &mut BTreeSet<String>,
 ) -> Result<Status, Stop<'a>>
@@ -234,7 +240,7 @@ fn put_into<'a, R: Files<File = File> + AllocGlobal + Print + Eprint>(
         let _ = eprintln!(rt; "f11fs: {from}: {path} has been written by this command");
         return Ok(Status::Host);
     }
-    let done = keep(rt, from, contents, path.as_str(), how)?;
+    let done = keep(rt, from, contents, path.as_str(), changed, how)?;
     if done == Status::Done && written.insert(name).is_err() {
         return Err(Stop::NoMemory);
     }

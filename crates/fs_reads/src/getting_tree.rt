@@ -18,7 +18,7 @@ use crate::printing::Reader;
 use crate::progress::Progress;
 use crate::rescue_tree::{folder_text, name_below};
 use crate::stop::{Stop, WordFault, stop_about};
-use fs_host::HostFault;
+use fs_host::{HostFault, HostZone};
 use fs_words::Words;
 use ods_base::{Listed, Name};
 use ods_paths::{Folder, Path, Versions, parse_path};
@@ -33,13 +33,14 @@ use std::rt::Files;
 use std::time::Clock;
 
 /// `get -r`: the files in the one directory that the path says, and below it, in a folder of the host, which is made where it is not there. Each
-/// directory has a folder in it. Where a name has several versions all are got.
+/// directory has a folder in it. Where a name has several versions all are got. With a zone each file of the host gets the creation date of its file.
 pub(crate) fn get_tree<'a, R: Files<File = File> + Clock + AllocGlobal + Print + Eprint>(
     rt: &R,
     disk: &Disk<'_>,
     words: &Words<'a>,
     said: Option<&'a str>,
     wanted: Wanted,
+    zone: Option<&HostZone>,
     progress: &mut Progress,
 ) -> Result<Status, Stop<'a>>
     requires { on FindsFiles disk.now }
@@ -69,6 +70,7 @@ pub(crate) fn get_tree<'a, R: Files<File = File> + Clock + AllocGlobal + Print +
         only_tells: words.saving.only_tells,
         json: words.json,
         reader: Reader::of(words),
+        zone,
     };
     let shut = say_closed(rt, &tree.closed, words.user)?;
     let got = get_directories(rt, disk, &tree.directories, depth, root, how, progress)?;

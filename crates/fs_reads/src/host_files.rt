@@ -47,11 +47,13 @@ pub(crate) fn could_write<R: Files>(rt: &R, host: &str, replaces: bool) -> Writt
     }
 }
 
-/// Writes what is got to this path: a new file, or with `replaces` one in place of a plain file that is there.
+/// Writes what is got to this path: a new file, or with `replaces` one in place of a plain file that is there. A plain file gets this time of its last
+/// change in seconds since 1970, where one is said.
 pub(crate) fn write_host<R: Files<File = File> + AllocGlobal>(
     rt: &R,
     contents: &Contents<'_>,
     host: &str,
+    changed: Option<u32>,
     replaces: bool,
 ) -> Written
     ensures { EndsWriting replaces result }
@@ -68,7 +70,7 @@ pub(crate) fn write_host<R: Files<File = File> + AllocGlobal>(
         Err(fault) => return Written::Unmade(fault),
     };
     match begin(rt, path.as_str(), old) {
-        Ok(new) => fill(rt, new, contents, replaces),
+        Ok(new) => fill(rt, new, contents, changed, replaces),
         Err(fault) => Written::Unmade(fault),
     }
 }
@@ -137,11 +139,12 @@ fn begin<R: Files<File = File> + AllocGlobal>(
     NewFile::begin(rt, path, Some(mode & 0o707))
 }
 
-/// Writes a new file, which then takes its name.
+/// Writes a new file, which then gets its time and its name.
 fn fill<R: Files<File = File>>(
     rt: &R,
     new: NewFile,
     contents: &Contents<'_>,
+    changed: Option<u32>,
     replaces: bool,
 ) -> Written
     ensures { EndsFilling replaces result }
@@ -151,7 +154,7 @@ fn fill<R: Files<File = File>>(
         new.give_up(rt);
         return Written::Failed(why);
     }
-    match new.finish(rt, replaces) {
+    match new.finish(rt, changed, replaces) {
         Ok(()) => Written::Done,
         Err(HostFault::IsThere) => Written::IsThere,
         Err(fault) => Written::Failed(fault),

@@ -16,6 +16,7 @@ use crate::progress::Progress;
 use crate::showing::push_stats;
 use crate::stop::{Stop, send, stop_at_own_output};
 use crate::tarring::tar;
+use fs_host::HostZone;
 use fs_words::{Action, Words};
 use ods_mount::Mounted;
 use ods_shell::{Columns, Status, space_lines, space_object, space_of};
@@ -41,24 +42,31 @@ pub fn obey<'a, R: Files<File = File> + Clock + Env + AllocGlobal + Print + Epri
         Action::Get {
             wanted,
             target,
-            below: false,
+            below,
             deleted: false,
             partial: _,
-        } => get(rt, disk, words, target, wanted, progress),
-        Action::Get {
-            wanted,
-            target,
-            below: true,
-            deleted: false,
-            partial: _,
-        } => get_tree(rt, disk, words, target, wanted, progress),
+            dated,
+        } => {
+            let zone = HostZone::read_where(rt, dated);
+            let zone = zone.as_ref();
+            if below {
+                get_tree(rt, disk, words, target, wanted, zone, progress)
+            } else {
+                get(rt, disk, words, target, wanted, zone, progress)
+            }
+        }
         Action::Get {
             wanted,
             target,
             below: _,
             deleted: true,
             partial,
-        } => get_deleted(rt, disk, words, target, wanted, partial, progress),
+            dated,
+        } => {
+            let zone = HostZone::read_where(rt, dated);
+            let zone = zone.as_ref();
+            get_deleted(rt, disk, words, target, wanted, partial, zone, progress)
+        }
         Action::Cmp { all } => compare_all(rt, disk, words, all, progress),
         Action::Tar { text } => tar(rt, disk, words, text),
         _ => {

@@ -446,7 +446,7 @@ pub(crate) fn keep<'a, R: Files<File = File> + AllocGlobal + Print + Eprint>(
     if how.only_tells {
         tell(rt, file, path.as_str(), how.json)?;
     } else {
-        let written = write_host(rt, contents, path.as_str(), false);
+        let written = write_host(rt, contents, path.as_str(), None, false);
         if written != Written::Done {
             return Err(stop_unwritten(rt.alloc(), path.as_str(), written));
         }

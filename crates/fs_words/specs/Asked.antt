@@ -57,8 +57,9 @@ IsCat m a = (wanted : Wanted) × IsWanted m wanted × (a ≡ action.Cat wanted)
 
 -- --partial does nothing without --deleted, and -r nothing with it
 abbrev pub IsGet : ArgMatches → Option (Bor (List ℕ)) → Action → Type 0
-IsGet m out a = (wanted : Wanted) × (below deleted partial : Bool) × IsWanted m wanted × IsSet m (codes "-r") below × IsSet m (codes "--deleted") deleted
-    × IsSet m (codes "--partial") partial × (partial ≡ true → deleted ≡ true) × (below ≡ true → deleted ≡ false) × (a ≡ action.Get wanted out below deleted partial)
+IsGet m out a = (wanted : Wanted) × (below deleted partial dated : Bool) × IsWanted m wanted × IsSet m (codes "-r") below × IsSet m (codes "--deleted") deleted
+    × IsSet m (codes "--partial") partial × IsSet m (codes "-p") dated × (partial ≡ true → deleted ≡ true) × (below ≡ true → deleted ≡ false)
+    × (a ≡ action.Get wanted out below deleted partial dated)
 
 abbrev pub IsTar : ArgMatches → Action → Type 0
 IsTar m a = (text : Bool) × IsSet m (codes "-t") text × (a ≡ action.Tar text)
@@ -91,6 +92,7 @@ pub record IsPutSo (m : ArgMatches) (p : PutWords) : Type 0 where
   pub owner : IsValue IsSaid (text_of m (codes "--owner")) p.owner
   pub below : IsSet m (codes "-r") p.below
   pub skip : IsSet m (codes "--skip") p.skip
+  pub dated : IsSet m (codes "-p") p.dated
   -- --skip does nothing without -r, and --replace and --like nothing with it
   pub skips_below : p.skip ≡ true → p.below ≡ true
   pub anew : p.below ≡ true → (p.replace ≡ false) × (text_of m (codes "--like") ≡ None)

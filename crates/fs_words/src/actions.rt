@@ -23,13 +23,15 @@ pub enum Action<'a> {
     /// Writes files to standard output.
     Cat(Wanted),
     /// Writes files to the host: to this target, or where there is none into the working folder or to the last word. Where `below`, the files in a
-    /// directory and below it. Where `deleted`, deleted files by their IDs; where `partial`, what is left of those that are not whole too.
+    /// directory and below it. Where `deleted`, deleted files by their IDs; where `partial`, what is left of those that are not whole too. Where
+    /// `dated`, each host file gets the creation date of its file.
     Get {
         wanted: Wanted,
         target: Option<&'a str>,
         below: bool,
         deleted: bool,
         partial: bool,
+        dated: bool,
     },
     /// Writes an archive of files to standard output; records as lines where `text`.
     Tar {
@@ -178,4 +180,6 @@ pub struct PutWords<'a> {
     pub below: bool,
     /// What has no name on the volume is left out.
     pub skip: bool,
+    /// Each new file gets the time at which its host file was changed.
+    pub dated: bool,
 }

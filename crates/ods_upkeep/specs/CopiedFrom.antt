@@ -1,5 +1,5 @@
 -- What cp asks for where the files are another volume's: of each file that is found there a new one is made here, with the bytes of all its blocks, its attributes, its date of creation, its name and its version.
-use Rattle.std.specs.Prelude.{◌≡◌, ◌⊎◌, ℕ, min, Bool, true, not, List, [], ◌∷◌, length, Option, Some, None, if◌then◌else◌}
+use Rattle.std.specs.Prelude.{◌≡◌, ℕ, Bool, true, not, List, [], ◌∷◌, length, Option, Some, None, if◌then◌else◌}
 use Rattle.std.specs.Borrow.{Bor}
 use Rattle.std.specs.List.{All, filter, list_all}
 use Rattle.std.specs.Option.{option_or}
@@ -10,7 +10,7 @@ use Rattle.ods_files.specs.declared.form.Form.TheVariants.{Raw}
 use Rattle.ods_space.specs.Files.{FindsFiles}
 use Rattle.ods_space.specs.Layout.{VolumeLayout}
 use Rattle.ods_request.specs.Stamps.{is_stamp}
-use Rattle.ods_filing.specs.Filed.{Filed, HasGrown, lacking}
+use Rattle.ods_filing.specs.Filed.{Filed}
 use Rattle.ods_filing.specs.Led.{IsLed}
 use Rattle.ods_shell.specs.Facts.{created_in}
 use Rattle.ods_shell.specs.Named.{highest}
@@ -23,6 +23,7 @@ use Rattle.ods_shell.specs.declared.found.Found.{Found}
 use Rattle.ods_upkeep.specs.Begun.{placing_by}
 use Rattle.ods_upkeep.specs.Copied.{IsCopyMade, IsCopyable}
 use Rattle.ods_upkeep.specs.Kinds.{Copies}
+use Rattle.ods_upkeep.specs.Ready.{MayHaveGrown}
 use Rattle.ods_upkeep.specs.Sources.{AreOfPath, AreSources}
 use Rattle.ods_upkeep.specs.Target.{IsTarget}
 use Rattle.ods_upkeep.specs.declared.asked.CopyFrom.{CopyFrom}
@@ -82,10 +83,6 @@ pub record IsCopiedOver (I : List (List ℕ)) (L : VolumeLayout) (how : CopyFrom
 abbrev pub AreCopiedOver : List (List ℕ) → VolumeLayout → CopyFrom → Target → List ℕ → List Found → Filed → Filed → Type 0
 AreCopiedOver I L how to stamp [] old new = new ≡ old
 AreCopiedOver I L how to stamp (f ∷ found) old new = (mid : Filed) × IsCopiedOver I L how to stamp f old mid × AreCopiedOver I L how to stamp found mid new
-
--- before so many files are copied INDEXF.SYS may get the headers that it lacks for all of them, and nothing else is done
-abbrev pub MayHaveGrown : ℕ → Filed → Filed → Type 0
-MayHaveGrown count old ready = (ready ≡ old) ⊎ HasGrown old (lacking old (min count 65535)) ready
 
 -- These files are copied. Nothing else was done, but that INDEXF.SYS may have grown for them.
 abbrev pub AreAllCopiedOver : List (List ℕ) → VolumeLayout → CopyFrom → Target → List ℕ → List Found → Filed → Filed → Type 0

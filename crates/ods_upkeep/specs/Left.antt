@@ -24,6 +24,10 @@ pub record InPut : Type 0 where
   -- the highest versions of the target's names, where several files are put and none is replaced
   pub highest : Option Noted
 
+-- the same, with another date and time of creation
+abbrev pub at_time : InPut → List ℕ → InPut
+at_time p stamp = record p { stamp = stamp }
+
 -- files are replaced
 abbrev pub replaces : InPut → Bool
 replaces p = is_some p.names

@@ -36,6 +36,7 @@ pub mod Versions
 pub mod Written
 pub mod Wayside
 pub mod Untarred
+pub mod Ready
 pub mod CopiedFrom
 pub mod UncopiedFrom
 pub mod CopiedTree

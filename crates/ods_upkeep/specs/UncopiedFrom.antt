@@ -16,7 +16,8 @@ use Rattle.ods_shell.specs.declared.alone.Alone.TheVariants as alone
 use Rattle.ods_shell.specs.declared.facts.Facts.{Facts}
 use Rattle.ods_shell.specs.declared.found.Found.{Found}
 use Rattle.ods_upkeep.specs.Copied.{IsCopyable, IsUncopyable, IsUnread}
-use Rattle.ods_upkeep.specs.CopiedFrom.{AreFilesFrom, are_passed_over, IsCopiedOver, MayHaveGrown, placing_of, stamp_for, target_for}
+use Rattle.ods_upkeep.specs.CopiedFrom.{AreFilesFrom, are_passed_over, IsCopiedOver, placing_of, stamp_for, target_for}
+use Rattle.ods_upkeep.specs.Ready.{MayHaveGrown}
 use Rattle.ods_upkeep.specs.Refused.{AreNoSources, HasPath, IsNoSource}
 use Rattle.ods_upkeep.specs.Sources.{AreOfPath, AreSources}
 use Rattle.ods_upkeep.specs.Target.{IsNoTarget, IsTarget}

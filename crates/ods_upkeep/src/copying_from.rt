@@ -5,7 +5,7 @@ ghost use Rattle.ods_filing.specs.Led.{IsLed};
 ghost use Rattle.ods_space.specs.Files.{FindsFiles};
 ghost use Rattle.ods_space.specs.Disks.{on};
 ghost use Rattle.ods_upkeep.specs.Kinds.{Copies};
-ghost use Rattle.ods_upkeep.specs.CopiedFrom.{AreAllCopiedOver, AreCopiedOver, AreFilesFrom, FindsNoTwins, IsCopiedFrom, IsCopiedOver, IsLedFrom, MayHaveGrown, are_passed_over, copied_of, own_version, stamp_for as date_of, target_for as place_of, version_for};
+ghost use Rattle.ods_upkeep.specs.CopiedFrom.{AreAllCopiedOver, AreCopiedOver, AreFilesFrom, FindsNoTwins, IsCopiedFrom, IsCopiedOver, IsLedFrom, are_passed_over, copied_of, own_version, stamp_for as date_of, target_for as place_of, version_for};
 ghost use Rattle.ods_upkeep.specs.UncopiedFrom.{AreAllPassed, AreNoFilesFrom, AreNotCopiedOver, HasTwinned, IsNotCopiedFrom, IsNotCopiedOver, IsTwinned, StopsCopyingOver, passed_why};
 ghost use Rattle.ods_upkeep.specs.declared.asked.Placing.TheVariants.{Anywhere};
 
@@ -13,6 +13,7 @@ use crate::asked::CopyFrom;
 use crate::copying::{bytes_on, check, check_all, make_copy};
 use crate::failure::{Failure, Why, of_path};
 use crate::like_files::placing_like;
+use crate::readying::make_ready;
 use crate::sources::sources_on;
 use crate::target::Target;
 use crate::targets::target_of;
@@ -144,16 +145,6 @@ fn keep_copied(all: &mut Vec<Found>)
     ensures { all.new.items ≡ copied_of all.old.items }
 {
     all.retain(|found| !found.is_passed_over());
-}
-
-/// Asks for the headers of so many files at once, so that they share a few pointers of INDEXF.SYS. Refused, it changes nothing, and each file asks
-/// for its own.
-fn make_ready(filing: &mut Filing, files: usize)
-    ensures { MayHaveGrown files filing.old filing.new }
-{
-    if files > 1 {
-        let _ = filing.make_ready(files.min(65_535) as u32);
-    }
 }
 
 /// Copies these files of the other volume, one after another.

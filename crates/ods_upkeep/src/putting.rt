@@ -1,11 +1,10 @@
 //! `put`: files of the host are put one by one.
-ghost use Rattle.std.specs.Prelude.{◌≡◌, ◌⊎◌, is_some, min, not, ◌&&◌, true, None, IfErr, IfOk, MatchResult, OnOk};
-ghost use Rattle.ods_filing.specs.Filed.{HasGrown, lacking};
+ghost use Rattle.std.specs.Prelude.{◌≡◌, is_some, not, ◌&&◌, true, None, IfErr, IfOk, MatchResult, OnOk};
 ghost use Rattle.ods_filing.specs.Led.{IsLed};
 ghost use Rattle.ods_upkeep.specs.{Begun.AreKept, Begun.AreNames, Begun.IsBegun, Begun.count_of, Begun.path_to};
 ghost use Rattle.ods_upkeep.specs.{HostPut.AreCountedOn, HostPut.AreNotedOn, HostPut.IsHostPut, HostPut.IsPutAs, HostPut.IsStill, HostPut.IsVersionFor};
 ghost use Rattle.ods_upkeep.specs.declared.asked.Placing.TheVariants.{Anywhere};
-ghost use Rattle.ods_upkeep.specs.{Kinds.Puts, Left.replaces, PutFor.IsPut, Refused.HasPath, Refused.IsOutOfMemory, Refused.no_memory, Remarks.IsRemark, Remarks.IsRemarkOn};
+ghost use Rattle.ods_upkeep.specs.{Kinds.Puts, Left.at_time, Left.replaces, PutFor.IsPut, Ready.MayHaveGrown, Refused.HasPath, Refused.IsOutOfMemory, Refused.no_memory, Remarks.IsRemark, Remarks.IsRemarkOn};
 ghost use Rattle.ods_upkeep.specs.{Unbegun.IsNotBegun, Unput.IsNotPut, Unput.IsNotStored, Written.bytes_of};
 
 use crate::asking::put_new;
@@ -14,6 +13,7 @@ use crate::host_names::name_for;
 use crate::like_files::{attributes_in, like_facts, placing_by};
 use crate::looking::next_version;
 use crate::names::Names;
+use crate::readying::make_ready;
 use crate::rooms::make_room;
 use crate::target::Target;
 use crate::targets::target_of;
@@ -91,12 +91,19 @@ impl Putting {
     /// Asks for the headers of so many files at once, before the first of them is put, so that they share a few pointers of INDEXF.SYS. Refused, it
     /// changes nothing, and each file asks for its own. Where files are replaced it asks for none, since they leave theirs.
     pub fn make_ready(&self, filing: &mut Filing, files: usize)
-        ensures grown { (filing.new ≡ filing.old) ⊎ HasGrown filing.old (lacking filing.old (min files 65535)) filing.new }
+        ensures grown { MayHaveGrown files filing.old filing.new }
         ensures replaces { replaces self.now ≡ true → filing.new ≡ filing.old }
     {
-        if self.names.is_none() && files > 1 {
-            let _ = filing.make_ready(files.min(65_535) as u32);
+        if self.names.is_none() {
+            make_ready(filing, files);
         }
+    }
+
+    /// The files that are put from now on get this date and time of creation.
+    pub fn set_time(&mut self, stamp: Stamp)
+        ensures { self.new ≡ at_time self.old stamp }
+    {
+        self.stamp = stamp;
     }
 
     /// Puts one; gives what is to be remarked, if anything.

@@ -92,7 +92,7 @@ impl<R: Files<File = File> + Clock + AllocGlobal + Clone + Drop> Folder for Repl
     fn rename(&mut self, file: &mut HiddenFile, name: &str) -> Result<(), SaveFault> {
         self.locked.leave(self.rt, self.backup, self.kept)?;
         let mode = Some(self.old.mode() & MODE_BITS);
-        match file.take_name(self.rt, name, mode, true) {
+        match file.take_name(self.rt, name, mode, None, true) {
             Ok(()) => Ok(()),
             Err(fault) => Err(SaveFault::Rename(fault)),
         }

@@ -82,7 +82,7 @@ impl<R: Files<File = File> + AllocGlobal> Folder for Creating<'_, R> {
     }
 
     fn rename(&mut self, file: &mut HiddenFile, name: &str) -> Result<(), SaveFault> {
-        match file.take_name(self.rt, name, self.mode, false) {
+        match file.take_name(self.rt, name, self.mode, None, false) {
             Ok(()) => {
                 self.is_left = !file.take_away(self.rt);
                 Ok(())

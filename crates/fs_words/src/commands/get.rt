@@ -12,12 +12,16 @@ use std::alloc::Global;
 
 /// How `get` is written.
 pub(crate) const ROW: Row<'static> = Row {
-    usage: "f11fs IMAGE get [OPTIONS] [-t|-b|--raw] [-r|--deleted [--partial]] PATH.. [TARGET]",
+    usage: "f11fs IMAGE get [OPTIONS] [-t|-b|--raw] [-p] [-r|--deleted [--partial]] PATH.. [TARGET]",
     about: "Copy files to the host",
     arguments: &[
         TEXT,
         BINARY,
         RAW,
+        Argument::Flag(
+            "-p",
+            "Give each host file the creation date of its file as its modification time, in the local time zone",
+        ),
         Argument::Flag(
             "-r",
             "Copy the files in the one directory PATH and below it, into folders with the names of the directories",
@@ -62,5 +66,6 @@ pub(crate) fn action<'a>(
         below,
         deleted,
         partial,
+        dated: own.get_flag("-p"),
     })
 }

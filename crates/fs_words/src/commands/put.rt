@@ -23,7 +23,7 @@ SIZE is the record size, at most 32767";
 
 /// How `put` is written.
 pub(crate) const ROW: Row<'static> = Row {
-    usage: "f11fs IMAGE put [OPTIONS] [-t|-b] [--form FORM | --like PATH] [--contiguous] [--replace] [--owner OWNER] [-r [--skip]] HOST.. [PATH]",
+    usage: "f11fs IMAGE put [OPTIONS] [-t|-b] [--form FORM | --like PATH] [--contiguous] [--replace] [--owner OWNER] [-p] [-r [--skip]] HOST.. [PATH]",
     about: "Copy host files (- is standard input) into the volume. A file is stored as text records if that is lossless, otherwise as bytes",
     arguments: &[
         Argument::Flag("-t", "Store each line as a record"),
@@ -47,6 +47,10 @@ pub(crate) const ROW: Row<'static> = Row {
             "--owner",
             "OWNER",
             "Create the new files as this owner. The user of -u enters them in the directory",
+        ),
+        Argument::Flag(
+            "-p",
+            "Give each new file the modification time of its host file, in the local time zone. --stamp says another time",
         ),
         Argument::Flag(
             "-r",
@@ -96,6 +100,7 @@ pub(crate) fn action<'a>(alloc: Global, own: &ArgMatches<'a>) -> Result<Action<'
         owner,
         below,
         skip,
+        dated: own.get_flag("-p"),
     })))
 }
 

@@ -1,4 +1,4 @@
-use Rattle.std.proofs.Common.{refl, subst, sym}
+use Rattle.std.proofs.Common.{is_some, refl, subst, sym}
 use Rattle.std.proofs.lemmas.List.{drop_all}
 use Rattle.f11fs.specs.TreePut.{AreEntriesPut, IsEntryPut}
 use Rattle.f11fs.proofs.TreeLists.{entries_on}
@@ -9,10 +9,10 @@ loop-entry-init g c = λ new rest. rest
 
 pub loop-entry-preserved : goal.loop-entry-preserved
 loop-entry-preserved g c =
-    entries_on c.args.how.now c.args.dir c.args.entries.now c.loop-entry.entry-index c.entry-item.result c.loop-entry.filing c.put_entry.new.filing (λ new. AreEntriesPut c.args.how.now c.args.dir c.args.entries.now c.args.filing.now new)
-    c.loop-entry-test.true c.loop-entry.invariant (subst (λ e. IsEntryPut c.args.how.now c.args.dir e c.loop-entry.filing c.put_entry.new.filing) c.entry-item.is c.in_ok-put_entry.ensures.done)
+    entries_on (is_some c.args.zone.now) c.args.how.now c.args.dir c.args.entries.now c.loop-entry.entry-index c.entry-item.result c.loop-entry.filing c.put_entry.new.filing (λ new. AreEntriesPut (is_some c.args.zone.now) c.args.how.now c.args.dir c.args.entries.now c.args.filing.now new)
+    c.loop-entry-test.true c.loop-entry.invariant (subst (λ e. IsEntryPut (is_some c.args.zone.now) c.args.how.now c.args.dir e c.loop-entry.filing c.put_entry.new.filing) c.entry-item.is c.in_ok-put_entry.ensures.done)
 
 pub returns-clause-done : goal.returns-clause-done
 returns-clause-done g c =
     c.loop-entry.invariant c.loop-entry.filing
-    (subst (λ l. AreEntriesPut c.args.how.now c.args.dir l c.loop-entry.filing c.loop-entry.filing) (sym (drop_all c.loop-entry.entry-index _ c.loop-entry-test.false)) refl)
+    (subst (λ l. AreEntriesPut (is_some c.args.zone.now) c.args.how.now c.args.dir l c.loop-entry.filing c.loop-entry.filing) (sym (drop_all c.loop-entry.entry-index _ c.loop-entry-test.false)) refl)

@@ -1,5 +1,5 @@
 use Rattle.std.proofs.Common.{◌∙◌, sym, ap, subst}
-use Rattle.std.specs.Prelude.{is_some}
+use Rattle.std.specs.Prelude.{is_some, not}
 use Rattle.ods_untar.specs.Wanted.{AsksFor}
 use Rattle.f11fs.specs.Unpacked.{directory_among}
 use Rattle.f11fs.proofs.Unpacking.{all_untarred}
@@ -7,5 +7,5 @@ use Rattle.f11fs.proofs.untarring.untar.Goals as goal
 
 pub returns-clause-done : goal.returns-clause-done
 returns-clause-done g c =
-    all_untarred (is_some c.args.words.now.stamp) (is_some c.zone_for.result) c.args.words.now.paths.items c.directory_among-directory.result c.args.stamp _ _ c.args.filing.now c.make_ready.new.filing c.put_all.new.filing c.put_all.result
-    c.zone_for.ensures (c.directory_among-directory.ensures ∙ ap directory_among c.as_slice-2.ensures.value) (subst (AsksFor _) (sym c.as_slice-files.ensures.value) c.in-Ok-members_in.ensures.ok) c.make_ready.ensures c.put_all.ensures.done
+    all_untarred (is_some c.args.words.now.stamp) (is_some c.read_where.result) c.args.words.now.paths.items c.directory_among-directory.result c.args.stamp _ _ c.args.filing.now c.make_ready.new.filing c.put_all.new.filing c.put_all.result
+    (c.is_none.ensures ∙ ap not (sym c.read_where.ensures)) (c.directory_among-directory.ensures ∙ ap directory_among c.as_slice-2.ensures.value) (subst (AsksFor _) (sym c.as_slice-files.ensures.value) c.in-Ok-members_in.ensures.ok) c.make_ready.ensures c.put_all.ensures.done

@@ -1,6 +1,6 @@
 use Rattle.std.proofs.Common.{refl, subst, length, inl, inr}
 use Rattle.std.proofs.lemmas.Result.{IfErr-weaker, err_from_is_err_and}
-use Rattle.ods_upkeep.specs.CopiedFrom.{MayHaveGrown}
+use Rattle.ods_upkeep.specs.Ready.{MayHaveGrown}
 use Rattle.ods_upkeep.specs.Uncopied.{IsFirstUncopyable, MayAllBeCopied}
 use Rattle.ods_upkeep.specs.UncopiedFrom.{AreNotCopiedOver, StopsCopyingOver}
 use Rattle.ods_upkeep.proofs.Lists.{if_done}
