@@ -16,3 +16,4 @@ mod Undeleting
 mod Patterns
 mod InArchive
 pub mod PassedOver
+mod Archiving

@@ -21,3 +21,4 @@ pub mod Trees
 pub mod TreesGot
 pub mod Told
 pub mod Tars
+pub mod Archives

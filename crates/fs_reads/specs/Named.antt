@@ -1,5 +1,5 @@
 -- What the paths of a command name.
-use Rattle.std.specs.Prelude.{◌≡◌, ◌≢◌, ◌⊎◌, ◌==◌, ◌&&◌, ◌||◌, ℕ, Bool, true, not, is_some, List, [], ◌++◌, Option, Some}
+use Rattle.std.specs.Prelude.{◌≡◌, ◌≢◌, ◌⊎◌, ◌==◌, ◌&&◌, ◌||◌, ℕ, Bool, true, not, is_some, List, [], ◌++◌, Option}
 use Rattle.std.specs.List.{list_any}
 use Rattle.ods_base.specs.declared.file_id.Uic.{Uic}
 use Rattle.ods_paths.specs.Paths.{Files, Folder, Said, Says, Within}
