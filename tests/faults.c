@@ -2,7 +2,9 @@
    instead, where it is to move several. With SAVES set, calls that sync, lock, seek, cut, name and own files, and say what they are, are counted too.
    With TURN set, only writes to files that the program opened are counted, and the first byte of that one is another. With MEDDLE set to a path,
    only calls of fsync are counted, and before that one another program appends a byte to the file of this path.
-   What is asked of /proc is not counted, since it changes from run to run. It writes which call it was to the file FAILED. For LD_PRELOAD: see tests/faults and tests/fs_faults. */
+   With FULL set no call is counted: so many bytes are written to files that the program opened, and then the disk is full.
+   What is asked of /proc is not counted, since it changes from run to run. It writes which call it was to the file FAILED. For LD_PRELOAD: see tests/faults,
+   tests/fs_faults and tests/trees. */
 #define _GNU_SOURCE
 #include <dlfcn.h>
 #include <errno.h>
@@ -16,11 +18,12 @@
 #include <sys/syscall.h>
 #include <unistd.h>
 
-static long left;
+static long left, room;
 
 __attribute__((constructor)) static void begin(void) {
-    const char *number = getenv("FAIL");
+    const char *number = getenv("FAIL"), *bytes = getenv("FULL");
     left = number ? atol(number) : 0;
+    room = bytes ? atol(bytes) : 0;
 }
 
 /* Whether this call is the one, which is noted then. */
@@ -69,9 +72,23 @@ static ssize_t moved(long call, const char *what, int file, const void *bytes, s
     return syscall(call, file, bytes, count);
 }
 
+/* Writes as many of these bytes as the disk has room for. */
+static ssize_t filled(int file, const void *bytes, size_t count) {
+    ssize_t done;
+    if (count > 0 && room <= 0) {
+        errno = ENOSPC;
+        return -1;
+    }
+    done = syscall(SYS_write, file, bytes, (long)count < room ? (long)count : room);
+    if (done > 0) room -= done;
+    return done;
+}
+
 ssize_t read(int file, void *bytes, size_t count) { return moved(SYS_read, "read", file, bytes, count); }
 
-ssize_t write(int file, const void *bytes, size_t count) { return moved(SYS_write, "write", file, bytes, count); }
+ssize_t write(int file, const void *bytes, size_t count) {
+    return getenv("FULL") && file > 2 ? filled(file, bytes, count) : moved(SYS_write, "write", file, bytes, count);
+}
 
 ssize_t __write(int file, const void *bytes, size_t count) { return write(file, bytes, count); }
 
