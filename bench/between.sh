@@ -61,7 +61,7 @@ fat_out() {
 "$f11fs" new init "$blocks" --files $((COUNT + 1000))
 "$f11fs" new mkdir --names "$COUNT" DATA
 cp new full
-"$f11fs" full put files/*.dat '[DATA]'
+"$f11fs" -q full put files/*.dat '[DATA]'
 copied=$(least new between)
 plain=$(least new cats)
 got=$(least new out)
