@@ -4,7 +4,7 @@
 A script of f11 has at most 1,048,576 bytes, so names are short. What debugfs does stands in its own words for the same:
 a file made and taken away, a file that grows, a block written and read, a name made, looked up and taken away.
 
-usage: make_load.py KIND COUNT [--debugfs SOURCE]     KIND: creates mixed extends blocks names views fills spread
+usage: make_load.py KIND COUNT [--debugfs SOURCE]     KIND: creates mixed extends blocks reads names views fills spread
 SOURCE is the file that debugfs copies from.
 """
 
@@ -44,6 +44,10 @@ def blocks(count: int) -> list[str]:
         return [f"WRITE $ {vbn} 4142", f"READ $ {vbn}"]
 
     return rounds(count, [f"CREATE X.DAT {FILE_BLOCKS}"], body)
+
+
+def reads(count: int) -> list[str]:
+    return rounds(count, [f"CREATE X.DAT {FILE_BLOCKS}"], lambda number: [f"READ $ {1 + 37 * number % FILE_BLOCKS}"])
 
 
 def names(count: int) -> list[str]:
@@ -100,6 +104,7 @@ KINDS = {
     "mixed": (mixed, debugfs_mixed),
     "extends": (extends, debugfs_extends),
     "blocks": (blocks, debugfs_blocks),
+    "reads": (reads, None),
     "names": (names, debugfs_names),
     "views": (views, None),
     "fills": (fills, None),

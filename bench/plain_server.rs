@@ -1,6 +1,6 @@
-//! The measure for scripts: serves the loads of make_load.py as `f11` does, in plain Rust, with requests and answers that hold a block in
-//! place, and prints the same. A session in a thread of its own asks a desk under a lock. The desk has the list of accepted requests, the image as it
-//! was mounted and as it is, and two versions for readers, of which one is shown; at the end the list is compared with the sessions' calls.
+//! The measure for scripts: serves the loads of make_load.py as `f11` does, in plain Rust, and prints the same. A session in a thread of its own asks a
+//! desk under a lock. The desk has the list of accepted requests, the image as it was mounted and as it is, and where a script has a VIEW two versions
+//! for readers, of which one is shown. At the end the list is compared with the sessions' calls. Blocks of requests and answers are shared.
 //! It checks of an image and of a line what these loads need, and knows no headers past 16 and no chains of several headers.
 //!
 //! usage: plain_server IMAGE SCRIPT..
@@ -44,7 +44,7 @@ impl Name {
 #[derive(Clone, Copy, PartialEq, Eq)]
 struct Stamp([u8; 13]);
 
-#[derive(Clone, Copy, PartialEq, Eq)]
+#[derive(Clone, PartialEq, Eq)]
 #[allow(dead_code)]
 enum Request {
     Create {
@@ -81,7 +81,7 @@ enum Request {
     Write {
         file: FileId,
         vbn: u32,
-        block: Block,
+        block: Arc<Block>,
     },
 }
 
@@ -94,7 +94,7 @@ enum Answer {
     Entered(u16),
     Found(FileId, u16),
     Removed(FileId, u16),
-    Bytes(Block),
+    Bytes(Arc<Block>),
     Names(Vec<(Name, u16, FileId)>),
 }
 
@@ -156,7 +156,7 @@ enum Action {
     LookUp { dir: Id, name: Name },
     Remove { dir: Id, name: Name },
     Read { file: Id, vbn: u32 },
-    Write { file: Id, vbn: u32, block: Box<Block> },
+    Write { file: Id, vbn: u32, block: Arc<Block> },
     View { file: Id, vbn: u32 },
     Bad,
 }
@@ -196,7 +196,7 @@ fn request_of(action: &Action, last: Option<FileId>) -> Option<Request> {
         Action::Write { file, vbn, block } => Request::Write {
             file: file.means(last)?,
             vbn: *vbn,
-            block: **block,
+            block: block.clone(),
         },
         Action::View { .. } | Action::Bad => return None,
     })
@@ -382,7 +382,7 @@ fn block_of(header: &Block, vbn: u32) -> Option<usize> {
 fn read(image: &[Block], layout: &Layout, who: Uic, file: FileId, vbn: u32) -> Result<Answer, Refusal> {
     let (_, header) = open(image, layout, who, file, Right::Read, Some(false))?;
     let lbn = block_of(header, vbn).ok_or(Refusal::NoSuchBlock)?;
-    Ok(Answer::Bytes(image[lbn]))
+    Ok(Answer::Bytes(Arc::new(image[lbn])))
 }
 
 /// Where the names of a directory end, in bytes.
@@ -419,7 +419,7 @@ fn put_pointers(header: &mut Block, taken: &[usize]) {
 struct Prepared {
     entry: Entry,
     draft: Draft,
-    counts: Option<Vec<u32>>,
+    counts: Vec<(usize, u32)>,
 }
 
 struct Volume {
@@ -659,7 +659,7 @@ impl Volume {
         Ok(Answer::Found(file, version))
     }
 
-    fn prepare(&self, session: u16, nth: u32, who: Uic, request: Request) -> Result<Prepared, Refusal> {
+    fn prepare(&self, session: u16, nth: u32, who: Uic, request: &Request) -> Result<Prepared, Refusal> {
         if self.entries.len() == self.limit {
             return Err(Refusal::ListFull);
         }
@@ -669,19 +669,22 @@ impl Volume {
                 version,
                 blocks,
                 stamp,
-            } => self.create(who, name, version, blocks, stamp)?,
-            Request::Extend { file, blocks } => self.extend(who, file, blocks)?,
-            Request::Delete { file } => self.delete(who, file)?,
-            Request::Enter { dir, name, version, file } => self.enter(who, dir, &name, version, file)?,
-            Request::LookUp { dir, name } => (self.look_up(who, dir, &name)?, Draft(Vec::new())),
-            Request::Remove { dir, name } => self.remove(who, dir, &name)?,
-            Request::Read { file, vbn } => (read(&self.image, &self.layout, who, file, vbn)?, Draft(Vec::new())),
-            Request::Write { file, vbn, block } => self.write(who, file, vbn, &block)?,
+            } => self.create(who, *name, *version, *blocks, *stamp)?,
+            Request::Extend { file, blocks } => self.extend(who, *file, *blocks)?,
+            Request::Delete { file } => self.delete(who, *file)?,
+            Request::Enter { dir, name, version, file } => self.enter(who, *dir, name, *version, *file)?,
+            Request::LookUp { dir, name } => (self.look_up(who, *dir, name)?, Draft(Vec::new())),
+            Request::Remove { dir, name } => self.remove(who, *dir, name)?,
+            Request::Read { file, vbn } => (read(&self.image, &self.layout, who, *file, *vbn)?, Draft(Vec::new())),
+            Request::Write { file, vbn, block } => self.write(who, *file, *vbn, block)?,
         };
-        let mut counts = None;
+        let mut counts = Vec::new();
+        let map = &self.layout.bitmap;
         for (lbn, block) in &draft.0 {
-            if let Some(k) = self.layout.bitmap.iter().position(|at| at == lbn) {
-                counts.get_or_insert_with(|| self.counts.clone())[k] = count_set(block);
+            // The bitmap is contiguous in these volumes.
+            let k = lbn.wrapping_sub(map[0]);
+            if map.get(k) == Some(lbn) {
+                counts.push((k, count_set(block)));
             }
         }
         Ok(Prepared {
@@ -689,7 +692,7 @@ impl Volume {
                 session,
                 nth,
                 who,
-                request,
+                request: request.clone(),
                 answer,
             },
             draft,
@@ -701,8 +704,8 @@ impl Volume {
         let answer = prepared.entry.answer.clone();
         self.entries.push(prepared.entry);
         prepared.draft.apply(&mut self.image);
-        if let Some(counts) = prepared.counts {
-            self.counts = counts;
+        for (k, count) in prepared.counts {
+            self.counts[k] = count;
         }
         answer
     }
@@ -721,21 +724,24 @@ struct Shown {
 
 struct Desk {
     volume: Volume,
-    shown: Arc<Shown>,
+    shown: Option<Arc<Shown>>,
 }
 
 impl Desk {
-    fn submit(&mut self, session: u16, nth: u32, who: Uic, request: Request) -> Result<Answer, Refusal> {
+    fn submit(&mut self, session: u16, nth: u32, who: Uic, request: &Request) -> Result<Answer, Refusal> {
         let prepared = self.volume.prepare(session, nth, who, request)?;
+        let Some(shown) = &self.shown else {
+            return Ok(self.volume.apply(prepared));
+        };
         let draft = prepared.draft.clone();
         let answer = self.volume.apply(prepared);
         let count = self.volume.entries.len();
-        let old = self.shown.shown.load(Ordering::Acquire);
+        let old = shown.shown.load(Ordering::Acquire);
         for which in [1 - old, old] {
-            let mut copy = self.shown.copies[which].write().unwrap();
+            let mut copy = shown.copies[which].write().unwrap();
             draft.apply(&mut copy.image);
             copy.count = count;
-            self.shown.shown.store(1 - old, Ordering::Release);
+            shown.shown.store(1 - old, Ordering::Release);
         }
         Ok(answer)
     }
@@ -801,12 +807,12 @@ fn parse_id(text: &str) -> Option<Id> {
     }))
 }
 
-fn parse_block(text: &str) -> Option<Box<Block>> {
-    let mut block = Box::new(Block([0; 512]));
+fn parse_block(text: &str) -> Option<Arc<Block>> {
+    let mut block = Block([0; 512]);
     for (k, pair) in text.as_bytes().chunks(2).enumerate() {
         block.0[k] = u8::from_str_radix(std::str::from_utf8(pair).ok()?, 16).ok()?;
     }
-    Some(block)
+    Some(Arc::new(block))
 }
 
 fn parse_line(line: &str) -> Option<Action> {
@@ -865,7 +871,7 @@ fn parse_line(line: &str) -> Option<Action> {
 }
 
 /// One script, command by command.
-fn sit(desk: &Mutex<Desk>, shown: &Shown, layout: &Layout, session: u16, script: &[Command]) -> (Vec<Call>, Vec<Reply>) {
+fn sit(desk: &Mutex<Desk>, shown: Option<&Shown>, layout: &Layout, session: u16, script: &[Command]) -> (Vec<Call>, Vec<Reply>) {
     let mut calls = Vec::with_capacity(script.len());
     let mut replies = Vec::with_capacity(script.len());
     let who = Uic { group: 1, member: 1 };
@@ -873,7 +879,7 @@ fn sit(desk: &Mutex<Desk>, shown: &Shown, layout: &Layout, session: u16, script:
     for command in script {
         if let Action::View { file, vbn } = &command.action {
             replies.push(match file.means(last) {
-                Some(file) => match shown.view(who, layout, file, *vbn) {
+                Some(file) => match shown.unwrap().view(who, layout, file, *vbn) {
                     Ok(answer) => Reply::Got(answer),
                     Err(refusal) => Reply::No(refusal),
                 },
@@ -885,7 +891,7 @@ fn sit(desk: &Mutex<Desk>, shown: &Shown, layout: &Layout, session: u16, script:
             replies.push(Reply::Bad);
             continue;
         };
-        let result = desk.lock().unwrap().submit(session, command.nth, who, request);
+        let result = desk.lock().unwrap().submit(session, command.nth, who, &request);
         match result {
             Ok(answer) => {
                 match &answer {
@@ -995,9 +1001,12 @@ fn main() {
             count: 0,
         })
     };
-    let shown = Arc::new(Shown {
-        copies: [copy(), copy()],
-        shown: AtomicUsize::new(0),
+    let looks = scripts.iter().flatten().any(|command| matches!(command.action, Action::View { .. }));
+    let shown = looks.then(|| {
+        Arc::new(Shown {
+            copies: [copy(), copy()],
+            shown: AtomicUsize::new(0),
+        })
     });
     let layout = volume.layout.clone();
     let desk = Mutex::new(Desk {
@@ -1009,7 +1018,7 @@ fn main() {
             .iter()
             .enumerate()
             .map(|(k, script)| {
-                let (desk, shown, layout) = (&desk, &shown, &layout);
+                let (desk, shown, layout) = (&desk, shown.as_deref(), &layout);
                 scope.spawn(move || {
                     let (calls, replies) = sit(desk, shown, layout, k as u16 + 1, script);
                     (calls, printed(script, &replies))
