@@ -84,7 +84,7 @@ def folders_of(pick: random.Random) -> list[tuple[str, ...]]:
 
 def host_name(name: str, version: int | None = None) -> str:
     """The name that `get` gives a file of this name and type, and of this version where there are several."""
-    return name.lower().removesuffix(".") + (f".{version}" if version else "")
+    return f"{name.lower()}.{version}" if version else name.lower().removesuffix(".")
 
 
 @dataclasses.dataclass
@@ -178,18 +178,18 @@ class Tree:
         return found
 
 
-def tree_of(pick: random.Random, typed: bool = False) -> Tree:
-    """A random tree for a volume. Where it is `typed` a file without a type has one version alone: on a host a version stands where its type would."""
+def tree_of(pick: random.Random) -> Tree:
+    """A random tree for a volume."""
     folders = folders_of(pick)
     stamps = [stamp_of(pick) for _ in range(3)]
     files: list[Planned] = []
-    # Names that the host has: of a directory, and of a file without a type, that of a version is as one of a type.
+    # Names that the host has.
     taken = {(folder[:-1], folder[-1].lower()) for folder in folders[1:]}
     for _ in range(pick.choice((1, 5, 12, 25))):
         folder, name = pick.choice(folders), name_of(pick)
         versions = pick.choice(((1,), (1,), (1,), (7,), (32767,), (1, 2), (3, 9, 32767)))
         names = {(folder, host_name(name, version if len(versions) > 1 else None)) for version in versions} | {(folder, host_name(name))}
-        if names & taken or typed and name.endswith(".") and len(versions) > 1:
+        if names & taken:
             continue
         taken |= names
         for version in versions:

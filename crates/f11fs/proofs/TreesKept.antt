@@ -13,8 +13,8 @@ use Rattle.fs_host.specs.declared.host_tree.TreeEntry.{TreeEntry}
 use Rattle.ods_upkeep.specs.TreeNames.{SaysPlace}
 use Rattle.ods_upkeep.specs.declared.failure.Why.{Why}
 use Rattle.f11fs.specs.TreeFaults.{AreKept, IsFault, IsHostPath, IsKept, IsLeft, IsUnplaced, IsWithoutSlashes}
-use Rattle.f11fs.specs.declared.putting_tree.TreeFault.{TreeFault}
-use Rattle.f11fs.specs.declared.putting_tree.TreeFault.TheVariants as fault_kind
+use Rattle.f11fs.specs.declared.judging_tree.TreeFault.{TreeFault}
+use Rattle.f11fs.specs.declared.judging_tree.TreeFault.TheVariants as fault_kind
 
 -- one more that is kept, or left out
 pub kept_more : (listed kept : List TreeEntry) (entry : TreeEntry) → IsKept entry → AreKept listed kept → AreKept (listed ++ entry ∷ []) (kept ++ entry ∷ [])

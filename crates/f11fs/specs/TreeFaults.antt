@@ -16,8 +16,8 @@ use Rattle.ods_upkeep.specs.Refused.{no_memory}
 use Rattle.ods_upkeep.specs.TreeNames.{SaysNoPlace, SaysPlace}
 use Rattle.ods_upkeep.specs.declared.failure.Why.{Why}
 use Rattle.f11fs.specs.TreePut.{IsPlaced}
-use Rattle.f11fs.specs.declared.putting_tree.TreeFault.{TreeFault}
-use Rattle.f11fs.specs.declared.putting_tree.TreeFault.TheVariants.{Name, Folder, Other, OwnTree, Unread}
+use Rattle.f11fs.specs.declared.judging_tree.TreeFault.{TreeFault}
+use Rattle.f11fs.specs.declared.judging_tree.TreeFault.TheVariants.{Name, Folder, Other, OwnTree, Unread}
 
 -- a command that is refused for this fault has that exit status
 abbrev pub HasTreeStatus : TreeFault → Status → Type 0

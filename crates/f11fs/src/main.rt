@@ -13,6 +13,7 @@ mod copying_from;
 mod dating;
 mod early;
 mod host;
+mod judging_tree;
 mod laws;
 mod lines;
 mod looking;

@@ -1,7 +1,7 @@
 //! What `repair` makes of the blocks of an image: each kind that is asked for, one after another, with a line for each thing that is done.
-ghost use Rattle.std.specs.Prelude.{◌≡◌, ◌≢◌, ◌⊎◌, ◌++◌, ◌∷◌, [], ℕ, IfOk, IfSome, MatchBool, MatchOption, OnOk, true};
+ghost use Rattle.std.specs.Prelude.{◌≡◌, ◌≢◌, ◌⊎◌, ◌++◌, ◌∷◌, [], ℕ, IfOk, IfSome, MatchOption, OnOk, true};
 ghost use Rattle.std.specs.List.{All, Contains};
-ghost use Rattle.ods_mount.specs.declared.fault.MountFault.TheVariants.{DuplicateName, NoMemory};
+ghost use Rattle.ods_mount.specs.declared.fault.MountFault.TheVariants.{DuplicateName};
 ghost use Rattle.ods_check.specs.declared.fault_line.FaultLine.TheVariants.{Plain};
 ghost use Rattle.ods_space.specs.Files.{IsLayoutOf};
 ghost use Rattle.ods_repair.specs.{Doubled.HasRenumbered, Wholly.AreRenumberedIn, Wholly.IsAllUsed};
@@ -250,20 +250,13 @@ fn mend_mounted<'a>(
     match mount(alloc, image) {
         Ok(volume) => mend_volume(alloc, volume, wishes, report),
         Err((image, fault)) => {
-            if is_memory(&fault) {
+            if fault.is_memory() {
                 return Err(Stop::NoMemory);
             }
             report.tell_refused(alloc, &fault)?;
             Ok(image)
         }
     }
-}
-
-/// Whether the fault is that memory was refused.
-fn is_memory(fault: &MountFault) -> bool
-    ensures { MatchBool result (fault.now ≡ NoMemory) (fault.now ≢ NoMemory) }
-{
-    matches!(fault, MountFault::NoMemory)
 }
 
 /// The blocks of a volume with the repairs made.

@@ -80,8 +80,8 @@ impl HiddenFile {
         has_bytes(&mut self.file, image, behind, false)
     }
 
-    /// Gives the file this mode, this time of its last change in seconds since 1970, each where one is said, and this name. With `replaces` a file that
-    /// has the name by then goes, and else it stays; then the new file has the hidden name too.
+    /// Gives the file this mode, this time of its last change and this name. The time is in seconds since 1970. A mode or a time that is not said stays.
+    /// With `replaces` a file that has the name by then goes. Without it that file stays, and the new one keeps its hidden name.
     #[tactic(auto, using(crate::proofs::MayEnd::error_ends_naming, crate::proofs::MayEnd::changed_ends_naming, crate::proofs::MayEnd::reasons_end_naming))]
     pub fn take_name<R: Files<File = File>>(
         &mut self,

@@ -50,8 +50,9 @@ impl NewFile {
         &mut self.made.file
     }
 
-    /// Gives the file its mode, this time of its last change where one is said, in seconds since 1970, and its name. With `replaces` a file that has the name by then goes, and else it stays, and the new file
-    /// is gone. After any failure the new file is gone, but after `Left`: then it has its name, and the hidden one too.
+    /// Gives the file its mode, the time of its last change and its name. The time is in seconds since 1970; where none is said, the host's stays.
+    /// With `replaces` a file that has the name by then goes. Without it that file stays, and the new one is gone.
+    /// After any other failure too the new file is gone. After `Left` it has its name, and the hidden one beside it.
     #[tactic(auto, using(crate::proofs::MayEnd::naming_ends_finish))]
     pub fn finish<R: Files<File = File>>(
         mut self,

@@ -1,10 +1,10 @@
 -- Counts of free blocks and of clear index bits, from the bits of a block to the whole bitmap.
-use Rattle.std.proofs.Common.{◌≡◌, ℕ, zero, suc, ◌+◌, ◌-◌, ◌*◌, ◌/◌, ◌%◌, ◌^◌, ◌<◌, ◌≤◌, Bool, true, false, cond, not, ◌&&◌, nat_eq, nat_lt, nat_le, List, [], ◌∷◌, map, length, None, refl, sym, ap, ◌∙◌, arith, inl, inr}
-use Rattle.std.specs.Prelude.{count_ones, unwrap_or, slice_index}
+use Rattle.std.proofs.Common.{◌≡◌, ℕ, zero, suc, ◌+◌, ◌-◌, ◌*◌, ◌/◌, ◌%◌, ◌^◌, ◌<◌, ◌≤◌, Bool, true, false, cond, not, ◌&&◌, nat_eq, nat_lt, nat_le, List, [], ◌∷◌, map, length, take, drop, get_or, None, refl, sym, ap, ◌∙◌, arith, inl, inr}
+use Rattle.std.specs.Prelude.{count_ones, unwrap_or, slice_index, slice_range}
 use Rattle.std.specs.Int.{bit_at}
 use Rattle.std.specs.List.{filter, range_with_len, sum}
 use Rattle.std.proofs.lemmas.Bool.{and_left, and_right, cases_lt, cases_eq, lt-ltb, le-ltb, le-leb}
-use Rattle.std.proofs.lemmas.List.{get_or_past}
+use Rattle.std.proofs.lemmas.List.{get_or-drop, get_or-take, get_or_past}
 use Rattle.std.proofs.lemmas.List.Filters.{length-filter_both}
 use Rattle.std.proofs.lemmas.List.FromFn.{length-range_with_len, length-map-range_with_len, get_or-map-range_with_len, sum_by-map-range_with_len_more}
 use Rattle.std.proofs.lemmas.Nat.Bits.{bit_at-zero}
@@ -18,7 +18,7 @@ use Rattle.ods_space.specs.Free.{is_free_block, free_blocks}
 use Rattle.ods_space.specs.Draft.{Changes, change_at, applied}
 use Rattle.ods_space.proofs.Drafts.{length-applied, block_at-applied}
 use Rattle.ods_alloc.specs.Scan.{NonePasses, NoneIsNext, is_clear}
-use Rattle.ods_alloc.specs.Counts.{free_in, free_counts, clear_in, clear_counts, is_low_bit, low_bits_set, bitmap_lbn, index_lbn, ShowsNone}
+use Rattle.ods_alloc.specs.Counts.{IsCountedTo, free_in, free_counts, clear_in, clear_counts, is_low_bit, low_bits_set, bitmap_lbn, index_lbn, ShowsNone}
 use Rattle.ods_alloc.proofs.WordBits.{ones_is}
 use Rattle.ods_alloc.proofs.Scans.{filter_few, count_cut, count_all}
 use Rattle.ods_alloc.proofs.FreeTests.{not_free_past}
@@ -217,3 +217,33 @@ kept_block I d lbn none = elim (cases_lt lbn (length I)) [
   | inl inside ↦ block_at-applied I d lbn inside ∙ ap (λ o. unwrap_or o (block_at I lbn)) none
   | inr past ↦ past_block I d lbn past
 ]
+
+-- where two blocks have the same 64 bytes, each bit of these is the same
+same_bits : (b c : List ℕ) (k i : ℕ) → slice_range b (64 * k) (64 * k + 64) ≡ slice_range c (64 * k) (64 * k + 64) → i < 512 → has_bit b (512 * k + i) ≡ has_bit c (512 * k + i)
+same_bits b c k i same low =
+    let n : ℕ = 64 * k + 64 - 64 * k in
+    let within : i / 8 < n = omega (arith, low) in
+    let at : 64 * k + i / 8 ≡ (512 * k + i) / 8 = omega arith in
+    let rest : i % 8 ≡ (512 * k + i) % 8 = omega arith in
+    let byte_of : (xs : List ℕ) → get_or (take n (drop (64 * k) xs)) (i / 8) 0 ≡ get_or xs ((512 * k + i) / 8) 0 = λ xs.
+    get_or-take n (drop (64 * k) xs) (i / 8) 0 within ∙ get_or-drop (64 * k) xs (i / 8) 0 ∙ ap (λ n. get_or xs n 0) at in
+    ap (λ n. nat_eq (bit_at n ((512 * k + i) % 8)) 1) (sym (byte_of b) ∙ ap (λ l. get_or l (i / 8) 0) same ∙ byte_of c)
+
+-- so these bits add the same to both counts
+pub same_eighth : (few : ℕ) (b c : List ℕ) (k count : ℕ) → slice_range b (64 * k) (64 * k + 64) ≡ slice_range c (64 * k) (64 * k + 64) → IsCountedTo few b c (8 * k) count → IsCountedTo few b c (8 * (k + 1)) count
+same_eighth few b c k count same before =
+    let p = is_low_bit few b in
+    let q = is_low_bit few c in
+    let more : 64 * (8 * (k + 1)) ≡ 64 * (8 * k) + 512 = omega arith in
+    let start : 512 * k ≡ 64 * (8 * k) = omega arith in
+    let here = count_shift p q (512 * k) (512 * k) 512 (λ i low. ap (λ t. nat_lt (512 * k + i) few && t) (same_bits b c k i same low)) in
+    let cut : (r : ℕ → Bool) → length (filter r (range_with_len 0 (64 * (8 * (k + 1))))) ≡ length (filter r (range_with_len 0 (64 * (8 * k)))) + length (filter r (range_with_len (512 * k) 512)) = λ r.
+    ap (λ n. length (filter r (range_with_len 0 n))) more ∙ count_cut r (64 * (8 * k)) 512 ∙ ap (λ n. length (filter r (range_with_len 0 (64 * (8 * k)))) + length (filter r (range_with_len n 512))) (sym start) in
+    omega (arith, before, here, cut p, cut q)
+
+-- once the words of a block are all passed, its bits are counted
+pub all_words : (few : ℕ) (b c : List ℕ) (j count : ℕ) → j ≡ 64 → IsCountedTo few b c j count → count ≡ low_bits_set few c
+all_words few b c j count all is =
+    let end : 64 * j ≡ 4096 = omega arith in
+    let whole : (x : List ℕ) → length (filter (is_low_bit few x) (range_with_len 0 (64 * j))) ≡ low_bits_set few x = λ x. ap (λ n. length (filter (is_low_bit few x) (range_with_len 0 n))) end in
+    omega (arith, is, whole b, whole c)

@@ -45,6 +45,11 @@ is_low_bit few b i = nat_lt i few && has_bit b i
 abbrev pub low_bits_set : ℕ → List ℕ → ℕ
 low_bits_set few b = length (filter (is_low_bit few b) (range_with_len 0 4096))
 
+-- a count of the bits of c up to word j (64 bits each, from word 0 on), and of those of b from there on
+abbrev pub IsCountedTo : ℕ → List ℕ → List ℕ → ℕ → ℕ → Type 0
+IsCountedTo few b c j count =
+    count + length (filter (is_low_bit few b) (range_with_len 0 (64 * j))) ≡ low_bits_set few b + length (filter (is_low_bit few c) (range_with_len 0 (64 * j)))
+
 -- the LBN of block k of the storage bitmap, the storage control block not counted
 abbrev pub bitmap_lbn : VolumeLayout → ℕ → ℕ
 bitmap_lbn L k = slice_index L.bitmap (1 + k)

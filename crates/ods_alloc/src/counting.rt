@@ -1,9 +1,9 @@
 //! The blocks of the bitmaps counted, one by one: all of them, or those that a draft changes.
-ghost use Rattle.std.specs.Prelude.{◌≡◌, ◌-◌, ◌<◌, ◌≤◌, ◌^◌, ◌*◌, length, IfOk};
+ghost use Rattle.std.specs.Prelude.{◌≡◌, ◌+◌, ◌-◌, ◌<◌, ◌≤◌, ◌^◌, ◌*◌, length, slice_range, true, IfOk};
 ghost use Rattle.std.specs.List.{sum};
 ghost use Rattle.ods_base.specs.Image.{block_at};
 ghost use Rattle.ods_space.specs.Draft.{applied};
-ghost use Rattle.ods_alloc.specs.Counts.{free_counts, clear_counts, low_bits_set};
+ghost use Rattle.ods_alloc.specs.Counts.{IsCountedTo, free_counts, clear_counts, low_bits_set};
 ghost use Rattle.ods_alloc.specs.Bitmaps.{IsNextChanged, IsStretch, counted, counts_in, place_in, size_of};
 ghost use Rattle.ods_space.specs.Disks.{seen};
 
@@ -148,18 +148,42 @@ pub(crate) fn next_changed(disk: &Disk<'_>, draft: &Draft, bitmap: Bitmap, from:
     size
 }
 
-/// How many of the first `few` bits of a new block are set, where so many of the old one are: only words that differ are counted.
-fn bits_after(old: &Block, new: &Block, few: u32, count: u32) -> u32
-    requires { count ≡ low_bits_set few old.now }
-    ensures { result ≡ low_bits_set few new.now }
+/// Whether two blocks have the same 64 bytes from byte `64 * k` on.
+fn have_same_eighth(one: &Block, other: &Block, k: u32) -> bool
+    requires { k < 8 }
+    ensures { result ≡ true → slice_range one.now (64 * k) (64 * k + 64) ≡ slice_range other.now (64 * k) (64 * k + 64) }
+{
+    let at = 64 * k as usize;
+    one.bytes()[at..at + 64] == other.bytes()[at..at + 64]
+}
+
+/// The count of an old block's bits taken on to a new one for eight words more, from word `first` on: only words that differ are counted.
+fn words_after(old: &Block, new: &Block, few: u32, first: u32, count: u32) -> u32
+    requires first { first ≤ 56 }
+    requires count { IsCountedTo few old.now new.now first count }
+    ensures { IsCountedTo few old.now new.now (first + 8) result }
 {
     let mut count = count;
-    for j in 0..64 {
+    for j in first..first + 8 {
         let (was, is) = (bit_word(old, j), bit_word(new, j));
         if was != is {
             let left = few.saturating_sub(64 * j);
             count += low_bits(is, left).count_ones();
             count -= low_bits(was, left).count_ones();
+        }
+    }
+    count
+}
+
+/// How many of the first `few` bits of a new block are set, where so many of the old one are. Eighths that are the same are passed over.
+fn bits_after(old: &Block, new: &Block, few: u32, count: u32) -> u32
+    requires { count ≡ low_bits_set few old.now }
+    ensures { result ≡ low_bits_set few new.now }
+{
+    let mut count = count;
+    for k in 0..8 {
+        if !have_same_eighth(old, new, k) {
+            count = words_after(old, new, few, 8 * k, count);
         }
     }
     count

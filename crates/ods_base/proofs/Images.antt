@@ -1,9 +1,11 @@
 -- Images, block by block.
-use Rattle.std.proofs.Common.{◌≡◌, ℕ, suc, ◌+◌, ◌*◌, ◌≤◌, List, [], ◌∷◌, ◌++◌, length, take, drop, refl, sym, ap, ◌∙◌, arith, append_assoc, length-append, inl, inr}
+use Rattle.std.proofs.Common.{◌≡◌, ℕ, zero, suc, ◌+◌, ◌*◌, ◌≤◌, List, [], ◌∷◌, ◌++◌, length, take, drop, replicate, refl, sym, ap, ◌∙◌, arith, append_assoc, length-append, inl, inr}
 use Rattle.std.proofs.lemmas.Bool.{cases_lt}
-use Rattle.std.proofs.lemmas.List.{append-nil, get_or_append_left, get_or_push, length_push, take-append-drop, take-take, drop-take}
+use Rattle.std.proofs.lemmas.List.{append-nil, get_or_append_left, get_or_push, length_push, take-append-drop, take-take, take_all, drop-take, drop_all, replicate-append-replicate}
+use Rattle.std.proofs.Math.Seq.{drop-append-add, take-append-add}
+use Rattle.std.proofs.lemmas.List.Folds.{concat-append}
 use Rattle.std.specs.List.{All, concat}
-use Rattle.ods_base.specs.Block.{IsBlock}
+use Rattle.ods_base.specs.Block.{IsBlock, zeros}
 
 -- the first i blocks of the bytes stand behind the old blocks
 pub record AreStored (old blocks : List (List ℕ)) (i : ℕ) (bytes : List ℕ) : Type 0 where
@@ -52,3 +54,33 @@ length-concat (b ∷ bs) each =
     let size = (each 0 [] (omega arith)).size in
     let rest = length-concat bs (all_tail b bs each) in
     length-append b (concat bs) ∙ omega arith
+
+-- the bytes of the first blocks
+pub concat_first : (bs : List (List ℕ)) (c : ℕ) → All IsBlock bs → concat (take c bs) ≡ take (512 * c) (concat bs)
+concat_first bs zero each = refl
+concat_first [] (suc c) each = sym (take_all (512 * suc c) [] (omega arith))
+concat_first (b ∷ bs) (suc c) each =
+    let size = (each 0 [] (omega arith)).size in
+    let more : length b + 512 * c ≡ 512 * suc c = omega arith in
+    ap (λ l. b ++ l) (concat_first bs c (all_tail b bs each)) ∙ sym (take-append-add b (concat bs) (512 * c)) ∙ ap (λ n. take n (b ++ concat bs)) more
+
+-- and of those behind them
+pub concat_behind : (bs : List (List ℕ)) (c : ℕ) → All IsBlock bs → concat (drop c bs) ≡ drop (512 * c) (concat bs)
+concat_behind bs zero each = refl
+concat_behind [] (suc c) each = sym (drop_all (512 * suc c) [] (omega arith))
+concat_behind (b ∷ bs) (suc c) each =
+    let size = (each 0 [] (omega arith)).size in
+    let more : length b + 512 * c ≡ 512 * suc c = omega arith in
+    concat_behind bs c (all_tail b bs each) ∙ sym (drop-append-add b (concat bs) (512 * c)) ∙ ap (λ n. drop n (b ++ concat bs)) more
+
+-- blocks of zeros are bytes of zeros
+pub concat_zeros : (n : ℕ) → concat (replicate n zeros) ≡ replicate (512 * n) 0
+unfolding zeros
+concat_zeros zero = refl
+concat_zeros (suc n) =
+    let more : 512 + 512 * n ≡ 512 * suc n = omega arith in
+    ap (λ l. replicate 512 0 ++ l) (concat_zeros n) ∙ replicate-append-replicate 512 (512 * n) 0 ∙ ap (λ k. replicate k 0) more
+
+-- an image with blocks of zeros behind its own
+pub concat_longer : (bs : List (List ℕ)) (n : ℕ) → concat (bs ++ replicate n zeros) ≡ concat bs ++ replicate (512 * n) 0
+concat_longer bs n = concat-append bs (replicate n zeros) ∙ ap (λ l. concat bs ++ l) (concat_zeros n)

@@ -179,7 +179,7 @@ impl Image {
     }
 
     /// The blocks, in a list of their own. After a refusal the image comes back.
-    fn into_blocks(self) -> Result<Vec<Block>, Image>
+    pub(crate) fn into_blocks(self) -> Result<Vec<Block>, Image>
         ensures ok { IfOk result (λ blocks. blocks.items ≡ self) }
         ensures image { IsImage self }
         ensures err { IfErr result (λ image. image ≡ self) }

@@ -15,6 +15,7 @@ mod parse;
 mod print;
 mod read;
 mod refusal;
+mod resize;
 mod seats;
 mod write;
 

@@ -27,6 +27,12 @@ module _ (I : List (List ℕ)) (L : VolumeLayout) (n : ℕ) (end : KnownEnd) (kn
       let k = chain_known others blocks whole.chain in
       (k.0, k.1, is ∙ ap room_of there ∙ ap (λ m. room_of (header_at I L m)) k.2)
 
+  -- the last header of a chain has its parts in place
+  pub chain_laid_out : (others blocks : List ℕ) → IsImage I → IsLayoutOf I L → IsChain I L n others blocks → IsLaidOut (header_at I L end.last)
+  chain_laid_out others blocks image layout chain =
+      let k = chain_known others blocks chain in
+      (valid_in I L (n ∷ others) end.last (chain_seen I L n others blocks image layout chain).valid (subst (Contains (n ∷ others)) (sym k.2) (last_in n others))).header.layout
+
   module _ (image : IsImage I) (layout : IsLayoutOf I L) (whole : (others : List ℕ) × (blocks : List ℕ) × IsWhole I L n others blocks) where
     pub known_few : (end.headers ≤ 256) × (end.blocks ≤ chain_blocks)
     known_few =
@@ -37,9 +43,7 @@ module _ (I : List (List ℕ)) (L : VolumeLayout) (n : ℕ) (end : KnownEnd) (kn
 
     -- the last header has its parts in place
     pub known_laid_out : IsLaidOut (header_at I L end.last)
-    known_laid_out =
-        let k = chain_known whole.0 whole.1 whole.2.chain in
-        (valid_in I L (n ∷ whole.0) end.last (chain_seen I L n whole.0 whole.1 image layout whole.2.chain).valid (subst (Contains (n ∷ whole.0)) (sym k.2) (last_in n whole.0))).header.layout
+    known_laid_out = chain_laid_out whole.0 whole.1 image layout whole.2.chain
 
 pub last_of-append : (n : ℕ) (xs ys : List ℕ) → last_of n (xs ++ ys) ≡ last_of (last_of n xs) ys
 last_of-append n [] ys = refl

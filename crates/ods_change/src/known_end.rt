@@ -46,6 +46,33 @@ pub(crate) fn known_end<'a>(
     ChainEnd::of(disk, number, first)
 }
 
+/// What is noted of the end of a file's chain; where nothing is, by one walk along it. `first` is its first header.
+pub(crate) fn noted_end<'a>(
+    disk: &Disk<'a>,
+    number: u16,
+    first: &'a Block,
+    known: &Option<KnownEnd>,
+) -> Option<KnownEnd>
+    requires layout { on IsLayoutOf disk.now }
+    requires whole { (others : List ℕ) × (blocks : List ℕ) × on IsWhole disk.now number others blocks }
+    requires first { first.now ≡ header_on disk.now number }
+    requires known { on IsKnownIn disk.now known.now }
+    ensures { on IsKnownIn disk.now result }
+{
+    if let Some(end) = known {
+        if end.file == number {
+            return *known;
+        }
+    }
+    let end = ChainEnd::of(disk, number, first);
+    Some(KnownEnd {
+        file: number,
+        headers: end.headers,
+        blocks: end.blocks,
+        last: end.number,
+    })
+}
+
 /// How many blocks a file has, with no walk along its chain where its end is noted. `first` is its first header.
 pub(crate) fn known_count(
     disk: &Disk<'_>,

@@ -1,5 +1,5 @@
 //! A Truncate: its checks, and the draft by which the file keeps its first blocks and gives the others back.
-ghost use Rattle.std.specs.Prelude.{◌≡◌, ◌<◌, ◌≤◌, nat_lt, ℕ, List, length, IfOk, IfErr, MatchResult};
+ghost use Rattle.std.specs.Prelude.{◌≡◌, ◌<◌, ◌≤◌, nat_lt, ℕ, List, length, IfOk, IfErr, IfSome, MatchResult};
 ghost use Rattle.ods_space.specs.{Draft.applied, Chain.IsChain, Files.HasBlocks, Files.IsFile, Files.IsLayoutOf, Files.IsWhole};
 ghost use Rattle.ods_mount.specs.Sound.{IsSoundBy};
 ghost use Rattle.ods_request.specs.{declared.answers.Answer.TheVariants.Truncated, declared.requests.Request.TheVariants.Truncate};
@@ -8,19 +8,19 @@ ghost use Rattle.ods_change.specs.Truncating.{IsCutPlace, IsCuttable};
 ghost use Rattle.ods_space.specs.Disks.{header_on, on};
 
 use crate::delete_file::delete_headers;
-use crate::known_end::{cut_end, known_count};
+use crate::known_end::{cut_end, known_count, noted_end};
 use ods_alloc::mark_free;
 use ods_base::{Block, FileId, Uic};
 use ods_header::{cut_header, pointer_sum};
 use ods_look::opening::{is_granted, plain_header};
 use ods_request::{Refusal, Right};
-use ods_space::{ChainHeaders, Disk, Draft, push_header};
+use ods_space::{ChainHeaders, Disk, Draft, header_block, push_header};
 use ods_state::KnownEnd;
 use std::alloc::{AllocError, Global};
 
 /// The draft by which a file keeps so many of its blocks, the first ones: the others are given back, with the headers
-/// behind the one that has the last of them. Or why that is refused. The file's blocks are not counted if it is noted where its chain ends.
-/// Where it ends then is given too, if that is known from what was noted.
+/// behind the one that has the last of them. Or why that is refused. Where the end of the file's chain is noted, and the cut lies in its last header, no
+/// walk along the chain is made. Where the chain ends then is given too, if the cut lies there.
 pub fn truncate(
     alloc: Global,
     disk: &Disk<'_>,
@@ -40,8 +40,9 @@ pub fn truncate(
         Ok(first) => first,
         Err(refusal) => return Err(refusal),
     };
-    match cut_off(alloc, disk, file.number, first, count) {
-        Ok(draft) => Ok((draft, cut_end(disk, file.number, count, known))),
+    let noted = noted_end(disk, file.number, first, known);
+    match cut_off(alloc, disk, file.number, first, count, &noted) {
+        Ok(draft) => Ok((draft, cut_end(disk, file.number, count, &noted))),
         Err(_) => Err(Refusal::NoMemory),
     }
 }
@@ -98,11 +99,13 @@ fn cut_off(
     number: u16,
     first: &Block,
     count: u32,
+    known: &Option<KnownEnd>,
 ) -> Result<Draft, AllocError>
     requires sound { on IsSoundBy disk.now }
     requires file { on IsFile disk.now number }
     requires above { 5 < number }
     requires first { first.now ≡ header_on disk.now number }
+    requires known { on IsKnownIn disk.now known.now }
     requires enough { (blocks : List ℕ) → on HasBlocks disk.now number blocks → count ≤ length blocks }
     ensures { IfOk result (λ draft. (others blocks : List ℕ) → on IsWhole disk.now number others blocks
         → on CutsOff disk.now number others blocks count (applied disk.now.image.now draft)) }
@@ -114,7 +117,7 @@ fn cut_off(
         header,
         left,
         behind,
-    } = cut_place(disk, number, first, count);
+    } = cut_place(disk, number, first, count, known);
     let mut lbns = Vec::new(alloc);
     push_header(&mut lbns, header)?;
     let mut draft = Draft::new(alloc);
@@ -135,9 +138,61 @@ struct CutPlace<'a> {
     behind: ChainHeaders<'a>,
 }
 
-/// Where the chain of a file is cut that keeps so many blocks, by one walk along it: in the header that has the last of
-/// them, and in the first one where none is kept.
-fn cut_place<'a>(disk: &Disk<'a>, number: u16, first: &'a Block, count: u32) -> CutPlace<'a>
+/// Where the chain of a file is cut that keeps so many blocks: in the header that has the last of them, and in the first one where none is kept.
+fn cut_place<'a>(
+    disk: &Disk<'a>,
+    number: u16,
+    first: &'a Block,
+    count: u32,
+    known: &Option<KnownEnd>,
+) -> CutPlace<'a>
+    requires layout { on IsLayoutOf disk.now }
+    requires chain { (others : List ℕ) × (blocks : List ℕ) × on IsChain disk.now number others blocks × (count ≤ length blocks) }
+    requires first { first.now ≡ header_on disk.now number }
+    requires known { on IsKnownIn disk.now known.now }
+    ensures { on IsCutPlace disk.now number count result }
+{
+    match last_place(disk, number, count, known) {
+        Some(place) => place,
+        None => walked_place(disk, number, first, count),
+    }
+}
+
+/// Where the chain of a file is cut that keeps so many blocks, if its end is noted and its last header keeps some of its own blocks.
+fn last_place<'a>(
+    disk: &Disk<'a>,
+    number: u16,
+    count: u32,
+    known: &Option<KnownEnd>,
+) -> Option<CutPlace<'a>>
+    requires layout { on IsLayoutOf disk.now }
+    requires chain { (others : List ℕ) × (blocks : List ℕ) × on IsChain disk.now number others blocks × (count ≤ length blocks) }
+    requires known { on IsKnownIn disk.now known.now }
+    ensures { IfSome result (on IsCutPlace disk.now number count) }
+{
+    // The blocks of an image have bytes, so the header has its parts in place.
+    let _ = disk.image.len();
+    if let Some(end) = known {
+        if end.file == number {
+            if let Some(header) = header_block(disk, end.last) {
+                let has = pointer_sum(header);
+                let gone = end.blocks - count;
+                if gone < has {
+                    return Some(CutPlace {
+                        number: end.last,
+                        header,
+                        left: has - gone,
+                        behind: ChainHeaders::none(disk, header),
+                    });
+                }
+            }
+        }
+    }
+    None
+}
+
+/// The same by one walk along the chain.
+fn walked_place<'a>(disk: &Disk<'a>, number: u16, first: &'a Block, count: u32) -> CutPlace<'a>
     requires layout { on IsLayoutOf disk.now }
     requires chain { (others : List ℕ) × (blocks : List ℕ) × on IsChain disk.now number others blocks × (count ≤ length blocks) }
     requires first { first.now ≡ header_on disk.now number }

@@ -65,19 +65,12 @@ pub fn check_all(alloc: Global, image: &Image) -> Result<Checked, AllocError>
             sharing: Told::new(alloc, 0),
         }),
         Err(fault) => {
-            if is_memory(&fault) {
+            if fault.is_memory() {
                 return Err(AllocError);
             }
             all_faults(alloc, image, fault)
         }
     }
-}
-
-/// Whether the fault is that memory was refused.
-pub(crate) fn is_memory(fault: &MountFault) -> bool
-    ensures { MatchBool result (fault.now ≡ MountFault.NoMemory) (fault.now ≢ MountFault.NoMemory) }
-{
-    matches!(fault, MountFault::NoMemory)
 }
 
 /// The faults of an image that is not sound, of which one is known.

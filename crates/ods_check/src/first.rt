@@ -3,7 +3,6 @@ ghost use Rattle.std.specs.Prelude.{◌≡◌, IfOk, IfSome, IfNone, Some};
 ghost use Rattle.ods_space.specs.Files.{IsLayoutOf};
 ghost use Rattle.ods_mount.specs.Faults.{IsSound, FaultIsTrue};
 
-use crate::faults::is_memory;
 use ods_base::Image;
 use ods_mount::{MountFault, check_image, read_layout};
 use ods_space::Layout;
@@ -27,7 +26,7 @@ pub fn check_first(alloc: Global, image: &Image) -> Result<First, AllocError>
             answer: None,
         }),
         Err(fault) => {
-            if is_memory(&fault) {
+            if fault.is_memory() {
                 return Err(AllocError);
             }
             laid_out(alloc, image, fault)

@@ -3,7 +3,8 @@ use Rattle.std.proofs.Common.{◌≡◌, ℕ, ◌+◌, ◌-◌, ◌*◌, ◌/◌
 use Rattle.std.proofs.lemmas.Bool.{cases_lt}
 use Rattle.std.proofs.lemmas.List.{append-nil, take_all, length-replicate, drop_all}
 use Rattle.ods_base.specs.Image.{IsImage, image_bytes}
-use Rattle.ods_base.proofs.Images.{length-concat}
+use Rattle.ods_base.specs.Block.{zeros}
+use Rattle.ods_base.proofs.Images.{length-concat, concat_first, concat_behind, concat_longer}
 use Rattle.ods_container.specs.Container.{volume_bytes, bytes_behind, blocks_begun, HoldsVolume, IsContained, IsSeen, IsSize}
 
 -- S blocks are 512 * S bytes
@@ -44,12 +45,36 @@ seen_whole I image =
     let begun : length I ≡ blocks_begun (image_bytes I) = omega arith in
     (image, volume_whole I image ∙ ap (volume_bytes (image_bytes I)) begun)
 
--- an image is the volume of its size in its own bytes, and nothing stands behind it
-pub holds_whole : (I : List (List ℕ)) (S : ℕ) (n : ℕ) → IsImage I → S ≡ length I → n ≡ 512 * length I → HoldsVolume (image_bytes I) S I [] n
-holds_whole I S n image is size =
+-- the first blocks of an image are a volume in its bytes, and the others stand behind it
+pub holds_first : (I J : List (List ℕ)) (S n : ℕ) (rest : List ℕ) → IsImage I → IsImage J → S ≤ length I → J ≡ take S I → rest ≡ image_bytes (drop S I) → n ≡ 512 * length I → HoldsVolume (image_bytes I) S J rest n
+holds_first I J S n rest image part few is behind size =
     let long = length-concat I image.blocks in
-    let P : ℕ → Type 0 = λ s. HoldsVolume (image_bytes I) s I [] n in
-    subst P (sym is) (record { image = image; count = refl; volume = volume_whole I image; behind = behind_whole I image; size = size ∙ sym long })
+    let first : image_bytes J ≡ take (512 * S) (image_bytes I) = ap image_bytes is ∙ concat_first I S image.blocks in
+    let none : 512 * S - length (image_bytes I) ≡ 0 = omega arith in
+    record {
+      image = part;
+      count = ap length is ∙ length-take S I ∙ omega arith;
+      volume = first ∙ sym (ap (λ k. take (512 * S) (image_bytes I) ++ replicate k 0) none ∙ append-nil (take (512 * S) (image_bytes I)));
+      behind = behind ∙ concat_behind I S image.blocks;
+      size = size ∙ sym long;
+    }
+
+-- an image with blocks of zeros behind its own is a volume in its bytes, and nothing stands behind it
+pub holds_longer : (I J : List (List ℕ)) (S n : ℕ) → IsImage I → IsImage J → length I ≤ S → J ≡ I ++ replicate (S - length I) zeros → n ≡ 512 * length I → HoldsVolume (image_bytes I) S J [] n
+holds_longer I J S n image part few is size =
+    let long = length-concat I image.blocks in
+    let all : length (image_bytes I) ≤ 512 * S = omega arith in
+    let more : 512 * (S - length I) ≡ 512 * S - length (image_bytes I) = omega arith in
+    let count : length (replicate (S - length I) zeros) ≡ S - length I = length-replicate (S - length I) zeros in
+    record {
+      image = part;
+      count = ap length is ∙ length-append I (replicate (S - length I) zeros) ∙ omega (arith, count);
+      volume =
+          ap image_bytes is ∙ concat_longer I (S - length I) ∙ ap (λ k. image_bytes I ++ replicate k 0) more
+          ∙ ap (λ l. l ++ replicate (512 * S - length (image_bytes I)) 0) (sym (take_all (512 * S) (image_bytes I) all));
+      behind = sym (drop_all (512 * S) (image_bytes I) all);
+      size = size ∙ sym long;
+    }
 
 -- what holds the volume of these bytes and this size
 pub holds_as : (a b : List ℕ) (s t : ℕ) (I : List (List ℕ)) (rest : List ℕ) (n : ℕ) → a ≡ b → s ≡ t → HoldsVolume a s I rest n → HoldsVolume b t I rest n

@@ -127,22 +127,23 @@ fn with_size(alloc: Global, image: Image, count: u32) -> Result<Contained, Alloc
     requires { count ≤ 2 ^ 20 }
     ensures { IfOk result (λ c. HoldsVolume (image_bytes image) count c.image c.behind.items c.length) }
 {
-    if count == image.len() {
-        let length = 512 * image.len() as u64;
+    let length = 512 * image.len() as u64;
+    if count < image.len() {
+        let (image, behind) = image.cut(alloc, count)?;
+        let _ = image.len();
         return Ok(Contained {
             image,
-            behind: Vec::new(alloc),
+            behind,
             length,
         });
     }
-    let bytes = match all_bytes(alloc, image) {
-        Ok(bytes) => bytes,
-        Err(_) => return Err(AllocError),
-    };
-    match part(alloc, bytes, count) {
-        Ok(contained) => Ok(contained),
-        Err(_) => Err(AllocError),
-    }
+    let image = image.lengthen(count)?;
+    let _ = image.len();
+    Ok(Contained {
+        image,
+        behind: Vec::new(alloc),
+        length,
+    })
 }
 
 /// The volume of so many blocks in these bytes, whose first blocks this image is.
@@ -194,15 +195,4 @@ fn beside(alloc: Global, image: Image, bytes: &[u8]) -> Result<Contained, AllocE
         behind,
         length: bytes.len() as u64,
     })
-}
-
-/// All bytes of an image.
-fn all_bytes(alloc: Global, image: Image) -> Result<Vec<u8>, AllocError>
-    ensures { IfOk result (λ bytes. bytes.items ≡ image_bytes image) }
-{
-    let mut bytes = Vec::with_capacity(alloc, 512 * image.len() as usize)?;
-    match image.write_to(&mut bytes) {
-        Ok(()) => Ok(bytes),
-        Err(_) => Err(AllocError),
-    }
 }

@@ -1,12 +1,12 @@
 //! The size of a volume, as its storage control block says it, and when that is believed.
-ghost use Rattle.std.specs.Prelude.{◌≡◌, ◌≢◌, ◌+◌, ◌<◌, ◌≤◌, ◌^◌, ℕ, IfOk, IfSome, IfNone, MatchBool, length};
+ghost use Rattle.std.specs.Prelude.{◌≡◌, ◌+◌, ◌<◌, ◌≤◌, ◌^◌, ℕ, IfOk, IfSome, IfNone, MatchBool, length};
 ghost use Rattle.ods_header.specs.Header.{IsLaidOut};
 ghost use Rattle.ods_space.specs.{Disks.on, Files.IsLayoutOf};
 ghost use Rattle.ods_container.specs.Size.{IsSaid, IsBelieved, IsMappedBelow, AreMappedBelow, EndBelow, SaysSize, SaysNone, size_word as word_of_size};
 
 use ods_base::{Block, Image, MAX_BLOCKS, word};
 use ods_header::{is_valid_header, pointer_at, pointer_count};
-use ods_mount::{MountFault, read_layout};
+use ods_mount::read_layout;
 use ods_space::{Disk, header_block, in_use, last_number};
 use std::alloc::{AllocError, Global};
 
@@ -26,30 +26,10 @@ pub fn believed_size(alloc: Global, image: &Image) -> Result<Option<u32>, AllocE
         }
         Err(fault) => fault,
     };
-    if is_memory(&fault) {
+    if fault.is_memory() {
         return Err(AllocError);
     }
     Ok(None)
-}
-
-/// Whether the fault is that memory was refused, which says nothing of the image.
-fn is_memory(fault: &MountFault) -> bool
-    ensures { MatchBool result (fault.now ≡ MountFault.NoMemory) (fault.now ≢ MountFault.NoMemory) }
-{
-    match fault {
-        MountFault::NoMemory => true,
-        MountFault::NoHome => false,
-        MountFault::UnsupportedMap(_) => false,
-        MountFault::BadChain(_) => false,
-        MountFault::OutsideVolume(_, _) => false,
-        MountFault::BadIndex => false,
-        MountFault::BadStorageMap => false,
-        MountFault::BadMaster => false,
-        MountFault::DoublyUsed(_, _, _) => false,
-        MountFault::MarkedFree(_, _) => false,
-        MountFault::BadDirectory(_) => false,
-        MountFault::DuplicateName(_) => false,
-    }
 }
 
 /// The size that this disk says, where it is believed.

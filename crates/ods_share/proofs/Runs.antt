@@ -113,3 +113,9 @@ outcomes M stamp seen filled ss es os is each k s o lt =
 
 pub outcomes_len : (es : List (Ended (Vec Reply Global))) (os : List Outcome) → os ≡ map outcome_of es → length os ≡ length es
 outcomes_len es os is = ap length is ∙ map_len outcome_of es
+
+-- as many viewers as places are enough for no more scripts
+pub enough_viewers : {D F : Type 0} (n places : ℕ) (E : List Entry) (r : Result (D × Vec Viewed Global) F) → n ≤ places → IfOk r (λ p. (vec_len p.1 ≡ places) × All (λ (v : Viewed). v ≡ newly E) p.1.items)
+    → IfOk r (λ p. (n ≤ vec_len p.1) × All (λ (v : Viewed). v ≡ newly E) p.1.items)
+enough_viewers n places E (Ok p) enough is = (omega (arith, is.0, enough), is.1)
+enough_viewers n places E (Err e) enough is = tt

@@ -1,6 +1,6 @@
 -- What a script means: which replies and calls come of its commands.
-use Rattle.std.specs.Prelude.{◌≡◌, ℕ, ◌<◌, List, [], ◌∷◌, ◌++◌, length, Option, Some, None, slice_index_or, Result, Ok, Err}
-use Rattle.std.specs.List.{sum_by}
+use Rattle.std.specs.Prelude.{◌≡◌, ℕ, ◌<◌, Bool, true, false, List, [], ◌∷◌, ◌++◌, length, Option, Some, None, slice_index_or, Result, Ok, Err}
+use Rattle.std.specs.List.{list_any, sum_by}
 use Rattle.ods_base.specs.declared.file_id.Uic.{Uic}
 use Rattle.ods_base.specs.declared.file_id.FileId.{FileId}
 use Rattle.ods_request.specs.declared.requests.Request.{Request}
@@ -81,6 +81,17 @@ Runs M stamp s [] [] t = t ≡ s
 Runs M stamp s [] (r ∷ rs) t = ⊥
 Runs M stamp s (c ∷ cs) [] t = ⊥
 Runs M stamp s (c ∷ cs) (r ∷ rs) t = (u : Sitting) × Tells M stamp s c.nth c.action r u × Runs M stamp u cs rs t
+
+-- whether a command looks beside the lock
+abbrev pub is_view : Action → Bool
+is_view (action.View look) = true
+is_view (action.User who) = false
+is_view (action.Submit a) = false
+is_view action.Bad = false
+
+-- whether one of these commands does
+abbrev pub looks_beside : List Command → Bool
+looks_beside cs = list_any (λ c. is_view c.action) cs
 
 -- a session begins as user [1,1], with what its viewer has seen
 abbrev pub start : List Entry → Sitting

@@ -13,7 +13,7 @@ use ods_views::{
     open_writer, publish_change,
 };
 use ods_volume::{Prepared, Volume};
-use std::alloc::Global;
+use std::alloc::{AllocError, Global};
 use std::marker::{Brand, Model};
 use std::mem;
 use std::snapshot::Snapshot;
@@ -22,7 +22,7 @@ use std::sync::Wait;
 /// A volume for several sessions, which is to lie under a lock, with the writer that shows its versions to viewers beside the lock.
 /// Contracts see the volume, which is lawful whenever the lock is free. Wherever the desk lies, its mounted image and its limit are
 /// those of its name. Its list begins with the entries of its name. Viewers are shown the volume's list and blocks. [`Desk::close`] ends
-/// a desk, and nothing else lets one go. While the lock is free no change is pending.
+/// a desk, and nothing else lets one go. While the lock is free no change is pending. A desk that nobody looks at has no writer.
 pub struct Desk<J: Naming> {
     volume: Volume,
     writer: Option<DeskWriter<J>>,
@@ -37,7 +37,7 @@ impl<J: Naming> Model for Desk<J> {
 
     ghost view = { λ d. d.volume };
 
-    ghost invariant = { λ d. IsOpened J.mounted J.opening d.volume × (d.volume.limit ≡ J.limit) × MatchOption d.writer ⊥ (λ w. IsTied w.desk.place w.desk.shown.value (drop w.behind w.log.items) d.volume) };
+    ghost invariant = { λ d. IsOpened J.mounted J.opening d.volume × (d.volume.limit ≡ J.limit) × MatchOption d.writer (Unit {0}) (λ w. IsTied w.desk.place w.desk.shown.value (drop w.behind w.log.items) d.volume) };
 }
 
 impl<J: Naming> Desk<J> {
@@ -74,6 +74,32 @@ impl<J: Naming> Desk<J> {
                 writer.take(rt);
                 Err((volume, NoMemory))
             }
+        }
+    }
+
+    /// The desk of this volume for a run in which nobody looks, with a viewer for each place, which answers Closed. It keeps no version, so a change is
+    /// made once. After an error, which is for memory, the volume comes back.
+    pub(crate) fn without_views(
+        alloc: Global,
+        volume: Volume,
+        places: usize,
+    ) -> Result<(Desk<J>, Vec<Viewer<J>>), (Volume, NoMemory)>
+        requires mounted { volume.mounted ≡ J.mounted }
+        requires opening { volume.entries ≡ J.opening }
+        requires limit { volume.limit ≡ J.limit }
+        ensures ok { IfOk result (λ p. p.0 ≡ volume) }
+        ensures viewers { IfOk result (λ p. (vec_len p.1 ≡ places) × All (λ v. v ≡ newly volume.entries) p.1.items) }
+        ensures err { IfErr result (λ e. e.0 ≡ volume) }
+    {
+        match idle_viewers(alloc, places) {
+            Ok(viewers) => {
+                let quiet = Desk {
+                    volume,
+                    writer: None,
+                };
+                Ok((quiet, viewers))
+            }
+            Err(_) => Err((volume, NoMemory)),
         }
     }
 
@@ -149,7 +175,7 @@ impl<J: Naming> Desk<J> {
     }
 
     /// Makes a change that was prepared, and shows the version to which it leads. All that may want memory comes before the volume changes:
-    /// the copies of the draft and of the places, and the writer's room for it. What is told is made here, since each function on an answer's way moves it.
+    /// the copies of the draft and of the places, and the writer's room for it. Where there is no writer nothing is shown. What is told is made here, since each function on an answer's way moves it.
     fn apply_and_show<R: Wait>(
         &mut self,
         rt: &R,
@@ -160,6 +186,10 @@ impl<J: Naming> Desk<J> {
         ensures refused { IfErr result.0 (λ f. (f ≡ Refusal.NoMemory) × (self.new ≡ self.old)) }
         ensures told { result.1 ≡ self.new.entries }
     {
+        if self.writer.is_none() {
+            let done = self.volume.apply(prepared);
+            return (Ok(done), self.tell());
+        }
         let Ok(draft) = prepared.changes().copy() else {
             return (Err(Refusal::NoMemory), self.tell());
         };
@@ -206,11 +236,25 @@ impl<J: Naming> Desk<J> {
         ensures lawful { IsLawful result }
     {
         let Desk { volume, writer } = self;
-        let writer = writer.unwrap();
-        writer.take(rt);
+        if let Some(writer) = writer {
+            writer.take(rt);
+        }
         volume.is_lawful();
         volume
     }
+}
+
+/// So many viewers without a place.
+fn idle_viewers<J: Naming>(alloc: Global, count: usize) -> Result<Vec<Viewer<J>>, AllocError>
+    ensures { IfOk result (λ v. (vec_len v ≡ count) × All (λ x. x ≡ newly J.opening) v.items) }
+{
+    let mut viewers = Vec::with_capacity(alloc, count)?;
+    for _ in 0..count {
+        if viewers.push(Viewer::without_place()).is_err() {
+            return Err(AllocError);
+        }
+    }
+    Ok(viewers)
 }
 
 /// Puts the writer back where it was taken from.

@@ -1,7 +1,9 @@
 //! All sessions: they run at one desk, and the volume comes back from it.
 ghost use Rattle.std.specs.Prelude.{◌≡◌, ◌≤◌, All, length, map, Ok, vec_len, IfOk};
+ghost use Rattle.std.specs.List.{list_any};
 ghost use Rattle.ods_request.specs.Lists.{Begins};
-ghost use Rattle.ods_share.specs.{Keeping.EachEnded, Scripts.CanBeRun, Scripts.EachOutcome, Scripts.all_saw, Scripts.seen_first};
+ghost use Rattle.ods_share.specs.{Keeping.EachEnded, Scripts.CanBeRun, Scripts.EachOutcome, Scripts.all_saw, Scripts.is_view, Scripts.looks_beside, Scripts.seen_first};
+ghost use Rattle.ods_views.specs.Viewers.{newly};
 
 use crate::counter::Counter;
 use crate::desk::Desk;
@@ -10,7 +12,8 @@ use crate::gate::Gate;
 use crate::keeping::{Ended, Keep, outcomes};
 use crate::session::Sat;
 use crate::threads::run_all;
-use ods_ask::{Outcome, Reply, Script};
+use ods_ask::{Action, Command, Outcome, Reply, Script};
+use ods_base::NoMemory;
 use ods_request::Stamp;
 use ods_views::{MOST_SESSIONS, Naming, Viewer};
 use ods_volume::Volume;
@@ -168,6 +171,51 @@ fn places_for(scripts: usize) -> usize
     if scripts == 0 { 1 } else { scripts }
 }
 
+/// Opens a desk of a volume for these scripts, with a viewer for each. Where no script looks, no version is kept.
+fn open_desk<J: Naming, R: Wait>(
+    rt: &R,
+    alloc: Global,
+    volume: Volume,
+    scripts: &[Script],
+) -> Result<(Desk<J>, Vec<Viewer<J>>), (Volume, NoMemory)>
+    requires mounted { volume.mounted ≡ J.mounted }
+    requires opening { volume.entries ≡ J.opening }
+    requires limit { volume.limit ≡ J.limit }
+    requires few { length scripts.now ≤ MOST_SESSIONS }
+    ensures ok { IfOk result (λ p. p.0 ≡ volume) }
+    ensures viewers { IfOk result (λ p. (length scripts.now ≤ vec_len p.1) × All (λ v. v ≡ newly volume.entries) p.1.items) }
+{
+    let places = places_for(scripts.len());
+    if have_views(scripts) {
+        Desk::new(rt, alloc, volume, places)
+    } else {
+        Desk::without_views(alloc, volume, places)
+    }
+}
+
+/// Whether one of these scripts looks beside the lock.
+fn have_views(scripts: &[Script]) -> bool
+    ensures { result ≡ list_any (λ s. looks_beside s.commands.items) scripts.now }
+{
+    scripts
+        .iter()
+        .any(|script| has_view(script.commands.as_slice()))
+}
+
+/// Whether one of these commands looks beside the lock.
+fn has_view(commands: &[Command]) -> bool
+    ensures { result ≡ looks_beside commands.now }
+{
+    commands.iter().any(|command| is_view(&command.action))
+}
+
+/// Whether a command looks beside the lock.
+fn is_view(action: &Action) -> bool
+    ensures { result ≡ is_view action.now }
+{
+    matches!(action, Action::View(_))
+}
+
 /// Opens a desk with this name, and runs the scripts at it. It is apart from [`run_keeping`] since a name is picked at a call alone.
 fn run_named<K: Keep + Send, J: Naming + Send + Sync, G: Gate + Sync, R: Threads + Wait + Sync>(
     rt: &R,
@@ -187,7 +235,7 @@ fn run_named<K: Keep + Send, J: Naming + Send + Sync, G: Gate + Sync, R: Threads
     ensures limit { IfOk result (λ p. p.0.limit ≡ volume.limit) }
     ensures ended { IfOk result (λ p. (vec_len p.1 ≡ length scripts.now) × EachEnded K.keeps volume.mounted stamp (all_saw volume.entries) (length p.0.entries ≡ volume.limit) scripts.now p.1.items) }
 {
-    match Desk::<J>::new(rt, alloc, volume, places_for(scripts.len())) {
+    match open_desk::<J, R>(rt, alloc, volume, scripts) {
         Ok((desk, viewers)) => {
             run_desk::<K, J, G, R>(rt, alloc, desk, viewers, scripts, stamp, gate)
         }

@@ -1,5 +1,5 @@
 -- The names that files get on a host.
-use Rattle.std.specs.Prelude.{◌≡◌, ◌≢◌, ℕ, ◌==◌, ◌⊎◌, Bool, if◌then◌else◌, List, [], ◌∷◌, ◌++◌, length, encode_utf8, Option, Some, None}
+use Rattle.std.specs.Prelude.{◌≡◌, ◌≢◌, ℕ, ◌==◌, ◌&&◌, not, ◌⊎◌, Bool, if◌then◌else◌, List, [], ◌∷◌, ◌++◌, length, encode_utf8, Option, Some, None}
 use Rattle.std.specs.Char.{to_ascii_lowercase}
 use Rattle.std.specs.Fmt.{decimal}
 use Rattle.std.specs.List.{before_first, flat_map}
@@ -25,14 +25,14 @@ before_version text = before_first (λ b. b == 59) text
 abbrev pub IsWithoutDot : List ℕ → List ℕ → Type 0
 IsWithoutDot text kept = (text ≡ kept ++ 46 ∷ []) ⊎ ((kept ≡ text) × ((front : List ℕ) → text ≢ front ++ 46 ∷ []))
 
--- a type in small letters behind a dot; nothing where there is none
-abbrev pub small_type : List ℕ → List ℕ
-small_type kind = if length kind == 0 then [] else 46 ∷ small_text kind
+-- a type in small letters behind a dot; nothing where there is none, unless a version follows: else that would stand where a type does
+abbrev pub small_type : List ℕ → Bool → List ℕ
+small_type kind with_version = if length kind == 0 && not with_version then [] else 46 ∷ small_text kind
 
 -- the name of an entry in small letters, with its version where that is wanted
 abbrev pub placed_name : EntryPlace → Bool → List ℕ
 placed_name place with_version =
-    small_text (title place.entry.name) ++ small_type (type_text place.entry.name) ++ (if with_version then 46 ∷ decimal place.entry.version else [])
+    small_text (title place.entry.name) ++ small_type (type_text place.entry.name) with_version ++ (if with_version then 46 ∷ decimal place.entry.version else [])
 
 -- the name of a file on a host: by its entry, or by the name in its header
 abbrev pub IsHostName : Option EntryPlace → Option Facts → Bool → List ℕ → Type 0

@@ -33,15 +33,15 @@ fn push_placed(text: &mut String, place: &EntryPlace, with_version: bool) -> Res
     ensures { OnOk result (string_bytes text.new ≡ string_bytes text.old ++ placed_name place.now with_version) }
 {
     push_small(text, print_title(&place.entry.name).as_str())?;
-    push_type(text, print_type(&place.entry.name).as_str())?;
+    push_type(text, print_type(&place.entry.name).as_str(), with_version)?;
     push_version(text, place.entry.version, with_version)
 }
 
-/// Appends a type in small letters behind a dot, where there is one.
-fn push_type(text: &mut String, kind: &str) -> Result<(), AllocError>
-    ensures { OnOk result (string_bytes text.new ≡ string_bytes text.old ++ small_type kind.now) }
+/// Appends a type in small letters behind a dot, where there is one or a version follows.
+fn push_type(text: &mut String, kind: &str, with_version: bool) -> Result<(), AllocError>
+    ensures { OnOk result (string_bytes text.new ≡ string_bytes text.old ++ small_type kind.now with_version) }
 {
-    if kind.is_empty() {
+    if kind.is_empty() && !with_version {
         return Ok(());
     }
     text.push_str(".")?;

@@ -69,6 +69,18 @@ impl<'a> ChainHeaders<'a> {
         }
     }
 
+    /// No headers: what comes behind the last one of a chain. `last` is any header of it.
+    pub fn none(disk: &Disk<'a>, last: &'a Block) -> Self
+        ensures { result ≡ [] }
+    {
+        Self {
+            disk: *disk,
+            number: 0,
+            block: last,
+            left: 0,
+        }
+    }
+
     /// The next header and its number.
     pub fn next(&mut self) -> Option<(u16, &'a Block)>
         ensures some { IfSome result (λ h. (self.old ≡ (h.0, h.1.now) ∷ self.new) × IsValidHeader h.1.now h.0) }

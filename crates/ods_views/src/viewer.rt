@@ -43,7 +43,8 @@ impl Coded for ViewFault {
     ghost row_of = { view_row };
 }
 
-/// Looks at the volume of a desk with this name, beside the lock. Contracts see the entries that it has seen, and of how many it was told.
+/// Looks at the volume of a desk with this name, beside the lock. Contracts see the entries that it has seen, and of how many it was told. One without
+/// a place has nothing to look at, and answers Closed.
 #[derive(Drop)]
 pub struct Viewer<J: Naming> {
     reader: Option<DeskReader<J>>,
@@ -51,15 +52,12 @@ pub struct Viewer<J: Naming> {
 }
 
 impl<J: Naming> Model for Viewer<J> {
-    ghost use Rattle.std.specs.Prelude.{[], MatchOption};
     ghost use Rattle.std.specs.Option.{option_map_or};
     ghost use Rattle.ods_views.specs.Viewers.{Viewed, seen_by};
 
     ghost Value = { Viewed };
 
-    ghost view = { λ v. record { seen = option_map_or (λ r. seen_by r.place) v.reader []; least = v.least } };
-
-    ghost invariant = { λ v. MatchOption v.reader ⊥ (λ _. Unit {0}) };
+    ghost view = { λ v. record { seen = option_map_or (λ r. seen_by r.place) v.reader J.opening; least = v.least } };
 }
 
 impl<J: Naming> Viewer<J> {
@@ -71,6 +69,17 @@ impl<J: Naming> Viewer<J> {
             reader: Some(writer.factory().reader()?),
             least: 0,
         })
+    }
+
+    /// A viewer without a place, for a run in which nobody looks.
+    pub fn without_place() -> Viewer<J>
+        ensures { result ≡ newly J.opening }
+    {
+        let least = 0;
+        Viewer {
+            reader: None,
+            least,
+        }
     }
 
     /// From now on it answers from no fewer entries than it was told of: there are so many in the list that it then has seen.
@@ -109,7 +118,9 @@ impl<J: Naming> Viewer<J> {
             (λ f. Asked J.mounted self.old self.new who query (Err f) × (answer.new ≡ answer.old)) }
     {
         let least = self.least;
-        let reader = self.reader.take().unwrap();
+        let Some(reader) = self.reader.take() else {
+            return Err(ViewFault::Closed);
+        };
         match enter::<J, Brand>(reader, least) {
             Ok(reading) => {
                 let version = reading.get();

@@ -1,7 +1,7 @@
 //! Images from bytes and devices, and onto them: what no clause says, readers and writers that fail, and that calls succeed.
 ghost use Rattle.std.specs.Prelude.{◌≤◌, IfOk};
 
-use ods_base::{Block, Coded, Image, ImageError, word};
+use ods_base::{Block, Coded, Image, ImageError, NoMemory, word};
 use std::alloc::Global;
 use std::io;
 use std::io::{Read, Write};
@@ -66,6 +66,21 @@ fn images_come_from_bytes(rt: HostRuntime) -> Result<(), Fail> {
     assert!(rt; image.len() == 2 && !image.is_empty());
     assert!(rt; word(image.block(1), 255) == 0x0707);
     assert!(rt; image.copy()? == image);
+    Ok(())
+}
+
+#[test]
+fn images_are_cut_and_lengthened(rt: HostRuntime) -> Result<(), Fail> {
+    let (image, behind) = Image::from_bytes(rt.alloc(), &[7; 1536])?.cut(rt.alloc(), 1)?;
+    assert!(rt; image.len() == 1 && behind.len() == 1024);
+    assert!(rt; behind.iter().all(|byte| *byte == 7));
+    let image = image.lengthen(3)?;
+    assert!(rt; image.len() == 3 && word(image.block(0), 0) == 0x0707);
+    assert!(rt; image.block(1).is_zeros() && image.block(2).is_zeros());
+    let (_, mut shared) = image.split().map_err(|_| NoMemory)?;
+    shared.set_block(2, Block::new([9; 512]));
+    let (shared, behind) = shared.cut(rt.alloc(), 2)?;
+    assert!(rt; shared.len() == 2 && behind.len() == 512 && behind[0] == 9);
     Ok(())
 }
 

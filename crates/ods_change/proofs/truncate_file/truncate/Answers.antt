@@ -20,8 +20,8 @@ returns-in-Ok-cut_off-clause-end c =
     let J = applied c.args.disk.now.image.now c.in-Ok-cut_off.draft in
     let o = c.in-Ok.ensures.ok.0 in
     let high : c.args.file.number ≢ 1 = λ e. absurd (omega (arith, o.number, e)) in
-    cut_then c.args.disk.now.image.now J c.args.disk.now.layout.now c.args.file.number c.args.count c.args.known.now c.cut_end.result high
-    (truncate_is_step c.requires.sound o J c.in-Ok-cut_off.ensures).moves c.requires.known c.cut_end.ensures
+    cut_then c.args.disk.now.image.now J c.args.disk.now.layout.now c.args.file.number c.args.count c.noted_end-noted.result c.cut_end.result high
+    (truncate_is_step c.requires.sound o J c.in-Ok-cut_off.ensures).moves c.noted_end-noted.ensures c.cut_end.ensures
 
 pub returns-in-Ok-cut_off-clause-step : goal.returns-in-Ok-cut_off-clause-step
 returns-in-Ok-cut_off-clause-step c = truncate_is_step c.requires.sound c.in-Ok.ensures.ok.0 (applied c.args.disk.now.image.now c.in-Ok-cut_off.draft) c.in-Ok-cut_off.ensures

@@ -12,4 +12,4 @@ pub returns-in-Ok-clause-ended : goal.returns-in-Ok-clause-ended
 returns-in-Ok-clause-ended g c =
     let new = c.in-Ok.ensures.viewers in
     at_new_desk g.K.Keep.keeps g.J.Naming.mounted c.args.volume.mounted g.J.Naming.limit c.args.volume.limit c.args.stamp c.in-Ok.viewers.items c.args.volume.entries c.args.scripts.now c.run_desk.result
-    (sym c.requires.mounted) (sym c.requires.limit) new.1 (omega (arith, c.in-Ok.viewers.ok.0, new.0, c.places_for.ensures.enough)) c.run_desk.ensures.ended
+    (sym c.requires.mounted) (sym c.requires.limit) new.1 (omega (arith, c.in-Ok.viewers.ok.0, new.0)) c.run_desk.ensures.ended

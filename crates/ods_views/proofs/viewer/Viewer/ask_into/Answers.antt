@@ -19,7 +19,7 @@ use Rattle.ods_views.proofs.viewer.Viewer.ask_into.Goals.{in-Ok-found, in-Err-fo
 pub returns-after-found-clause-later : goal.returns-after-found-clause-later
 returns-after-found-clause-later g c =
     let told = c.in-Ok.ensures.0 (subst (λ (x : Version). c.self.inside.least ≤ x.count) c.get-version.ensures c.if-version-least.false) in
-    let before : seen_by c.unwrap-reader.result.place ≡ c.args.self.now.seen = search rules in
+    let before : seen_by c.in-Some.reader.place ≡ c.args.self.now.seen = search rules in
     let after : seen_by c.in-Ok.reading.place ≡ seen_by c.leave-in-Ok.result.place = ap (λ (v : View). v.seen) (sym c.leave-in-Ok.ensures.1) in
     subst (λ (l : List Entry). Begins c.args.self.now.seen l) after (subst (λ (l : List Entry). Begins l (seen_by c.in-Ok.reading.place)) before told.0)
 

@@ -4,7 +4,7 @@ use Rattle.std.proofs.lemmas.List.Elements.{All-push}
 use Rattle.f11fs.specs.TreeFaults.{AreKept, IsKept}
 use Rattle.f11fs.specs.TreePut.{IsPlaced}
 use Rattle.f11fs.proofs.TreesKept.{kept_more}
-use Rattle.f11fs.proofs.putting_tree.judge_tree.Goals as goal
+use Rattle.f11fs.proofs.judging_tree.judge_tree.Goals as goal
 
 pub loop-entry-preserved-in-Continue-branch-2 : goal.loop-entry-preserved-in-Continue-branch-2
 loop-entry-preserved-in-Continue-branch-2 g c =

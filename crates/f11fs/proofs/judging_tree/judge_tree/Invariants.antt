@@ -3,7 +3,7 @@ use Rattle.std.specs.Prelude.{None}
 use Rattle.std.specs.List.{All}
 use Rattle.f11fs.specs.TreeFaults.{AreKept}
 use Rattle.f11fs.specs.TreePut.{IsPlaced}
-use Rattle.f11fs.proofs.putting_tree.judge_tree.Given as goal
+use Rattle.f11fs.proofs.judging_tree.judge_tree.Given as goal
 
 -- What is kept has a place. Where nothing is told, and nothing may be left out, it is all that was looked at, and always just what of that is put.
 abbrev pub invariant-loop-entry : goal.invariant-loop-entry

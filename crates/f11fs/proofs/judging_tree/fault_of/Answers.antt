@@ -1,8 +1,8 @@
 use Rattle.std.proofs.Common.{Some, refl, inl, inr, subst, sym}
 use Rattle.f11fs.specs.TreeFaults.{IsFault}
-use Rattle.f11fs.specs.declared.putting_tree.TreeFault.TheVariants.{Name}
+use Rattle.f11fs.specs.declared.judging_tree.TreeFault.TheVariants.{Name}
 use Rattle.f11fs.proofs.TreesKept.{own_fault, told_before, unplaced}
-use Rattle.f11fs.proofs.putting_tree.fault_of.Goals as goal
+use Rattle.f11fs.proofs.judging_tree.fault_of.Goals as goal
 
 pub returns-in-Some-BadName : goal.returns-in-Some-BadName
 returns-in-Some-BadName c =

@@ -1,7 +1,7 @@
 use Rattle.std.proofs.Common.{refl}
 use Rattle.ods_space.specs.Chain.{headers_of}
 use Rattle.ods_change.proofs.ChainCuts.{ends_here, never_ends, none_passed, one_passed}
-use Rattle.ods_change.proofs.truncate_file.cut_place.Goals as goal
+use Rattle.ods_change.proofs.truncate_file.walked_place.Goals as goal
 
 pub loop-at-init : goal.loop-at-init
 loop-at-init c = none_passed (headers_of c.args.disk.now.image.now c.args.disk.now.layout.now c.args.number) c.from-headers.result c.args.count c.from-headers.ensures
