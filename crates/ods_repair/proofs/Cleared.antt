@@ -55,7 +55,7 @@ module _ (I : List (List ℕ)) (L : VolumeLayout) (once : AreOnce L.bitmap) wher
     abbrev was : Bool → ℕ → Bool
     was t y = cond t false (has_bit (block_at I (block_bit L y).0) (block_bit L y).1)
 
-    one_cleared : ClearsOne J L x K → MarksBlocks I L (xs ++ x ∷ []) false K
+    pub one_cleared : ClearsOne J L x K → MarksBlocks I L (xs ++ x ∷ []) false K
     one_cleared (inr (past, same)) = record {
       size = ap length same ∙ before.size;
       bits = λ y covered. ap (λ M. has_bit (block_at M (block_bit L y).0) (block_bit L y).1) same ∙ before.bits y covered

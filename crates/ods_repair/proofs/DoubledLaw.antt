@@ -43,6 +43,9 @@ not_spare I L d bs has repair.BadEntry f = absurd f
 not_spare I L d bs has repair.VersionsFull f = absurd f
 not_spare I L d bs has (repair.NotRemoved x reason) f = absurd f
 not_spare I L d bs has (repair.NotEntered x reason) f = absurd f
+not_spare I L d bs has (repair.Reserved m) f = absurd f
+not_spare I L d bs has (repair.NoChain m) f = absurd f
+not_spare I L d bs has (repair.HeldFree b) f = absurd f
 
 -- and so is it that a name has no next version
 pub not_full : (I : List (List ℕ)) (L : VolumeLayout) (d : ℕ) (bs : List ℕ) (cs : List (List ℕ)) (n : ℕ) → HasBlocks I L d bs → cs ≡ contents_of I bs → n ≡ mark_at I L d bs / 16

@@ -1,5 +1,5 @@
 -- What freeing leaves, by what each of its steps says.
-use Rattle.std.proofs.Common.{◌≡◌, ℕ, ◌<◌, ap, sym, subst, true, List, [], length, get_or}
+use Rattle.std.proofs.Common.{◌≡◌, ℕ, ap, subst, true, List, [], get_or}
 use Rattle.std.specs.Prelude.{◌↔◌}
 use Rattle.std.specs.List.{All, Contains}
 use Rattle.std.proofs.lemmas.List.Elements.{Contains-get_or}

@@ -23,3 +23,17 @@ pub mod Keys
 pub mod Renumbered
 pub mod DoubledLaw
 pub mod Wholly
+pub mod Repointed
+pub mod OtherChains
+pub mod Moving
+pub mod FaultsAlike
+pub mod Marked
+pub mod OneMoved
+pub mod Together
+pub mod OwnRun
+pub mod MovedRun
+pub mod Settling
+pub mod Meeting
+pub mod Ready
+pub mod OwnRuns
+pub mod SetCopies

@@ -1,6 +1,5 @@
 -- Where each block that no file holds is freed, none is left.
-use Rattle.std.proofs.Common.{◌≡◌, ℕ, ◌<◌, ap, sym, ◌∙◌, subst, Bool, true, false, cond, ◌&&◌, List, [], length, inl, inr}
-use Rattle.std.specs.Prelude.{◌↔◌, ◌⊎◌, nat_lt}
+use Rattle.std.proofs.Common.{◌≡◌, ℕ, ◌<◌, ap, sym, ◌∙◌, subst, true, false, cond, ◌&&◌, List, length, inl, inr}
 use Rattle.std.specs.List.{Contains}
 use Rattle.std.proofs.lemmas.Bool.{lt-ltb}
 use Rattle.ods_space.specs.Layout.{VolumeLayout}

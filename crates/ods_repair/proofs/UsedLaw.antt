@@ -1,6 +1,6 @@
 -- What it leaves that each held block which was marked free is marked as used.
-use Rattle.std.proofs.Common.{◌≡◌, ◌≢◌, ℕ, ◌+◌, ◌-◌, ◌<◌, refl, ap, sym, ◌∙◌, subst, Bool, true, false, cond, ◌&&◌, IsTrue, List, length, drop, get_or, Some, arith, inl, inr}
-use Rattle.std.specs.Prelude.{◌↔◌, ◌⊎◌, nat_lt, slice_get}
+use Rattle.std.proofs.Common.{◌≡◌, ◌≢◌, ℕ, ◌+◌, ◌-◌, ◌<◌, ap, sym, ◌∙◌, subst, true, false, cond, IsTrue, List, length, drop, get_or, Some, arith, inl, inr}
+use Rattle.std.specs.Prelude.{◌↔◌, ◌⊎◌, slice_get}
 use Rattle.std.specs.List.{Contains}
 use Rattle.std.specs.List.Sorted.{IsStrictlyIncreasing}
 use Rattle.std.proofs.lemmas.List.{get_or-drop, length-drop}
@@ -28,15 +28,7 @@ use Rattle.ods_repair.proofs.Framed.{contents_stay, read_as, read_back}
 use Rattle.ods_repair.proofs.FaultsKept.{KeepContents, directory_stays, fault_stays}
 use Rattle.ods_repair.proofs.FindingsKept.{KeepDirectories, directories_back, finding_stays}
 use Rattle.ods_repair.proofs.AtHome.{home_fault_stays}
-
--- both of two tests
-first_of : (a b : Bool) → (a && b) ≡ true → a ≡ true
-first_of true b e = refl
-first_of false b e = absurd (cc e)
-
-second_of : (a b : Bool) → (a && b) ≡ true → b ≡ true
-second_of true b e = e
-second_of false b e = absurd (cc e)
+use Rattle.ods_repair.proofs.Marked as marked
 
 -- a block of the storage bitmap by its place in BITMAP.SYS
 at_place : (L : VolumeLayout) (b : ℕ) → IsStorageBitmap L b → HasFrom L.bitmap 1 b
@@ -68,35 +60,8 @@ module _ (I J : List (List ℕ)) (L : VolumeLayout) (blocks : List ℕ) (layout 
   bits : (b : ℕ) → IsTrue (is_covered L b) → storage_bit J L b ≡ cond (is_one_of blocks b) false (storage_bit I L b)
   bits = m.bits
 
-  -- a free block was free, and is none of these
   free_was : (b : ℕ) → is_free_block J L b ≡ true → (is_free_block I L b ≡ true) × ¬ Contains blocks b
-  free_was b f =
-      let inside : nat_lt b (length J) ≡ true = first_of (nat_lt b (length J)) (is_covered L b && storage_bit J L b) f in
-      let rest : (is_covered L b && storage_bit J L b) ≡ true = second_of (nat_lt b (length J)) (is_covered L b && storage_bit J L b) f in
-      let covered : is_covered L b ≡ true = first_of (is_covered L b) (storage_bit J L b) rest in
-      let now : cond (is_one_of blocks b) false (storage_bit I L b) ≡ true = sym (bits b covered) ∙ second_of (is_covered L b) (storage_bit J L b) rest in
-      elim (among_or_not blocks b) [
-        | inl among ↦ absurd (let clash : false ≡ true = subst (λ o. cond o false (storage_bit I L b) ≡ true) among.0 now in cc)
-        | inr other ↦
-            let bit : storage_bit I L b ≡ true = subst (λ o. cond o false (storage_bit I L b) ≡ true) other.0 now in
-            let low : nat_lt b (length I) ≡ true = ap (λ k. nat_lt b k) (sym m.size) ∙ inside in
-            ((λ i. low i && (covered i && bit i)), other.1)
-      ]
-
-  -- one that was free and is none of these stays free
-  free_stays : (b : ℕ) → is_free_block I L b ≡ true → ¬ Contains blocks b → is_free_block J L b ≡ true
-  free_stays b f none =
-      let inside : nat_lt b (length I) ≡ true = first_of (nat_lt b (length I)) (is_covered L b && storage_bit I L b) f in
-      let rest : (is_covered L b && storage_bit I L b) ≡ true = second_of (nat_lt b (length I)) (is_covered L b && storage_bit I L b) f in
-      let covered : is_covered L b ≡ true = first_of (is_covered L b) (storage_bit I L b) rest in
-      let bit : storage_bit I L b ≡ true = second_of (is_covered L b) (storage_bit I L b) rest in
-      elim (among_or_not blocks b) [
-        | inl among ↦ absurd (none among.1)
-        | inr other ↦
-            let now : storage_bit J L b ≡ true = bits b covered ∙ ap (λ o. cond o false (storage_bit I L b)) other.0 ∙ bit in
-            let low : nat_lt b (length J) ≡ true = ap (λ k. nat_lt b k) m.size ∙ inside in
-            λ i. low i && (covered i && now i)
-      ]
+  free_was = marked.free_was I J L blocks m.size bits
 
   none : (n b : ℕ) → ¬ IsTrueOf J L (MarkedFree n b)
   none n b f =
@@ -122,16 +87,12 @@ module _ (I J : List (List ℕ)) (L : VolumeLayout) (blocks : List ℕ) (layout 
     marked = record {
       inside = subst (λ k. b < k) (sym m.size) h.marked.inside;
       covered = h.marked.covered;
-      used = bits b h.marked.covered ∙ ap (cond (is_one_of blocks b) false) h.marked.used ∙ both (is_one_of blocks b);
+      used = marked.used_stays I J L blocks m.size bits b h.marked.covered h.marked.used;
     };
     other = h.other;
     place = h.place;
     none = λ n v holds. h.none n v ((read.holds n v b).1 holds);
   }
-    where
-      both : (x : Bool) → cond x false false ≡ false
-      both true = refl
-      both false = refl
 
   unheld_was : (b : ℕ) → IsHeldByNone J L b → IsHeldByNone I L b
   unheld_was b h = record {
@@ -177,7 +138,7 @@ module _ (I J : List (List ℕ)) (L : VolumeLayout) (blocks : List ℕ) (layout 
       inl (inr (inr (inr (lbn, k, (read.homes lbn).0 at, place, below, inr (n, v, (read.holds n v k).0 holds, three, five, low)))))
   still (inr (inr (inr (lbn, k, at, place, below, inl f)))) = elim (among_or_not blocks k) [
     | inl among ↦ inr (lbn, k, at, place, below, (exactly k).0 among.1)
-    | inr other ↦ inl (inr (inr (inr (lbn, k, (read.homes lbn).0 at, place, below, inl (free_stays k f other.1)))))
+    | inr other ↦ inl (inr (inr (inr (lbn, k, (read.homes lbn).0 at, place, below, inl (marked.free_stays I J L blocks m.size bits k f other.1)))))
   ]
 
   -- each fault that is left was there

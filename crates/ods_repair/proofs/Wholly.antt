@@ -9,10 +9,9 @@ use Rattle.ods_mount.specs.declared.fault.MountFault.TheVariants.{NoHome, BadInd
 use Rattle.ods_mount.specs.Faults.{FaultIsTrue, IsSound, IsTrueAtHome, IsTrueOf}
 use Rattle.ods_mount.proofs.Layouts.{same_layout}
 use Rattle.ods_mount.proofs.Unlaid.{true_by_layout}
-use Rattle.ods_repair.specs.Doubled.{HasRenumbered}
 use Rattle.ods_repair.specs.Framed.{IsReadAs}
 use Rattle.ods_repair.specs.Used.{AreUsed}
-use Rattle.ods_repair.specs.Wholly.{AreRenumberedIn, IsAllRenumbered, IsAllUsed, IsMendable, MendedIsSound}
+use Rattle.ods_repair.specs.Wholly.{AreRenumberedIn, IsMendable, MendedIsSound}
 use Rattle.ods_repair.proofs.AtHome.{home_fault_stays}
 use Rattle.ods_repair.proofs.Framed.{read_back}
 

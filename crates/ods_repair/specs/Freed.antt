@@ -1,7 +1,6 @@
 -- Blocks that are marked used and that no file holds are freed: what that leaves, and when it is refused.
 use Rattle.std.specs.Prelude.{◌≡◌, ◌⊎◌, ◌↔◌, ℕ, ◌<◌, true, List, []}
 use Rattle.std.specs.List.{Contains}
-use Rattle.ods_base.specs.declared.file_id.FileId.{FileId}
 use Rattle.ods_space.specs.Layout.{VolumeLayout}
 use Rattle.ods_check.specs.declared.finding.Finding.{Finding}
 use Rattle.ods_check.specs.Findings.{IsHeldByNone, IsLostHeader, LacksHeader, id_at, unheld_line}

@@ -9,3 +9,7 @@ pub mod Used
 pub mod Doubled
 pub mod Noted
 pub mod Wholly
+pub mod Repointed
+pub mod Moved
+pub mod Unshared
+pub mod Settled

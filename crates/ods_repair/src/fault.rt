@@ -33,6 +33,15 @@ pub enum RepairFault {
     /// The file has this block twice.
     #[error("file {0} has block {1} twice")]
     RepeatedBlock(u16, u32),
+    /// The file is one of the volume's own, whose blocks stay where they are.
+    #[error("file {0} is one of the volume's own, whose blocks stay where they are")]
+    Reserved(u16),
+    /// The file has no whole chain.
+    #[error("the chain of file {0} is not whole")]
+    NoChain(u16),
+    /// A file holds this block, and it is marked as free.
+    #[error("block {0} is held and is marked as free: `repair used` marks it as used")]
+    HeldFree(u32),
     /// There is no directory of this number with a whole chain.
     #[error("it is no directory whose blocks are known")]
     NoDirectory,

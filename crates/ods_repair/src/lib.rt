@@ -10,7 +10,10 @@ mod laws;
 mod lost_file;
 mod noted;
 mod removing;
+mod repointing;
+mod run_moving;
 mod spare;
+mod unsharing;
 mod used;
 
 pub use doubling::renumber_doubles;
@@ -20,4 +23,5 @@ pub use freeing::free_unheld;
 pub use laws::mended_is_sound;
 pub use lost_file::LostFile;
 pub use removing::remove_dangling;
+pub use unsharing::{Unshared, unshare};
 pub use used::mark_used;

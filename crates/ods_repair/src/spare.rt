@@ -29,7 +29,12 @@ pub(crate) fn check_spare(
 }
 
 /// The file has no block twice.
-fn check_once(alloc: Global, disk: &Disk<'_>, file: u16, blocks: &[u32]) -> Result<(), RepairFault>
+pub(crate) fn check_once(
+    alloc: Global,
+    disk: &Disk<'_>,
+    file: u16,
+    blocks: &[u32],
+) -> Result<(), RepairFault>
     requires { AreInside disk.now.image.now blocks.now }
     ensures ok { OnOk result (AreOnce blocks.now) }
     ensures err { (first : ℕ) → IfErr result (on IsNotSpare disk.now file blocks.now first) }

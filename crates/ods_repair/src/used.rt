@@ -54,7 +54,7 @@ fn mark_all(image: &mut Image, layout: &Layout, blocks: &[u32])
 }
 
 /// Marks this block as used, where the storage bitmap covers it.
-fn mark_one(image: &mut Image, layout: &Layout, lbn: u32)
+pub(crate) fn mark_one(image: &mut Image, layout: &Layout, lbn: u32)
     requires inside { All (λ b. b < length image.old) layout.now.bitmap }
     ensures { (IsTrue (is_covered layout.now lbn) × PutsBit image.old (block_bit layout.now lbn).0 (block_bit layout.now lbn).1 false image.new)
         ⊎ ((¬ IsTrue (is_covered layout.now lbn)) × (image.new ≡ image.old)) }

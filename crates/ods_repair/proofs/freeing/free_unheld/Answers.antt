@@ -1,4 +1,4 @@
-use Rattle.std.proofs.Common.{◌≡◌, ℕ, true, subst, sym, List, []}
+use Rattle.std.proofs.Common.{ℕ, true, subst, sym, []}
 use Rattle.std.specs.Prelude.{◌↔◌}
 use Rattle.std.specs.List.{All, Contains}
 use Rattle.ods_amend.specs.Bits.{IsLoose}
