@@ -21,4 +21,5 @@ mod mounts;
 mod poor_chains;
 mod samples;
 mod savings;
+mod shares;
 mod walks;
