@@ -50,7 +50,7 @@ each_zero a zeros k = by (cases_lt k (length a))
     by (inl small) = eqb-true (get_or a k 0) 0 (AllPass-from_list_all (λ x. x == 0) a zeros k 0 small)
     by (inr past) = get_or_past a k 0 past
 
-end_at_zero : (a : List ℕ) → are_zeros a ≡ true → end_of a ≡ 0
+pub end_at_zero : (a : List ℕ) → are_zeros a ≡ true → end_of a ≡ 0
 end_at_zero a zeros =
     let none : end_block a ≡ 0 = omega (arith, each_zero a zeros 8, each_zero a zeros 9, each_zero a zeros 10, each_zero a zeros 11) in
     ap (λ t. cond t 0 ((end_block a - 1) * 512 + (get_or a 12 0 + 256 * get_or a 13 0))) (eq-eqb (end_block a) 0 none)

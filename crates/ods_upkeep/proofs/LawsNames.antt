@@ -118,7 +118,7 @@ put_as_it_is C d is =
     λ i. record { files = files i; past = C.past; default = C.default }
 
 -- where there is a step, nothing refuses it
-not_faulty : (C D : Catalogue) (who : Uic) (r : Request) (a : Answer) → step C who r a ≡ Some D → fault_of C who r ≡ None
+pub not_faulty : (C D : Catalogue) (who : Uic) (r : Request) (a : Answer) → step C who r a ≡ Some D → fault_of C who r ≡ None
 unfolding step
 not_faulty C D who r a e = is_none_some (fault_of C who r) (by (is_some (fault_of C who r)) (change C who r a) e)
   where
@@ -184,21 +184,30 @@ removing C D who d name version a e =
 found_itself : (names : NameMap) (name : RadName) (version : ℕ) (file : FileId) → map.get names (key_of name version) ≡ Some file → unwrap_or (picked_version names name (Exact version)) 0 ≡ version
 found_itself names name version file there = ap (λ (o : Option FileId). unwrap_or (cond (is_some o) (Some version) None) 0) there
 
--- A file that is no directory stays as it is when it is entered.
-pub other_file : (C D : Catalogue) (who : Uic) (dir file : FileId) (name : RadName) (given : Option ℕ) (a : Answer) (f : File) → step C who (Enter dir name given file) a ≡ Some D
-    → map.get C.files file ≡ Some f → is_directory f.body ≡ false → map.get D.files file ≡ Some f
-other_file C D who dir file name given a f e there plain =
-    others_stay C D who (Enter dir name given file) a file e (apart (entering C D who dir file name given a e).directory) ∙ there
+-- The answer to an Enter says the version under which the name is entered.
+pub answered_as : (C D : Catalogue) (who : Uic) (dir file : FileId) (name : RadName) (given : Option ℕ) (a : Answer) → step C who (Enter dir name given file) a ≡ Some D → a ≡ Entered (entered_version C dir name given)
+answered_as C D who dir file name given a e = (entering C D who dir file name given a e).answer
+
+-- Each file that is no directory stays as it is when a file is entered.
+pub plain_stays : (C D : Catalogue) (who : Uic) (dir file : FileId) (name : RadName) (given : Option ℕ) (a : Answer) (q : FileId) (f : File) → step C who (Enter dir name given file) a ≡ Some D
+    → map.get C.files q ≡ Some f → is_directory f.body ≡ false → map.get D.files q ≡ Some f
+plain_stays C D who dir file name given a q f e there plain =
+    others_stay C D who (Enter dir name given file) a q e (apart (entering C D who dir file name given a e).directory) ∙ there
   where
     one_file : (x y : File) → Some x ≡ Some y → x ≡ y
     one_file x y g = cc
 
-    apart : IsDirectoryOf C dir → Some dir ≡ Some file → ⊥
+    apart : IsDirectoryOf C dir → Some dir ≡ Some q → ⊥
     apart is same =
-        let one : dir ≡ file = cc in
+        let one : dir ≡ q = cc in
         let is_that : is.file ≡ f = one_file is.file f (sym is.there ∙ ap (map.get C.files) one ∙ there) in
         let wrong : true ≡ false = sym is.is_directory ∙ ap (λ (g : File). is_directory g.body) is_that ∙ plain in
         absurd (cc)
+
+-- so does the file that is entered
+pub other_file : (C D : Catalogue) (who : Uic) (dir file : FileId) (name : RadName) (given : Option ℕ) (a : Answer) (f : File) → step C who (Enter dir name given file) a ≡ Some D
+    → map.get C.files file ≡ Some f → is_directory f.body ≡ false → map.get D.files file ≡ Some f
+other_file C D who dir file name given a f e there plain = plain_stays C D who dir file name given a file f e there plain
 
 -- The name that was entered is there.
 pub entered_there : (C D : Catalogue) (who : Uic) (dir file : FileId) (name : RadName) (given : Option ℕ) (version : ℕ) → step C who (Enter dir name given file) (Entered version) ≡ Some D → HasEntry D dir name version file
@@ -231,6 +240,29 @@ entry_stays C D who dir file name given version other key e there =
         ∙ map.get-insert nat_list_cmp_total (names_of (file_at C dir).body) (key_of name version) file key
         ∙ either (eq_by_cmp (slice_cmp nat_cmp) key (key_of name version)) (map.get (names_of (file_at C dir).body) key) (ap (λ d. map.get (names_of (file_at C d).body) key) (sym is) ∙ there)
     by (inr apart) =
+        ap (λ o. map.get (names_of (unwrap_or o no_file).body) key) (get_other C dir (with_body (file_at C dir) (Directory (map.insert (names_of (file_at C dir).body) (key_of name version) file))) other apart.1) ∙ there
+
+-- Each entry that was there is there when a file is entered.
+pub entries_stay : (C D : Catalogue) (who : Uic) (dir file : FileId) (name : RadName) (given : Option ℕ) (version : ℕ) (other : FileId) (key : List ℕ) (held : FileId) → length name.words ≡ 3
+    → step C who (Enter dir name given file) (Entered version) ≡ Some D → map.get (names_of (file_at C other).body) key ≡ Some held → map.get (names_of (file_at D other).body) key ≡ Some held
+entries_stay C D who dir file name given version other key held three e there =
+    let made = entering C D who dir file name given (Entered version) e in
+    let none : map.get (names_of (file_at C dir).body) (key_of name version) ≡ None =
+    ap (λ v. map.get (names_of (file_at C dir).body) (key_of name v)) (answered C D dir file name given version made) ∙ not_there (names_of (file_at C dir).body) name given three made.open_for in
+    ap (λ (F : Catalogue). map.get (names_of (file_at F other).body) key) (left_as C D dir file name given version made) ∙ by none (ids other dir)
+  where
+    either : (m : NameMap) (k q : List ℕ) (b : Bool) → eq_by_cmp (slice_cmp nat_cmp) q k ≡ b → map.get m k ≡ None → map.get m q ≡ Some held → cond b (Some file) (map.get m q) ≡ Some held
+    either m k q true h none there = absurd (let wrong : None ≡ Some held = sym none ∙ ap (map.get m) (sym (equal_at keys_apart q k h)) ∙ there in cc)
+    either m k q false h none there = there
+
+    by : map.get (names_of (file_at C dir).body) (key_of name version) ≡ None → (other ≡ dir) ⊎ ((other ≢ dir) × (eq_by_cmp file_cmp other dir ≡ false))
+        → map.get (names_of (file_at (put_body C dir (Directory (map.insert (names_of (file_at C dir).body) (key_of name version) file))) other).body) key ≡ Some held
+    by none (inl is) =
+        ap (λ d. map.get (names_of (file_at (put_body C dir (Directory (map.insert (names_of (file_at C dir).body) (key_of name version) file))) d).body) key) is
+        ∙ ap (λ m. map.get m key) (names_there C dir (map.insert (names_of (file_at C dir).body) (key_of name version) file))
+        ∙ map.get-insert nat_list_cmp_total (names_of (file_at C dir).body) (key_of name version) file key
+        ∙ either (names_of (file_at C dir).body) (key_of name version) key (eq_by_cmp (slice_cmp nat_cmp) key (key_of name version)) refl none (ap (λ d. map.get (names_of (file_at C d).body) key) (sym is) ∙ there)
+    by none (inr apart) =
         ap (λ o. map.get (names_of (unwrap_or o no_file).body) key) (get_other C dir (with_body (file_at C dir) (Directory (map.insert (names_of (file_at C dir).body) (key_of name version) file))) other apart.1) ∙ there
 
 -- A name that is entered and removed again leaves the catalogue as it was.

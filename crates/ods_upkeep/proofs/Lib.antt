@@ -17,6 +17,12 @@ pub mod LawsShown
 pub mod LawsNames
 pub mod LawsUndone
 pub mod LawsGot
+pub mod LawsKept
+pub mod LawsCompared
+pub mod LawsCopied
+pub mod LawsTrees
+pub mod PlainLines
+pub mod LawsPut
 pub mod Advising
 pub mod Below
 pub mod NameTexts

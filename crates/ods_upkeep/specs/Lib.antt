@@ -39,8 +39,10 @@ pub mod Untarred
 pub mod Ready
 pub mod CopiedFrom
 pub mod UncopiedFrom
+pub mod CopiesThere
 pub mod CopiedTree
 pub mod UncopiedTree
 pub mod Appended
 pub mod TreeNames
 pub mod TreePut
+pub mod PutBack

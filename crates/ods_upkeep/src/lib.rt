@@ -49,7 +49,10 @@ pub use copying_tree::copy_tree_from;
 pub use directories::{is_below_another, make_directories, remove_directories};
 pub use failure::{Failure, Why};
 pub use giving::{give_owner, give_protection};
-pub use laws::{append_puts_behind, get_gives_what_was_put, mv_there_and_back, rm_undoes_put};
+pub use laws::{
+    append_puts_behind, copied_is_there, copied_tree_is_there, copies_are_there, copy_is_there,
+    get_gives_what_was_put, leaf_comes_back, mv_there_and_back, rm_undoes_put, tree_comes_back,
+};
 pub use moving::move_names;
 pub use purging::purge_files;
 pub use put_fault::PutFault;
