@@ -116,6 +116,10 @@ class Loose:
         """Blocks that files hold and that are marked free."""
         return [lbn for lbn in sorted(self.holders) if self.free[lbn]]
 
+    def shared(self) -> list[int]:
+        """Blocks that are held twice."""
+        return [lbn for lbn, numbers in sorted(self.holders.items()) if len(numbers) > 1]
+
     def unheld(self) -> list[int]:
         """Blocks that are marked used and that no file holds."""
         return [lbn for lbn in range(1, self.blocks) if not self.free[lbn] and lbn not in self.holders and not is_home_place(lbn)]

@@ -217,13 +217,31 @@ class Damage:
         return True
 
     def shared(self) -> bool:
-        """A pointer of a file names a block of another, or in some of BITMAP.SYS or behind the end."""
+        """A pointer of a file names one block, of any file, of BITMAP.SYS or behind the end."""
         number = self.file()
         if number is None:
             return False
         volume = self.volume
         lbn = self.pick.choice([*volume.holders, MAP_PLACE + 1, volume.blocks, volume.blocks + 700])
         patch(self.image, 2 + number, 102, struct.pack("<BBH", 0, 0, lbn))
+        return True
+
+    def share(self) -> bool:
+        """A run of a file begins in another one, and leaves its own blocks free."""
+        number, volume = self.file(), self.volume
+        if number is None or number in volume.directories or not volume.header(number)[100]:
+            return False
+        high, count, low = struct.unpack_from("<BBH", volume.header(number), 102)
+        own = range(high << 16 | low, (high << 16 | low) + count + 1)
+        places = [lbn for lbn, numbers in volume.holders.items() if min(numbers) > 5 and numbers != [number] and lbn + count < volume.blocks]
+        if not places:
+            return False
+        lbn = self.pick.choice(places)
+        for block in own:
+            set_bit(self.image, MAP_PLACE + 1, block, volume.holders.get(block) == [number])
+        for block in range(lbn, lbn + count + 1):
+            set_bit(self.image, MAP_PLACE + 1, block, False)
+        patch(self.image, 2 + number, 102, struct.pack("<BBH", lbn >> 16, count, lbn & 0xFFFF))
         return True
 
     def double(self) -> bool:
@@ -264,14 +282,14 @@ class Damage:
         return True
 
 
-KINDS = ("used", "double", "names", "lost", "free")
+KINDS = ("used", "share", "double", "names", "lost", "free")
 OTHERS = ("nameless", "sum", "shared", "chain", "headless", "flagged")
 
 
 def damaged(pick: random.Random) -> tuple[bytes, list[str]]:
     """A random image, and what was done to it."""
     damage = Damage(pick, bytearray(Maker(pick).bytes()))
-    kinds = [kind for kind in KINDS if pick.random() < (0.2 if kind == "double" else 0.5)] * pick.choice((1, 1, 2)) if pick.random() < 0.97 else []
+    kinds = [kind for kind in KINDS if pick.random() < (0.2 if kind == "double" else 0.3 if kind == "share" else 0.5)] * pick.choice((1, 1, 2)) if pick.random() < 0.97 else []
     others = pick.choices(OTHERS, k=pick.choice((1, 1, 2))) if pick.random() < 0.3 else []
     # Others first: what they spoil is found in a volume that is sound.
     done = [kind for kind in [*others, *sorted(kinds, key=KINDS[::-1].index)] if getattr(damage, kind)()]

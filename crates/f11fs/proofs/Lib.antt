@@ -20,3 +20,4 @@ pub mod Appended
 mod TreeLists
 pub mod HostTimes
 mod TreesKept
+pub mod Shares

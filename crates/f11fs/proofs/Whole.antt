@@ -72,7 +72,7 @@ none_lost before [] now = (now, refl)
 none_lost before (id ∷ ids) now = absurd (cc now)
 
 -- where nothing is told as left there are no more faults, and nothing was told before
-none_more : (more : ℕ) (m n : Bool) → n ≡ (if more == 0 then m else true) → n ≡ false → (more ≡ 0) × (m ≡ false)
+pub none_more : (more : ℕ) (m n : Bool) → n ≡ (if more == 0 then m else true) → n ≡ false → (more ≡ 0) × (m ≡ false)
 none_more more m n is now = by (more == 0) refl is
   where
     by : (z : Bool) → (more == 0) ≡ z → n ≡ (if z then m else true) → (more ≡ 0) × (m ≡ false)

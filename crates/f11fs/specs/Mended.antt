@@ -1,7 +1,7 @@
 -- What `repair` leaves of an image: the kinds that are asked for, one after another.
 use Rattle.std.specs.Prelude.{◌≡◌, ◌⊎◌, ◌||◌, ℕ, Bool, true, false, List, [], ◌∷◌, Option, Some, None}
 use Rattle.std.specs.Borrow.{Bor}
-use Rattle.std.specs.List.{All}
+use Rattle.std.specs.List.{All, Contains}
 use Rattle.ods_base.specs.declared.file_id.FileId.{FileId}
 use Rattle.ods_base.specs.declared.file_id.Uic.{Uic}
 use Rattle.ods_space.specs.Files.{IsLayoutOf}
@@ -9,10 +9,12 @@ use Rattle.ods_space.specs.Layout.{VolumeLayout}
 use Rattle.ods_mount.specs.Faults.{FaultIsTrue, IsTrueOf}
 use Rattle.ods_mount.specs.Sound.{IsSoundBy}
 use Rattle.ods_mount.specs.declared.fault.MountFault.{MountFault}
-use Rattle.ods_mount.specs.declared.fault.MountFault.TheVariants.{DuplicateName}
+use Rattle.ods_mount.specs.declared.fault.MountFault.TheVariants.{DoublyUsed, DuplicateName}
 use Rattle.ods_mount.specs.declared.fault.MountFault.TheVariants as faulty
 use Rattle.ods_check.specs.Findings.{IsLostFile}
 use Rattle.ods_check.specs.declared.dangling_list.Dangling.{Dangling}
+use Rattle.ods_check.specs.declared.fault_line.FaultLine.{FaultLine}
+use Rattle.ods_check.specs.declared.fault_line.FaultLine.TheVariants.{Shared}
 use Rattle.ods_check.specs.declared.finding.Finding.{Finding}
 use Rattle.ods_filing.specs.Filed.{Filed}
 use Rattle.ods_paths.specs.Paths.{Said, Says}
@@ -20,11 +22,13 @@ use Rattle.ods_repair.specs.Cleared.{IsCleared}
 use Rattle.ods_repair.specs.Doubled.{HasRenumbered, IsNotRenumbered}
 use Rattle.ods_repair.specs.Found.{IsFound}
 use Rattle.ods_repair.specs.Freed.{IsFreed, IsNotFreed}
+use Rattle.ods_repair.specs.Unshared.{HasOwnRuns, IsNotUnshared}
 use Rattle.ods_repair.specs.Used.{AreUsed, IsBitmapFault}
-use Rattle.ods_repair.specs.Wholly.{IsAllRenumbered, IsAllUsed}
+use Rattle.ods_repair.specs.Wholly.{IsAllRenumbered, IsAllUnshared, IsAllUsed}
 use Rattle.ods_repair.specs.declared.fault.RepairFault.{RepairFault}
 use Rattle.ods_repair.specs.declared.fault.RepairFault.TheVariants as unmended
 use Rattle.ods_repair.specs.declared.lost_file.LostFile.{LostFile}
+use Rattle.ods_repair.specs.declared.unsharing.Unshared.{Unshared}
 use Rattle.ods_shell.specs.Named.{AreNamedBy, highest}
 use Rattle.ods_shell.specs.declared.alone.Alone.TheVariants as alone
 use Rattle.ods_shell.specs.declared.facts.Facts.{Facts}
@@ -56,6 +60,28 @@ LeavesDirectory L d I J = HasRenumbered I L d J ⊎ ((J ≡ I) × ((why : Repair
 abbrev pub LeavesDirectories : VolumeLayout → List ℕ → List (List ℕ) → List (List ℕ) → Type 0
 LeavesDirectories L [] I J = J ≡ I
 LeavesDirectories L (d ∷ ds) I J = (mid : List (List ℕ)) × LeavesDirectory L d I mid × LeavesDirectories L ds mid J
+
+-- the line tells of a pair of files that share blocks, of which this is the later one
+abbrev pub TellsLater : FaultLine → ℕ → Type 0
+TellsLater line n = (m : ℕ) × (b : ℕ) × (count : ℕ) × (line ≡ Shared m n b count)
+
+-- one of the lines does
+abbrev pub IsToldAsShared : List FaultLine → ℕ → Type 0
+IsToldAsShared lines n = (m : ℕ) × (b : ℕ) × (count : ℕ) × Contains lines (Shared m n b count)
+
+-- runs of file n have blocks of their own; or that is refused, and nothing is done
+abbrev pub LeavesFile : VolumeLayout → ℕ → List (List ℕ) → List (List ℕ) → Type 0
+LeavesFile L n I J = ((told : Unshared) × HasOwnRuns I L n told J) ⊎ ((J ≡ I) × ((why : RepairFault) × IsNotUnshared I L n why))
+
+-- so it is with each of these, one after another
+abbrev pub LeavesFiles : VolumeLayout → List ℕ → List (List ℕ) → List (List ℕ) → Type 0
+LeavesFiles L [] I J = J ≡ I
+LeavesFiles L (n ∷ ns) I J = (mid : List (List ℕ)) × LeavesFile L n I mid × LeavesFiles L ns mid J
+
+-- what `share` leaves: of files that share blocks with files before them, or have blocks twice, runs have blocks of their own
+abbrev pub LeavesShared : Bool → List (List ℕ) → List (List ℕ) → Type 0
+LeavesShared false I J = J ≡ I
+LeavesShared true I J = (L : VolumeLayout) × (ns : List ℕ) × IsLayoutOf I L × All (λ n. (m : ℕ) × (b : ℕ) × IsTrueOf I L (DoublyUsed m n b)) ns × LeavesFiles L ns I J
 
 -- what `double` leaves: in directories that have names which are one, the second gets the next version
 abbrev pub LeavesDouble : Bool → List (List ℕ) → List (List ℕ) → Type 0
@@ -137,7 +163,8 @@ LeavesRest true kinds stamp into I J = LeavesMounted kinds stamp into I J
 
 -- What `repair` leaves of the blocks of an image.
 abbrev pub IsMended : Repairs → List ℕ → Bor (List ℕ) → List (List ℕ) → List (List ℕ) → Type 0
-IsMended kinds stamp into I J = (H : List (List ℕ)) × (K : List (List ℕ)) × LeavesUsed kinds.used I H × LeavesDouble kinds.double H K × LeavesRest (wants_sound kinds) kinds stamp into K J
+IsMended kinds stamp into I J =
+    (G : List (List ℕ)) × (H : List (List ℕ)) × (K : List (List ℕ)) × LeavesUsed kinds.used I G × LeavesShared kinds.share G H × LeavesDouble kinds.double H K × LeavesRest (wants_sound kinds) kinds stamp into K J
 
 -- nothing is told as left now, and so nothing was before, and this holds
 abbrev pub Wholly : Bool → Bool → Type 0 → Type 0
@@ -147,6 +174,11 @@ Wholly before now P = now ≡ false → (before ≡ false) × P
 abbrev pub IsWhollyUsed : Bool → List (List ℕ) → List (List ℕ) → Type 0
 IsWhollyUsed false I J = J ≡ I
 IsWhollyUsed true I J = IsAllUsed I J
+
+-- so was `share`, of each file that shared blocks with one before it
+abbrev pub IsWhollyUnshared : Bool → List (List ℕ) → List (List ℕ) → Type 0
+IsWhollyUnshared false I J = J ≡ I
+IsWhollyUnshared true I J = IsAllUnshared I J
 
 -- so was `double`, in each directory that had two names which are one
 abbrev pub IsWhollyRenumbered : Bool → List (List ℕ) → List (List ℕ) → Type 0
@@ -181,4 +213,4 @@ IsRestWhollyMended true kinds stamp into I J = IsMountedWhollyMended kinds stamp
 -- What `repair` leaves where it tells of nothing that is left: each kind that is asked for was made, and nothing of it is there any more.
 abbrev pub IsWhollyMended : Repairs → List ℕ → Bor (List ℕ) → List (List ℕ) → List (List ℕ) → Type 0
 IsWhollyMended kinds stamp into I J =
-    (H : List (List ℕ)) × (K : List (List ℕ)) × IsWhollyUsed kinds.used I H × IsWhollyRenumbered kinds.double H K × IsRestWhollyMended (wants_sound kinds) kinds stamp into K J
+    (G : List (List ℕ)) × (H : List (List ℕ)) × (K : List (List ℕ)) × IsWhollyUsed kinds.used I G × IsWhollyUnshared kinds.share G H × IsWhollyRenumbered kinds.double H K × IsRestWhollyMended (wants_sound kinds) kinds stamp into K J

@@ -19,6 +19,7 @@ mod lines;
 mod looking;
 mod making;
 mod mending;
+mod mending_shares;
 mod orders;
 mod putting;
 mod putting_tree;

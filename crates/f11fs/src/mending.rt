@@ -9,6 +9,7 @@ ghost use Rattle.fs_reads.specs.declared.stop.Stop.{Stop as End};
 ghost use Rattle.f11fs.specs.Mended.{EntersLost, HasDirectory, HasNoLost, IsDirectoryFound, IsDirectoryOf, IsMended, IsMountedWhollyMended, IsNotLaidOut, IsNotMended, IsOneDirectory, IsSoundWhollyMended, IsWhollyFreed, IsWhollyMended, IsWhollyRenumbered, IsWhollyUsed, LeavesDirectories, LeavesDirectory, LeavesDouble, LeavesFree, LeavesLost, LeavesMounted, LeavesNames, LeavesSound, LeavesUsed, LosesNone, Wholly, wants_sound};
 
 use crate::changing::{KEEPER, stop_failed};
+use crate::mending_shares::mend_share;
 use crate::repair_lines::{Report, push_free, push_lost, push_names, push_used};
 use fs_reads::{Stop, VolumeFault, stop_about};
 use fs_words::Repairs;
@@ -50,6 +51,7 @@ pub fn mend<'a>(
     ensures whole { IfOk result (λ J. Wholly report.old.is_left report.new.is_left (IsWhollyMended wishes.now.kinds wishes.now.stamp wishes.now.into image J)) }
 {
     let image = mend_used(alloc, image, wishes, report)?;
+    let image = mend_share(alloc, image, wishes, report)?;
     let image = mend_double(alloc, image, wishes, report)?;
     if !wants_sound(&wishes.kinds) {
         return Ok(image);
@@ -142,7 +144,7 @@ fn mend_double<'a>(
 }
 
 /// The end of a repair of an image without a layout, of which a mount answers this.
-fn unread<'a>(path: &'a str, answer: Option<MountFault>) -> Stop<'a>
+pub(crate) fn unread<'a>(path: &'a str, answer: Option<MountFault>) -> Stop<'a>
     ensures { MatchOption answer (result ≡ End.NoMemory) (λ fault. IsNotLaidOut path.entry fault result) }
 {
     match answer {

@@ -6,7 +6,7 @@ ghost use Rattle.f11fs.specs.Mended.{is_left_by};
 use ods_base::{FileId, print_title, print_type};
 use ods_check::{Dangling, Finding};
 use ods_mount::MountFault;
-use ods_repair::{LostFile, RepairFault};
+use ods_repair::{LostFile, RepairFault, Unshared};
 use std::alloc::{AllocError, Global};
 
 /// What repairs did, a line for each thing, and whether something stays that was to be repaired.
@@ -77,6 +77,73 @@ impl Report {
         writeln!(
             self.text,
             "double: the image has {more} more faults than this run looks at; run it once more"
+        )
+    }
+
+    /// Tells how many runs of a file have blocks of their own, and how many are left.
+    pub fn tell_shared(&mut self, file: u16, told: &Unshared) -> Result<(), AllocError>
+        ensures more { OnOk result (Extends (string_bytes self.old.text) (string_bytes self.new.text)) }
+        ensures left { self.new.is_left ≡ (if told.now.left == 0 then self.old.is_left else true) }
+    {
+        let Unshared { moved, left } = *told;
+        if left == 0 {
+            return writeln!(
+                self.text,
+                "share: file {file}: {moved} runs have blocks of their own"
+            );
+        }
+        self.is_left = true;
+        writeln!(
+            self.text,
+            "share: file {file}: {moved} runs have blocks of their own, and {left} runs or blocks find no free ones"
+        )
+    }
+
+    /// Tells that no run of a file has blocks of its own, and why.
+    pub fn tell_not_shared(
+        &mut self,
+        alloc: Global,
+        file: u16,
+        why: &RepairFault,
+    ) -> Result<(), AllocError>
+        ensures more { OnOk result (Extends (string_bytes self.old.text) (string_bytes self.new.text)) }
+        ensures left { self.new.is_left ≡ true }
+    {
+        self.is_left = true;
+        let said = format!(in alloc; "{why}")?;
+        writeln!(self.text, "share: file {file}: not done: {said}")
+    }
+
+    /// Tells that another run moves blocks of this file.
+    pub fn tell_share_later(&mut self, file: u16) -> Result<(), AllocError>
+        ensures more { OnOk result (Extends (string_bytes self.old.text) (string_bytes self.new.text)) }
+        ensures left { self.new.is_left ≡ true }
+    {
+        self.is_left = true;
+        writeln!(
+            self.text,
+            "share: file {file}: not done in this run; run it once more"
+        )
+    }
+
+    /// Tells that the index is bad, so that no file has blocks of its own.
+    pub fn tell_bad_index(&mut self) -> Result<(), AllocError>
+        ensures more { OnOk result (Extends (string_bytes self.old.text) (string_bytes self.new.text)) }
+        ensures left { self.new.is_left ≡ true }
+    {
+        self.is_left = true;
+        writeln!(self.text, "share: not done: the index is bad")
+    }
+
+    /// Tells that the image has more faults than a run looks at.
+    pub fn tell_more_shared(&mut self) -> Result<(), AllocError>
+        ensures more { OnOk result (Extends (string_bytes self.old.text) (string_bytes self.new.text)) }
+        ensures left { self.new.is_left ≡ true }
+    {
+        self.is_left = true;
+        writeln!(
+            self.text,
+            "share: not done: the image has more faults than a run looks at"
         )
     }
 

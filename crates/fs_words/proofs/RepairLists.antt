@@ -23,9 +23,9 @@ one_unknown ws unknown = sym (all_now names_repair ws) ∙ unknown
 abbrev pub Asked : List ℕ → List (Bor (List ℕ)) → Bool → Type 0
 Asked name ws asked = asked ≡ list_any (λ w. asks_for name w.now) ws
 
-pub are_repairs : (ws : List (Bor (List ℕ))) (used double names lost free : Bool) → Asked (codes "used") ws used → Asked (codes "double") ws double → Asked (codes "names") ws names
+pub are_repairs : (ws : List (Bor (List ℕ))) (used share double names lost free : Bool) → Asked (codes "used") ws used → Asked (codes "share") ws share → Asked (codes "double") ws double → Asked (codes "names") ws names
     → Asked (codes "lost") ws lost → Asked (codes "free") ws free
-    → ◌≡◌ {A = Repairs} (record { used = used; double = double; names = names; lost = lost; free = free }) (repairs_in (map (λ w. w.now) ws))
-are_repairs ws used double names lost free u d n l f =
-    rw (u ∙ any_now (asks_for (codes "used")) ws) (rw (d ∙ any_now (asks_for (codes "double")) ws) (rw (n ∙ any_now (asks_for (codes "names")) ws)
-    (rw (l ∙ any_now (asks_for (codes "lost")) ws) (rw (f ∙ any_now (asks_for (codes "free")) ws) refl))))
+    → ◌≡◌ {A = Repairs} (record { used = used; share = share; double = double; names = names; lost = lost; free = free }) (repairs_in (map (λ w. w.now) ws))
+are_repairs ws used share double names lost free u s d n l f =
+    rw (u ∙ any_now (asks_for (codes "used")) ws) (rw (s ∙ any_now (asks_for (codes "share")) ws) (rw (d ∙ any_now (asks_for (codes "double")) ws) (rw (n ∙ any_now (asks_for (codes "names")) ws)
+    (rw (l ∙ any_now (asks_for (codes "lost")) ws) (rw (f ∙ any_now (asks_for (codes "free")) ws) refl)))))

@@ -6,7 +6,7 @@ use Rattle.fs_words.specs.declared.actions.Repairs.{Repairs}
 
 -- the word names a repair, or all
 abbrev pub names_repair : List ℕ → Bool
-names_repair word = bytes_eq word (codes "used") || (bytes_eq word (codes "double") || (bytes_eq word (codes "names") || (bytes_eq word (codes "lost") || (bytes_eq word (codes "free") || bytes_eq word (codes "all")))))
+names_repair word = bytes_eq word (codes "used") || (bytes_eq word (codes "share") || (bytes_eq word (codes "double") || (bytes_eq word (codes "names") || (bytes_eq word (codes "lost") || (bytes_eq word (codes "free") || bytes_eq word (codes "all"))))))
 
 -- the word asks for the repair of this name
 abbrev pub asks_for : List ℕ → List ℕ → Bool
@@ -20,6 +20,7 @@ is_asked_for name words = list_any (asks_for name) words
 abbrev pub repairs_in : List (List ℕ) → Repairs
 repairs_in words = record {
   used = is_asked_for (codes "used") words;
+  share = is_asked_for (codes "share") words;
   double = is_asked_for (codes "double") words;
   names = is_asked_for (codes "names") words;
   lost = is_asked_for (codes "lost") words;

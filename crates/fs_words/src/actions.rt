@@ -149,6 +149,8 @@ pub struct FromWords<'a> {
 pub struct Repairs {
     /// Blocks that files hold and that the storage bitmap says are free are marked as used.
     pub used: bool,
+    /// Runs of files with blocks that other files hold too, or that are in the file twice, get blocks of their own.
+    pub share: bool,
     /// Of two entries with one name and version the second gets the next version.
     pub double: bool,
     /// Entries that name no file are removed.

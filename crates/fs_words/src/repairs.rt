@@ -18,7 +18,7 @@ pub(crate) fn known_kinds(alloc: Global, words: &[&str]) -> Result<Repairs, Word
         return Err(wrong(
             alloc,
             word,
-            "names no repair: say used, double, names, lost, free or all",
+            "names no repair: say used, share, double, names, lost, free or all",
         )?);
     }
     Ok(repairs_in(words))
@@ -30,6 +30,7 @@ fn repairs_in(words: &[&str]) -> Repairs
 {
     Repairs {
         used: is_asked_for(words, "used"),
+        share: is_asked_for(words, "share"),
         double: is_asked_for(words, "double"),
         names: is_asked_for(words, "names"),
         lost: is_asked_for(words, "lost"),
@@ -68,6 +69,7 @@ fn names_repair(word: &str) -> bool
     ensures { result ≡ names_repair word.now }
 {
     word == "used"
+        || word == "share"
         || word == "double"
         || word == "names"
         || word == "lost"

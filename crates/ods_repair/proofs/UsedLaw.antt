@@ -1,5 +1,5 @@
 -- What it leaves that each held block which was marked free is marked as used.
-use Rattle.std.proofs.Common.{◌≡◌, ◌≢◌, ℕ, ◌+◌, ◌-◌, ◌<◌, ap, sym, ◌∙◌, subst, true, false, cond, IsTrue, List, length, drop, get_or, Some, arith, inl, inr}
+use Rattle.std.proofs.Common.{◌≡◌, ◌≢◌, ℕ, ◌+◌, ◌-◌, ◌<◌, refl, ap, sym, ◌∙◌, subst, true, false, cond, IsTrue, List, [], length, drop, get_or, Some, arith, inl, inr}
 use Rattle.std.specs.Prelude.{◌↔◌, ◌⊎◌, slice_get}
 use Rattle.std.specs.List.{Contains}
 use Rattle.std.specs.List.Sorted.{IsStrictlyIncreasing}
@@ -13,7 +13,7 @@ use Rattle.ods_alloc.specs.Extend.{IsStorageBitmap, is_one_of}
 use Rattle.ods_alloc.specs.Marks.{MarksBlocks}
 use Rattle.ods_mount.specs.declared.fault.MountFault.{MountFault}
 use Rattle.ods_mount.specs.declared.fault.MountFault.TheVariants.{NoHome, BadIndex, BadStorageMap, BadMaster, UnsupportedMap, BadChain, OutsideVolume, DoublyUsed, MarkedFree, BadDirectory, DuplicateName, NoMemory}
-use Rattle.ods_mount.specs.Faults.{CouldBeWritten, HasBadIndex, IsDirectoryFile, IsSound, IsTrueAtHome, IsTrueOf}
+use Rattle.ods_mount.specs.Faults.{CouldBeWritten, FaultIsTrue, HasBadIndex, IsDirectoryFile, IsSound, IsTrueAtHome, IsTrueOf}
 use Rattle.ods_mount.proofs.Each.{holds_at}
 use Rattle.ods_mount.proofs.Layouts.{same_layout}
 use Rattle.ods_mount.proofs.Unlaid.{true_by_layout}
@@ -180,3 +180,25 @@ module _ (I J : List (List ℕ)) (L : VolumeLayout) (blocks : List ℕ) (layout 
     findings = findings;
     sound = sound;
   }
+
+-- where no held block is free, the image is as it is to be
+pub none_used : (I : List (List ℕ)) (L : VolumeLayout) → IsLayoutOf I L → ((b : ℕ) → ¬ IsHeldFree I L b) → AreUsed I L [] I
+none_used I L layout free = record {
+  exactly = λ b. ((λ c. let low = c.1 in absurd (omega (arith, low))), λ f. absurd (free b f));
+  rising = λ k within. absurd (omega (arith, within));
+  bits = λ b covered. refl;
+  elsewhere = λ b away. refl;
+  read = read_as I I L layout (record { long = refl; own = λ b own. refl });
+  contents = λ n bs other has. refl;
+  none = λ n b f. free b (n, f);
+  faults = λ fault of. ((λ f. f), (λ f. f));
+  index = λ f. f;
+  still = λ f. inl f;
+  findings = λ finding. ((λ f. f), (λ f. f));
+  sound = λ only fault f.
+      let one = only fault f in
+      elim (subst (λ (g : MountFault). FaultIsTrue I g) one.2 f) [
+        | inl home ↦ home
+        | inr (M, seen, here) ↦ free one.1 (one.0, subst (λ N. IsTrueOf I N (MarkedFree one.0 one.1)) (same_layout I L M layout seen) here)
+      ];
+}

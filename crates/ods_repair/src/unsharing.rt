@@ -36,8 +36,8 @@ enum Outcome {
     Left,
 }
 
-/// Gives each run of a file that has a block which another file holds too, or which the file has before it, blocks of its own: those of the lowest run of free
-/// blocks that is long enough, with the same bytes. What no run of free blocks can take, and what extension headers name, is left and counted. Blocks that the
+/// Gives runs of a file blocks of their own, where they have a block that another file holds too or that the file has before it. A run moves with its bytes to
+/// the lowest run of free blocks that is long enough. What finds no such run, and what extension headers name, is left and counted. Blocks that the
 /// file leaves stay marked as used. The image may be one that a mount refuses, but its index is good. Refused, the image is as it was.
 pub fn unshare(
     alloc: Global,

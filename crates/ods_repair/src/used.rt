@@ -1,5 +1,5 @@
 //! `repair used`: blocks that files hold and that the storage bitmap says are free become used, in an image that a mount refuses.
-ghost use Rattle.std.specs.Prelude.{◌≡◌, ◌↔◌, ◌⊎◌, ◌<◌, ℕ, false, length, IfErr, IfOk, IsTrue, OnErr, OnOk};
+ghost use Rattle.std.specs.Prelude.{◌≡◌, ◌≢◌, ◌↔◌, ◌⊎◌, ◌<◌, ℕ, [], false, length, IfErr, IfOk, IsTrue, OnErr};
 ghost use Rattle.std.specs.{List.All, List.Contains, List.Sorted.IsStrictlyIncreasing};
 ghost use Rattle.ods_space.specs.{Disks.on, Files.IsLayoutOf, Free.is_covered};
 ghost use Rattle.ods_alloc.specs.Marks.{MarksBlocks, PutsBit, block_bit};
@@ -14,31 +14,40 @@ use ods_space::{Disk, Layout};
 use std::alloc::Global;
 
 /// Marks as used each block that a file with a whole chain holds and that the storage bitmap says is free. It gives these blocks by their LBNs, ascending. The image may be
-/// one that a mount refuses. It is refused where the storage bitmap cannot change alone: one of its blocks is a place of a home block, of the index bitmap
-/// or of headers 1 to 16, or another file holds it, or BITMAP.SYS has a block twice. Refused, the image is as it was.
+/// one that a mount refuses. Where there are such blocks it is refused if the storage bitmap cannot change alone: one of its blocks is a place of a home
+/// block, of the index bitmap or of headers 1 to 16, or another file holds it, or BITMAP.SYS has a block twice. Refused, the image is as it was.
 pub fn mark_used(alloc: Global, image: &mut Image, layout: &Layout) -> Result<Vec<u32>, RepairFault>
     requires { IsLayoutOf image.old layout.now }
     // These blocks are used then, and nothing else was done.
     ensures used { IfOk result (λ blocks. AreUsed image.old layout.now blocks.items image.new) }
     // The storage bitmap cannot change alone, or there is no memory.
     ensures refused { IfErr result (IsBitmapFault image.old layout.now) }
+    // Where it cannot, there is such a block.
+    ensures left { IfErr result (λ why. (why ≡ RepairFault.NoMemory) ⊎ ((b : ℕ) × IsHeldFree image.old layout.now b)) }
     ensures unchanged { OnErr result (image.new ≡ image.old) }
 {
     let blocks = find_marks(alloc, &Disk { image, layout })?;
+    if blocks.len() == 0 {
+        return Ok(blocks);
+    }
     mark_all(image, layout, &blocks);
     Ok(blocks)
 }
 
-/// The blocks that files hold and that are marked free, where the storage bitmap can change alone.
+/// The blocks that files hold and that are marked free. Where there are some the storage bitmap can change alone.
 fn find_marks(alloc: Global, disk: &Disk<'_>) -> Result<Vec<u32>, RepairFault>
     requires { on IsLayoutOf disk.now }
-    ensures apart { OnOk result (on IsBitmapApart disk.now) }
+    ensures apart { IfOk result (λ blocks. blocks.items ≢ [] → on IsBitmapApart disk.now) }
     ensures blocks { IfOk result (λ blocks. (b : ℕ) → Contains blocks.items b ↔ on IsHeldFree disk.now b) }
     ensures ascending { IfOk result (λ blocks. IsStrictlyIncreasing blocks.items) }
     ensures refused { IfErr result (on IsBitmapFault disk.now) }
+    ensures left { IfErr result (λ why. (why ≡ RepairFault.NoMemory) ⊎ ((b : ℕ) × on IsHeldFree disk.now b)) }
 {
-    check_spare(alloc, disk, 2, disk.layout.bitmap(), 1)?;
     let blocks = find_free_held_blocks(alloc, disk)?;
+    if blocks.len() == 0 {
+        return Ok(blocks);
+    }
+    check_spare(alloc, disk, 2, disk.layout.bitmap(), 1)?;
     Ok(blocks)
 }
 

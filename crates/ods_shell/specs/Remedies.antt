@@ -38,7 +38,7 @@ rows =
     (codes "UnsupportedMap", codes "a header has pointers of another format than 1", codes "'rescue' gets the other files") ∷
     (codes "BadChain", codes "the headers of a file do not go on as they say", codes "'rescue' gets the other files") ∷
     (codes "OutsideVolume", codes "a file goes on behind the end of the image", codes "with '--blocks N' an image that was cut short reads as its N blocks; 'rescue' gets the other files") ∷
-    (codes "DoublyUsed", codes "two files hold one block, or one file holds it twice", codes "'check --all' lists all such blocks, and 'rescue' gets the files") ∷
+    (codes "DoublyUsed", codes "two files hold one block, or one file holds it twice", codes "'repair share' gives each file blocks of its own, and 'check --all' lists all such blocks") ∷
     (codes "MarkedFree", codes "a file holds a block that BITMAP.SYS says is free", codes "'repair used' marks all such blocks as used, and 'check --all' lists them") ∷
     (codes "BadDirectory", codes "an entry of a directory is no lawful one", codes "'check --all' lists all such directories, and 'rescue' gets the files") ∷
     (codes "DuplicateName", codes "two entries of a directory have one name, type and version", codes "'repair double' gives one of them another version, and 'check --all' lists all") ∷

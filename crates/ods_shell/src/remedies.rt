@@ -206,7 +206,7 @@ const ROWS: [Row; 32] = [
         name: "DoublyUsed",
         advice: Advice {
             why: "two files hold one block, or one file holds it twice",
-            what: "'check --all' lists all such blocks, and 'rescue' gets the files",
+            what: "'repair share' gives each file blocks of its own, and 'check --all' lists all such blocks",
         },
     },
     Row {

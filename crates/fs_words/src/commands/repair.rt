@@ -13,6 +13,7 @@ use std::alloc::Global;
 /// What the help says of the kinds.
 const KINDS_HELP: &str = "What to repair, as check --all finds it:
 used: mark blocks of files as used that are marked as free
+share: give runs of files with blocks that files before them hold too blocks of their own
 double: give the second of two entries with one name and version the next version
 names: remove entries that name no file
 lost: enter files that no directory names in a directory
