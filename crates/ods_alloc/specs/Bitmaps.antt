@@ -31,6 +31,11 @@ abbrev pub counts_in : List (List ℕ) → VolumeLayout → Bitmap → List ℕ
 counts_in I L Storage = free_counts I L
 counts_in I L Index = clear_counts I L.home
 
+-- from its first block on so many blocks stand one behind the other, or none is known to
+pub record IsRun (L : VolumeLayout) (m : Bitmap) (run : ℕ) : Type 0 where
+  pub within : run ≤ size_of L m
+  pub places : (j : ℕ) → j < run → place_in L m j ≡ place_in L m 0 + j
+
 -- from block k on so many blocks stand one behind the other
 pub record IsStretch (L : VolumeLayout) (m : Bitmap) (k many : ℕ) : Type 0 where
   pub some : 1 ≤ many

@@ -4,7 +4,7 @@ ghost use Rattle.std.specs.List.{sum};
 ghost use Rattle.ods_base.specs.Image.{block_at};
 ghost use Rattle.ods_space.specs.Draft.{applied};
 ghost use Rattle.ods_alloc.specs.Counts.{IsCountedTo, free_counts, clear_counts, low_bits_set};
-ghost use Rattle.ods_alloc.specs.Bitmaps.{IsNextChanged, IsStretch, counted, counts_in, place_in, size_of};
+ghost use Rattle.ods_alloc.specs.Bitmaps.{IsNextChanged, IsRun, IsStretch, counted, counts_in, place_in, size_of};
 ghost use Rattle.ods_space.specs.Disks.{seen};
 
 use crate::words::low_bits;
@@ -112,12 +112,26 @@ fn place_in(layout: &Layout, bitmap: Bitmap, k: usize) -> u64
     }
 }
 
-/// How many blocks of a bitmap from block `k` on stand one behind the other, as all do that are contiguous.
+/// How many blocks of a bitmap from its first one on are known to stand one behind the other: of the index bitmap all.
+fn run_in(layout: &Layout, bitmap: Bitmap) -> usize
+    ensures { IsRun layout.now bitmap result }
+{
+    match bitmap {
+        Bitmap::Storage => layout.bitmap_run(),
+        Bitmap::Index => layout.home().index_bitmap_size as usize,
+    }
+}
+
+/// How many blocks of a bitmap from block `k` on stand one behind the other. Only those behind the first run are looked at.
 fn stretch(layout: &Layout, bitmap: Bitmap, k: usize) -> usize
     requires { k < size_of layout.now bitmap }
     ensures { IsStretch layout.now bitmap k result }
 {
     let size = size_of(layout, bitmap);
+    let run = run_in(layout, bitmap);
+    if k < run {
+        return run - k;
+    }
     let first = place_in(layout, bitmap, k);
     let mut many = 1;
     while many < size - k && place_in(layout, bitmap, k + many) == first + many as u64 {

@@ -1,4 +1,5 @@
 pub mod Layout
+pub mod BitmapRun
 pub mod Disks
 pub mod Chain
 pub mod Files

@@ -2,9 +2,10 @@
 ghost use Rattle.std.specs.Prelude.{◌≡◌, ◌≤◌, IfOk, IfErr};
 ghost use Rattle.std.specs.Vec.{vec_capacity};
 ghost use Rattle.ods_header.specs.Home.{IsHomeOf as IsHome};
-ghost use Rattle.ods_space.specs.{Faults.IsLayoutFault as IsFault, Faults.IsOfIndex as IsOfFirst, Faults.IsWholeIndex, Layout.most_index_blocks as most_blocks, Layout.place_of, Layout.with_places};
+ghost use Rattle.ods_space.specs.{BitmapRun.IsBitmapRun, Faults.IsLayoutFault as IsFault, Faults.IsOfIndex as IsOfFirst, Faults.IsWholeIndex, Layout.most_index_blocks as most_blocks, Layout.place_of, Layout.with_places};
 
 use crate::LayoutFault;
+use crate::bitmap_blocks::BitmapBlocks;
 use crate::headers::{most_index_blocks, place};
 use crate::system::{read_bitmap, read_index};
 use ods_base::Image;
@@ -18,7 +19,7 @@ use std::marker::Model;
 pub struct Layout {
     home: Home,
     index: Vec<u32>,
-    bitmap: Vec<u32>,
+    bitmap: BitmapBlocks,
 }
 
 impl Model for Layout {
@@ -28,7 +29,7 @@ impl Model for Layout {
 
     ghost Value = { VolumeLayout };
 
-    ghost view = { λ l. record { home = l.home; index = l.index.items; bitmap = l.bitmap.items } };
+    ghost view = { λ l. record { home = l.home; index = l.index.items; bitmap = l.bitmap } };
 
     // Header 1 stands in an image; and there is room for the most blocks of INDEXF.SYS.
     ghost invariant = { λ l. (l.home.index_bitmap_lbn + l.home.index_bitmap_size ≤ 2 ^ 20) × (most_index_blocks l.home ≤ vec_capacity l.index) };
@@ -54,7 +55,7 @@ impl Layout {
             Ok(bitmap) => Ok(Layout {
                 home,
                 index,
-                bitmap,
+                bitmap: BitmapBlocks::of(bitmap),
             }),
             Err(fault) => Err(fault),
         }
@@ -72,7 +73,7 @@ impl Layout {
             Ok(index) => Ok(Layout {
                 home,
                 index,
-                bitmap: Vec::new(alloc),
+                bitmap: BitmapBlocks::none(alloc),
             }),
             Err(fault) => Err(fault),
         }
@@ -85,7 +86,7 @@ impl Layout {
         let room = most_index_blocks(&self.home).max(self.index.len());
         let mut index = Vec::with_capacity(*self.index.allocator(), room)?;
         index.extend_from_slice(&self.index)?;
-        let bitmap = Vec::from_slice(*self.bitmap.allocator(), &self.bitmap)?;
+        let bitmap = self.bitmap.copy()?;
         Ok(Layout {
             home: self.home,
             index,
@@ -112,6 +113,13 @@ impl Layout {
         ensures { result.now ≡ self.now.bitmap }
     {
         self.bitmap.as_slice()
+    }
+
+    /// How many of these stand one behind the other, from the first one that has bits on.
+    pub fn bitmap_run(&self) -> usize
+        ensures { IsBitmapRun self.now.bitmap result }
+    {
+        self.bitmap.run()
     }
 
     /// Puts these blocks, as LBNs, behind those of INDEXF.SYS, in their order. Those past the most that it may ever have are passed over; for

@@ -1,6 +1,7 @@
 //! Chains of headers, the bits of blocks and numbers, and drafts of Files-11 volumes of structure level 1.
 #![tactic(auto)]
 
+mod bitmap_blocks;
 mod bits;
 mod collect;
 mod cursor;

@@ -9,4 +9,4 @@ returns-in-Ok-clause-ok c =
     let found = c.in-Ok.ensures.ok in
     let P : List ℕ → Type 0 = λ bits. FindsFiles I (record { home = c.args.home; index = c.in-Ok.index.items; bitmap = bits }) in
     let finds = finds_files I (record { home = c.args.home; index = c.in-Ok.index.items; bitmap = [] }) c.requires found.0 found.1 found.2 in
-    (subst P (sym c.new.ensures.items) finds, refl, c.new.ensures.items)
+    (subst P (sym c.none.ensures) finds, refl, c.none.ensures)
