@@ -69,6 +69,26 @@ impl CompactAnswer {
         Ok(CompactAnswer { form })
     }
 
+    /// An answer that stays where it is once more, in little room. Only a block, a stat and the lines of a directory take memory.
+    pub fn copy_of(alloc: Global, answer: &Answer) -> Result<CompactAnswer, AllocError>
+        ensures ok { IfOk result (λ copy. copy ≡ answer.now) }
+        ensures err { OnErr result ((is_long answer.now ≡ true) ⊎ HasLines answer.now) }
+    {
+        let form = match answer {
+            Answer::Created(id) => AnswerForm::Created(*id),
+            Answer::Extended(count) => AnswerForm::Extended(*count),
+            Answer::Truncated(count) => AnswerForm::Truncated(*count),
+            Answer::Done => AnswerForm::Done,
+            Answer::Entered(version) => AnswerForm::Entered(*version),
+            Answer::Found(file, version) => AnswerForm::Found(*file, *version),
+            Answer::Removed(file, version) => AnswerForm::Removed(*file, *version),
+            Answer::Bytes(block) => AnswerForm::Bytes(block_in_a_box(alloc, block)?),
+            Answer::Names(lines) => AnswerForm::Names(lines.copy()?),
+            Answer::Info(stat) => AnswerForm::Info(Box::new(alloc, *stat)?),
+        };
+        Ok(CompactAnswer { form })
+    }
+
     /// An equal answer, in memory of its own. Only a block, a stat and the lines of a directory take memory.
     pub fn copy(&self, alloc: Global) -> Result<CompactAnswer, AllocError>
         ensures ok { IfOk result (λ copy. copy ≡ self.now) }

@@ -1,9 +1,9 @@
 //! Requests as lists keep them: in place, but for the block of a Write, which several may share.
-ghost use Rattle.std.specs.Prelude.{◌≡◌, ◌↔◌, IsTrue, IfOk, OnErr, true};
+ghost use Rattle.std.specs.Prelude.{◌≡◌, ◌↔◌, IsTrue, IfOk, OnErr, Some, true};
 ghost use Rattle.std.specs.Arc.{arc_value};
-ghost use Rattle.ods_request.specs.{CompactRequest.has_block, RequestForms.request_in};
+ghost use Rattle.ods_request.specs.{CompactRequest.has_block, Queries.request_of, RequestForms.request_in};
 
-use crate::requests::Request;
+use crate::requests::{Query, Request};
 use crate::stamps::Stamp;
 use ods_base::{Block, FileId, Name, Pick};
 use std::alloc::{AllocError, Global};
@@ -266,6 +266,25 @@ impl CompactRequest {
                 file: *file,
                 attributes: *attributes,
             },
+        }
+    }
+
+    /// The query that the request is, if it is one.
+    pub fn as_query(&self) -> Option<Query>
+        ensures { (q : Query) → (result ≡ Some q) ↔ (request_of q ≡ self.now) }
+    {
+        match &self.form {
+            RequestForm::LookUp { dir, name, pick } => Some(Query::LookUp {
+                dir: *dir,
+                name: *name,
+                pick: *pick,
+            }),
+            RequestForm::Read { file, vbn } => Some(Query::Read {
+                file: *file,
+                vbn: *vbn,
+            }),
+            RequestForm::Stat { file } => Some(Query::Stat { file: *file }),
+            _ => None,
         }
     }
 

@@ -3,12 +3,15 @@ use Rattle.std.proofs.Common.{◌≡◌, ℕ, ◌+◌, List, [], ◌∷◌, ◌+
 use Rattle.std.specs.Prelude.{Result, Ok, Err, IfOk, OnErr}
 use Rattle.ods_space.specs.Draft.{applied}
 use Rattle.ods_space.specs.Layout.{with_places}
+use Rattle.ods_base.specs.declared.file_id.Uic.{Uic}
 use Rattle.ods_request.specs.declared.answers.Answer.{Answer}
 use Rattle.ods_request.specs.declared.answers.Entry.{Entry}
 use Rattle.ods_request.specs.declared.refusals.Refusal.{Refusal}
+use Rattle.ods_request.specs.declared.requests.Request.{Request}
 use Rattle.ods_request.specs.Lists.{Begins}
 use Rattle.ods_state.specs.Version.{State}
 use Rattle.ods_state.specs.Outcome.{Accepts, Plan, carried_out}
+use Rattle.ods_volume.specs.Preparing.{IsMade}
 use Rattle.ods_views.specs.Viewers.{IsOpened, LeadsTo}
 use Rattle.ods_views.specs.declared.version.Change.{Change}
 use Rattle.ods_views.specs.declared.version.Version.{Version}
@@ -41,3 +44,9 @@ carried_on M opening limit v w p is was same = (
 pub grows : (old new : State) (e : Answer → Entry) (result : Result Answer Refusal) → IfOk result (λ a. Accepts old (e a) new) → OnErr result (new ≡ old) → Begins old.entries new.entries
 grows old new e (Ok a) accepted unchanged = (e a ∷ [], accepted.entries)
 grows old new e (Err f) accepted same = begins_same old.entries new.entries (ap (λ (s : State). s.entries) same)
+
+-- a request that is made at once leaves the volume over the same image, with a list that goes on and with its limit
+pub made_on : (M : List (List ℕ)) (opening : List Entry) (limit : ℕ) (v w : State) (session nth : ℕ) (who : Uic) (r : Request) (result : Result Answer Refusal) → IsMade v session nth who r result w → IsOpened M opening v
+    → v.limit ≡ limit → IsOpened M opening w × (w.limit ≡ limit)
+made_on M opening limit v w session nth who r (Ok a) (p, prepared, answered, is) was same = carried_on M opening limit v w p is was same
+made_on M opening limit v w session nth who r (Err f) (is, why) was same = (subst (IsOpened M opening) (sym is) was, ap (λ (s : State). s.limit) is ∙ same)

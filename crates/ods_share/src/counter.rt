@@ -7,7 +7,7 @@ ghost use Rattle.ods_ask.specs.declared.outcome.Reply.TheVariants.{No};
 
 use crate::desk::Desk;
 use ods_base::Uic;
-use ods_request::{Answer, CompactRequest, Refusal};
+use ods_request::{CompactAnswer, CompactRequest, Refusal};
 use ods_views::Naming;
 use ods_volume::Volume;
 use std::marker::Model;
@@ -62,7 +62,7 @@ impl<J: Naming, L: Ledger> Counter<J, L> {
         who: Uic,
         request: &CompactRequest,
         mine: &mut Share<L>,
-    ) -> Result<Answer, Refusal>
+    ) -> Result<CompactAnswer, Refusal>
         requires can { CanBeAsked request.now }
         requires part { 0 < mine.old.parts }
         ensures refused { IfErr result (IsRefused J.mounted who request.now) }

@@ -7,7 +7,7 @@ ghost use Rattle.ods_share.specs.Desks.{IsDeskReason, IsSubmitted};
 ghost use Rattle.ods_views.specs.Viewers.{newly};
 
 use ods_base::{NoMemory, Uic};
-use ods_request::{Answer, CompactRequest, Refusal, Request};
+use ods_request::{Answer, CompactAnswer, CompactRequest, Refusal, Request};
 use ods_views::{
     Change, DeskWriter, MOST_SESSIONS, Naming, Told, Viewer, add_change, entry_count, make_viewers,
     open_writer, publish_change,
@@ -154,7 +154,8 @@ impl<J: Naming> Desk<J> {
     }
 
     /// Makes a request as [`Desk::submit`] does. The list shares a Write's block with the request that
-    /// is given. Each clause of `submit` holds of the request that the compact one stands for.
+    /// is given, and the answer comes in little room. Each clause of `submit` holds of the request that the compact one stands for. What the answer takes of
+    /// memory is taken before the volume changes.
     pub fn submit_shared<R: Wait>(
         &mut self,
         rt: &R,
@@ -162,15 +163,44 @@ impl<J: Naming> Desk<J> {
         nth: u32,
         who: Uic,
         request: &CompactRequest,
-    ) -> (Result<Answer, Refusal>, Told<J>)
+    ) -> (Result<CompactAnswer, Refusal>, Told<J>)
         requires { CanBeAsked request.now }
         ensures submitted { IsSubmitted self.old session nth who request.now result.0 self.new }
         ensures told { result.1 ≡ self.new.entries }
         ensures grown { Begins self.old.entries result.1 }
     {
-        match self.volume.prepare_shared(session, nth, who, request) {
-            Ok(planned) => self.apply_and_show(rt, planned),
-            Err(fault) => (Err(fault), self.tell()),
+        if self.writer.is_none() {
+            let made = self.volume.request_shared(session, nth, who, request);
+            return (made, self.tell());
+        }
+        self.submit_and_show(rt, session, nth, who, request)
+    }
+
+    /// Makes a request as [`Desk::submit_shared`] does, where a writer shows its version.
+    fn submit_and_show<R: Wait>(
+        &mut self,
+        rt: &R,
+        session: u16,
+        nth: u32,
+        who: Uic,
+        request: &CompactRequest,
+    ) -> (Result<CompactAnswer, Refusal>, Told<J>)
+        requires { CanBeAsked request.now }
+        ensures submitted { IsSubmitted self.old session nth who request.now result.0 self.new }
+        ensures told { result.1 ≡ self.new.entries }
+        ensures grown { Begins self.old.entries result.1 }
+    {
+        let planned = match self.volume.prepare_shared(session, nth, who, request) {
+            Ok(planned) => planned,
+            Err(fault) => return (Err(fault), self.tell()),
+        };
+        let Ok(answer) = planned.copy_answer() else {
+            return (Err(Refusal::NoMemory), self.tell());
+        };
+        let (done, told) = self.apply_and_show(rt, planned);
+        match done {
+            Ok(_) => (Ok(answer), told),
+            Err(fault) => (Err(fault), told),
         }
     }
 

@@ -78,7 +78,6 @@ impl<J: Naming, L: Ledger, G: Gate, R: Wait> Session<'_, J, L, G, R> {
         match result {
             Ok(answer) => {
                 // The call and the reply both keep the answer.
-                let answer = CompactAnswer::of(self.alloc, answer)?;
                 let replied = answer.copy(self.alloc)?;
                 calls.push_reserved(Call {
                     nth,

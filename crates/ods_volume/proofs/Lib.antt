@@ -6,6 +6,7 @@ pub mod Lawful
 pub mod Reasons
 pub mod NotedEnds
 pub mod EndsFollow
+pub mod Whys
 pub mod Carried
 pub mod Arms
 pub mod Counted

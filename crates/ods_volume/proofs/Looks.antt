@@ -19,6 +19,8 @@ use Rattle.ods_state.specs.Moves.{Moves, NothingMoves}
 use Rattle.ods_state.specs.Change.{disk, IsAnsweredBy}
 use Rattle.ods_state.specs.Served.{IsStepOf}
 use Rattle.ods_state.proofs.Served.{carried_is_step, lacks_nothing}
+use Rattle.ods_volume.specs.Ends.{falls_for}
+use Rattle.ods_volume.specs.declared.ends.Falls.TheVariants.{Nothing}
 
 nothing_moves : (D : Disk) → NothingMoves D D
 nothing_moves D = record {
@@ -34,6 +36,12 @@ pub query_looks : (q : Query) → only_looks (request_of q) ≡ true
 query_looks (query.LookUp dir name pick) = refl
 query_looks (query.Read file vbn) = refl
 query_looks (query.Stat file) = refl
+
+-- so nothing that is noted falls
+pub nothing_falls : (q : Query) (a : Answer) → Nothing ≡ falls_for (request_of q) a
+nothing_falls (query.LookUp dir name pick) a = refl
+nothing_falls (query.Read file vbn) a = refl
+nothing_falls (query.Stat file) a = refl
 
 look_moves : (D : Disk) (r : Request) (a : Answer) → only_looks r ≡ true → Moves D r a D
 look_moves D (LookUp dir name pick) a h = nothing_moves D

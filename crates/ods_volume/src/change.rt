@@ -1,13 +1,14 @@
 //! Requests that are accepted: their change, and their entry in the list.
-ghost use Rattle.std.specs.Prelude.{◌≡◌, ◌≢◌, ◌<◌, false, length, IfOk, IfErr, IfSome, IsErr, OnErr, Some};
+ghost use Rattle.std.specs.Prelude.{◌≡◌, ◌≢◌, ◌<◌, false, length, IfOk, IfErr, IsErr, MatchResult, OnErr, Some};
 ghost use Rattle.ods_request.specs.{declared.refusals.Refusal.Refusal, Catalogue.Catalogue, Faults.fault_of, Table.takes_memory};
 ghost use Rattle.ods_state.specs.{Version.IsPresent, Wants.Lacks, Outcome.Accepts, Outcome.CanBeAsked, Outcome.IsReason, Outcome.IsLawfulPlan, Outcome.carried_out, Outcome.entry_of};
-ghost use Rattle.ods_volume.specs.{Kept.AreLinesOf, Preparing.IsPrepared};
+ghost use Rattle.ods_volume.specs.{Ends.falls_for, Kept.AreLinesOf, Preparing.IsMade, Preparing.IsPlanned, Preparing.IsPrepared, Preparing.IsWhyNotPlanned, Preparing.plan_of};
 
-use crate::planned::{Prepared, keep_request, lines_of};
+use crate::planned::{Prepared, lines_of};
+use crate::sound::Change;
 use crate::volume::Volume;
 use ods_base::Uic;
-use ods_request::{Answer, CompactRequest, Entry, Listing, Refusal, Request};
+use ods_request::{Answer, CompactAnswer, CompactRequest, Entry, Listing, Refusal, Request};
 
 impl Volume {
     /// What a request would do, with all the memory that it takes: where it is given, the change itself takes none. The
@@ -33,7 +34,7 @@ impl Volume {
         // LookUp, Read and Stat are never refused for want of memory.
         ensures memory { takes_memory request ≡ false → result ≢ Err Refusal.NoMemory }
     {
-        self.plan(session, nth, who, &request, None)
+        self.plan(session, nth, who, &request)
     }
 
     /// What a request would do, as [`Volume::prepare`] says. The list is to share a Write's block with
@@ -49,34 +50,13 @@ impl Volume {
         requires { CanBeAsked request.now }
         ensures { IsPrepared self.now session nth who request.now result }
     {
-        self.plan(session, nth, who, &request.get(), Some(request))
-    }
-
-    /// What a request would do. The list is to get a share of its other form, where that is given.
-    fn plan(
-        &self,
-        session: u16,
-        nth: u32,
-        who: Uic,
-        request: &Request,
-        shared: Option<&CompactRequest>,
-    ) -> Result<Prepared, Refusal>
-        requires asked { CanBeAsked request.now }
-        requires same { IfSome shared (λ s. s.now ≡ request.now) }
-        ensures { IsPrepared self.now session nth who request.now result }
-    {
-        if self.entries.len() >= self.limit as usize {
-            return Err(Refusal::ListFull);
-        }
+        self.is_lawful();
         let mut answer = Answer::Done;
-        let change = match self.sound.prepare(who, request, &mut answer) {
-            Ok(change) => change,
+        let (kept, change) = match self.plan_shared(who, request, &mut answer) {
+            Ok(planned) => planned,
             Err(refusal) => return Err(refusal),
         };
         let Ok(lines) = lines_of(&answer) else {
-            return Err(Refusal::NoMemory);
-        };
-        let Ok(kept) = keep_request(self.entries.allocator(), request, shared) else {
             return Err(Refusal::NoMemory);
         };
         Ok(Prepared {
@@ -90,6 +70,63 @@ impl Volume {
             lines,
             change,
         })
+    }
+
+    /// What a request would do.
+    fn plan(&self, session: u16, nth: u32, who: Uic, request: &Request) -> Result<Prepared, Refusal>
+        requires { CanBeAsked request.now }
+        ensures { IsPrepared self.now session nth who request.now result }
+    {
+        if self.entries.len() >= self.limit as usize {
+            return Err(Refusal::ListFull);
+        }
+        let mut answer = Answer::Done;
+        let change = match self.sound.prepare(who, request, &mut answer) {
+            Ok(change) => change,
+            Err(refusal) => return Err(refusal),
+        };
+        let Ok(lines) = lines_of(&answer) else {
+            return Err(Refusal::NoMemory);
+        };
+        let Ok(kept) = CompactRequest::of(self.entries.allocator(), request) else {
+            return Err(Refusal::NoMemory);
+        };
+        Ok(Prepared {
+            entry: Entry {
+                session,
+                nth,
+                who,
+                request: kept,
+                answer,
+            },
+            lines,
+            change,
+        })
+    }
+
+    /// Writes what a request is answered into this place, and gives what it changes, with a share of the request for the list. Nothing with room for a
+    /// block is made of a request that only looks.
+    fn plan_shared(
+        &self,
+        who: Uic,
+        request: &CompactRequest,
+        answer: &mut Answer,
+    ) -> Result<(CompactRequest, Change), Refusal>
+        requires { CanBeAsked request.now }
+        ensures { MatchResult result (λ p. (p.0 ≡ request.now) × IsPlanned self.now who request.now answer.new p.1)
+            (IsWhyNotPlanned self.now who request.now) }
+    {
+        if self.entries.len() >= self.limit as usize {
+            return Err(Refusal::ListFull);
+        }
+        let change = match self.sound.prepare_shared(who, request, answer) {
+            Ok(change) => change,
+            Err(refusal) => return Err(refusal),
+        };
+        let Ok(kept) = request.share() else {
+            return Err(Refusal::NoMemory);
+        };
+        Ok((kept, change))
     }
 
     /// Makes a change that was prepared for this volume as it is, puts its entry into the list and gives its answer. It takes
@@ -112,11 +149,68 @@ impl Volume {
         ensures changed { self.new ≡ carried_out self.old prepared }
         ensures lines { AreLinesOf prepared.entry.answer result }
     {
+        let Prepared {
+            entry,
+            lines,
+            change,
+        } = prepared;
+        let Entry {
+            session,
+            nth,
+            who,
+            request,
+            answer,
+        } = entry;
+        let mut answer = answer;
+        self.store_answered(session, nth, who, request, &mut answer, change);
+        lines
+    }
+
+    /// Makes a change that was planned, and puts its entry into the list, of which the answer lies in this place. Lines are taken out of the place.
+    fn store_answered(
+        &mut self,
+        session: u16,
+        nth: u32,
+        who: Uic,
+        request: CompactRequest,
+        answer: &mut Answer,
+        change: Change,
+    )
+        requires plan { IsLawfulPlan self.old (plan_of session nth who request answer.old change) }
+        requires falls { change.falls ≡ falls_for request answer.old }
+        ensures { self.new ≡ carried_out self.old (plan_of session nth who request answer.old change) }
+    {
         // The blocks of an image have bytes.
         let _ = self.sound.disk().image.len();
-        self.entries.push_reserved(prepared.entry);
-        self.sound.apply(prepared.change);
-        prepared.lines
+        self.entries
+            .push_answered(session, nth, who, request, answer);
+        self.sound.apply(change);
+    }
+
+    /// Prepares a request and makes its change, as [`Volume::request`] does. The list shares a Write's block with the request that is given. The answer
+    /// comes in little room: what it takes of memory is taken before the change, so any request may be refused for want of memory, after its faults.
+    pub fn request_shared(
+        &mut self,
+        session: u16,
+        nth: u32,
+        who: Uic,
+        request: &CompactRequest,
+    ) -> Result<CompactAnswer, Refusal>
+        // A version that is given is 1 to 32,767.
+        requires { CanBeAsked request.now }
+        ensures { IsMade self.old session nth who request.now result self.new }
+    {
+        self.is_lawful();
+        let mut answer = Answer::Done;
+        let (kept, change) = match self.plan_shared(who, request, &mut answer) {
+            Ok(planned) => planned,
+            Err(refusal) => return Err(refusal),
+        };
+        let Ok(given) = CompactAnswer::copy_of(self.entries.allocator(), &answer) else {
+            return Err(Refusal::NoMemory);
+        };
+        self.store_answered(session, nth, who, kept, &mut answer, change);
+        Ok(given)
     }
 
     /// Prepares a request and makes its change. At the limit the answer is ListFull. After a refusal nothing has

@@ -3,12 +3,14 @@
 ghost use Rattle.std.specs.Prelude.{◌≡◌, ◌<◌, ◌↔◌, ◌++◌, ◌∷◌, [], length, vec_capacity, slice_index_or, IsTrue, IfOk, OnErr};
 ghost use Rattle.ods_request.specs.{declared.answers.Entry.Entry, Lines.HasLines};
 ghost use Rattle.ods_request.specs.declared.answers.Answer.TheVariants as Answer;
+ghost use Rattle.ods_state.specs.Outcome.{entry_of};
 ghost use Rattle.ods_volume.specs.Entries.{IsPut};
 
 use ods_base::{Block, FileId, Uic};
 use ods_request::{Answer, AnswerForm, CompactAnswer, CompactRequest, Entry, Listing, Stat};
 use std::alloc::{AllocError, Global};
 use std::marker::Model;
+use std::mem;
 
 /// Accepted requests with their answers, the oldest first. A contract sees the entries, and for how many there is memory.
 #[derive(Drop)]
@@ -57,31 +59,38 @@ impl Model for Entries {
     ghost invariant = { λ e. IsPooled e.rows.items e.block_pool.items e.stat_pool.items (vec_capacity e.rows) (vec_capacity e.block_pool) (vec_capacity e.stat_pool) };
 }
 
-/// Puts what is large of an answer into its pool, and gives the rest.
-fn put_answer(block_pool: &mut Vec<Block>, stat_pool: &mut Vec<Stat>, answer: Answer) -> RowAnswer
+/// Puts what is large of an answer into its pool, and gives the rest. Lines are taken out of their place, and all else is copied.
+fn put_answer(
+    block_pool: &mut Vec<Block>,
+    stat_pool: &mut Vec<Stat>,
+    answer: &mut Answer,
+) -> RowAnswer
     requires block { length block_pool.old.items < vec_capacity block_pool.old }
     requires stat { length stat_pool.old.items < vec_capacity stat_pool.old }
-    ensures put { IsPut block_pool.old.items block_pool.new.items stat_pool.old.items stat_pool.new.items answer result }
+    ensures put { IsPut block_pool.old.items block_pool.new.items stat_pool.old.items stat_pool.new.items answer.old result }
     ensures blocks_fit { vec_capacity block_pool.new ≡ vec_capacity block_pool.old }
     ensures stats_fit { vec_capacity stat_pool.new ≡ vec_capacity stat_pool.old }
 {
     match answer {
-        Answer::Created(file) => RowAnswer::Created(file),
-        Answer::Extended(count) => RowAnswer::Extended(count),
-        Answer::Truncated(count) => RowAnswer::Truncated(count),
+        Answer::Created(file) => RowAnswer::Created(*file),
+        Answer::Extended(count) => RowAnswer::Extended(*count),
+        Answer::Truncated(count) => RowAnswer::Truncated(*count),
         Answer::Done => RowAnswer::Done,
-        Answer::Entered(version) => RowAnswer::Entered(version),
-        Answer::Found(file, version) => RowAnswer::Found(file, version),
-        Answer::Removed(file, version) => RowAnswer::Removed(file, version),
+        Answer::Entered(version) => RowAnswer::Entered(*version),
+        Answer::Found(file, version) => RowAnswer::Found(*file, *version),
+        Answer::Removed(file, version) => RowAnswer::Removed(*file, *version),
         Answer::Bytes(block) => {
             let at = block_pool.len();
-            block_pool.push_reserved(block);
+            block_pool.push_reserved(*block);
             RowAnswer::Bytes(at)
         }
-        Answer::Names(lines) => RowAnswer::Names(lines),
+        Answer::Names(lines) => {
+            let none = Listing::new(Vec::new(*block_pool.allocator()));
+            RowAnswer::Names(mem::replace(lines, none))
+        }
         Answer::Info(stat) => {
             let at = stat_pool.len();
-            stat_pool.push_reserved(stat);
+            stat_pool.push_reserved(*stat);
             RowAnswer::Info(at)
         }
     }
@@ -113,6 +122,26 @@ fn is_listing(answer: &Answer, lines: &Listing) -> bool
 {
     match answer {
         Answer::Names(others) => others == lines,
+        _ => false,
+    }
+}
+
+/// Whether an answer in little room is this block.
+fn has_block(answer: &CompactAnswer, block: &Block) -> bool
+    ensures { IsTrue result ↔ (answer.now ≡ Answer.Bytes block.now) }
+{
+    match answer.form() {
+        AnswerForm::Bytes(other) => **other == *block,
+        _ => false,
+    }
+}
+
+/// Whether an answer in little room is what is shown of a file.
+fn has_stat(answer: &CompactAnswer, stat: &Stat) -> bool
+    ensures { IsTrue result ↔ (answer.now ≡ Answer.Info stat.now) }
+{
+    match answer.form() {
+        AnswerForm::Info(other) => **other == *stat,
         _ => false,
     }
 }
@@ -168,6 +197,22 @@ impl Entries {
             request,
             answer,
         } = entry;
+        let mut answer = answer;
+        self.push_answered(session, nth, who, request, &mut answer);
+    }
+
+    /// Puts an entry behind the others, of which the answer lies in this place. It takes no memory. Lines are taken out of the place.
+    pub(crate) fn push_answered(
+        &mut self,
+        session: u16,
+        nth: u32,
+        who: Uic,
+        request: CompactRequest,
+        answer: &mut Answer,
+    )
+        requires { length self.old.items < self.old.room }
+        ensures { self.new ≡ record { items = self.old.items ++ entry_of session nth who request answer.old ∷ []; room = self.old.room } }
+    {
         let answer = put_answer(&mut self.block_pool, &mut self.stat_pool, answer);
         self.rows.push_reserved(EntryRow {
             session,
@@ -221,6 +266,8 @@ impl Entries {
         ensures { (e : Entry) → IsTrue result ↔ (answer.now ≡ (slice_index_or self.now.items at e).answer) }
     {
         match &self.rows[at].answer {
+            RowAnswer::Bytes(place) => has_block(answer, &self.block_pool[*place]),
+            RowAnswer::Info(place) => has_stat(answer, &self.stat_pool[*place]),
             RowAnswer::Names(lines) => has_lines(answer, lines),
             _ => answer.is(&self.answer(at)),
         }

@@ -1,10 +1,10 @@
 //! A request that is accepted, before its change is made.
-ghost use Rattle.std.specs.Prelude.{◌≡◌, IfSome, IfOk, OnErr, true};
-ghost use Rattle.ods_request.specs.{Lines.HasLines, Table.takes_memory};
+ghost use Rattle.std.specs.Prelude.{◌≡◌, IfOk, OnErr};
+ghost use Rattle.ods_request.specs.Lines.{HasLines};
 ghost use Rattle.ods_volume.specs.Kept.{AreLinesOf};
 
 use crate::sound::Change;
-use ods_request::{Answer, CompactRequest, Entry, Listing, Request};
+use ods_request::{Answer, CompactAnswer, Entry, Listing};
 use ods_space::Draft;
 use std::alloc::{AllocError, Global};
 use std::marker::Model;
@@ -46,23 +46,6 @@ pub(crate) fn lines_of(answer: &Answer) -> Result<Option<Listing>, AllocError>
     }
 }
 
-/// The request as the list keeps it: a share of the form that is given, where one is. Only a Write
-/// takes memory for that, or gives its block one owner more.
-pub(crate) fn keep_request(
-    alloc: Global,
-    request: &Request,
-    shared: Option<&CompactRequest>,
-) -> Result<CompactRequest, AllocError>
-    requires { IfSome shared (λ s. s.now ≡ request.now) }
-    ensures ok { IfOk result (λ kept. kept ≡ request.now) }
-    ensures err { OnErr result (takes_memory request.now ≡ true) }
-{
-    match shared {
-        Some(shared) => shared.share(),
-        None => CompactRequest::of(alloc, request),
-    }
-}
-
 impl Prepared {
     /// The blocks that it changes.
     pub fn changes(&self) -> &Draft
@@ -76,6 +59,13 @@ impl Prepared {
         ensures { result.now ≡ self.now.places }
     {
         self.change.places.as_slice()
+    }
+
+    /// The answer, in little room and in memory of its own.
+    pub fn copy_answer(&self) -> Result<CompactAnswer, AllocError>
+        ensures { IfOk result (λ answer. answer ≡ self.now.entry.answer) }
+    {
+        CompactAnswer::copy_of(*self.change.places.allocator(), &self.entry.answer)
     }
 
     /// These blocks once more, in memory of their own.

@@ -21,7 +21,7 @@ use ods_state::KnownEnd;
 use std::alloc::{AllocError, Global};
 
 /// Writes the answer of a query into this place. It changes no block.
-fn look_only(
+pub(crate) fn look_only(
     alloc: Global,
     disk: &Disk<'_>,
     who: Uic,

@@ -4,6 +4,7 @@ ghost use Rattle.std.specs.List.{All};
 ghost use Rattle.ods_alloc.specs.Counts.{free_counts};
 ghost use Rattle.ods_mount.specs.Sound.{IsSoundBy};
 ghost use Rattle.ods_space.specs.{Disks.on, Free.free_blocks, Free.free_numbers};
+ghost use Rattle.ods_request.specs.Queries.{request_of};
 ghost use Rattle.ods_state.specs.{Outcome.CanBeAsked, Served.IsRefusalOf};
 ghost use Rattle.ods_change.specs.IndexGrown.{IsWhyNoHeaders};
 ghost use Rattle.ods_amend.specs.{Access.Gives, Access.GivesAll, Bits.IsLoose, Bits.MarksAs, Label.Relabels};
@@ -11,14 +12,14 @@ ghost use Rattle.ods_volume.specs.Amended.{IsChangeOfAccess, IsChangeOfLabel, Is
 ghost use Rattle.ods_volume.specs.Changing.{HasMoreHeaders, IsChangeFor, IsChangeOfHeaders, IsLawfulChange, IsStep, changed};
 
 use crate::ends::{Falls, KnownEnds, falls_for};
-use crate::prepare::{carry_out, counts_after};
+use crate::prepare::{carry_out, counts_after, look_only};
 use ods_alloc::FreeCounts;
 use ods_amend::{draft_access, draft_label, draft_marks};
 use ods_base::{FileId, NoMemory, Uic};
 use ods_change::grow_headers;
 use ods_init::Label;
 use ods_mount::Mounted;
-use ods_request::{Answer, Refusal, Request};
+use ods_request::{Answer, CompactRequest, Query, Refusal, Request};
 use ods_space::{Disk, Draft};
 use ods_state::KnownEnd;
 use std::alloc::{AllocError, Global};
@@ -138,6 +139,32 @@ impl Sound {
         ods_alloc::number_count(&self.disk())
     }
 
+    /// Writes the answer of a query into this place, and gives the change, which changes nothing. It takes no memory.
+    pub(crate) fn look(
+        &self,
+        who: Uic,
+        query: Query,
+        answer: &mut Answer,
+    ) -> Result<Change, Refusal>
+        ensures { MatchResult result (IsChangeFor self.now who (request_of query) answer.new)
+            (IsRefusalOf self.now.image self.now.layout who (request_of query)) }
+    {
+        let disk = self.mounted.disk();
+        // The blocks of an image have bytes.
+        let _ = disk.image.len();
+        let drafted = match look_only(self.alloc, &disk, who, query, answer) {
+            Ok(drafted) => drafted,
+            Err(refusal) => return Err(refusal),
+        };
+        Ok(Change {
+            draft: drafted.draft,
+            places: drafted.places,
+            counts: None,
+            end: None,
+            falls: Falls::Nothing,
+        })
+    }
+
     /// Writes what a request would be answered into this place, and gives what it would change, with all the memory that this takes. The
     /// volume stays as it is.
     pub fn prepare(
@@ -176,6 +203,23 @@ impl Sound {
             end,
             falls: falls_for(request, answer),
         })
+    }
+
+    /// Does what [`Sound::prepare`] does. Nothing with room for a block is made of a request that only looks.
+    pub(crate) fn prepare_shared(
+        &self,
+        who: Uic,
+        request: &CompactRequest,
+        answer: &mut Answer,
+    ) -> Result<Change, Refusal>
+        requires { CanBeAsked request.now }
+        ensures { MatchResult result (IsChangeFor self.now who request.now answer.new)
+            (IsRefusalOf self.now.image self.now.layout who request.now) }
+    {
+        match request.as_query() {
+            Some(query) => self.look(who, query, answer),
+            None => self.prepare(who, &request.get(), answer),
+        }
     }
 
     /// Makes a change that was prepared for this volume as it is. It takes no memory and never fails.

@@ -4,9 +4,9 @@ ghost use Rattle.ods_state.specs.Outcome.{CanBeAsked};
 
 use super::requests::{block_viewed, block_written};
 use super::runs::{two_file_volume, two_files, volume_of};
-use crate::persons::{FIRST, NONE, USER};
+use crate::persons::{FIRST, MASTER, NONE, USER};
 use ods_base::FileId;
-use ods_request::{Answer, CompactAnswer, CompactRequest, Refusal, Request};
+use ods_request::{Answer, AnswerForm, CompactAnswer, CompactRequest, Refusal, Request};
 use ods_share::{Call, Desk, Naming, SettleFault, settle_mounted};
 use ods_volume::Volume;
 use std::alloc::{AllocError, Global};
@@ -91,16 +91,16 @@ fn shares<J: Naming, R: Abort + Wait>(rt: &R, alloc: Global, volume: Volume) -> 
     };
     let (result, told) = desk.submit_shared(rt, 1, 1, USER, &written);
     assert!(rt;
-        result == Ok(Answer::Done) && told.entries() == 1,
+        matches!(&result, Ok(answer) if answer.is(&Answer::Done)),
         "{result:?}"
     );
+    assert!(rt; told.entries() == 1);
     let (result, told) = desk.submit_shared(rt, 1, 2, USER, &read);
-    assert!(rt; matches!(result, Ok(Answer::Bytes(_))) && told.entries() == 2);
+    assert!(rt; matches!(&result, Ok(answer) if matches!(answer.form(), AnswerForm::Bytes(_))));
+    assert!(rt; told.entries() == 2);
     let (result, told) = desk.submit_shared(rt, 1, 3, USER, &refused);
-    assert!(rt;
-        result == Err(Refusal::NoSuchBlock) && told.entries() == 2,
-        "{result:?}"
-    );
+    assert!(rt; matches!(&result, Err(Refusal::NoSuchBlock)), "{result:?}");
+    assert!(rt; told.entries() == 2);
     let entries = desk.volume().entries();
     assert!(rt; *entries.request(0) == written && *entries.request(1) == read);
     Ok(desk.close(rt))
@@ -131,6 +131,45 @@ fn volume_shares_a_write_that_it_prepared(rt: HostRuntime) -> Result<(), Fail> {
     let refused = CompactRequest::of(alloc, &block_written(70_000))?;
     let planned = volume.prepare_shared(1, 2, USER, &refused);
     assert!(rt; matches!(planned, Err(Refusal::ListFull)));
+    Ok(())
+}
+
+/// A request that is made at once has its answer in the list and in little room, and a full list is refused first.
+#[test]
+fn volume_makes_shared_requests_at_once(rt: HostRuntime) -> Result<(), Fail> {
+    let alloc = rt.alloc();
+    let mut volume = two_file_volume(&rt, alloc, 3)?;
+    let written = CompactRequest::of(alloc, &block_written(1))?;
+    let read = CompactRequest::of(alloc, &first_block(FIRST))?;
+    let listed = CompactRequest::of(alloc, &Request::List { dir: MASTER })?;
+    let refused = CompactRequest::of(alloc, &block_written(70_000))?;
+    let Ok(done) = volume.request_shared(1, 1, USER, &written) else {
+        return Err("a write that is accepted".into());
+    };
+    assert!(rt; done.is(&Answer::Done) && volume.entries().has_answer(0, &done));
+    assert!(rt;
+        matches!(
+            volume.request_shared(1, 2, USER, &refused),
+            Err(Refusal::NoSuchBlock)
+        )
+    );
+    assert!(rt; volume.entries().len() == 1);
+    let Ok(block) = volume.request_shared(1, 3, USER, &read) else {
+        return Err("a read that is accepted".into());
+    };
+    assert!(rt; matches!(block.form(), AnswerForm::Bytes(_)));
+    assert!(rt; volume.entries().has_answer(1, &block) && !volume.entries().has_answer(1, &done));
+    let Ok(lines) = volume.request_shared(1, 4, USER, &listed) else {
+        return Err("a list that is accepted".into());
+    };
+    assert!(rt; matches!(lines.form(), AnswerForm::Names(names) if !names.names().is_empty()));
+    assert!(rt; volume.entries().has_answer(2, &lines) && !volume.entries().has_answer(2, &block));
+    assert!(rt;
+        matches!(
+            volume.request_shared(1, 5, USER, &read),
+            Err(Refusal::ListFull)
+        )
+    );
     Ok(())
 }
 
