@@ -4,7 +4,7 @@ ghost use Rattle.ods_request.specs.{declared.refusals.Refusal.Refusal, Catalogue
 ghost use Rattle.ods_state.specs.{Version.IsPresent, Wants.Lacks, Outcome.Accepts, Outcome.CanBeAsked, Outcome.IsReason, Outcome.IsLawfulPlan, Outcome.carried_out, Outcome.entry_of};
 ghost use Rattle.ods_volume.specs.{Ends.falls_for, Kept.AreLinesOf, Preparing.IsMade, Preparing.IsPlanned, Preparing.IsPrepared, Preparing.IsWhyNotPlanned, Preparing.plan_of};
 
-use crate::planned::{Prepared, lines_of};
+use crate::planned::Prepared;
 use crate::sound::Change;
 use crate::volume::Volume;
 use ods_base::Uic;
@@ -56,20 +56,10 @@ impl Volume {
             Ok(planned) => planned,
             Err(refusal) => return Err(refusal),
         };
-        let Ok(lines) = lines_of(&answer) else {
-            return Err(Refusal::NoMemory);
-        };
-        Ok(Prepared {
-            entry: Entry {
-                session,
-                nth,
-                who,
-                request: kept,
-                answer,
-            },
-            lines,
-            change,
-        })
+        match Prepared::of(session, nth, who, kept, answer, change) {
+            Ok(prepared) => Ok(prepared),
+            Err(_) => Err(Refusal::NoMemory),
+        }
     }
 
     /// What a request would do.
@@ -85,23 +75,13 @@ impl Volume {
             Ok(change) => change,
             Err(refusal) => return Err(refusal),
         };
-        let Ok(lines) = lines_of(&answer) else {
-            return Err(Refusal::NoMemory);
-        };
         let Ok(kept) = CompactRequest::of(self.entries.allocator(), request) else {
             return Err(Refusal::NoMemory);
         };
-        Ok(Prepared {
-            entry: Entry {
-                session,
-                nth,
-                who,
-                request: kept,
-                answer,
-            },
-            lines,
-            change,
-        })
+        match Prepared::of(session, nth, who, kept, answer, change) {
+            Ok(prepared) => Ok(prepared),
+            Err(_) => Err(Refusal::NoMemory),
+        }
     }
 
     /// Writes what a request is answered into this place, and gives what it changes, with a share of the request for the list. Nothing with room for a

@@ -1,10 +1,11 @@
 //! A request that is accepted, before its change is made.
 ghost use Rattle.std.specs.Prelude.{◌≡◌, IfOk, OnErr};
 ghost use Rattle.ods_request.specs.Lines.{HasLines};
-ghost use Rattle.ods_volume.specs.Kept.{AreLinesOf};
+ghost use Rattle.ods_volume.specs.{Ends.falls_for, Kept.AreLinesOf, Preparing.plan_of};
 
 use crate::sound::Change;
-use ods_request::{Answer, CompactAnswer, Entry, Listing};
+use ods_base::Uic;
+use ods_request::{Answer, CompactAnswer, CompactRequest, Entry, Listing};
 use ods_space::Draft;
 use std::alloc::{AllocError, Global};
 use std::marker::Model;
@@ -33,7 +34,7 @@ impl Model for Prepared {
 }
 
 /// The lines of an answer once more, where it has lines. Only they take memory.
-pub(crate) fn lines_of(answer: &Answer) -> Result<Option<Listing>, AllocError>
+fn lines_of(answer: &Answer) -> Result<Option<Listing>, AllocError>
     ensures ok { IfOk result (AreLinesOf answer.now) }
     ensures err { OnErr result (HasLines answer.now) }
 {
@@ -47,6 +48,35 @@ pub(crate) fn lines_of(answer: &Answer) -> Result<Option<Listing>, AllocError>
 }
 
 impl Prepared {
+    /// The change of a request that is answered so, under a session's number. Only the lines of the answer take memory.
+    pub(crate) fn of(
+        session: u16,
+        nth: u32,
+        who: Uic,
+        request: CompactRequest,
+        answer: Answer,
+        change: Change,
+    ) -> Result<Prepared, AllocError>
+        requires { change.falls ≡ falls_for request answer }
+        ensures ok { IfOk result (λ p. p ≡ plan_of session nth who request answer change) }
+        ensures err { OnErr result (HasLines answer) }
+    {
+        match lines_of(&answer) {
+            Ok(lines) => Ok(Prepared {
+                entry: Entry {
+                    session,
+                    nth,
+                    who,
+                    request,
+                    answer,
+                },
+                lines,
+                change,
+            }),
+            Err(error) => Err(error),
+        }
+    }
+
     /// The blocks that it changes.
     pub fn changes(&self) -> &Draft
         ensures { result.now ≡ self.now.changes }
