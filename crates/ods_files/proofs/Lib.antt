@@ -1,3 +1,4 @@
+pub mod HeaderSizes
 pub mod Sends
 pub mod FirstBytes
 mod Sames

@@ -22,6 +22,7 @@ use Rattle.ods_files.specs.declared.form.Form.TheVariants.{Binary}
 use Rattle.ods_records.specs.Attributes.{attributes, ending_at}
 use Rattle.ods_records.specs.Records.{Spells, text_of}
 use Rattle.ods_records.specs.declared.kind.RecordKind.TheVariants.{Variable}
+use Rattle.ods_records.proofs.EndSet.{by_parts}
 use Rattle.ods_records.proofs.LinesBack.{chosen_back}
 use Rattle.ods_records.proofs.PlainTexts.{lines_text}
 use Rattle.ods_records.proofs.WrittenStands.{spells_written}
@@ -52,14 +53,7 @@ byte_is : (rtyp ratt rsiz n : ℕ) → end_byte (attributes rtyp ratt rsiz n) �
 byte_is rtyp ratt rsiz n = omega arith
 
 end_is : (rtyp ratt rsiz n : ℕ) → n < 536870912 → end_of (attributes rtyp ratt rsiz n) ≡ n
-end_is rtyp ratt rsiz n few = by (end_block (attributes rtyp ratt rsiz n)) (end_byte (attributes rtyp ratt rsiz n)) (block_is rtyp ratt rsiz n few) (byte_is rtyp ratt rsiz n)
-  where
-    by : (block last : ℕ) → block ≡ n / 512 + 1 → last ≡ n % 512 → cond (block == 0) 0 ((block - 1) * 512 + last) ≡ n
-    by block last e g = here (block == 0) refl
-      where
-        here : (t : Bool) → (block == 0) ≡ t → cond (block == 0) 0 ((block - 1) * 512 + last) ≡ n
-        here true h = absurd (omega (arith, eqb-true block 0 h))
-        here false h = ap (λ t. cond t 0 ((block - 1) * 512 + last)) h ∙ omega arith
+end_is rtyp ratt rsiz n few = by_parts n (end_block (attributes rtyp ratt rsiz n)) (end_byte (attributes rtyp ratt rsiz n)) (block_is rtyp ratt rsiz n few) (byte_is rtyp ratt rsiz n)
 
 -- the bytes up to the end of file
 binary_is : (a bytes : List ℕ) → are_zeros a ≡ false → end_of a ≡ length bytes → bytes_in Binary (record { blocks = blocks_with bytes; attributes = a }) ≡ Some bytes

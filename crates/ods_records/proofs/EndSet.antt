@@ -5,7 +5,8 @@ use Rattle.std.proofs.lemmas.Bool.{eqb-true}
 use Rattle.ods_records.specs.Attributes.{end_block, end_of, ending_at}
 use Rattle.ods_records.specs.Records.{word_at}
 
-by_parts : (n block last : ℕ) → block ≡ n / 512 + 1 → last ≡ n % 512 → cond (block == 0) 0 ((block - 1) * 512 + last) ≡ n
+-- of a block and a byte
+pub by_parts : (n block last : ℕ) → block ≡ n / 512 + 1 → last ≡ n % 512 → cond (block == 0) 0 ((block - 1) * 512 + last) ≡ n
 by_parts n block last e g = here (block == 0) refl
   where
     here : (t : Bool) → (block == 0) ≡ t → cond (block == 0) 0 ((block - 1) * 512 + last) ≡ n
