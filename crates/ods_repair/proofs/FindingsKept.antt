@@ -80,10 +80,10 @@ module _ (I J : List (List ℕ)) (L : VolumeLayout) (r : IsReadAs I J L) (kept :
   stray_stays : (n : ℕ) → IsStray I L n → IsStray J L n
   stray_stays n s = record { in_use = used_stays n s.in_use; above = s.above; invalid = by_header (λ b. ¬ IsValidHeader b n) n s.invalid }
 
-  bad_stays : (n : ℕ) → IsTrueOf I L (BadDirectory n) → IsTrueOf J L (BadDirectory n)
+  pub bad_stays : (n : ℕ) → IsTrueOf I L (BadDirectory n) → IsTrueOf J L (BadDirectory n)
   bad_stays n (dir, bs, has, bad) = (directory_stays I J L r n dir, bs, (r.has n bs).0 has, with_entries (λ cs mark. HasBadEntry (used_entries cs mark)) n bs dir has bad)
 
-  twins_stay : (n : ℕ) → IsTrueOf I L (DuplicateName n) → IsTrueOf J L (DuplicateName n)
+  pub twins_stay : (n : ℕ) → IsTrueOf I L (DuplicateName n) → IsTrueOf J L (DuplicateName n)
   twins_stay n (dir, bs, has, twins) = (directory_stays I J L r n dir, bs, (r.has n bs).0 has, with_entries (λ cs mark. HasTwins (used_entries cs mark)) n bs dir has twins)
 
 module _ (I J : List (List ℕ)) (L : VolumeLayout) (layout : IsLayoutOf I L) (r : IsReadAs I J L) (kept : KeepDirectories I J L) (unheld : (b : ℕ) → IsHeldByNone I L b ↔ IsHeldByNone J L b) where

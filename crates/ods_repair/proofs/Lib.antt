@@ -37,3 +37,4 @@ pub mod Meeting
 pub mod Ready
 pub mod OwnRuns
 pub mod SetCopies
+pub mod TablesLaw

@@ -107,6 +107,7 @@ module _ (I J : List (List ℕ)) (L : VolumeLayout) (n : ℕ) (told : Unshared) 
   own_runs left parts whole = record {
     mapped = mapped;
     moves = s.moves;
+    apart = s.apart;
     none = λ zero. none_twice (parts zero).0 (parts zero).1;
     left = λ more. elim (cases_eq told.left 0) [
       | inl zero ↦ elim (cases_eq met 0) [

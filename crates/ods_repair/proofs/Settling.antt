@@ -17,9 +17,9 @@ use Rattle.ods_amend.specs.Runs.{HasNoRun, IsFreeRun}
 use Rattle.ods_check.specs.HeldFree.{IsHeldBesides}
 use Rattle.ods_check.specs.Sets.{IsSetOf}
 use Rattle.ods_mount.specs.Tables.{has}
-use Rattle.ods_repair.specs.Moved.{CanMove, IsMoved, run_named}
-use Rattle.ods_repair.specs.Settled.{AreSettled, HasRunToo, IsInRun, IsSettled, IsToldOf, MeetsRun, MissesRun, blocks_named}
-use Rattle.ods_repair.specs.Unshared.{IsBetween, LacksRoom, Moves, SharesNone}
+use Rattle.ods_repair.specs.Moved.{CanMove, IsInRun, IsMoved, run_named}
+use Rattle.ods_repair.specs.Settled.{AreSettled, HasRunToo, IsSettled, IsToldOf, MeetsRun, MissesRun, blocks_named}
+use Rattle.ods_repair.specs.Unshared.{IsBetween, LacksRoom, Moves, SharesNone, SharesRun}
 use Rattle.ods_repair.specs.declared.unsharing.Outcome.{Outcome}
 use Rattle.ods_repair.specs.declared.unsharing.Outcome.TheVariants.{Stays, Moved, Left}
 use Rattle.ods_repair.specs.declared.unsharing.Unshared.{Unshared}
@@ -63,6 +63,8 @@ module _ (I : List (List ℕ)) (L : VolumeLayout) (n : ℕ) (seen : List ℕ) (c
     moves = none_moved I L n can.layout;
     used = refl;
     counts = λ k low. refl;
+    later = λ k from low. refl;
+    apart = λ k low alone. refl;
     others = held.all;
     own = λ v b low h. absurd (no_early v b low h);
     only = λ b h. inl (held.only b h);
@@ -71,7 +73,7 @@ module _ (I : List (List ℕ)) (L : VolumeLayout) (n : ℕ) (seen : List ℕ) (c
     idle = λ shares. (refl, refl, refl);
   }
 
-module _ (I J : List (List ℕ)) (L : VolumeLayout) (n at : ℕ) (told : Unshared) (mapped : ℕ) (seen : List ℕ) (low : at < used_words_of (header_at I L n) / 2) (s : AreSettled I L n at told mapped seen J) where
+module _ (I J : List (List ℕ)) (L : VolumeLayout) (n at : ℕ) (told : Unshared) (mapped : ℕ) (seen : List ℕ) (can : CanMove I L n) (low : at < used_words_of (header_at I L n) / 2) (s : AreSettled I L n at told mapped seen J) where
   abbrev pub run : Run
   run = run_named J L n at
 
@@ -135,6 +137,8 @@ module _ (I J : List (List ℕ)) (L : VolumeLayout) (n at : ℕ) (told : Unshare
       moves = further I J L n mapped (mapped + count) (omega arith) s.moves;
       used = s.used;
       counts = s.counts;
+      later = λ k from small. s.later k (omega (arith, from)) small;
+      apart = s.apart;
       others = λ b h. (has_run b).1 (inl (s.others b h));
       own = own_too;
       only = only_too;
@@ -185,6 +189,33 @@ module _ (I J : List (List ℕ)) (L : VolumeLayout) (n at : ℕ) (told : Unshare
   not_idle meets none =
       let same : J ≡ I = (s.idle none).2 in
       met_is_shared meets (subst (λ X. SharesNone X L n) (sym same) none)
+
+  -- and it was so from the beginning
+  abbrev before : ℕ
+  before = length (blocks_named (header_at I L n) at)
+
+  before_is : mapped ≡ before
+  before_is = start_is ∙ same_size (header_at I L n) (header_at J L n) at (λ k small. s.counts k (omega (arith, small, low)))
+
+  met_shares : MeetsRun seen run → SharesRun I L n at
+  met_shares (b, within, there) =
+      let old : Run = run_named I L n at in
+      let in_old : IsInRun old b = subst (λ (r : Run). IsInRun r b) (s.later at (omega arith) low) within in
+      let from = in_old.0 in
+      let to = in_old.1 in
+      let k : ℕ = b - old.lbn in
+      let small : k < old.count = omega (arith, from, to) in
+      let is : old.lbn + k ≡ b = omega (arith, from) in
+      let h : Holds I L n (before + k + 1) b = subst (Holds I L n (before + k + 1)) is (run_held I L n at can low k small) in
+      elim (s.only b there) [
+        | inl (q, (other, (v, held))) ↦
+            let was : Holds I L q v b = record { blocks = held.blocks; file = (s.moves.has q held.blocks other).1 held.file; first = held.first; named = held.named } in
+            (q, b, in_old, (v, before + k + 1, was, h, inl other))
+        | inr (v, early, held) ↦ elim (s.moves.held v b held) [
+          | inl was ↦ (n, b, in_old, (v, before + k + 1, was, h, inr (λ e. absurd (omega (arith, e, early, before_is)))))
+          | inr (between, f) ↦ absurd (can.used n b (before + k + 1, h, f))
+        ]
+      ]
 
   -- where it moves
   module _ (K : List (List ℕ)) (to : ℕ) (new : List ℕ) (free : IsFreeRun J L to count) (m : IsMoved J L n at to K) (has_run : HasRunToo new seen (record { lbn = to; count = count })) where
@@ -280,6 +311,10 @@ module _ (I J : List (List ℕ)) (L : VolumeLayout) (n at : ℕ) (told : Unshare
       | inr other ↦ ap (λ (r : Run). r.count) (repointed.other_run (header_at J L n) (header_at K L n) s.can.has.file.valid.header.layout at to inside m.header k small other)
     ]
 
+    other_stays : (k : ℕ) → k < used_words_of (header_at I L n) / 2 → k ≢ at → run_named K L n k ≡ run_named J L n k
+    other_stays k small other =
+        repointed.other_run (header_at J L n) (header_at K L n) s.can.has.file.valid.header.layout at to inside m.header k (subst (λ u. k < u / 2) (sym s.used) small) other
+
     moved_settled : (next : Unshared) → next.left ≡ told.left → MeetsRun seen run → length K ≤ 64 * length new → AreSettled I L n (at + 1) next (mapped + count) new K
     moved_settled next same meets room = record {
       can = one.more_can J K L n at to s.can m inside free;
@@ -291,6 +326,11 @@ module _ (I J : List (List ℕ)) (L : VolumeLayout) (n at : ℕ) (told : Unshare
       moves = together I J K L n mapped (mapped + count) (omega arith) s.moves moved_here;
       used = used_is ∙ s.used;
       counts = λ k small. counts_are k (subst (λ u. k < u / 2) (sym s.used) small) ∙ s.counts k small;
+      later = λ k from small. other_stays k small (λ e. absurd (omega (arith, from, e))) ∙ s.later k (omega (arith, from)) small;
+      apart = λ k small alone. elim (cases_eq k at) [
+        | inl same ↦ absurd (alone (subst (SharesRun I L n) (sym same) (met_shares meets)))
+        | inr other ↦ other_stays k small other ∙ s.apart k small alone
+      ];
       others = λ b besides. (has_run b).1 (inl (s.others b (was_besides b besides)));
       own = moved_own;
       only = moved_only;

@@ -23,7 +23,8 @@ IsUnknown I L other = ⊥
 
 -- The blocks that were marked used and that no file held are free, and nothing else was done; their runs are told.
 pub record IsFreed (old : Filed) (told : List Finding) (new : Filed) : Type 0 where
-  pub known : AreKnown old.image old.layout
+  -- where there is such a block, it is known which blocks are held
+  pub known : (b : ℕ) → IsHeldByNone old.image old.layout b → AreKnown old.image old.layout
   pub blocks : List ℕ
   pub exactly : (b : ℕ) → Contains blocks b ↔ IsHeldByNone old.image old.layout b
   pub marked : HasMarked old blocks true new
@@ -31,10 +32,6 @@ pub record IsFreed (old : Filed) (told : List Finding) (new : Filed) : Type 0 wh
   -- none is left
   pub none : (b : ℕ) → ¬ IsHeldByNone new.image new.layout b
 
--- why it is not looked for: it is not known which blocks are held, or there is no memory
-abbrev pub IsUnsettled : List (List ℕ) → VolumeLayout → RepairFault → Type 0
-IsUnsettled I L why = (why ≡ NoMemory) ⊎ IsUnknown I L why
-
--- why they are not freed
+-- why they are not freed: there are such blocks, and it is not known which blocks are held; or there is no memory
 abbrev pub IsNotFreed : Filed → RepairFault → Type 0
-IsNotFreed old why = IsUnsettled old.image old.layout why
+IsNotFreed old why = (why ≡ NoMemory) ⊎ (((b : ℕ) × IsHeldByNone old.image old.layout b) × IsUnknown old.image old.layout why)

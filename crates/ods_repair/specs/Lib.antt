@@ -13,3 +13,4 @@ pub mod Repointed
 pub mod Moved
 pub mod Unshared
 pub mod Settled
+pub mod Tables

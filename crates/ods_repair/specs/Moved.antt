@@ -18,6 +18,10 @@ use Rattle.ods_repair.specs.Spare.{AreOnce, AreSpare}
 abbrev pub run_named : List (List ℕ) → VolumeLayout → ℕ → ℕ → Run
 run_named I L n at = run_at (header_at I L n) at
 
+-- the LBN is one of the run
+abbrev pub IsInRun : Run → ℕ → Type 0
+IsInRun r b = (r.lbn ≤ b) × (b < r.lbn + r.count)
+
 -- as many blocks, from LBN `to` on
 abbrev pub new_run : List (List ℕ) → VolumeLayout → ℕ → ℕ → ℕ → List ℕ
 new_run I L n at to = range_with_len to (run_named I L n at).count

@@ -1,5 +1,5 @@
 -- What becomes of one run of a file, and what is noted of blocks that are held.
-use Rattle.std.specs.Prelude.{◌≡◌, ◌≢◌, ◌⊎◌, ◌↔◌, ℕ, ◌+◌, ◌*◌, ◌/◌, ◌<◌, ◌≤◌, true, false, List, length, map, slice_get, Some}
+use Rattle.std.specs.Prelude.{◌≡◌, ◌≢◌, ◌⊎◌, ◌↔◌, ℕ, ◌*◌, ◌/◌, ◌<◌, ◌≤◌, true, false, List, length, map, slice_get, Some}
 use Rattle.std.specs.List.{flat_map, range_with_len}
 use Rattle.ods_amend.specs.Runs.{HasNoRun, IsFreeRun}
 use Rattle.ods_header.specs.declared.header.Run.{Run}
@@ -8,15 +8,11 @@ use Rattle.ods_header.specs.Header.{run_at, run_blocks, used_words_of}
 use Rattle.ods_space.specs.Layout.{VolumeLayout, header_at}
 use Rattle.ods_space.specs.Files.{Holds}
 use Rattle.ods_check.specs.HeldFree.{IsHeldBesides}
-use Rattle.ods_repair.specs.Moved.{CanMove, IsMoved, run_named}
-use Rattle.ods_repair.specs.Unshared.{LacksRoom, Moves, SharesNone}
+use Rattle.ods_repair.specs.Moved.{CanMove, IsInRun, IsMoved, run_named}
+use Rattle.ods_repair.specs.Unshared.{LacksRoom, Moves, SharesNone, SharesRun}
 use Rattle.ods_repair.specs.declared.unsharing.Unshared.{Unshared}
 use Rattle.ods_repair.specs.declared.unsharing.Outcome.{Outcome}
 use Rattle.ods_repair.specs.declared.unsharing.Outcome.TheVariants.{Stays, Moved, Left}
-
--- the LBN is one of the run
-abbrev pub IsInRun : Run → ℕ → Type 0
-IsInRun r b = (r.lbn ≤ b) × (b < r.lbn + r.count)
 
 -- the set has the blocks of the run, and what it had
 abbrev pub HasRunToo : List ℕ → List ℕ → Run → Type 0
@@ -57,6 +53,9 @@ pub record AreSettled (I : List (List ℕ)) (L : VolumeLayout) (n at : ℕ) (tol
   -- each pointer names as many blocks as before
   pub used : used_words_of (header_at J L n) ≡ used_words_of (header_at I L n)
   pub counts : (k : ℕ) → k < used_words_of (header_at I L n) / 2 → (run_named J L n k).count ≡ (run_named I L n k).count
+  -- the runs to come stand where they stood, and so does each of the others that has no block which is held twice
+  pub later : (k : ℕ) → at ≤ k → k < used_words_of (header_at I L n) / 2 → run_named J L n k ≡ run_named I L n k
+  pub apart : (k : ℕ) → k < used_words_of (header_at I L n) / 2 → ¬ SharesRun I L n k → run_named J L n k ≡ run_named I L n k
   -- what the set has
   pub others : (b : ℕ) → IsHeldBesides J L n b → has seen b ≡ true
   pub own : (v b : ℕ) → v ≤ mapped → Holds J L n v b → has seen b ≡ true

@@ -14,7 +14,7 @@ use Rattle.ods_mount.specs.Faults.{IsTrueOf, contents_of}
 use Rattle.ods_check.specs.Findings.{IsHeldByNone}
 use Rattle.ods_check.specs.HeldFree.{IsHeldBesides, IsHeldFree}
 use Rattle.ods_amend.specs.Runs.{HasNoRun}
-use Rattle.ods_repair.specs.Moved.{run_named}
+use Rattle.ods_repair.specs.Moved.{IsInRun, run_named}
 use Rattle.ods_repair.specs.Repointed.{KeepsFile}
 use Rattle.ods_repair.specs.Spare.{IsNotSpare}
 use Rattle.ods_repair.specs.declared.fault.RepairFault.{RepairFault}
@@ -30,7 +30,7 @@ IsNotShared other = Unit {0}
 abbrev pub IsBetween : ℕ → ℕ → ℕ → Type 0
 IsBetween a e v = (a < v) × (v ≤ e)
 
--- The blocks J are the blocks I where of file n the blocks behind the first a and up to e may stand elsewhere, in blocks that were free, with the same bytes.
+-- J is I with blocks a + 1 to e of file n elsewhere, or with some of them. They stand in blocks that were free, and have the same bytes.
 pub record Moves (I : List (List ℕ)) (L : VolumeLayout) (n a e : ℕ) (J : List (List ℕ)) : Type 0 where
   pub long : length J ≡ length I
   pub layout : IsLayoutOf J L
@@ -62,6 +62,10 @@ pub record Moves (I : List (List ℕ)) (L : VolumeLayout) (n a e : ℕ) (J : Lis
 abbrev pub SharesNone : List (List ℕ) → VolumeLayout → ℕ → Type 0
 SharesNone I L n = (m b : ℕ) → ¬ IsTrueOf I L (DoublyUsed m n b)
 
+-- run `at` of the first header of file n has a block that another file holds too, or that the file has twice
+abbrev pub SharesRun : List (List ℕ) → VolumeLayout → ℕ → ℕ → Type 0
+SharesRun I L n at = (m : ℕ) × (b : ℕ) × IsInRun (run_named I L n at) b × IsTrueOf I L (DoublyUsed m n b)
+
 -- pointer `at` of the first header of file n is there, and no run of free blocks in J is as long as what it names
 abbrev pub LacksRoom : List (List ℕ) → VolumeLayout → ℕ → List (List ℕ) → Type 0
 LacksRoom I L n J = (at : ℕ) × (at < used_words_of (header_at I L n) / 2) × HasNoRun J L (run_named I L n at).count
@@ -70,10 +74,12 @@ LacksRoom I L n J = (at : ℕ) × (at < used_words_of (header_at I L n) / 2) × 
 abbrev pub HasExtension : List (List ℕ) → VolumeLayout → ℕ → Type 0
 HasExtension I L n = next_number_of (header_at I L n) ≢ 0
 
--- Each run of file n with a block that another file holds too, or that the file has before it, has blocks of its own, as far as its first header names it and free blocks are there.
+-- Runs of file n with a block that is held twice have blocks of their own, and no other run moves. A run is left where an extension header names it, or where no run of free blocks is as long.
 pub record HasOwnRuns (I : List (List ℕ)) (L : VolumeLayout) (n : ℕ) (told : Unshared) (J : List (List ℕ)) : Type 0 where
   pub mapped : ℕ
   pub moves : Moves I L n 0 mapped J
+  -- a run with no block that is held twice stays where it stands
+  pub apart : (at : ℕ) → at < used_words_of (header_at I L n) / 2 → ¬ SharesRun I L n at → run_named J L n at ≡ run_named I L n at
   -- where nothing is left, no block of the file is held twice
   pub none : told.left ≡ 0 → SharesNone J L n
   -- what is left finds no run of free blocks, or an extension header names it
@@ -81,7 +87,7 @@ pub record HasOwnRuns (I : List (List ℕ)) (L : VolumeLayout) (n : ℕ) (told :
   -- where no block of the file was held twice, nothing is done
   pub idle : SharesNone I L n → (told.moved ≡ 0) × (told.left ≡ 0) × (J ≡ I)
 
--- Why no run of file n moves: it is one of the volume's own, or has no whole chain; a block of INDEXF.SYS or BITMAP.SYS, or its first header, cannot change alone; a held block is marked free; or there is no memory.
+-- Why no run of file n moves. The file is one of the volume's own, or has no whole chain. Its first header, or a block of INDEXF.SYS or BITMAP.SYS, cannot change alone. A held block is marked free. Or there is no memory.
 abbrev pub IsNotUnshared : List (List ℕ) → VolumeLayout → ℕ → RepairFault → Type 0
 IsNotUnshared I L n (Reserved m) = (m ≡ n) × (n ≤ 5)
 IsNotUnshared I L n (NoChain m) = (m ≡ n) × ((bs : List ℕ) → ¬ HasBlocks I L n bs)

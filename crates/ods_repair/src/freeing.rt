@@ -1,8 +1,8 @@
 //! `repair free`: blocks that are marked used and that no file holds become free.
-ghost use Rattle.std.specs.Prelude.{◌≡◌, IfErr, IfOk, OnErr, OnOk};
+ghost use Rattle.std.specs.Prelude.{◌≡◌, ◌≢◌, ◌⊎◌, [], IfErr, IfOk, OnErr, OnOk};
 ghost use Rattle.ods_space.specs.Files.{IsLayoutOf};
 ghost use Rattle.ods_space.specs.Disks.{on};
-ghost use Rattle.ods_repair.specs.Freed.{AreKnown, IsFreed, IsNotFreed, IsUnsettled};
+ghost use Rattle.ods_repair.specs.Freed.{AreKnown, IsFreed, IsNotFreed, IsUnknown};
 
 use crate::RepairFault;
 use ods_check::{
@@ -13,28 +13,31 @@ use ods_space::Disk;
 use std::alloc::Global;
 
 /// Frees each block that the storage bitmap says is used and that no file holds, but for the boot block and the places of home blocks. It gives the runs
-/// of these blocks, as they were found. It is refused where a number in use has no valid header, or an extension header is reached by no file: these
-/// may hold blocks. Refused, the volume is as it was.
+/// of these blocks, as they were found. Where there are such blocks it is refused if a number in use has no valid header, or an extension header is reached by
+/// no file: these may hold blocks. Refused, the volume is as it was.
 pub fn free_unheld(alloc: Global, filing: &mut Filing) -> Result<Told<Finding>, RepairFault>
     // All these blocks are free then, none else is, and nothing else was done.
     ensures freed { IfOk result (λ told. IsFreed filing.old told.0 filing.new) }
-    // There is a header that may hold blocks, or no memory.
+    // There are such blocks and a header that may hold them, or there is no memory.
     ensures refused { IfErr result (IsNotFreed filing.old) }
     ensures unchanged { OnErr result (filing.new ≡ filing.old) }
 {
-    check_known(alloc, &filing.disk())?;
     let told = find_unheld_runs(alloc, &filing.disk(), u32::MAX)?;
     let blocks = find_unheld_blocks(alloc, &filing.disk())?;
+    check_known(alloc, &filing.disk(), &blocks)?;
     filing.mark_blocks(&blocks, true)?;
     Ok(told)
 }
 
-/// Why it is not known which blocks are held, where it is not.
-fn check_known(alloc: Global, disk: &Disk<'_>) -> Result<(), RepairFault>
+/// Why it is not known whether these blocks are held, where there are some and it is not.
+fn check_known(alloc: Global, disk: &Disk<'_>, blocks: &[u32]) -> Result<(), RepairFault>
     requires { on IsLayoutOf disk.now }
-    ensures ok { OnOk result (on AreKnown disk.now) }
-    ensures err { IfErr result (on IsUnsettled disk.now) }
+    ensures ok { OnOk result (blocks.now ≢ [] → on AreKnown disk.now) }
+    ensures err { IfErr result (λ why. (why ≡ RepairFault.NoMemory) ⊎ ((blocks.now ≢ []) × on IsUnknown disk.now why)) }
 {
+    if blocks.is_empty() {
+        return Ok(());
+    }
     if let Some(number) = find_missing_header(disk) {
         return Err(RepairFault::NoHeader(number));
     }

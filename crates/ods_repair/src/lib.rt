@@ -20,7 +20,7 @@ pub use doubling::renumber_doubles;
 pub use entering::enter_lost;
 pub use fault::RepairFault;
 pub use freeing::free_unheld;
-pub use laws::{mended_is_sound, mended_lines_are_sound};
+pub use laws::{mended_is_sound, mended_lines_are_sound, tables_say_all};
 pub use lost_file::LostFile;
 pub use removing::remove_dangling;
 pub use unsharing::{Unshared, unshare};

@@ -47,7 +47,7 @@ pub fn unshare(
 ) -> Result<Unshared, RepairFault>
     requires layout { IsLayoutOf image.old layout.now }
     requires index { ¬ HasBadIndex image.old layout.now }
-    // No file loses a byte, no fault is new, and where nothing is left no block of the file is held twice.
+    // No file loses a byte, no fault is new, and no run moves without need. Where nothing is left no block of the file is held twice.
     ensures own { IfOk result (λ told. HasOwnRuns image.old layout.now file told image.new) }
     ensures refused { IfErr result (IsNotUnshared image.old layout.now file) }
     ensures unchanged { OnErr result (image.new ≡ image.old) }

@@ -2,7 +2,8 @@ use Rattle.std.proofs.Common.{◌≡◌, ℕ, ◌+◌, ◌∙◌, List, true, re
 use Rattle.std.specs.Prelude.{◌⊎◌}
 use Rattle.std.proofs.lemmas.Bool.{cases_eq}
 use Rattle.ods_mount.specs.Tables.{IsWith, has}
-use Rattle.ods_repair.specs.Settled.{HasRunToo, IsInRun}
+use Rattle.ods_repair.specs.Moved.{IsInRun}
+use Rattle.ods_repair.specs.Settled.{HasRunToo}
 use Rattle.ods_repair.proofs.unsharing.insert_run.Goals as goal
 
 more_in : (new mid old : List ℕ) (lbn k : ℕ) → HasRunToo mid old (record { lbn = lbn; count = k }) → IsWith new mid (lbn + k) → HasRunToo new old (record { lbn = lbn; count = k + 1 })

@@ -47,7 +47,7 @@ loop-at-preserved c =
     let L = c.args.layout.now in
     let count = counted c.pointer_count-count.result 0 c.first_header.result.now (header_at I L c.args.file) c.pointer_count-count.ensures.count c.first_header.ensures in
     let low : c.loop-at.at < used_words_of (header_at I L c.args.file) / 2 = subst (λ k. c.loop-at.at < k) count c.loop-at-test.true in
-    let settled = one_settled I c.loop-at.image L c.args.file c.loop-at.at c.loop-at.told c.loop-at.mapped c.loop-at.seen low c.loop-at.invariant.settled c.settle_run-outcome.result c.settle_run-outcome.new.image c.told_of-told.result c.settle_run-outcome.new.seen
+    let settled = one_settled I c.loop-at.image L c.args.file c.loop-at.at c.loop-at.told c.loop-at.mapped c.loop-at.seen c.requires.can low c.loop-at.invariant.settled c.settle_run-outcome.result c.settle_run-outcome.new.image c.told_of-told.result c.settle_run-outcome.new.seen
     c.settle_run-outcome.ensures.settled c.told_of-told.ensures c.settle_run-outcome.ensures.room in
     record {
       settled = subst (λ (r : Run). AreSettled I L c.args.file (c.loop-at.at + 1) c.told_of-told.result (c.loop-at.mapped + r.count) c.settle_run-outcome.new.seen c.settle_run-outcome.new.image) (sym c.run_of-run.ensures.run) settled;
