@@ -1,25 +1,27 @@
 -- Why a copy has the bytes of the file that it is made of, by what cmp compares.
-use Rattle.std.proofs.Common.{◌≡◌, ℕ, ◌+◌, ◌-◌, ◌*◌, ◌/◌, ◌%◌, ◌<◌, ◌≤◌, refl, ap, sym, ◌∙◌, subst, Bool, true, false, cond, List, [], ◌∷◌, ◌++◌, get_or, length, map, take, drop, append_assoc, Option, Some, None, arith, inl, inr}
-use Rattle.std.specs.Prelude.{◌==◌, ◌⊎◌, nat_le, nat_lt, slice_range}
+use Rattle.std.proofs.Common.{◌≡◌, ℕ, ◌+◌, ◌-◌, ◌*◌, ◌/◌, ◌%◌, ◌<◌, ◌≤◌, refl, ap, sym, ◌∙◌, subst, Bool, true, false, cond, List, [], ◌∷◌, ◌++◌, get_or, length, map, take, drop, append_assoc, Some, None, arith, inl, inr}
+use Rattle.std.specs.Prelude.{◌==◌, ◌⊎◌, nat_le, nat_lt}
 use Rattle.std.specs.List.{All, concat, range_with_len}
-use Rattle.std.specs.Option.{option_map, option_map_or}
-use Rattle.std.proofs.lemmas.Bool.{cases_lt, eqb-true, lt-leb, ltb-true, le-ltb}
-use Rattle.std.proofs.lemmas.List.{drop-drop, get_or_past, length-append, length-drop, length-take, take_all}
+use Rattle.std.specs.Option.{option_map}
+use Rattle.std.proofs.lemmas.Bool.{eqb-true, lt-leb, ltb-true, le-ltb}
+use Rattle.std.proofs.lemmas.List.{drop-drop, length-append, take_all}
 use Rattle.std.proofs.lemmas.Option.{same_Some}
 use Rattle.std.proofs.lemmas.List.Elements.{All-head, All-map, All-tail}
 use Rattle.std.proofs.lemmas.List.Sums.{AllPass-from_list_all}
 use Rattle.std.proofs.Math.Seq.{drop-append_seam, take-append_seam}
-use Rattle.ods_base.specs.Block.{word, zeros}
+use Rattle.ods_base.specs.Block.{zeros}
 use Rattle.ods_base.specs.Image.{IsImage, block_at, image_bytes}
 use Rattle.ods_header.specs.Header.{attributes_of}
 use Rattle.ods_space.specs.Chain.{index_for}
 use Rattle.ods_space.specs.Files.{AreInside, IsFile}
-use Rattle.ods_space.specs.Layout.{VolumeLayout, header_at, place_of}
+use Rattle.ods_space.specs.Layout.{VolumeLayout, header_at}
 use Rattle.ods_space.proofs.Chains.{same_chain}
 use Rattle.ods_mount.specs.Faults.{contents_of}
 use Rattle.ods_files.specs.Body.{Body, HasBody, are_zeros}
+use Rattle.ods_files.proofs.HeaderSizes.{attributes_are, header_sized}
 use Rattle.ods_records.specs.Attributes.{block, end_block, end_of}
 use Rattle.ods_records.specs.Records.{word_at}
+use Rattle.ods_records.proofs.EndSet.{by_parts}
 use Rattle.ods_filing.specs.Put.{block_count, block_with, blocks_with}
 use Rattle.ods_shell.specs.Compared.{AreCompared, HasCompared}
 use Rattle.ods_upkeep.specs.Copied.{true_for}
@@ -105,14 +107,7 @@ set_byte : (a b c d : ℕ) (own : List ℕ) (n : ℕ) → word_at (with_end (a �
 set_byte a b c d own n = omega arith
 
 pub set_end : (a b c d : ℕ) (own : List ℕ) (n : ℕ) → end_of (with_end (a ∷ b ∷ c ∷ d ∷ own) n) ≡ n
-set_end a b c d own n = by (end_block (with_end (a ∷ b ∷ c ∷ d ∷ own) n)) (word_at (with_end (a ∷ b ∷ c ∷ d ∷ own) n) 12) (set_block a b c d own n) (set_byte a b c d own n)
-  where
-    by : (high last : ℕ) → high ≡ n / 512 + 1 → last ≡ n % 512 → cond (high == 0) 0 ((high - 1) * 512 + last) ≡ n
-    by high last e g = here (high == 0) refl
-      where
-        here : (t : Bool) → (high == 0) ≡ t → cond (high == 0) 0 ((high - 1) * 512 + last) ≡ n
-        here true h = absurd (omega (arith, eqb-true high 0 h))
-        here false h = ap (λ t. cond t 0 ((high - 1) * 512 + last)) h ∙ omega arith
+set_end a b c d own n = by_parts n (end_block (with_end (a ∷ b ∷ c ∷ d ∷ own) n)) (word_at (with_end (a ∷ b ∷ c ∷ d ∷ own) n) 12) (set_block a b c d own n) (set_byte a b c d own n)
 
 -- as many bytes are compared where the end is behind all
 all_of : (p q : Bool) (m e : ℕ) → e ≡ m → cond p m (cond q e m) ≡ m
@@ -204,23 +199,9 @@ true_size own n size = eight (λ l. compared_size (true_for l n) n ≡ compared_
 pub true_same : (own : List ℕ) (n : ℕ) → length own ≡ 32 → AreTrueOf own n → true_for own n ≡ own
 true_same own n size = eight (λ l. AreTrueOf l n → true_for l n ≡ l) (λ a b c d e f g h rest. same_if_true a b c d e f g h rest n) own size
 
--- the header of a file is a block, so its attributes have 32 bytes
-header_sized : (I : List (List ℕ)) (L : VolumeLayout) (n : ℕ) → IsImage I → IsFile I L n → length (header_at I L n) ≡ 512
-header_sized I L n image file = by (place_of L n) file.valid.header.level
-  where
-    by : (o : Option ℕ) → word (option_map_or (block_at I) o []) 3 ≡ 257 → length (option_map_or (block_at I) o []) ≡ 512
-    by None level = absurd (let wrong : 0 ≡ 257 = level in omega (arith, wrong))
-    by (Some lbn) level = here (cases_lt lbn (length I))
-      where
-        here : (lbn < length I) ⊎ (length I ≤ lbn) → length (block_at I lbn) ≡ 512
-        here (inl small) = (image.blocks lbn [] small).size
-        here (inr past) = absurd (let wrong : 0 ≡ 257 = ap (λ b. word b 3) (sym (get_or_past I lbn [] past)) ∙ level in omega (arith, wrong))
-
-range_sized : (b : List ℕ) → length b ≡ 512 → length (slice_range b 14 46) ≡ 32
-range_sized b size = simp (length-take, length-drop) (omega (arith, size))
-
+-- the attributes in a header are 32 bytes
 pub attributes_sized : (I : List (List ℕ)) (L : VolumeLayout) (n : ℕ) → IsImage I → IsFile I L n → length (attributes_of (header_at I L n)) ≡ 32
-attributes_sized I L n image file = range_sized (header_at I L n) (header_sized I L n image file)
+attributes_sized I L n image file = attributes_are (header_at I L n) (header_sized I L n image file)
 
 -- a file has one body
 pub one_body : (I : List (List ℕ)) (L : VolumeLayout) (n : ℕ) (a b : Body) → HasBody I L n a → HasBody I L n b → a ≡ b

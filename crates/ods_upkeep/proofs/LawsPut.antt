@@ -1,10 +1,9 @@
 -- Why a file of a tree of the host that was put is got back.
-use Rattle.std.proofs.Common.{◌≡◌, ℕ, ◌+◌, ◌-◌, ◌*◌, ◌/◌, ◌%◌, ◌≤◌, refl, sym, ap, ◌∙◌, subst, Bool, true, false, cond, List, [], ◌∷◌, ◌++◌, length, replicate, Option, Some, None, unwrap_or, arith, inl, inr}
-use Rattle.std.specs.Prelude.{◌==◌, ◌&&◌, ◌||◌, MatchBool}
+use Rattle.std.proofs.Common.{◌≡◌, ℕ, ◌+◌, ◌-◌, ◌/◌, ◌%◌, ◌≤◌, refl, sym, ap, ◌∙◌, subst, true, false, List, [], ◌∷◌, ◌++◌, length, replicate, Option, Some, None, unwrap_or, arith, inl, inr}
+use Rattle.std.specs.Prelude.{◌&&◌, ◌||◌, MatchBool}
 use Rattle.std.specs.List.{All, list_all}
 use Rattle.std.specs.Option.{option_or}
 use Rattle.std.specs.Str.Lines.{lines}
-use Rattle.std.proofs.lemmas.Bool.{eqb-true}
 use Rattle.std.proofs.lemmas.List.{length-append, length-replicate}
 use Rattle.std.proofs.lemmas.Option.{same_Some}
 use Rattle.std.proofs.lemmas.List.Elements.{All-cons, All-nil}
@@ -24,6 +23,7 @@ use Rattle.ods_records.specs.Records.{Spells, text_of, word_at}
 use Rattle.ods_records.specs.Survey.{come_as_lines, is_printable}
 use Rattle.ods_records.specs.declared.kind.RecordKind.TheVariants.{Variable}
 use Rattle.ods_records.specs.declared.kind.Wanted.TheVariants.{ByKind, Text}
+use Rattle.ods_records.proofs.EndSet.{by_parts}
 use Rattle.ods_records.proofs.PlainTexts.{lines_text}
 use Rattle.ods_records.proofs.ReadSoFar.{spelled_once}
 use Rattle.ods_records.proofs.Standing.{fault_spells}
@@ -61,14 +61,7 @@ byte_is : (rtyp ratt rsiz n : ℕ) → word_at (attributes rtyp ratt rsiz n) 12 
 byte_is rtyp ratt rsiz n = omega arith
 
 end_is : (rtyp ratt rsiz n : ℕ) → end_of (attributes rtyp ratt rsiz n) ≡ n
-end_is rtyp ratt rsiz n = by (end_block (attributes rtyp ratt rsiz n)) (word_at (attributes rtyp ratt rsiz n) 12) (block_is rtyp ratt rsiz n) (byte_is rtyp ratt rsiz n)
-  where
-    by : (high last : ℕ) → high ≡ n / 512 + 1 → last ≡ n % 512 → cond (high == 0) 0 ((high - 1) * 512 + last) ≡ n
-    by high last e g = here (high == 0) refl
-      where
-        here : (t : Bool) → (high == 0) ≡ t → cond (high == 0) 0 ((high - 1) * 512 + last) ≡ n
-        here true h = absurd (omega (arith, eqb-true high 0 h))
-        here false h = ap (λ t. cond t 0 ((high - 1) * 512 + last)) h ∙ omega arith
+end_is rtyp ratt rsiz n = by_parts n (end_block (attributes rtyp ratt rsiz n)) (word_at (attributes rtyp ratt rsiz n) 12) (block_is rtyp ratt rsiz n) (byte_is rtyp ratt rsiz n)
 
 -- four bytes are in front of others
 four : (P : List ℕ → Type 0) → ((a b c d : ℕ) (own : List ℕ) → P (a ∷ b ∷ c ∷ d ∷ own)) → (own : List ℕ) → 4 ≤ length own → P own

@@ -1,37 +1,15 @@
 -- The lines of a plain text are such as come back without a word.
-use Rattle.std.proofs.Common.{◌≡◌, ◌≢◌, ℕ, zero, suc, ◌+◌, ◌-◌, ◌<◌, ◌≤◌, List, [], ◌∷◌, length, take, drop, Bool, true, cond, not, refl, sym, ap, ◌∙◌, arith, inl, inr}
+use Rattle.std.proofs.Common.{◌≡◌, ◌≢◌, ℕ, zero, suc, ◌+◌, ◌-◌, ◌<◌, ◌≤◌, List, [], ◌∷◌, length, take, drop, true, not, refl, sym, ap, ◌∙◌, arith, inl, inr}
 use Rattle.std.specs.Prelude.{◌==◌, slice_index, slice_index_or}
 use Rattle.std.specs.List.{list_all, position_or_len}
-use Rattle.std.specs.Str.Lines.{lines, strip_carriage_return}
-use Rattle.std.proofs.lemmas.Bool.{and_from, cases_lt, eqb-false, eqb-true, ne_eqb, not-false, not-true}
-use Rattle.std.proofs.lemmas.List.{get_or-drop, get_or-take, get_or_default, get_or_past, length-drop, length-take-le, nil_from_length}
-use Rattle.std.proofs.lemmas.List.Sums.{list_all-from_AllPass, prefix_len-le-length, prefix_len_passes, prefix_len_stops}
+use Rattle.std.specs.Str.Lines.{lines}
+use Rattle.std.proofs.lemmas.Bool.{and_from, cases_lt, ne_eqb}
+use Rattle.std.proofs.lemmas.List.{get_or-drop, get_or-take, get_or_default, length-drop, length-take-le, nil_from_length}
+use Rattle.std.proofs.lemmas.List.Sums.{list_all-from_AllPass}
 use Rattle.ods_records.specs.Lines.{IsLineEnd, IsPlainText}
 use Rattle.ods_records.specs.Survey.{is_line}
 use Rattle.ods_records.proofs.LineEnds.{is_lf, lines_first}
-
--- the first LF ends a line
-place_ends : (text : List ℕ) → IsLineEnd text (position_or_len is_lf text)
-place_ends text = record {
-  within = prefix_len-le-length (λ b. not (is_lf b)) text;
-  before = λ k small. eqb-false _ _ (not-true _ (prefix_len_passes (λ b. not (is_lf b)) text k 0 small));
-  found = λ inside. eqb-true _ _ (not-false _ (prefix_len_stops (λ b. not (is_lf b)) text 0 inside));
-}
-
--- no CR stands at the end of a line
-no_cr_at_end : (text : List ℕ) (n : ℕ) → n < length text → slice_index text n ≡ 10 → ((i : ℕ) → slice_index text i ≡ 13 → slice_index text (i + 1) ≢ 10) → slice_index (take n text) (length (take n text) - 1) ≢ 13
-no_cr_at_end text n inside lf no_cr e =
-    let size : length (take n text) ≡ n = length-take-le n text (omega arith) in
-    elim (cases_lt 0 n) [
-      | inl some ↦
-          let same : slice_index (take n text) (length (take n text) - 1) ≡ slice_index text (n - 1) = ap (λ (k : ℕ). slice_index (take n text) (k - 1)) size ∙ get_or-take n text (n - 1) 0 (omega arith) in
-          let back : n - 1 + 1 ≡ n = omega arith in
-          no_cr (n - 1) (sym same ∙ e) (ap (slice_index text) back ∙ lf)
-      | inr none ↦ omega (arith, get_or_past (take n text) (length (take n text) - 1) 0 (omega (arith, size)), e)
-    ]
-
-strip_same : (l : List ℕ) → slice_index l (length l - 1) ≢ 13 → strip_carriage_return l ≡ l
-strip_same l other = ap (λ (b : Bool). cond b (take (length l - 1) l) l) (ne_eqb _ _ other)
+use Rattle.ods_records.proofs.PlainTexts.{no_cr_at_end, place_ends, strip_same}
 
 -- what stands before the first LF is a line
 front_is : (text : List ℕ) (n : ℕ) → IsLineEnd text n → slice_index (take n text) (length (take n text) - 1) ≢ 13 → is_line (take n text) ≡ true
