@@ -10,7 +10,7 @@ ghost use Rattle.f11fs.specs.Mended.{EntersLost, HasDirectory, HasNoLost, IsDire
 
 use crate::changing::{KEEPER, stop_failed};
 use crate::mending_shares::mend_share;
-use crate::repair_lines::{Report, push_free, push_lost, push_names, push_used};
+use crate::repair_lines::{Part, Report, push_free, push_lost, push_names, push_used};
 use fs_reads::{Stop, VolumeFault, stop_about};
 use fs_words::Repairs;
 use ods_base::{FileId, Image};
@@ -111,7 +111,7 @@ fn mark_held<'a>(
     match mark_used(alloc, &mut image, layout) {
         Ok(blocks) => push_used(&mut report.text, &blocks)?,
         Err(RepairFault::NoMemory) => return Err(Stop::NoMemory),
-        Err(fault) => report.tell_left(alloc, "used", &fault)?,
+        Err(fault) => report.tell_left(alloc, Part::Used, &fault)?,
     }
     Ok(image)
 }
@@ -164,13 +164,14 @@ fn doubled_among(
 {
     let mut doubled = Vec::new(alloc);
     for line in lines {
-        push_doubled(&mut doubled, line, report)?;
+        push_doubled(alloc, &mut doubled, line, report)?;
     }
     Ok(doubled)
 }
 
 /// Adds the directory of a line, where the line says that it has two names which are one, and there are not yet too many.
 fn push_doubled(
+    alloc: Global,
     doubled: &mut Vec<u16>,
     line: &FaultLine,
     report: &mut Report,
@@ -182,7 +183,7 @@ fn push_doubled(
         return Ok(());
     };
     if doubled.len() >= MOST_DOUBLES {
-        return report.tell_later(directory);
+        return report.tell_later(alloc, Part::Directory(directory));
     }
     doubled.push(directory)?;
     Ok(())
@@ -234,7 +235,7 @@ fn renumber_one<'a>(
     match renumber_doubles(alloc, &mut image, layout, directory) {
         Ok(()) => report.tell_double(directory)?,
         Err(RepairFault::NoMemory) => return Err(Stop::NoMemory),
-        Err(fault) => report.tell_not_double(alloc, directory, &fault)?,
+        Err(fault) => report.tell_left(alloc, Part::Directory(directory), &fault)?,
     }
     Ok(image)
 }
@@ -462,7 +463,7 @@ fn mend_free<'a>(
     match free_unheld(alloc, filing) {
         Ok(told) => push_free(alloc, &mut report.text, told.kept_lines())?,
         Err(RepairFault::NoMemory) => return Err(Stop::NoMemory),
-        Err(fault) => report.tell_left(alloc, "free", &fault)?,
+        Err(fault) => report.tell_left(alloc, Part::Free, &fault)?,
     }
     Ok(())
 }

@@ -9,7 +9,7 @@ ghost use Rattle.ods_repair.specs.Wholly.{AreUnsharedIn, IsUnshared};
 ghost use Rattle.f11fs.specs.Mended.{IsToldAsShared, IsWhollyUnshared, LeavesFile, LeavesFiles, LeavesShared, TellsLater, Wholly};
 
 use crate::mending::{Wishes, unread};
-use crate::repair_lines::Report;
+use crate::repair_lines::{Part, Report};
 use fs_reads::Stop;
 use ods_base::Image;
 use ods_check::{Checked, FaultLine, Told, check_all};
@@ -99,13 +99,14 @@ fn sharing_files(
 {
     let mut files = Vec::new(alloc);
     for k in 0..lines.len() {
-        push_sharing(&mut files, &lines[lines.len() - 1 - k], report)?;
+        push_sharing(alloc, &mut files, &lines[lines.len() - 1 - k], report)?;
     }
     Ok(files)
 }
 
 /// Adds the later file of a pair that a line tells of, where it is not the last one there and there are not yet too many.
 fn push_sharing(
+    alloc: Global,
     files: &mut Vec<u16>,
     line: &FaultLine,
     report: &mut Report,
@@ -120,7 +121,7 @@ fn push_sharing(
         return Ok(());
     }
     if files.len() >= MOST_FILES {
-        return report.tell_share_later(file);
+        return report.tell_later(alloc, Part::File(file));
     }
     files.push(file)?;
     Ok(())
@@ -185,7 +186,7 @@ fn unshare_one<'a>(
     match unshare(alloc, &mut image, layout, file) {
         Ok(told) => report.tell_shared(file, &told)?,
         Err(RepairFault::NoMemory) => return Err(Stop::NoMemory),
-        Err(fault) => report.tell_not_shared(alloc, file, &fault)?,
+        Err(fault) => report.tell_left(alloc, Part::File(file), &fault)?,
     }
     Ok(image)
 }

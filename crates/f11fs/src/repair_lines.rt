@@ -8,6 +8,24 @@ use ods_check::{Dangling, Finding};
 use ods_mount::MountFault;
 use ods_repair::{LostFile, RepairFault, Unshared};
 use std::alloc::{AllocError, Global};
+use thiserror::Error;
+
+/// What a repair leaves as it is: all of its kind, or one directory or file.
+#[derive(Clone, Copy, Debug, PartialEq, Eq, Error)]
+pub enum Part {
+    /// The blocks that `used` marks.
+    #[error("used")]
+    Used,
+    /// The blocks that `free` marks.
+    #[error("free")]
+    Free,
+    /// The directory with this file number, whose names `double` makes two.
+    #[error("double: directory {0}")]
+    Directory(u16),
+    /// The file with this number, to whose runs `share` gives blocks of their own.
+    #[error("share: file {0}")]
+    File(u16),
+}
 
 /// What repairs did, a line for each thing, and whether something stays that was to be repaired.
 #[derive(Drop)]
@@ -38,31 +56,14 @@ impl Report {
         )
     }
 
-    /// Tells that they are there twice, and why.
-    pub fn tell_not_double(
-        &mut self,
-        alloc: Global,
-        directory: u16,
-        why: &RepairFault,
-    ) -> Result<(), AllocError>
+    /// Tells of a part that another run of the repair reaches.
+    pub fn tell_later(&mut self, alloc: Global, part: Part) -> Result<(), AllocError>
         ensures more { OnOk result (Extends (string_bytes self.old.text) (string_bytes self.new.text)) }
         ensures left { self.new.is_left ≡ true }
     {
         self.is_left = true;
-        let said = format!(in alloc; "{why}")?;
-        writeln!(self.text, "double: directory {directory}: not done: {said}")
-    }
-
-    /// Tells that another run renumbers the names of this directory.
-    pub fn tell_later(&mut self, directory: u16) -> Result<(), AllocError>
-        ensures more { OnOk result (Extends (string_bytes self.old.text) (string_bytes self.new.text)) }
-        ensures left { self.new.is_left ≡ true }
-    {
-        self.is_left = true;
-        writeln!(
-            self.text,
-            "double: directory {directory}: not done in this run; run it once more"
-        )
+        let said = format!(in alloc; "{part}")?;
+        writeln!(self.text, "{said}: not done in this run; run it once more")
     }
 
     /// Tells that so many faults are not looked at in this run, where there are some.
@@ -99,33 +100,6 @@ impl Report {
         )
     }
 
-    /// Tells that no run of a file has blocks of its own, and why.
-    pub fn tell_not_shared(
-        &mut self,
-        alloc: Global,
-        file: u16,
-        why: &RepairFault,
-    ) -> Result<(), AllocError>
-        ensures more { OnOk result (Extends (string_bytes self.old.text) (string_bytes self.new.text)) }
-        ensures left { self.new.is_left ≡ true }
-    {
-        self.is_left = true;
-        let said = format!(in alloc; "{why}")?;
-        writeln!(self.text, "share: file {file}: not done: {said}")
-    }
-
-    /// Tells that another run moves blocks of this file.
-    pub fn tell_share_later(&mut self, file: u16) -> Result<(), AllocError>
-        ensures more { OnOk result (Extends (string_bytes self.old.text) (string_bytes self.new.text)) }
-        ensures left { self.new.is_left ≡ true }
-    {
-        self.is_left = true;
-        writeln!(
-            self.text,
-            "share: file {file}: not done in this run; run it once more"
-        )
-    }
-
     /// Tells that the index is bad, so that no file has blocks of its own.
     pub fn tell_bad_index(&mut self) -> Result<(), AllocError>
         ensures more { OnOk result (Extends (string_bytes self.old.text) (string_bytes self.new.text)) }
@@ -147,19 +121,20 @@ impl Report {
         )
     }
 
-    /// Tells of a kind that is not repaired, and why.
+    /// Tells of a part that is not repaired, and why.
     pub fn tell_left(
         &mut self,
         alloc: Global,
-        kind: &str,
+        part: Part,
         why: &RepairFault,
     ) -> Result<(), AllocError>
         ensures more { OnOk result (Extends (string_bytes self.old.text) (string_bytes self.new.text)) }
         ensures left { self.new.is_left ≡ true }
     {
         self.is_left = true;
+        let about = format!(in alloc; "{part}")?;
         let said = format!(in alloc; "{why}")?;
-        writeln!(self.text, "{kind}: not done: {said}")
+        writeln!(self.text, "{about}: not done: {said}")
     }
 
     /// Tells that the repairs of a sound volume are not made, since the image is refused for this fault.
