@@ -59,7 +59,7 @@ def plain_volume(notes: bytes = b"first", numbers: tuple[int, int] = (6, 9), blo
 
 def images() -> dict[str, bytes]:
     """The images by name. In the plain ones NOTES.TXT is file 9 in block 47, and header n stands in block n + 2."""
-    odd, plain = odd_volume().bytes(), plain_volume().bytes()
+    odd, plain, used = odd_volume().bytes(), plain_volume().bytes(), plain_volume().bytes(used=[65, 66])
     first = plain[BLOCK * 46 + 6 : BLOCK * 46 + 16]  # the name of the first entry of [1,2]
     return {
         "odd": odd,
@@ -74,8 +74,10 @@ def images() -> dict[str, bytes]:
         "two": changed(plain_volume().bytes(free=[47]), 46, 16 + 6, first, has_sum=False),
         "twin": changed(plain, 46, 16 + 6, first, has_sum=False),
         "format": changed(plain, 2 + 9, 98, b"\2"),
-        "used": plain_volume().bytes(used=[65, 66]),
+        "used": used,
+        # Number 25 is in use, and has no header.
         "headless": changed(plain, 2, 25 // 8, bytes([plain[2 * BLOCK + 25 // 8] | 1]), has_sum=False),
+        "unfreed": changed(used, 2, 25 // 8, bytes([used[2 * BLOCK + 25 // 8] | 1]), has_sum=False),
     }
 
 

@@ -127,10 +127,10 @@ def places_of_home_blocks_stay_used(room: Room) -> None:
     equal(room.image.read_bytes(), plain_volume(blocks=600).bytes(used=[256, 512]), "the image")
 
 
-def headless(number: int) -> Callable[[], bytes]:
-    """The volume with two used blocks that none holds, and this number in use without a header."""
+def headless(number: int, used: tuple[int, ...] = (65, 66)) -> Callable[[], bytes]:
+    """The volume with two used blocks that none holds, or these, and this number in use without a header."""
     def made() -> bytes:
-        image = bytearray(plain_volume().bytes(used=[65, 66]))
+        image = bytearray(plain_volume().bytes(used=used))
         image[2 * BLOCK + (number - 1) // 8] |= 1 << (number - 1) % 8
         return bytes(image)
     return made
@@ -146,6 +146,13 @@ def free_is_not_done_beside_a_number_without_a_header(room: Room) -> None:
 def free_is_not_done_beside_a_number_past_the_last(room: Room) -> None:
     status, out, err = room.run("disk", "repair", "free")
     equal((status, err, out.startswith(b"free: not done: file number 4096 "), room.is_untouched()), (7, b"", True, True), "repair")
+
+
+@row(image=headless(25, ()))
+def there_is_nothing_to_free_beside_a_number_without_a_header(room: Room) -> None:
+    for kind in ("free", "all"):
+        repairs(room, kind, lines="")
+        assert room.is_untouched(), "the image was touched"
 
 
 def later_header() -> bytes:
