@@ -47,13 +47,17 @@ one_more_stored old blocks i bytes b stored block e = record {
 all_tail : (b : List ℕ) (bs : List (List ℕ)) → All IsBlock (b ∷ bs) → All IsBlock bs
 all_tail b bs each k d h = each (suc k) d (omega arith)
 
+-- n lists of 512 bytes have 512 * n bytes
+pub concat_sized : (bs : List (List ℕ)) → All (λ b. length b ≡ 512) bs → length (concat bs) ≡ 512 * length bs
+concat_sized [] sized = refl
+concat_sized (b ∷ bs) sized =
+    let size : length b ≡ 512 = sized 0 [] (omega arith) in
+    let rest : length (concat bs) ≡ 512 * length bs = concat_sized bs (λ k d small. sized (suc k) d (omega (arith, small))) in
+    length-append b (concat bs) ∙ omega (arith, size, rest)
+
 -- an image of n blocks has 512 * n bytes
 pub length-concat : (bs : List (List ℕ)) → All IsBlock bs → length (concat bs) ≡ 512 * length bs
-length-concat [] each = refl
-length-concat (b ∷ bs) each =
-    let size = (each 0 [] (omega arith)).size in
-    let rest = length-concat bs (all_tail b bs each) in
-    length-append b (concat bs) ∙ omega arith
+length-concat bs each = concat_sized bs (λ k d small. (each k d small).size)
 
 -- the bytes of the first blocks
 pub concat_first : (bs : List (List ℕ)) (c : ℕ) → All IsBlock bs → concat (take c bs) ≡ take (512 * c) (concat bs)

@@ -4,21 +4,22 @@ use Rattle.std.specs.Prelude.{◌==◌, ◌⊎◌, nat_le, nat_lt}
 use Rattle.std.specs.List.{All, concat, range_with_len}
 use Rattle.std.specs.Option.{option_map}
 use Rattle.std.proofs.lemmas.Bool.{eqb-true, lt-leb, ltb-true, le-ltb}
-use Rattle.std.proofs.lemmas.List.{drop-drop, length-append, take_all}
+use Rattle.std.proofs.lemmas.List.{drop-drop, take_all}
 use Rattle.std.proofs.lemmas.Option.{same_Some}
-use Rattle.std.proofs.lemmas.List.Elements.{All-head, All-map, All-tail}
+use Rattle.std.proofs.lemmas.List.Elements.{All-head, All-tail}
 use Rattle.std.proofs.lemmas.List.Sums.{AllPass-from_list_all}
 use Rattle.std.proofs.Math.Seq.{drop-append_seam, take-append_seam}
 use Rattle.ods_base.specs.Block.{zeros}
-use Rattle.ods_base.specs.Image.{IsImage, block_at, image_bytes}
+use Rattle.ods_base.specs.Image.{IsImage, image_bytes}
+use Rattle.ods_base.proofs.Images.{concat_sized}
 use Rattle.ods_header.specs.Header.{attributes_of}
 use Rattle.ods_space.specs.Chain.{index_for}
-use Rattle.ods_space.specs.Files.{AreInside, IsFile}
+use Rattle.ods_space.specs.Files.{IsFile}
 use Rattle.ods_space.specs.Layout.{VolumeLayout, header_at}
 use Rattle.ods_space.proofs.Chains.{same_chain}
 use Rattle.ods_mount.specs.Faults.{contents_of}
 use Rattle.ods_files.specs.Body.{Body, HasBody, are_zeros}
-use Rattle.ods_files.proofs.HeaderSizes.{attributes_are, header_sized}
+use Rattle.ods_files.proofs.HeaderSizes.{attributes_are, blocks_sized, header_sized}
 use Rattle.ods_records.specs.Attributes.{block, end_block, end_of}
 use Rattle.ods_records.specs.Records.{word_at}
 use Rattle.ods_records.proofs.EndSet.{by_parts}
@@ -52,21 +53,12 @@ cut_again bytes (b ∷ bs) first sized are =
     ap (λ n. drop n bytes) on ∙ sym (drop-drop 512 (512 * first) bytes) ∙ ap (drop 512) are ∙ behind_block b (concat bs) size in
     λ i. here i ∷ cut_again bytes bs (first + 1) (All-tail (λ c. length c ≡ 512) b bs sized) behind i
 
--- so many bytes have they
-count_bytes : (bs : List (List ℕ)) → AreSized bs → length (concat bs) ≡ 512 * length bs
-count_bytes [] sized = refl
-count_bytes (b ∷ bs) sized = omega (arith, length-append b (concat bs), All-head (λ c. length c ≡ 512) b bs sized, count_bytes bs (All-tail (λ c. length c ≡ 512) b bs sized))
-
 -- the bytes of all blocks, cut into blocks again
 pub blocks_again : (bs : List (List ℕ)) → AreSized bs → blocks_with (take (512 * length bs) (concat bs)) ≡ bs
 blocks_again bs sized =
-    let all : take (512 * length bs) (concat bs) ≡ concat bs = take_all (512 * length bs) (concat bs) (omega (arith, count_bytes bs sized)) in
-    let many : block_count (concat bs) ≡ length bs = omega (arith, count_bytes bs sized) in
+    let all : take (512 * length bs) (concat bs) ≡ concat bs = take_all (512 * length bs) (concat bs) (omega (arith, concat_sized bs sized)) in
+    let many : block_count (concat bs) ≡ length bs = omega (arith, concat_sized bs sized) in
     ap blocks_with all ∙ ap (λ n. map (block_with (concat bs)) (range_with_len 0 n)) many ∙ cut_again (concat bs) bs 0 sized refl
-
--- the blocks of an image have 512 bytes
-pub contents_sized : (I : List (List ℕ)) (lbns : List ℕ) → IsImage I → AreInside I lbns → AreSized (contents_of I lbns)
-contents_sized I lbns image inside = All-map (λ b. length b ≡ 512) (block_at I) lbns (λ k d small. (image.blocks (get_or lbns k d) [] (inside k d small)).size)
 
 -- so many bytes of them are compared
 pub compared_size : List ℕ → ℕ → ℕ

@@ -38,7 +38,8 @@ use Rattle.ods_upkeep.specs.CopiesThere.{AreAlike, AreTrueOf, CopiedIsThere, Cop
 use Rattle.ods_upkeep.specs.Sources.{AreFirst, AreOfPaths}
 use Rattle.ods_upkeep.specs.declared.asked.CopyFrom.{CopyFrom}
 use Rattle.ods_upkeep.specs.declared.target.Target.{Target}
-use Rattle.ods_upkeep.proofs.LawsCompared.{AreSized, attributes_sized, blocks_again, contents_sized, same_bytes, true_same}
+use Rattle.ods_files.proofs.HeaderSizes.{blocks_sized}
+use Rattle.ods_upkeep.proofs.LawsCompared.{AreSized, attributes_sized, blocks_again, same_bytes, true_same}
 use Rattle.ods_upkeep.proofs.LawsKept.{IsAllLeft, entry_too, leaves_all, left_made, left_next, left_next_version, left_ready, left_same, made_left, shown_too}
 use Rattle.ods_upkeep.proofs.LawsShown.{plain_is, shown_body}
 
@@ -164,7 +165,7 @@ module _ (I : List (List ℕ)) (L : VolumeLayout) (how : CopyFrom) (to : Target)
     -- its blocks are those of the bytes
     same_blocks : blocks_with copied.bytes ≡ copied.body.blocks
     same_blocks =
-        let sized : AreSized copied.body.blocks = subst AreSized (sym copied.held.blocks) (contents_sized I copied.held.lbns image copied.held.held.whole.inside) in
+        let sized : AreSized copied.body.blocks = subst AreSized (sym copied.held.blocks) (blocks_sized I copied.held.lbns image copied.held.held.whole.inside) in
         ap blocks_with (sym (same_Some _ copied.bytes copied.all)) ∙ blocks_again copied.body.blocks sized
 
     pub one_there : (C : Catalogue) → ShowsBy old.image old.layout C → HasCopy I L how to stamp found new
