@@ -1,20 +1,21 @@
 //! The requests that change one block, with their checks: a Write, a SetUser, and a Remove.
-ghost use Rattle.std.specs.Prelude.{IfOk, MatchResult};
+ghost use Rattle.std.specs.Prelude.{IfOk, IfSome, MatchResult};
 ghost use Rattle.ods_change.specs.Steps.{KeepsEnds};
 ghost use Rattle.ods_mount.specs.Sound.{IsSoundBy};
 ghost use Rattle.ods_request.specs.{declared.answers.Answer.TheVariants.Done, declared.answers.Answer.TheVariants.Removed};
 ghost use Rattle.ods_request.specs.{declared.requests.Request.TheVariants.Write as WriteRequest, declared.requests.Request.TheVariants.SetUser, declared.requests.Request.TheVariants.Remove};
 ghost use Rattle.ods_space.specs.Draft.{applied};
-ghost use Rattle.ods_state.specs.Served.{IsStepOf, IsRefusalOf};
+ghost use Rattle.ods_state.specs.{Noted.AreNamesKnown, Served.IsStepOf, Served.IsRefusalOf};
 ghost use Rattle.ods_space.specs.Disks.{on};
 
 use crate::drafts::{one_block, with_entry};
 use ods_base::{Block, FileId, Name, Pick, Uic};
 use ods_directory::NO_ENTRY;
 use ods_header::with_attributes;
-use ods_look::opening::{open_block, open_directory, open_plain};
+use ods_look::opening::{open_block, open_noted, open_plain};
 use ods_request::{Refusal, Right};
 use ods_space::{Disk, Draft};
+use ods_state::KnownNames;
 use std::alloc::Global;
 
 /// The draft that puts other bytes into a block of a file, counted from 1, or why that is refused. No chain of headers changes, so what is
@@ -69,21 +70,23 @@ pub fn set_user(
 }
 
 /// The draft that empties the entry of a name in a directory, with the file and the version that it was of, or why
-/// that is refused.
-pub fn remove(
+/// that is refused. Of a directory that is noted it reads the blocks that may have the name.
+pub fn remove<'a>(
     alloc: Global,
-    disk: &Disk<'_>,
+    disk: &Disk<'a>,
     who: Uic,
     dir: FileId,
     name: Name,
     pick: Pick,
+    names: Option<&'a KnownNames>,
 ) -> Result<(Draft, FileId, u16), Refusal>
-    requires { on IsSoundBy disk.now }
+    requires sound { on IsSoundBy disk.now }
+    requires names { IfSome names (λ k. on AreNamesKnown disk.now k.now) }
     ensures { MatchResult result
         (λ r. on IsStepOf disk.now who (Remove dir name pick) (Removed r.1 r.2) (applied disk.now.image.now r.0) disk.now.layout.now)
         (on IsRefusalOf disk.now who (Remove dir name pick)) }
 {
-    let opened = match open_directory(disk, who, dir, Right::Write) {
+    let opened = match open_noted(disk, who, dir, Right::Write, names) {
         Ok(opened) => opened,
         Err(refusal) => return Err(refusal),
     };

@@ -1,9 +1,9 @@
 //! An Enter: the draft that puts the entry of a name into a directory.
-ghost use Rattle.std.specs.Prelude.{◌≡◌, MatchResult};
+ghost use Rattle.std.specs.Prelude.{◌≡◌, IfSome, MatchResult};
 ghost use Rattle.ods_alloc.specs.Counts.{counts_of};
 ghost use Rattle.ods_mount.specs.Sound.{IsSoundBy};
 ghost use Rattle.ods_request.specs.{declared.answers.Answer.TheVariants.Entered, declared.requests.Request.TheVariants.Enter};
-ghost use Rattle.ods_state.specs.{Outcome.CanBeAsked, Served.IsRefusalOf};
+ghost use Rattle.ods_state.specs.{Noted.AreNamesKnown, Outcome.CanBeAsked, Served.IsRefusalOf};
 ghost use Rattle.ods_space.specs.Disks.{on, seen};
 ghost use Rattle.ods_change.specs.Steps.{IsDraftFor};
 
@@ -15,28 +15,31 @@ use ods_alloc::FreeCounts;
 use ods_base::{FileId, Name, Uic};
 use ods_request::Refusal;
 use ods_space::Disk;
+use ods_state::KnownNames;
 use std::alloc::Global;
 
 /// The draft that enters a file in a directory, with the version under which it stands there, or why that is refused.
 /// Where the directory needs a block more, it is taken; and where that takes more numbers than are free, INDEXF.SYS grows.
-pub fn enter(
+pub fn enter<'a>(
     alloc: Global,
-    disk: &Disk<'_>,
+    disk: &Disk<'a>,
     counts: &FreeCounts,
     who: Uic,
     dir: FileId,
     name: Name,
     version: Option<u16>,
     file: FileId,
+    names: Option<&'a KnownNames>,
 ) -> Result<(Drafted, u16), Refusal>
     requires sound { on IsSoundBy disk.now }
+    requires names { IfSome names (λ k. on AreNamesKnown disk.now k.now) }
     requires counts { counts.now ≡ seen counts_of disk.now }
     requires asked { CanBeAsked (Enter dir name version file) }
     ensures { MatchResult result
         (λ r. IsDraftFor disk.now who (Enter dir name version file) (Entered r.1) r.0.draft r.0.places.items)
         (on IsRefusalOf disk.now who (Enter dir name version file)) }
 {
-    let entry = match new_entry(disk, who, dir, name, version, file) {
+    let entry = match new_entry(disk, who, dir, name, version, file, names) {
         Ok(entry) => entry,
         Err(refusal) => return Err(refusal),
     };

@@ -1,16 +1,17 @@
 //! What an Enter finds out before it writes: its checks, and the entry.
-ghost use Rattle.std.specs.Prelude.{◌≡◌, MatchResult};
+ghost use Rattle.std.specs.Prelude.{◌≡◌, IfSome, MatchResult};
 ghost use Rattle.ods_mount.specs.Sound.{IsSoundBy};
 ghost use Rattle.ods_request.specs.declared.requests.Request.TheVariants.{Enter};
-ghost use Rattle.ods_state.specs.{Change.IsFaultBy, Outcome.CanBeAsked};
+ghost use Rattle.ods_state.specs.{Change.IsFaultBy, Noted.AreNamesKnown, Outcome.CanBeAsked};
 ghost use Rattle.ods_change.specs.Entering.{IsNewEntry, refusal_of};
 ghost use Rattle.ods_space.specs.Disks.{on};
 
 use ods_base::{FileId, Name, Uic};
 use ods_directory::{DirFault, Slot, enter};
-use ods_look::opening::{OpenDirectory, named_header, open_directory};
+use ods_look::opening::{OpenDirectory, named_header, open_noted};
 use ods_request::{Refusal, Right};
 use ods_space::Disk;
+use ods_state::KnownNames;
 
 /// A name that can be entered in a directory: the volume, the directory, the name's version, its slot, and the bytes of its
 /// entry.
@@ -25,7 +26,7 @@ pub struct NewEntry<'a> {
 }
 
 /// The entry that an Enter writes, or the first fault of entering the name. Where the slot grows, the directory needs
-/// a block more.
+/// a block more. Of a directory that is noted it reads the blocks that may have the name or room for it.
 pub(crate) fn new_entry<'a>(
     disk: &Disk<'a>,
     who: Uic,
@@ -33,8 +34,10 @@ pub(crate) fn new_entry<'a>(
     name: Name,
     version: Option<u16>,
     file: FileId,
+    names: Option<&'a KnownNames>,
 ) -> Result<NewEntry<'a>, Refusal>
     requires sound { on IsSoundBy disk.now }
+    requires names { IfSome names (λ k. on AreNamesKnown disk.now k.now) }
     requires asked { CanBeAsked (Enter dir name version file) }
     ensures { MatchResult result (on IsNewEntry disk.now who dir name version file)
         (on IsFaultBy disk.now who (Enter dir name version file)) }
@@ -42,7 +45,7 @@ pub(crate) fn new_entry<'a>(
     let Some(_) = named_header(disk, file) else {
         return Err(Refusal::NoSuchFile);
     };
-    let opened = match open_directory(disk, who, dir, Right::Write) {
+    let opened = match open_noted(disk, who, dir, Right::Write, names) {
         Ok(opened) => opened,
         Err(refusal) => return Err(refusal),
     };

@@ -32,6 +32,12 @@ module _ {S : Type 0} where
   fold_kept f s a zero kept = refl
   fold_kept f s a (suc n) kept = ap (λ t. fold f t (range_with_len (a + 1) n)) (kept a) ∙ fold_kept f s (a + 1) n kept
 
+  -- a value that no step of the range changes
+  pub fold_kept_within : (f : S → ℕ → S) (s : S) (a n : ℕ) → ((k : ℕ) → a ≤ k → k < a + n → f s k ≡ s) → fold f s (range_with_len a n) ≡ s
+  fold_kept_within f s a zero kept = refl
+  fold_kept_within f s a (suc n) kept =
+      ap (λ t. fold f t (range_with_len (a + 1) n)) (kept a (omega arith) (omega arith)) ∙ fold_kept_within f s (a + 1) n (λ k from below. kept k (omega arith) (omega arith))
+
   -- a value that no step changes any more is that of the whole range
   pub fold_stopped : (f : S → ℕ → S) (s t : S) (n m : ℕ) → n ≤ m → t ≡ fold f s (range_with_len 0 n) → ((k : ℕ) → f t k ≡ t) → t ≡ fold f s (range_with_len 0 m)
   fold_stopped f s t n m below e kept =

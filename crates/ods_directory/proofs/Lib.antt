@@ -21,3 +21,4 @@ pub mod Ordered
 pub mod GoodLines
 pub mod KeysOf
 pub mod Checked
+pub mod Tagged

@@ -8,3 +8,4 @@ pub mod Search
 pub mod Entering
 pub mod Lines
 pub mod Hidden
+pub mod Tags

@@ -9,6 +9,7 @@ use crate::first::{First, Kind};
 use crate::scan::{Pass, scan};
 use crate::search::{Found, Search};
 use crate::slots::slot_in;
+use crate::tags::{Wanted, name_tag};
 use crate::{DirBlocks, DirFault, Slot};
 use ods_base::{Block, FileId, LAST_VERSION, Name, Pick};
 
@@ -63,6 +64,29 @@ impl Pass for Room {
 
     fn is_done(&self) -> bool {
         self.search.is_done() && self.empty.is_done()
+    }
+
+    fn wanted(&self) -> Wanted {
+        let tag = name_tag(&self.search.name);
+        if self.empty.is_done() {
+            return Wanted {
+                all: false,
+                one: tag,
+                other: tag,
+            };
+        }
+        match self.empty.kind {
+            Kind::Empty => Wanted {
+                all: false,
+                one: tag,
+                other: 0,
+            },
+            Kind::Bad | Kind::Used => Wanted {
+                all: true,
+                one: 0,
+                other: 0,
+            },
+        }
     }
 }
 

@@ -3,6 +3,7 @@ ghost use Rattle.std.specs.Prelude.{◌≡◌, ◌*◌, ◌/◌, ◌<◌, ◌≤
 ghost use Rattle.ods_directory.specs.{Entry.entry_at, Entry.entry_in, First.IsFirst};
 
 use crate::scan::{Pass, scan};
+use crate::tags::Wanted;
 use crate::{DirBlocks, entry};
 use ods_base::Block;
 
@@ -63,6 +64,22 @@ impl Pass for First {
 
     fn is_done(&self) -> bool {
         self.position.is_some()
+    }
+
+    fn wanted(&self) -> Wanted {
+        // An empty entry has the tag 0.
+        match self.kind {
+            Kind::Empty => Wanted {
+                all: false,
+                one: 0,
+                other: 0,
+            },
+            Kind::Bad | Kind::Used => Wanted {
+                all: true,
+                one: 0,
+                other: 0,
+            },
+        }
     }
 }
 

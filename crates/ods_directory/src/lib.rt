@@ -19,6 +19,7 @@ mod scan;
 mod search;
 mod slot;
 mod slots;
+mod tags;
 mod twins;
 
 pub use blocks::DirBlocks;
@@ -34,4 +35,5 @@ pub use place::{NO_ENTRY, entry_block, put_entry};
 pub use removal::remove;
 pub use slot::Slot;
 pub use slots::slot_for;
+pub use tags::{Tags, block_tags};
 pub use twins::has_twins;

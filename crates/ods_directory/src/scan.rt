@@ -1,15 +1,16 @@
 //! One pass over the entries of a directory, block by block.
-ghost use Rattle.std.specs.Prelude.{◌≡◌, ◌+◌, ◌-◌, ◌*◌, ◌/◌, ◌^◌, ◌<◌, ◌≤◌, min, length, fold};
-ghost use Rattle.std.specs.List.{range_with_len};
-ghost use Rattle.ods_directory.specs.Entry.{entry_at, entry_in};
+ghost use Rattle.std.specs.Prelude.{◌≡◌, ◌+◌, ◌-◌, ◌*◌, ◌/◌, ◌^◌, ◌<◌, ◌≤◌, ℕ, [], false, min, length, fold, slice_index_or};
+ghost use Rattle.std.specs.List.{All, range_with_len};
+ghost use Rattle.ods_directory.specs.{Entry.entry_at, Entry.entry_in, Tags.AreTags, Tags.wants};
 
 use crate::DirBlocks;
+use crate::tags::{Tags, Wanted, has_wanted};
 use ods_base::Block;
 
 /// What a pass over the entries collects, one entry after another.
 pub trait Pass {
     ghost use Rattle.std.specs.Prelude.{ℕ, ◌≡◌, ◌<◌, IsTrue};
-    ghost use Rattle.ods_directory.specs.Entry.{Entry, entry_in};
+    ghost use Rattle.ods_directory.specs.{Entry.Entry, Entry.entry_in, Tags.WantsNoOther};
 
     /// What it is after entry `k` of the directory.
     ghost after: { Self → ℕ → Entry → Self };
@@ -22,10 +23,79 @@ pub trait Pass {
     /// Whether no further entry changes it.
     fn is_done(&self) -> bool
         ensures { IsTrue result → (k : ℕ) (e : Entry) → after self.now k e ≡ self.now };
+
+    /// Which entries may change it: no other does.
+    fn wanted(&self) -> Wanted
+        ensures { WantsNoOther after self.now result };
 }
 
 /// Takes the entries before the mark.
 pub fn scan<B: DirBlocks, G: Pass>(blocks: &B, mark: u64, into: &mut G)
+    requires { mark ≤ 512 * length (B.blocks blocks.now) }
+    ensures after { into.new ≡ fold (λ s k. G.after s k (entry_at (B.blocks blocks.now) k)) into.old (range_with_len 0 (mark / 16)) }
+    ensures count { length (B.blocks blocks.now) < 2 ^ 32 }
+{
+    if !into.wanted().all {
+        if let Some(tags) = blocks.tags() {
+            scan_wanted(blocks, tags, mark, into);
+            return;
+        }
+    }
+    scan_all(blocks, mark, into);
+}
+
+/// Takes the entries before the mark of each block that may have one that is wanted. The others change nothing.
+fn scan_wanted<B: DirBlocks, G: Pass>(blocks: &B, tags: &[Tags], mark: u64, into: &mut G)
+    requires mark { mark ≤ 512 * length (B.blocks blocks.now) }
+    requires tags { AreTags (B.blocks blocks.now) tags.now }
+    ensures after { into.new ≡ fold (λ s k. G.after s k (entry_at (B.blocks blocks.now) k)) into.old (range_with_len 0 (mark / 16)) }
+    ensures count { length (B.blocks blocks.now) < 2 ^ 32 }
+{
+    // Few blocks are counted, so the mark is small.
+    let _ = blocks.count();
+    let end = blocks_before(mark);
+    let mut at = next_wanted(tags, into.wanted(), 0, end);
+    while at < end {
+        scan_block(
+            blocks.block(at),
+            32 * u64::from(at),
+            entries_in(mark, at),
+            into,
+        );
+        if into.is_done() {
+            return;
+        }
+        at = next_wanted(tags, into.wanted(), at + 1, end);
+    }
+}
+
+/// The first block from this one on that may have an entry that is wanted, or the end. It is a loop of its own, so that little is done for each block.
+#[inline(never)]
+fn next_wanted(tags: &[Tags], wanted: Wanted, from: u32, end: u32) -> u32
+    requires range { from ≤ end }
+    requires end { end ≤ length tags.now }
+    ensures from { from ≤ result }
+    ensures end { result ≤ end }
+    ensures none { (i : ℕ) → from ≤ i → i < result → All (λ tag. wants wanted tag ≡ false) (slice_index_or tags.now i []) }
+{
+    for i in from..end {
+        if has_wanted(&tags[i as usize], wanted) {
+            return i;
+        }
+    }
+    end
+}
+
+/// How many blocks have entries before the mark.
+fn blocks_before(mark: u64) -> u32
+    requires { mark ≤ 512 * 4294967295 }
+    ensures { result ≡ (mark / 16 + 31) / 32 }
+{
+    ((mark / 16 + 31) / 32) as u32
+}
+
+/// Takes the entries before the mark, block by block.
+fn scan_all<B: DirBlocks, G: Pass>(blocks: &B, mark: u64, into: &mut G)
     requires { mark ≤ 512 * length (B.blocks blocks.now) }
     ensures after { into.new ≡ fold (λ s k. G.after s k (entry_at (B.blocks blocks.now) k)) into.old (range_with_len 0 (mark / 16)) }
     ensures count { length (B.blocks blocks.now) < 2 ^ 32 }

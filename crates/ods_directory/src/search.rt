@@ -3,6 +3,7 @@ ghost use Rattle.std.specs.Prelude.{◌≡◌, ◌*◌, ◌/◌, ◌^◌, ◌<�
 ghost use Rattle.ods_directory.specs.Entry.{entry_at, entry_in};
 
 use crate::scan::{Pass, scan};
+use crate::tags::{Wanted, name_tag};
 use crate::{DirBlocks, entry};
 use ods_base::{Block, FileId, Name, Pick};
 
@@ -75,6 +76,15 @@ impl Pass for Search {
         match self.pick {
             Pick::Exact(_) => self.found.is_some(),
             Pick::Highest | Pick::Lowest => false,
+        }
+    }
+
+    fn wanted(&self) -> Wanted {
+        let tag = name_tag(&self.name);
+        Wanted {
+            all: false,
+            one: tag,
+            other: tag,
         }
     }
 }

@@ -6,3 +6,4 @@ pub mod BlocksRead
 pub mod OpenDirectories
 pub mod StatAnswers
 mod Coming
+pub mod NotedNames

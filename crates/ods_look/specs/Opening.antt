@@ -104,3 +104,9 @@ pub record IsOpenDirectory (I : List (List ℕ)) (L : VolumeLayout) (id : FileId
   pub file : IsFileId I L id
   pub is : IsDirectoryAt I L id.number opened
   pub passes : (C : Catalogue) → ShowsBy I L C → PassesChecks I L id is.lbns (directory_checks who r) C
+
+-- the file is a directory, and passes the checks, whatever blocks it has
+pub record MayBeOpened (I : List (List ℕ)) (L : VolumeLayout) (id : FileId) (who : Uic) (r : Right) : Type 0 where
+  pub file : IsFileId I L id
+  pub kind : is_directory_header id.number (header_at I L id.number) ≡ true
+  pub passes : (lbns : List ℕ) → HasBlocks I L id.number lbns → (C : Catalogue) → ShowsBy I L C → PassesChecks I L id lbns (directory_checks who r) C

@@ -1,11 +1,13 @@
 //! The blocks of a directory on the volume, each found by its number in the file, with no list of them.
-ghost use Rattle.std.specs.Prelude.{◌≡◌, ◌≢◌, ◌≤◌, ℕ, List, length};
+ghost use Rattle.std.specs.Prelude.{◌≡◌, ◌≢◌, ◌≤◌, ℕ, List, length, IfSome};
 ghost use Rattle.ods_space.specs.{Files.IsFile, Files.HasBlocks, Chain.chain_blocks};
 ghost use Rattle.ods_mount.specs.{Faults.contents_of, Sound.IsSoundBy};
+ghost use Rattle.ods_state.specs.Noted.{AreNamesKnown};
 
 use ods_base::{Block, Image};
-use ods_directory::DirBlocks;
+use ods_directory::{DirBlocks, Tags};
 use ods_space::{BlockCursor, Disk, count_whole, locate_whole};
+use ods_state::KnownNames;
 use std::marker::Model;
 
 /// The blocks of a file of a sound image, any but INDEXF.SYS. A contract sees the list of them.
@@ -16,13 +18,15 @@ pub struct DirectoryBlocks<'a> {
     count: u32,
     /// The first header.
     header: &'a Block,
+    /// What is noted of the file, if anything is.
+    names: Option<&'a KnownNames>,
 }
 
 impl<'a> Model for DirectoryBlocks<'a> {
-    ghost use Rattle.std.specs.Prelude.{◌≡◌, ◌≢◌, ◌≤◌, ℕ, List, length};
+    ghost use Rattle.std.specs.Prelude.{◌≡◌, ◌≢◌, ◌≤◌, ℕ, List, length, IfSome};
     ghost use Rattle.ods_space.specs.{Layout.header_at, Files.HasBlocks, Chain.chain_blocks};
     ghost use Rattle.ods_mount.specs.{Faults.contents_of, Sound.IsSoundBy};
-    ghost use Rattle.ods_look.specs.Blocks.{blocks_in_order};
+    ghost use Rattle.ods_look.specs.Blocks.{AreInOrder, blocks_in_order};
 
     ghost Value = { List (List ℕ) };
 
@@ -33,7 +37,8 @@ impl<'a> Model for DirectoryBlocks<'a> {
         × (d.count ≡ length (blocks_in_order d.disk.image.now d.disk.layout.now d.number))
         × (length (blocks_in_order d.disk.image.now d.disk.layout.now d.number) ≤ chain_blocks)
         × (d.header.now ≡ header_at d.disk.image.now d.disk.layout.now d.number)
-        × (d.number ≢ 1) };
+        × (d.number ≢ 1)
+        × IfSome d.names (λ k. AreInOrder d.disk.image.now d.disk.layout.now d.number k.now) };
 }
 
 impl<'a> DirectoryBlocks<'a> {
@@ -56,6 +61,39 @@ impl<'a> DirectoryBlocks<'a> {
             number,
             count,
             header,
+            names: None,
+        }
+    }
+
+    /// The same, where something may be noted of the file: then its chain is not gone along.
+    pub(crate) fn noted(
+        disk: &Disk<'a>,
+        number: u16,
+        header: &'a Block,
+        names: Option<&'a KnownNames>,
+    ) -> Self
+        requires sound { on IsSoundBy disk.now }
+        requires file { on IsFile disk.now number }
+        requires other { number ≢ 1 }
+        requires header { header.now ≡ header_on disk.now number }
+        requires names { IfSome names (λ k. on AreNamesKnown disk.now k.now) }
+        ensures contents { (held : List ℕ) → on HasBlocks disk.now number held → result ≡ contents_of disk.now.image.now held }
+        ensures few { length result ≤ chain_blocks }
+    {
+        let Some(known) = names else {
+            return DirectoryBlocks::of(disk, number, header);
+        };
+        if known.file != number {
+            return DirectoryBlocks::of(disk, number, header);
+        }
+        // An image has few blocks, and so has a chain.
+        let _ = disk.image.len();
+        DirectoryBlocks {
+            disk: *disk,
+            number,
+            count: known.blocks.len() as u32,
+            header,
+            names,
         }
     }
 }
@@ -106,8 +144,18 @@ impl<'a> DirBlocks for DirectoryBlocks<'a> {
     }
 
     fn block(&self, i: u32) -> &Block {
+        if let Some(known) = self.names {
+            return self.disk.image.block(known.blocks[i as usize]);
+        }
         let lbn = locate_whole(&self.disk, self.number, self.header, i + 1).unwrap();
         self.disk.image.block(lbn)
+    }
+
+    fn tags(&self) -> Option<&[Tags]> {
+        match self.names {
+            Some(known) => Some(&known.tags),
+            None => None,
+        }
     }
 
     fn cursor(&self) -> BlocksToCome<'a> {

@@ -1,31 +1,34 @@
 //! Looks at the names of a directory.
-ghost use Rattle.std.specs.Prelude.{MatchResult};
+ghost use Rattle.std.specs.Prelude.{IfSome, MatchResult};
 ghost use Rattle.ods_mount.specs.Sound.{IsSoundBy};
 ghost use Rattle.ods_request.specs.{declared.requests.Request.TheVariants.LookUp, declared.requests.Request.TheVariants.List as Lines, declared.answers.Answer.TheVariants.Found, declared.answers.Answer.TheVariants.Names};
-ghost use Rattle.ods_state.specs.{Change.IsAnsweredBy, Served.IsRefusalOf};
+ghost use Rattle.ods_state.specs.{Change.IsAnsweredBy, Noted.AreNamesKnown, Served.IsRefusalOf};
 ghost use Rattle.ods_space.specs.Disks.{on};
 
-use crate::opening::open_directory;
+use crate::opening::{open_directory, open_noted};
 use ods_base::{FileId, Name, Pick, Uic};
 use ods_directory::entries;
 use ods_request::{Listing, Refusal, Right};
 use ods_space::Disk;
+use ods_state::KnownNames;
 use std::alloc::Global;
 
 /// The file and the version that a name with a pick means in a directory, or the first fault of looking it up. The call
-/// takes no memory.
-pub fn look_up(
-    disk: &Disk<'_>,
+/// takes no memory. Of a directory that is noted it reads the blocks that may have the name.
+pub fn look_up<'a>(
+    disk: &Disk<'a>,
     who: Uic,
     dir: FileId,
     name: Name,
     pick: Pick,
+    names: Option<&'a KnownNames>,
 ) -> Result<(FileId, u16), Refusal>
-    requires { on IsSoundBy disk.now }
+    requires sound { on IsSoundBy disk.now }
+    requires names { IfSome names (λ k. on AreNamesKnown disk.now k.now) }
     ensures { MatchResult result (λ found. on IsAnsweredBy disk.now who (LookUp dir name pick) (Found found.0 found.1))
         (on IsRefusalOf disk.now who (LookUp dir name pick)) }
 {
-    let opened = match open_directory(disk, who, dir, Right::Read) {
+    let opened = match open_noted(disk, who, dir, Right::Read, names) {
         Ok(opened) => opened,
         Err(refusal) => return Err(refusal),
     };

@@ -4,6 +4,7 @@
 
 mod blocks;
 mod directory;
+mod noting;
 pub mod opening;
 mod query;
 mod reading;
@@ -11,6 +12,7 @@ mod shown;
 
 pub use blocks::{BlocksToCome, DirectoryBlocks};
 pub use directory::{list, look_up};
-pub use query::{look, look_into};
+pub use noting::known_names;
+pub use query::{look, look_into, look_into_noted};
 pub use reading::read;
 pub use shown::stat;

@@ -4,7 +4,8 @@ ghost use Rattle.ods_header.specs.Header.{is_directory_header, owner_of, protect
 ghost use Rattle.ods_space.specs.{Files.IsFile};
 ghost use Rattle.ods_mount.specs.Sound.{IsSoundBy};
 ghost use Rattle.ods_request.specs.Rights.{permits};
-ghost use Rattle.ods_look.specs.Opening.{kind_checks, plain_checks, directory_checks, IsFileId, IsPlainFile, IsRefusedByChecks, IsRefusedBlock, IsOpenPlain, IsOpenBlock, IsDirectoryAt, IsOpenDirectory};
+ghost use Rattle.ods_look.specs.Opening.{kind_checks, plain_checks, directory_checks, IsFileId, IsPlainFile, IsRefusedByChecks, IsRefusedBlock, IsOpenPlain, IsOpenBlock, IsDirectoryAt, IsOpenDirectory, MayBeOpened};
+ghost use Rattle.ods_state.specs.Noted.{AreNamesKnown};
 ghost use Rattle.ods_space.specs.Disks.{header_on, on};
 
 use crate::blocks::DirectoryBlocks;
@@ -13,6 +14,7 @@ use ods_directory::{DirBlocks, mark_of};
 use ods_header::{attributes, file_sequence, is_directory, owner, protection};
 use ods_request::{Refusal, Right, permits};
 use ods_space::{Disk, locate_whole, primary_header};
+use ods_state::KnownNames;
 
 /// The first header of the file with this ID.
 pub fn named_header<'a>(disk: &Disk<'a>, file: FileId) -> Option<&'a Block>
@@ -118,6 +120,39 @@ pub fn open_directory<'a>(
     ensures ok { IfOk result (on IsOpenDirectory disk.now dir who right) }
     ensures err { IfErr result (on IsRefusedByChecks disk.now dir (directory_checks who right)) }
 {
+    open_noted(disk, who, dir, right, None)
+}
+
+/// The same, where something may be noted of one directory. Of that one its names are found by what is noted.
+pub fn open_noted<'a>(
+    disk: &Disk<'a>,
+    who: Uic,
+    dir: FileId,
+    right: Right,
+    names: Option<&'a KnownNames>,
+) -> Result<OpenDirectory<'a>, Refusal>
+    requires sound { on IsSoundBy disk.now }
+    requires names { IfSome names (λ k. on AreNamesKnown disk.now k.now) }
+    ensures ok { IfOk result (on IsOpenDirectory disk.now dir who right) }
+    ensures err { IfErr result (on IsRefusedByChecks disk.now dir (directory_checks who right)) }
+{
+    match directory_header(disk, who, dir, right) {
+        Ok(header) => Ok(OpenDirectory::noted(disk, dir.number, header, names)),
+        Err(refusal) => Err(refusal),
+    }
+}
+
+/// The first header of a directory on which the user has this right; or the first fault.
+fn directory_header<'a>(
+    disk: &Disk<'a>,
+    who: Uic,
+    dir: FileId,
+    right: Right,
+) -> Result<&'a Block, Refusal>
+    requires { on IsSoundBy disk.now }
+    ensures ok { IfOk result (λ header. on MayBeOpened disk.now dir who right × (header.now ≡ header_on disk.now dir.number)) }
+    ensures err { IfErr result (on IsRefusedByChecks disk.now dir (directory_checks who right)) }
+{
     let Some(block) = named_header(disk, dir) else {
         return Err(Refusal::NoSuchFile);
     };
@@ -127,7 +162,7 @@ pub fn open_directory<'a>(
     if !is_granted(block, who, right) {
         return Err(Refusal::Denied);
     }
-    Ok(OpenDirectory::of(disk, dir.number, block))
+    Ok(block)
 }
 
 impl<'a> OpenDirectory<'a> {
@@ -141,7 +176,19 @@ impl<'a> OpenDirectory<'a> {
         requires directory { is_directory_header number header.now ≡ true }
         ensures { on IsDirectoryAt disk.now number result }
     {
-        let blocks = DirectoryBlocks::of(disk, number, header);
+        OpenDirectory::noted(disk, number, header, None)
+    }
+
+    /// The same, where something may be noted of it.
+    fn noted(disk: &Disk<'a>, number: u16, header: &'a Block, names: Option<&'a KnownNames>) -> Self
+        requires sound { on IsSoundBy disk.now }
+        requires file { on IsFile disk.now number }
+        requires header { header.now ≡ header_on disk.now number }
+        requires directory { is_directory_header number header.now ≡ true }
+        requires names { IfSome names (λ k. on AreNamesKnown disk.now k.now) }
+        ensures { on IsDirectoryAt disk.now number result }
+    {
+        let blocks = DirectoryBlocks::noted(disk, number, header, names);
         let mark = mark_of(&attributes(header), blocks.count());
         OpenDirectory {
             header,

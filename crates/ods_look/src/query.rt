@@ -1,6 +1,6 @@
 //! The answers of the requests that only look and take no memory.
-ghost use Rattle.std.specs.Prelude.{◌≡◌, MatchResult};
-ghost use Rattle.ods_state.specs.{Change.IsAnsweredBy, Served.IsRefusalOf, Outcome.request_of};
+ghost use Rattle.std.specs.Prelude.{◌≡◌, IfSome, MatchResult};
+ghost use Rattle.ods_state.specs.{Change.IsAnsweredBy, Noted.AreNamesKnown, Served.IsRefusalOf, Outcome.request_of};
 ghost use Rattle.ods_request.specs.declared.answers.Answer.TheVariants.{Bytes};
 ghost use Rattle.ods_mount.specs.Sound.{IsSoundBy};
 ghost use Rattle.ods_space.specs.Disks.{on};
@@ -11,6 +11,7 @@ use crate::shown::stat;
 use ods_base::{Block, Uic};
 use ods_request::{Answer, Query, Refusal};
 use ods_space::Disk;
+use ods_state::KnownNames;
 
 /// Writes the answer of a query into this place, or gives its first fault and leaves the place as it is. The call takes
 /// no memory.
@@ -24,8 +25,24 @@ pub fn look_into(
     ensures { MatchResult result (λ _. on IsAnsweredBy disk.now who (request_of query) answer.new)
         (λ f. on IsRefusalOf disk.now who (request_of query) f × (answer.new ≡ answer.old)) }
 {
+    look_into_noted(disk, who, query, None, answer)
+}
+
+/// Does what [`look_into`] does, where something may be noted of one directory.
+pub fn look_into_noted<'a>(
+    disk: &Disk<'a>,
+    who: Uic,
+    query: Query,
+    names: Option<&'a KnownNames>,
+    answer: &mut Answer,
+) -> Result<(), Refusal>
+    requires sound { on IsSoundBy disk.now }
+    requires names { IfSome names (λ k. on AreNamesKnown disk.now k.now) }
+    ensures { MatchResult result (λ _. on IsAnsweredBy disk.now who (request_of query) answer.new)
+        (λ f. on IsRefusalOf disk.now who (request_of query) f × (answer.new ≡ answer.old)) }
+{
     match query {
-        Query::LookUp { dir, name, pick } => match look_up(disk, who, dir, name, pick) {
+        Query::LookUp { dir, name, pick } => match look_up(disk, who, dir, name, pick, names) {
             Ok(found) => {
                 *answer = Answer::Found(found.0, found.1);
                 Ok(())

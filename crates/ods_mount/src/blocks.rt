@@ -3,7 +3,7 @@ ghost use Rattle.std.specs.Prelude.{◌≡◌, ◌<◌, ◌^◌, length};
 ghost use Rattle.ods_space.specs.Files.{AreInside};
 
 use ods_base::{Block, Image};
-use ods_directory::DirBlocks;
+use ods_directory::{DirBlocks, Tags};
 
 /// The blocks of an image at these LBNs.
 #[derive(Drop)]
@@ -42,6 +42,11 @@ impl DirBlocks for FileBlocks<'_> {
 
     fn block(&self, i: u32) -> &Block {
         self.image.block(self.lbns[i as usize])
+    }
+
+    /// A mount reads each block once.
+    fn tags(&self) -> Option<&[Tags]> {
+        None
     }
 
     fn cursor(&self) -> u32 {

@@ -12,3 +12,4 @@ pub mod Served
 pub mod Growth
 pub mod IndexGrowth
 pub mod Cutting
+pub mod Noted

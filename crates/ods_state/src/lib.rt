@@ -3,9 +3,11 @@
 #![tactic(auto)]
 
 mod known_end;
+mod known_names;
 mod laws;
 
 pub use known_end::KnownEnd;
+pub use known_names::KnownNames;
 pub use laws::{
     carried_out_is_step, catalogue_is_one, grown_index_is_sound, has_catalogue,
     linked_header_keeps_blocks, mounted_is_lawful, refusal_is_one, step_behind_growth,

@@ -26,7 +26,7 @@ access_changed {I} {L} {who} {id} {owner} {protection} {flags} {d} {counts} plac
     let same : with_places L places ≡ L = no_places L places none in
     record {
       given = (given, same);
-      lawful = record { sound = subst (IsSoundBy (applied I d)) (sym same) given.sound; counted = counted; ended = tt; kept = λ end stays known. absurd (none_stays stays) };
+      lawful = record { sound = subst (IsSoundBy (applied I d)) (sym same) given.sound; counted = counted; ended = tt; kept = λ end stays known. absurd (none_stays stays); struck = λ f blocks index bitmap some held. tt };
     }
 
 -- a draft of storage bits is a lawful change
@@ -37,7 +37,7 @@ marks_changed {I} {L} {blocks} {free} {d} {counts} places marked counted none =
     let same : with_places L places ≡ L = no_places L places none in
     record {
       marked = (marked, same);
-      lawful = record { sound = subst (IsSoundBy (applied I d)) (sym same) marked.sound; counted = counted; ended = tt; kept = λ end stays known. absurd (none_stays stays) };
+      lawful = record { sound = subst (IsSoundBy (applied I d)) (sym same) marked.sound; counted = counted; ended = tt; kept = λ end stays known. absurd (none_stays stays); struck = λ f blocks index bitmap some held. tt };
     }
 
 -- a draft of a home block is a lawful change
@@ -48,7 +48,7 @@ label_changed {I} {L} {label} {d} {counts} places labelled counted none =
     let same : with_places L places ≡ L = no_places L places none in
     record {
       given = (labelled, same);
-      lawful = record { sound = subst (IsSoundBy (applied I d)) (sym same) labelled.sound; counted = counted; ended = tt; kept = λ end stays known. absurd (none_stays stays) };
+      lawful = record { sound = subst (IsSoundBy (applied I d)) (sym same) labelled.sound; counted = counted; ended = tt; kept = λ end stays known. absurd (none_stays stays); struck = λ f blocks index bitmap some held. tt };
     }
 
 -- what may be given, and is not counted for want of memory

@@ -12,7 +12,9 @@ use Rattle.ods_state.specs.Version.{IsLawful}
 use Rattle.ods_volume.specs.declared.ends.Falls.{Falls}
 use Rattle.ods_volume.specs.Ends.{falls_for, stays}
 use Rattle.ods_volume.proofs.EndsFollow.{kept_served, no_fault}
+use Rattle.ods_volume.proofs.Struck.{strikes_by}
 use Rattle.ods_volume.specs.Changing.{IsLawfulChange}
+use Rattle.ods_volume.specs.Struck.{Strikes}
 
 pub carried_is : (v : State) (p : Plan) (entries : List Entry) (image : List (List ℕ)) (layout : VolumeLayout) → entries ≡ v.entries ++ p.entry ∷ [] → image ≡ applied v.image p.changes → layout ≡ with_places v.layout p.places
     → record { mounted = v.mounted; entries = entries; image = image; layout = layout; limit = v.limit } ≡ carried_out v p
@@ -39,6 +41,8 @@ change_of_plan v w p q falls volume plan was image fall lawful = record {
       kept_served v.image (applied v.image p.changes) v.layout (with_places v.layout p.places) image was.version.sound here.lawful.version.sound p.entry.who p.entry.request p.entry.answer here.accepts.moves here.accepts.elsewhere
       was.version.catalogue was.version.shown (no_fault was.version.catalogue p.entry.who p.entry.request p.entry.answer (here.accepts.steps was.version.catalogue was.version.replayed))
       end (sym (ap (λ f. stays f end.file) fall) ∙ stay) known;
+  struck = subst (Strikes v.image v.layout (applied v.image p.changes) (with_places v.layout p.places)) (sym fall)
+      (strikes_by v.image (applied v.image p.changes) v.layout (with_places v.layout p.places) was.version.sound p.entry.request p.entry.answer here.accepts.moves here.accepts.elsewhere);
 }
   where
     here : IsLawfulPlan v p

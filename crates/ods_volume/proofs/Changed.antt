@@ -7,7 +7,9 @@ use Rattle.ods_alloc.specs.Counts.{Counts, counts_of, free_counts}
 use Rattle.ods_space.specs.Draft.{applied}
 use Rattle.ods_space.specs.Layout.{Disk, VolumeLayout, with_places}
 use Rattle.ods_state.specs.declared.known_end.KnownEnd.{KnownEnd}
+use Rattle.ods_state.specs.declared.known_names.KnownNames.{KnownNames}
 use Rattle.ods_state.specs.Ends.{IsEndKnown, IsKnownIn}
+use Rattle.ods_state.specs.Noted.{MayBeKnown}
 use Rattle.ods_volume.specs.declared.ends.Falls.{Falls}
 use Rattle.ods_volume.specs.Ends.{AreKnownIn, AreNotedThen, kept_by, stays}
 use Rattle.ods_volume.specs.Changing.{IsLawfulChange, IsNoted, Parts, changed}
@@ -42,12 +44,14 @@ module _ (I J : List (List ℕ)) (L M : VolumeLayout) (falls : Falls) (kept : (e
       subst (AreKnownIn J M) (sym noted.noted) (All-set (IsKnownIn J M) (map (kept_by falls) ends) noted.place (Some end) true_end (left_known ends known))
 
 -- what is kept beside the volume is true of it after a lawful change
-pub noted_then : (D : Disk) (p : Parts) (counts : Counts) (ends : List (Option KnownEnd)) → IsNoted D counts ends → IsLawfulChange D p
-    → (E : Disk) (now : Counts) (after : List (Option KnownEnd)) → E ≡ changed D p → now ≡ unwrap_or p.counts counts → AreNotedThen ends p.falls p.end after → IsNoted E now after
-noted_then D p counts ends noted lawful E now after is put follows = subst (λ (x : Disk). IsNoted x now after) (sym is) (record {
+pub noted_then : (D : Disk) (p : Parts) (counts : Counts) (ends : List (Option KnownEnd)) (names : Option KnownNames) → IsNoted D counts ends names → IsLawfulChange D p
+    → (E : Disk) (now : Counts) (after : List (Option KnownEnd)) (names_then : Option KnownNames) → E ≡ changed D p → now ≡ unwrap_or p.counts counts → AreNotedThen ends p.falls p.end after
+    → MayBeKnown E.image E.layout names_then → IsNoted E now after names_then
+noted_then D p counts ends names noted lawful E now after names_then is put follows named = subst (λ (x : Disk). IsNoted x now after names_then) (sym is) (record {
   sound = lawful.sound;
   counted = put ∙ (put_in_place D.image (applied D.image p.changes) D.layout counts p.counts noted.counted lawful.counted ∙ counts_stay (applied D.image p.changes) D.layout p.places);
   ended = then_known D.image (applied D.image p.changes) D.layout (with_places D.layout p.places) p.falls lawful.kept ends p.end after noted.ended lawful.ended follows;
+  named = subst (λ (x : Disk). MayBeKnown x.image x.layout names_then) is named;
 })
 
 -- where nothing is noted, all that is noted is true

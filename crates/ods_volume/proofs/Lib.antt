@@ -12,3 +12,7 @@ pub mod Arms
 pub mod Counted
 pub mod Changed
 pub mod Pools
+pub mod HeldAlike
+pub mod Struck
+pub mod NamesThen
+pub mod Retagged

@@ -9,17 +9,21 @@ use Rattle.ods_request.specs.declared.requests.Request.{Request}
 use Rattle.ods_request.specs.declared.answers.Answer.{Answer}
 use Rattle.ods_request.specs.declared.refusals.Refusal.{Refusal}
 use Rattle.ods_state.specs.declared.known_end.KnownEnd.{KnownEnd}
+use Rattle.ods_state.specs.declared.known_names.KnownNames.{KnownNames}
 use Rattle.ods_state.specs.Ends.{IsEndKnown, IsKnownIn}
+use Rattle.ods_state.specs.Noted.{MayBeKnown}
 use Rattle.ods_state.specs.Served.{IsStepOf}
 use Rattle.ods_volume.specs.declared.ends.Falls.{Falls}
 use Rattle.ods_volume.specs.Ends.{AreKnownIn, falls_for, stays}
+use Rattle.ods_volume.specs.Struck.{Strikes}
 use Rattle.ods_change.specs.IndexGrown.{IsIndexGrown, IsWhyNoHeaders}
 
--- the volume is sound, these are its counts, and what is noted of where chains of files end is true of it
-pub record IsNoted (D : Disk) (counts : Counts) (ends : List (Option KnownEnd)) : Type 0 where
+-- the volume is sound, these are its counts, and what is noted of where chains of files end and of the names of a directory is true of it
+pub record IsNoted (D : Disk) (counts : Counts) (ends : List (Option KnownEnd)) (names : Option KnownNames) : Type 0 where
   pub sound : IsSoundBy D.image D.layout
   pub counted : counts ≡ counts_of D.image D.layout
   pub ended : AreKnownIn D.image D.layout ends
+  pub named : MayBeKnown D.image D.layout names
 
 -- The blocks that a change writes, those that INDEXF.SYS gets, and the counts of the bitmaps afterwards, where they are made anew. Where the chain of its file ends then, if it says so,
 -- and what it makes untrue of what is noted.
@@ -38,12 +42,13 @@ changed D p = record { image = applied D.image p.changes; layout = with_places D
 abbrev pub IsStep : Disk → Uic → Request → Answer → Disk → Type 0
 IsStep D who r a E = IsStepOf D.image D.layout who r a E.image E.layout
 
--- The change leaves a sound volume, and its counts and what it says of where a chain ends are true of what it leaves. What stays noted is true still.
+-- The change leaves a sound volume, and its counts and what it says of where a chain ends are true of what it leaves. What stays noted is true still, and files have the blocks that they had.
 pub record IsLawfulChange (D : Disk) (p : Parts) : Type 0 where
   pub sound : IsSoundBy (applied D.image p.changes) (with_places D.layout p.places)
   pub counted : AreCountsAfter D.image (applied D.image p.changes) D.layout p.counts
   pub ended : IsKnownIn (applied D.image p.changes) (with_places D.layout p.places) p.end
   pub kept : (end : KnownEnd) → stays p.falls end.file ≡ true → IsEndKnown D.image D.layout end → IsEndKnown (applied D.image p.changes) (with_places D.layout p.places) end
+  pub struck : Strikes D.image D.layout (applied D.image p.changes) (with_places D.layout p.places) p.falls
 
 -- The change is what a request, answered so, makes of the volume.
 pub record IsChangeFor (D : Disk) (who : Uic) (r : Request) (a : Answer) (p : Parts) : Type 0 where

@@ -9,7 +9,7 @@ use Rattle.ods_space.specs.Layout.{VolumeLayout}
 use Rattle.ods_state.specs.declared.known_end.KnownEnd.{KnownEnd}
 use Rattle.ods_state.specs.Ends.{IsKnownIn}
 use Rattle.ods_volume.specs.declared.ends.Falls.{Falls}
-use Rattle.ods_volume.specs.declared.ends.Falls.TheVariants.{Nothing, File, Everything}
+use Rattle.ods_volume.specs.declared.ends.Falls.TheVariants.{Nothing, File, Growth, Everything}
 
 -- each that is noted is true of these blocks
 abbrev pub AreKnownIn : List (List ℕ) → VolumeLayout → List (Option KnownEnd) → Type 0
@@ -23,6 +23,7 @@ IsNotOf file noted = IfSome noted (λ end. end.file ≢ file)
 abbrev pub stays : Falls → ℕ → Bool
 stays Nothing file = true
 stays (File n) file = not (file == n) && not (file == 1)
+stays (Growth n) file = not (file == n) && not (file == 1)
 stays Everything file = false
 
 -- what is left of one that is noted
@@ -37,7 +38,7 @@ falls_for (Create name version blocks stamp) answer = Everything
 falls_for (Extend file blocks) answer = File file.number
 falls_for (Truncate file blocks) answer = File file.number
 falls_for (Delete file) answer = File file.number
-falls_for (Enter dir name version file) answer = File dir.number
+falls_for (Enter dir name version file) answer = Growth dir.number
 falls_for (LookUp dir name pick) answer = Nothing
 falls_for (Remove dir name pick) answer = Nothing
 falls_for (Read file vbn) answer = Nothing

@@ -5,3 +5,4 @@ pub mod Entries
 pub mod Kept
 pub mod Made
 pub mod Preparing
+pub mod Struck

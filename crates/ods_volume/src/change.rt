@@ -109,8 +109,8 @@ impl Volume {
         Ok((kept, change))
     }
 
-    /// Makes a change that was prepared for this volume as it is, puts its entry into the list and gives its answer. It takes
-    /// no memory and never fails. The answer is read from the list last, so that it is made in one place.
+    /// Makes a change that was prepared for this volume as it is, puts its entry into the list and gives its answer. It never
+    /// fails, and takes memory at most to note a directory. The answer is read from the list last, so that it is made in one place.
     pub fn apply(&mut self, prepared: Prepared) -> Answer
         requires { IsLawfulPlan self.old prepared }
         ensures changed { self.new ≡ carried_out self.old prepared }

@@ -12,6 +12,8 @@ pub(crate) enum Falls {
     Nothing,
     /// What is noted of the file with this number, whose chain changes, and of INDEXF.SYS, which may grow.
     File(u16),
+    /// The same, where the file may get a block behind its own, and no other change of its chain.
+    Growth(u16),
     Everything,
 }
 
@@ -33,7 +35,7 @@ pub(crate) fn falls_for(request: &Request, answer: &Answer) -> Falls
         },
         Request::Extend { file, .. } | Request::Truncate { file, .. } | Request::Delete { file } =>
             Falls::File(file.number),
-        Request::Enter { dir, .. } => Falls::File(dir.number),
+        Request::Enter { dir, .. } => Falls::Growth(dir.number),
         // The others change no chain.
         _ => Falls::Nothing,
     }
@@ -45,7 +47,7 @@ fn stays(falls: Falls, file: u16) -> bool
 {
     match falls {
         Falls::Nothing => true,
-        Falls::File(number) => file != number && file != 1,
+        Falls::File(number) | Falls::Growth(number) => file != number && file != 1,
         Falls::Everything => false,
     }
 }

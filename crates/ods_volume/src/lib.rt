@@ -5,6 +5,7 @@
 mod change;
 mod ends;
 mod entries;
+mod noted;
 mod planned;
 mod prepare;
 mod sound;

@@ -1,11 +1,11 @@
 //! What a request is answered, and what it makes of the volume. This file alone calls what answers a request or drafts
 //! its change in the layers below.
-ghost use Rattle.std.specs.Prelude.{◌≡◌, false, true, MatchResult, IfOk, OnErr};
+ghost use Rattle.std.specs.Prelude.{◌≡◌, false, true, MatchResult, IfOk, IfSome, OnErr};
 ghost use Rattle.ods_alloc.specs.Counts.{AreCountsAfter, counts_of};
 ghost use Rattle.ods_space.specs.{Draft.applied, Layout.VolumeLayout};
 ghost use Rattle.ods_mount.specs.Sound.{IsSoundBy};
 ghost use Rattle.ods_request.specs.{declared.requests.Request.TheVariants.List as Lines, Queries.request_of, Table.only_looks, Table.takes_memory};
-ghost use Rattle.ods_state.specs.{Served.IsStepOf, Served.IsRefusalOf, Outcome.CanBeAsked};
+ghost use Rattle.ods_state.specs.{Noted.AreNamesKnown, Served.IsStepOf, Served.IsRefusalOf, Outcome.CanBeAsked};
 ghost use Rattle.ods_change.specs.Steps.{IsDraftFor, IsKnownThen};
 ghost use Rattle.ods_volume.specs.{Ends.AreKnownIn, Made.answer_of, Made.end_of};
 ghost use Rattle.ods_space.specs.Disks.{on, seen};
@@ -14,25 +14,27 @@ use crate::ends::KnownEnds;
 use ods_alloc::FreeCounts;
 use ods_base::{FileId, Uic};
 use ods_change::{Drafted, create, delete, enter, extend, remove, set_user, truncate, write};
-use ods_look::{list, look_into};
+use ods_look::{list, look_into_noted};
 use ods_request::{Answer, Query, Refusal, Request};
 use ods_space::{Disk, Draft};
-use ods_state::KnownEnd;
+use ods_state::{KnownEnd, KnownNames};
 use std::alloc::{AllocError, Global};
 
 /// Writes the answer of a query into this place. It changes no block.
-pub(crate) fn look_only(
+pub(crate) fn look_only<'a>(
     alloc: Global,
-    disk: &Disk<'_>,
+    disk: &Disk<'a>,
     who: Uic,
     query: Query,
+    names: Option<&'a KnownNames>,
     answer: &mut Answer,
 ) -> Result<Drafted, Refusal>
-    requires { on IsSoundBy disk.now }
+    requires sound { on IsSoundBy disk.now }
+    requires names { IfSome names (λ k. on AreNamesKnown disk.now k.now) }
     ensures { MatchResult result (λ r. IsDraftFor disk.now who (request_of query) answer.new r.draft r.places.items)
         (on IsRefusalOf disk.now who (request_of query)) }
 {
-    match look_into(disk, who, query, answer) {
+    match look_into_noted(disk, who, query, names, answer) {
         Ok(()) => Ok(Drafted::still(alloc, Draft::new(alloc))),
         Err(refusal) => Err(refusal),
     }
@@ -97,19 +99,21 @@ fn end_of(made: &Made) -> Option<KnownEnd>
 }
 
 /// What a request is answered that does not only look, and what it makes of the volume.
-fn change(
+fn change<'a>(
     alloc: Global,
-    disk: &Disk<'_>,
+    disk: &Disk<'a>,
     counts: &FreeCounts,
     who: Uic,
     request: &Request,
     known: &KnownEnds,
+    names: Option<&'a KnownNames>,
 ) -> Result<(Made, Drafted), Refusal>
     requires asked { CanBeAsked request.now }
     requires changes { only_looks request.now ≡ false }
     requires sound { on IsSoundBy disk.now }
     requires counts { counts.now ≡ seen counts_of disk.now }
     requires known { on AreKnownIn disk.now known.now.ends }
+    requires names { IfSome names (λ k. on AreNamesKnown disk.now k.now) }
     ensures end { IfOk result
         (λ p. IsKnownThen disk.now p.1.draft p.1.places.items (end_of p.0)) }
     ensures step { MatchResult result (λ p. IsDraftFor disk.now who request.now (answer_of p.0) p.1.draft p.1.places.items)
@@ -151,7 +155,9 @@ fn change(
             name,
             version,
             file,
-        } => match enter(alloc, disk, counts, who, *dir, *name, *version, *file) {
+        } => match enter(
+            alloc, disk, counts, who, *dir, *name, *version, *file, names,
+        ) {
             Ok((drafted, version)) => Ok((Made::Entered(version), drafted)),
             Err(refusal) => Err(refusal),
         },
@@ -168,7 +174,7 @@ fn change(
             }
         }
         Request::Remove { dir, name, pick } => {
-            match remove(alloc, disk, who, *dir, *name, *pick) {
+            match remove(alloc, disk, who, *dir, *name, *pick, names) {
                 Ok((draft, file, version)) => {
                     let drafted = Drafted::still(alloc, draft);
                     Ok((Made::Removed(file, version), drafted))
@@ -183,25 +189,27 @@ fn change(
 
 /// Writes what a request is answered into this place, and gives what it makes of the volume. An Extend says where the chain of its
 /// file ends then, and a Truncate may.
-pub(crate) fn carry_out(
+pub(crate) fn carry_out<'a>(
     alloc: Global,
-    disk: &Disk<'_>,
+    disk: &Disk<'a>,
     counts: &FreeCounts,
     who: Uic,
     request: &Request,
     known: &KnownEnds,
+    names: Option<&'a KnownNames>,
     answer: &mut Answer,
 ) -> Result<(Drafted, Option<KnownEnd>), Refusal>
     requires asked { CanBeAsked request.now }
     requires sound { on IsSoundBy disk.now }
     requires counts { counts.now ≡ seen counts_of disk.now }
     requires known { on AreKnownIn disk.now known.now.ends }
+    requires names { IfSome names (λ k. on AreNamesKnown disk.now k.now) }
     ensures end { IfOk result (λ r. IsKnownThen disk.now r.0.draft r.0.places.items r.1) }
     ensures step { MatchResult result (λ r. IsDraftFor disk.now who request.now answer.new r.0.draft r.0.places.items)
         (on IsRefusalOf disk.now who request.now) }
 {
     if let Some(query) = request.as_query() {
-        return match look_only(alloc, disk, who, query, answer) {
+        return match look_only(alloc, disk, who, query, names, answer) {
             Ok(drafted) => Ok((drafted, None)),
             Err(refusal) => Err(refusal),
         };
@@ -212,7 +220,7 @@ pub(crate) fn carry_out(
             Err(refusal) => Err(refusal),
         };
     }
-    match change(alloc, disk, counts, who, request, known) {
+    match change(alloc, disk, counts, who, request, known, names) {
         Ok((made, drafted)) => {
             let end = end_of(&made);
             put_answer(answer, made);

@@ -12,6 +12,7 @@ ghost use Rattle.ods_volume.specs.Amended.{IsChangeOfAccess, IsChangeOfLabel, Is
 ghost use Rattle.ods_volume.specs.Changing.{HasMoreHeaders, IsChangeFor, IsChangeOfHeaders, IsLawfulChange, IsStep, changed};
 
 use crate::ends::{Falls, KnownEnds, falls_for};
+use crate::noted::{LastUse, directory_in, directory_of, names_after, retagged};
 use crate::prepare::{carry_out, counts_after, look_only};
 use ods_alloc::FreeCounts;
 use ods_amend::{draft_access, draft_label, draft_marks};
@@ -21,19 +22,22 @@ use ods_init::Label;
 use ods_mount::Mounted;
 use ods_request::{Answer, CompactRequest, Query, Refusal, Request};
 use ods_space::{Disk, Draft};
-use ods_state::KnownEnd;
+use ods_state::{KnownEnd, KnownNames};
 use std::alloc::{AllocError, Global};
 use std::marker::Model;
 
 /// A sound image with its layout, which changes by requests. What is free is counted for each block of the bitmaps, so that a request
 /// reads none of which nothing is left. Where the chains of the files end that were extended last is noted, so that their next Extend
-/// does not walk along them. The image is always sound, and the counts are those made anew of it.
+/// does not walk along them. Of the directory that was used last the names may be noted, so that a look-up reads few of its blocks. The
+/// image is always sound, and the counts are those made anew of it.
 #[derive(Drop)]
 pub struct Sound {
     alloc: Global,
     mounted: Mounted,
     counts: FreeCounts,
     ends: KnownEnds,
+    names: Option<KnownNames>,
+    last: LastUse,
 }
 
 impl Model for Sound {
@@ -44,7 +48,7 @@ impl Model for Sound {
 
     ghost view = { λ s. s.mounted };
 
-    ghost invariant = { λ s. IsNoted s.mounted s.counts s.ends.ends };
+    ghost invariant = { λ s. IsNoted s.mounted s.counts s.ends.ends s.names };
 }
 
 /// What an accepted request changes: the blocks, and those that INDEXF.SYS gets. It has the counts of the bitmaps afterwards, where they
@@ -57,6 +61,8 @@ pub struct Change {
     counts: Option<FreeCounts>,
     end: Option<KnownEnd>,
     pub(crate) falls: Falls,
+    /// The number of the directory whose names the request looks at, or 0.
+    used: u16,
 }
 
 impl Model for Change {
@@ -91,6 +97,11 @@ impl Sound {
             mounted,
             counts,
             ends: KnownEnds::new(),
+            names: None,
+            last: LastUse {
+                directory: 0,
+                times: 0,
+            },
         })
     }
 
@@ -152,7 +163,9 @@ impl Sound {
         let disk = self.mounted.disk();
         // The blocks of an image have bytes.
         let _ = disk.image.len();
-        let drafted = match look_only(self.alloc, &disk, who, query, answer) {
+        let used = directory_in(&query);
+        let names = self.names.as_ref();
+        let drafted = match look_only(self.alloc, &disk, who, query, names, answer) {
             Ok(drafted) => drafted,
             Err(refusal) => return Err(refusal),
         };
@@ -162,6 +175,7 @@ impl Sound {
             counts: None,
             end: None,
             falls: Falls::Nothing,
+            used,
         })
     }
 
@@ -188,6 +202,7 @@ impl Sound {
             who,
             request,
             &self.ends,
+            self.names.as_ref(),
             answer,
         ) {
             Ok(carried) => carried,
@@ -202,6 +217,7 @@ impl Sound {
             counts,
             end,
             falls: falls_for(request, answer),
+            used: directory_of(request),
         })
     }
 
@@ -222,14 +238,30 @@ impl Sound {
         }
     }
 
-    /// Makes a change that was prepared for this volume as it is. It takes no memory and never fails.
+    /// Makes a change that was prepared for this volume as it is. It never fails. Memory is taken to note a directory alone, and where there is none, nothing is noted.
     pub fn apply(&mut self, change: Change)
         requires { IsLawfulChange self.old change }
         ensures { self.new ≡ changed self.old change }
     {
+        let names = retagged(
+            self.names.take(),
+            change.falls,
+            &change.draft,
+            &self.mounted.disk(),
+        );
         self.mounted.apply(change.draft, &change.places);
         put_counts(&mut self.counts, change.counts);
         self.ends.follow(change.falls, change.end);
+        let (names, last) = names_after(
+            self.alloc,
+            &self.mounted,
+            names,
+            change.falls,
+            change.used,
+            self.last,
+        );
+        self.names = names;
+        self.last = last;
     }
 
     /// Prepares a request and makes its change. Refused, it changes nothing.
@@ -272,6 +304,7 @@ impl Sound {
             counts,
             end,
             falls,
+            used: 0,
         };
         Ok(growth)
     }
@@ -321,6 +354,7 @@ impl Sound {
             counts,
             end,
             falls,
+            used: 0,
         };
         Ok(given)
     }
@@ -391,6 +425,7 @@ impl Sound {
             counts,
             end,
             falls,
+            used: 0,
         };
         Ok(marked)
     }
@@ -424,6 +459,7 @@ impl Sound {
             counts,
             end,
             falls,
+            used: 0,
         };
         Ok(labelled)
     }

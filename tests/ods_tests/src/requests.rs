@@ -7,6 +7,7 @@ mod index_growth;
 mod long_names;
 mod naming;
 mod noted_end;
+mod noted_names;
 mod plain_reader;
 mod random;
 mod random_cuts;

@@ -3,7 +3,7 @@ ghost use Rattle.std.specs.Prelude.{◌*◌, ◌^◌, ◌<◌, ◌≤◌, OnOk, 
 ghost use Rattle.ods_directory.specs.Names.{IsDirectory};
 
 use ods_base::Block;
-use ods_directory::{DirBlocks, Verdict, check};
+use ods_directory::{DirBlocks, Tags, Verdict, check};
 use std::alloc::{AllocError, Global};
 use std::process::Abort;
 
@@ -32,6 +32,10 @@ impl DirBlocks for Kept {
         let block = &self.blocks[i as usize];
         let _ = block.bytes();
         block
+    }
+
+    fn tags(&self) -> Option<&[Tags]> {
+        None
     }
 
     fn cursor(&self) -> u32 {

@@ -140,7 +140,7 @@ fn without_bitmap(
     pick: Pick,
 ) -> Result<(Draft, FileId, u16), Fail> {
     let disk = before.disk();
-    Ok(remove(alloc, &disk, USER, MASTER, bitmap(), pick)?)
+    Ok(remove(alloc, &disk, USER, MASTER, bitmap(), pick, None)?)
 }
 
 /// The volume without that name, where the file and version that go are those.
@@ -157,7 +157,7 @@ fn after_remove(alloc: Global, pick: Pick) -> Result<Mounted, Fail> {
 fn a_name_is_removed(rt: HostRuntime) -> Result<(), Fail> {
     let after = after_remove(rt.alloc(), Pick::Highest)?;
     let disk = after.disk();
-    let found = look_up(&disk, USER, MASTER, bitmap(), Pick::Highest);
+    let found = look_up(&disk, USER, MASTER, bitmap(), Pick::Highest, None);
     assert!(rt; found.err() == Some(Refusal::NoSuchName));
     Ok(())
 }
@@ -166,7 +166,17 @@ fn a_name_is_removed(rt: HostRuntime) -> Result<(), Fail> {
 fn entered(alloc: Global, before: &Mounted) -> Result<(Drafted, u16), Fail> {
     let disk = before.disk();
     let counts = FreeCounts::of(alloc, &disk)?;
-    Ok(enter(alloc, &disk, &counts, USER, MASTER, c_dat(), None, FIRST)?)
+    Ok(enter(
+        alloc,
+        &disk,
+        &counts,
+        USER,
+        MASTER,
+        c_dat(),
+        None,
+        FIRST,
+        None,
+    )?)
 }
 
 /// F.HIBK, F.EFBK and F.FFBY of the master directory, whose header is LBN 6.

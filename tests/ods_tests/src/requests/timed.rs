@@ -16,7 +16,7 @@ use std::rt::Env;
 use std::test::Fail;
 
 /// A volume of so many blocks with room for the longest list.
-fn volume_of(alloc: Global, blocks: u32) -> Result<Volume, Fail> {
+pub fn volume_of(alloc: Global, blocks: u32) -> Result<Volume, Fail> {
     let Ok(mounted) = mount(alloc, sample_of(blocks).image(alloc)?) else {
         return Err("a sound image, and memory".into());
     };
@@ -27,7 +27,7 @@ fn volume_of(alloc: Global, blocks: u32) -> Result<Volume, Fail> {
 }
 
 /// Makes a request that is accepted.
-fn accept(rt: &impl Abort, volume: &mut Volume, request: Request) -> Answer {
+pub fn accept(rt: &impl Abort, volume: &mut Volume, request: Request) -> Answer {
     assert!(rt; can_be_asked(&request));
     match volume.request(1, 1, USER, request) {
         Ok(answer) => answer,
@@ -100,7 +100,7 @@ fn reads_and_writes(rt: HostRuntime) -> Result<(), Fail> {
 }
 
 /// A directory with so many versions of A.TXT: 32 of them in a block.
-fn long_directory(rt: &impl Abort, volume: &mut Volume, names: u16) -> Result<FileId, Fail> {
+pub fn long_directory(rt: &impl Abort, volume: &mut Volume, names: u16) -> Result<FileId, Fail> {
     let dir = make(rt, volume, sub_dir(), 0)?;
     for version in 1..names.saturating_add(1) {
         let request = enter(dir, letter(1, TXT), Some(version), FIRST);

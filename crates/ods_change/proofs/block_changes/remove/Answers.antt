@@ -41,10 +41,10 @@ returns-in-Ok-one_block c =
     let b : List ℕ = c.with_entry-lbn.result.1 in
     subst (λ J. IsStepOf I L c.args.who (Remove c.args.dir c.args.name c.args.pick) (Removed entry.0 entry.1) J L)
     (ap (slice_set I x) (sym c.with_entry-lbn.ensures.block) ∙ applied_set I x b ∙ ap (applied I) (sym c.in-Ok-one_block.ensures))
-    (remove_is_step c.requires c.in-Ok.ensures.ok c.args.name c.words.ensures.name.three c.args.pick entry.0 entry.1 removed.found entry.2 place.0 c.with_entry-lbn.ensures.held place.1 place.2 place.3 place.4 removed.names removed.stays)
+    (remove_is_step c.requires.sound c.in-Ok.ensures.ok c.args.name c.words.ensures.name.three c.args.pick entry.0 entry.1 removed.found entry.2 place.0 c.with_entry-lbn.ensures.held place.1 place.2 place.3 place.4 removed.names removed.stays)
 
 pub returns-in-Err-one_block : goal.returns-in-Err-one_block
 returns-in-Err-one_block c =
     let entry = c.in-Ok-remove.entry in
     refused_for_memory c.args.disk.now.image.now c.args.disk.now.layout.now c.args.who (Remove c.args.dir c.args.name c.args.pick) refl (λ C shown.
-    (remove_answered c.requires c.in-Ok.ensures.ok c.args.name c.words.ensures.name.three c.args.pick entry.0 entry.1 c.in-Ok-remove.ensures.found C shown).0)
+    (remove_answered c.requires.sound c.in-Ok.ensures.ok c.args.name c.words.ensures.name.three c.args.pick entry.0 entry.1 c.in-Ok-remove.ensures.found C shown).0)

@@ -19,6 +19,7 @@ invariant_of-result c =
       few_blocks c.len.ensures.image held,
       c.requires.header,
       c.requires.other,
+      tt,
     )
 
 pub returns-clause-contents : goal.returns-clause-contents

@@ -17,5 +17,5 @@ returns c =
     let made : Parts = record { changes = c.in-Ok.drafted.draft; places = c.in-Ok.drafted.places.items; counts = c.in-Ok-after.counts; end = None; falls = Everything } in
     subst (λ (d : Disk). IsChangeOfHeaders d c.args.count made) (lent ∙ c.self.view_is) (record {
       grown = c.in-Ok.ensures;
-      lawful = record { sound = c.in-Ok.ensures.sound; counted = c.in-Ok-after.ensures; ended = tt; kept = λ end stay known. absurd (none_stays stay) };
+      lawful = record { sound = c.in-Ok.ensures.sound; counted = c.in-Ok-after.ensures; ended = tt; kept = λ end stay known. absurd (none_stays stay); struck = λ f blocks index bitmap some held. tt };
     })

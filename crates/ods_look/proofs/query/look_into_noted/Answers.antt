@@ -3,7 +3,7 @@ use Rattle.ods_request.specs.declared.answers.Answer.TheVariants.{Found, Bytes, 
 use Rattle.ods_state.specs.Change.{IsAnsweredBy}
 use Rattle.ods_state.specs.Outcome.{request_of}
 use Rattle.ods_state.specs.Served.{IsRefusalOf}
-use Rattle.ods_look.proofs.query.look_into.Goals as goal
+use Rattle.ods_look.proofs.query.look_into_noted.Goals as goal
 
 pub returns-in-Ok : goal.returns-in-Ok
 returns-in-Ok c = subst (λ q. IsAnsweredBy c.args.disk.now.image.now c.args.disk.now.layout.now c.args.who (request_of q) (Found c.in-Ok.found.0 c.in-Ok.found.1)) (sym c.in-LookUp.is) c.in-Ok.ensures

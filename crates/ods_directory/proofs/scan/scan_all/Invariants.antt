@@ -1,7 +1,7 @@
 use Rattle.std.proofs.Common.{◌≡◌, ◌*◌, ◌/◌, min, drop, fold}
 use Rattle.std.specs.List.{range_with_len}
 use Rattle.ods_directory.specs.Entry.{entry_at}
-use Rattle.ods_directory.proofs.scan.scan.Given as goal
+use Rattle.ods_directory.proofs.scan.scan_all.Given as goal
 
 abbrev pub invariant-loop-i : goal.invariant-loop-i
 invariant-loop-i g l =

@@ -4,8 +4,8 @@ use Rattle.ods_base.specs.Image.{block_at}
 use Rattle.ods_directory.specs.Entry.{entry_at}
 use Rattle.ods_directory.proofs.Folds.{fold_stopped}
 use Rattle.ods_directory.proofs.Blockwise.{one_block_more, blocks_from}
-use Rattle.ods_directory.proofs.scan.scan.Goals as goal
-use Rattle.ods_directory.proofs.scan.scan.Goals.{then-count-eq0-via-then-count-eq0, then-count-eq0-via-else-count-eq0+then-is_done}
+use Rattle.ods_directory.proofs.scan.scan_all.Goals as goal
+use Rattle.ods_directory.proofs.scan.scan_all.Goals.{then-count-eq0-via-then-count-eq0, then-count-eq0-via-else-count-eq0+then-is_done}
 
 pub returns-then-count-eq0-clause-after : goal.returns-then-count-eq0-clause-after
 returns-then-count-eq0-clause-after g c =
