@@ -1,8 +1,9 @@
 -- What it leaves that the names of a directory get new versions where they are there already.
-use Rattle.std.proofs.Common.{◌≡◌, ◌≢◌, ◌⊎◌, ℕ, suc, ◌+◌, ◌/◌, ◌%◌, ◌<◌, refl, ap, sym, ◌∙◌, subst, Bool, true, false, ◌&&◌, IsTrue, List, [], ◌∷◌, ◌++◌, length, map, take, get_or, Some, arith, inl, inr}
-use Rattle.std.specs.Prelude.{nat_lt, slice_get}
+use Rattle.std.proofs.Common.{◌≡◌, ◌≢◌, ◌⊎◌, ℕ, suc, ◌+◌, ◌/◌, ◌%◌, ◌<◌, ◌≤◌, refl, ap, sym, ◌∙◌, subst, Bool, true, false, ◌&&◌, IsTrue, List, [], ◌∷◌, ◌++◌, length, map, take, get_or, Some, arith, inl, inr}
+use Rattle.std.specs.Prelude.{◌↔◌, nat_lt, slice_get}
 use Rattle.std.specs.List.{All, Contains}
 use Rattle.std.proofs.lemmas.Bool.{cases_eq, ltb-true}
+use Rattle.std.proofs.lemmas.List.{length-map}
 use Rattle.std.proofs.lemmas.Option.{slice_get-get_or, slice_get_within, get_or_from_slice_get}
 use Rattle.ods_base.specs.Block.{has_bit}
 use Rattle.ods_base.specs.Image.{block_at}
@@ -11,7 +12,8 @@ use Rattle.ods_space.specs.Layout.{VolumeLayout, header_at}
 use Rattle.ods_space.specs.Files.{HasBlocks, Holds, IsLayoutOf}
 use Rattle.ods_space.specs.Free.{is_covered, is_free_block, storage_bit}
 use Rattle.ods_space.proofs.Surveyed.{same_blocks}
-use Rattle.ods_directory.specs.Entry.{IsGoodEntry, entry_at, used_entries}
+use Rattle.ods_directory.specs.Entry.{IsGoodEntry, entry_at, is_used, used_entries}
+use Rattle.ods_directory.specs.Hidden.{HasHidden, IsHidden}
 use Rattle.ods_directory.specs.Names.{IsDirectory}
 use Rattle.ods_directory.proofs.Used.{all_by_positions, from_positions}
 use Rattle.ods_mount.specs.declared.fault.MountFault.{MountFault}
@@ -20,14 +22,18 @@ use Rattle.ods_mount.specs.Faults.{CouldBeWritten, HasBadIndex, IsSound, IsTrueA
 use Rattle.ods_mount.proofs.Each.{holds_at}
 use Rattle.ods_mount.proofs.Layouts.{same_layout}
 use Rattle.ods_mount.proofs.Unlaid.{true_by_layout}
+use Rattle.ods_check.specs.declared.finding.Finding.{Finding}
+use Rattle.ods_check.specs.declared.finding.Finding.TheVariants.{BadHeader, StrayNumbers, LostHeader, HeldByNone, RunHeldByNone, NamesNone, LostFile, EndPast, HiddenEntries, MarkedDeleted, Locked, Unnamed}
+use Rattle.ods_check.specs.Findings.{IsFound, IsHeldByNone, IsHiding}
 use Rattle.ods_repair.specs.declared.fault.RepairFault.{RepairFault}
 use Rattle.ods_repair.specs.declared.fault.RepairFault.TheVariants as repair
-use Rattle.ods_repair.specs.Doubled.{AreRenumbered, HasOnlyDoubles, HasRenumbered, IsFull, IsNotRenumbered, IsPut, IsReadyDirectory}
+use Rattle.ods_repair.specs.Doubled.{AreRenumbered, HasOnlyDoubles, HasRenumbered, IsFull, IsNotOfNames, IsNotRenumbered, IsPut, IsReadyDirectory}
 use Rattle.ods_repair.specs.Framed.{IsOwn, IsReadAs}
 use Rattle.ods_repair.specs.Spare.{HasFrom, IsNotSpare}
 use Rattle.ods_repair.proofs.AtHome.{home_fault_stays}
 use Rattle.ods_repair.proofs.Framed.{contents_stay, read_as, read_back}
-use Rattle.ods_repair.proofs.FaultsKept.{KeepContents, bad_stays, mark_stays, plain_stays, twins_stay}
+use Rattle.ods_repair.proofs.FaultsKept.{KeepContents, bad_stays, directory_stays, entries_stay, mark_stays, plain_stays, twins_stay}
+use Rattle.ods_repair.proofs.FindingsKept.{plain_finding_stays, unheld_stays}
 use Rattle.ods_repair.proofs.Renumbering.{apart_then, good_then}
 
 -- why its blocks cannot change alone is why the names are not new
@@ -140,15 +146,56 @@ module _ (I J : List (List ℕ)) (L : VolumeLayout) (d : ℕ) (bs : List ℕ) (n
       bad.bad (subst IsGoodEntry (get_or_from_slice_get es bad.i bad.entry bad.entry bad.found) (now bad.i bad.entry (slice_get_within es bad.i bad.entry bad.found)))
 
   -- the storage bitmap is another file's
+  bits_same : (b : ℕ) → is_covered L b ≡ true → storage_bit J L b ≡ storage_bit I L b
+  bits_same b covered =
+      let at : ℕ = get_or L.bitmap (1 + b / 4096) 0 in
+      let within : 1 + b / 4096 < length L.bitmap = ltb-true (1 + b / 4096) (length L.bitmap) covered in
+      let held : Holds I L 2 (1 + b / 4096 + 1) at = holds_at I L 2 L.bitmap (1 + b / 4096) at layout.bitmap (slice_get-get_or L.bitmap (1 + b / 4096) 0 within) in
+      ap (λ c. has_bit c (b % 4096)) (put.others at (other_file 2 (1 + b / 4096 + 1) at not_two held))
+
   free_same : (b : ℕ) → is_free_block J L b ≡ is_free_block I L b
   free_same b = second_of (nat_lt b (length J)) (nat_lt b (length I)) (is_covered L b && storage_bit J L b) (is_covered L b && storage_bit I L b) (ap (nat_lt b) put.long)
-      (λ inside. second_of (is_covered L b) (is_covered L b) (storage_bit J L b) (storage_bit I L b) refl (λ covered. ap (λ c. has_bit c (b % 4096)) (bitmap_same covered)))
+      (λ inside. second_of (is_covered L b) (is_covered L b) (storage_bit J L b) (storage_bit I L b) refl (bits_same b))
+
+  unheld_same : (b : ℕ) → IsHeldByNone I L b ↔ IsHeldByNone J L b
+  unheld_same b = (unheld_stays I J L read bits_same b, unheld_stays J I L back (λ x covered. sym (bits_same x covered)) b)
+
+  -- an entry behind the mark stays, so a hidden one does
+  hidden_stays : (X Y : List (List ℕ)) → IsReadAs X Y L → KeepContents X Y L (λ n. n ≡ d) → HasBlocks X L d bs
+      → ((k : ℕ) → mark_at X L d bs / 16 ≤ k → entry_at (contents_of Y bs) k ≡ entry_at (contents_of X bs) k) → (n : ℕ) → IsHiding X L n → IsHiding Y L n
+  hidden_stays X Y r kept here behind n h = record { file = directory_stays X Y L r n h.file; blocks = h.blocks; has = (r.has n h.blocks).0 h.has; hidden = by (cases_eq n d) }
     where
-      bitmap_same : is_covered L b ≡ true → block_at J (get_or L.bitmap (1 + b / 4096) 0) ≡ block_at I (get_or L.bitmap (1 + b / 4096) 0)
-      bitmap_same covered =
-          let within : 1 + b / 4096 < length L.bitmap = ltb-true (1 + b / 4096) (length L.bitmap) covered in
-          put.others (get_or L.bitmap (1 + b / 4096) 0)
-          (other_file 2 (1 + b / 4096 + 1) (get_or L.bitmap (1 + b / 4096) 0) not_two (holds_at I L 2 L.bitmap (1 + b / 4096) (get_or L.bitmap (1 + b / 4096) 0) layout.bitmap (slice_get-get_or L.bitmap (1 + b / 4096) 0 within)))
+      by : (n ≡ d) ⊎ (n ≢ d) → HasHidden (contents_of Y h.blocks) (mark_at Y L n h.blocks)
+      by (inr apart) = entries_stay X Y L r (λ m. m ≡ d) kept HasHidden n h.blocks apart h.has h.hidden
+      by (inl same) =
+          let k : ℕ = h.hidden.0 in
+          let hidden : IsHidden (contents_of X h.blocks) (mark_at X L n h.blocks) k = h.hidden.1 in
+          let is : bs ≡ h.blocks = same_blocks X L d bs h.blocks here (subst (λ m. HasBlocks X L m h.blocks) same h.has) in
+          let low : mark_at X L d bs / 16 ≤ k = subst (λ xs. mark_at X L d xs / 16 ≤ k) (sym is) (subst (λ m. mark_at X L m h.blocks / 16 ≤ k) same hidden.behind) in
+          let entry : entry_at (contents_of Y h.blocks) k ≡ entry_at (contents_of X h.blocks) k = subst (λ xs. entry_at (contents_of Y xs) k ≡ entry_at (contents_of X xs) k) is (behind k low) in (
+            k,
+            record {
+              behind = subst (λ m. m / 16 ≤ k) (sym (mark_stays X Y L r n h.blocks)) hidden.behind;
+              inside = omega (arith, hidden.inside, length-map h.blocks (block_at X), length-map h.blocks (block_at Y));
+              used = subst IsTrue (ap is_used (sym entry)) hidden.used;
+            },
+          )
+
+  -- what is found that hangs on no names stays
+  finding_stays : (X Y : List (List ℕ)) → IsReadAs X Y L → IsReadAs Y X L → ((b : ℕ) → IsHeldByNone X L b ↔ IsHeldByNone Y L b) → ((n : ℕ) → IsHiding X L n → IsHiding Y L n)
+      → (finding : Finding) → IsNotOfNames finding → IsFound X L finding → IsFound Y L finding
+  finding_stays X Y r b unheld hiding (BadHeader n why) of f = plain_finding_stays X Y L r b unheld (BadHeader n why) tt f
+  finding_stays X Y r b unheld hiding (StrayNumbers count first) of f = plain_finding_stays X Y L r b unheld (StrayNumbers count first) tt f
+  finding_stays X Y r b unheld hiding (HeldByNone block) of f = plain_finding_stays X Y L r b unheld (HeldByNone block) tt f
+  finding_stays X Y r b unheld hiding (RunHeldByNone first last) of f = plain_finding_stays X Y L r b unheld (RunHeldByNone first last) tt f
+  finding_stays X Y r b unheld hiding (NamesNone n line) of f = absurd of
+  finding_stays X Y r b unheld hiding (LostFile id) of f = absurd of
+  finding_stays X Y r b unheld hiding (LostHeader id) of f = plain_finding_stays X Y L r b unheld (LostHeader id) tt f
+  finding_stays X Y r b unheld hiding (EndPast id) of f = plain_finding_stays X Y L r b unheld (EndPast id) tt f
+  finding_stays X Y r b unheld hiding (HiddenEntries n) of f = hiding n f
+  finding_stays X Y r b unheld hiding (MarkedDeleted id) of f = plain_finding_stays X Y L r b unheld (MarkedDeleted id) tt f
+  finding_stays X Y r b unheld hiding (Locked id) of f = plain_finding_stays X Y L r b unheld (Locked id) tt f
+  finding_stays X Y r b unheld hiding (Unnamed n) of f = absurd of
 
   -- a fault of one is a fault of the other, where free blocks and files are the same
   index_stays : (X Y : List (List ℕ)) → IsReadAs X Y L → ((b : ℕ) → is_free_block Y L b ≡ is_free_block X L b) → HasBadIndex X L → HasBadIndex Y L
@@ -218,5 +265,10 @@ module _ (I J : List (List ℕ)) (L : VolumeLayout) (d : ℕ) (bs : List ℕ) (n
     faults = λ fault other. (
       stays I J read free_same contents (no_bad I ready.has ready.good) fault other,
       stays J I back (λ b. sym (free_same b)) contents_back (no_bad J has_now good_now.good) fault other,
+    );
+    findings = λ finding other. (
+      finding_stays I J read back unheld_same (hidden_stays I J read contents ready.has names.behind) finding other,
+      finding_stays J I back read (λ b. ((unheld_same b).1, (unheld_same b).0))
+          (hidden_stays J I back contents_back has_now (λ k low. sym (names.behind k (subst (λ m. m / 16 ≤ k) (mark_stays I J L read d bs) low)))) finding other,
     );
   }

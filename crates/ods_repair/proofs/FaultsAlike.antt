@@ -4,7 +4,7 @@ use Rattle.std.specs.List.{Contains}
 use Rattle.std.proofs.lemmas.Bool.{cases_eq}
 use Rattle.std.proofs.lemmas.List.{length-map}
 use Rattle.ods_base.specs.Image.{block_at}
-use Rattle.ods_header.specs.Header.{IsFormat1, IsHeader, IsValidHeader, attributes_of, is_directory_header}
+use Rattle.ods_header.specs.Header.{IsFormat1, IsHeader, attributes_of, is_directory_header, sequence_of, system_char_of, user_char_of}
 use Rattle.ods_header.proofs.DirectoryHeaders.{is_apart}
 use Rattle.ods_space.specs.Layout.{VolumeLayout, header_at, is_in_use}
 use Rattle.ods_space.specs.Chain.{IsChain}
@@ -22,7 +22,10 @@ pub record IsAlike (X Y : List (List ℕ)) (L : VolumeLayout) (n : ℕ) : Type 0
   pub long : length Y ≡ length X
   pub in_use : (q : ℕ) → is_in_use Y L.home q ≡ is_in_use X L.home q
   pub headers : (q : ℕ) → q ≢ n → header_at Y L q ≡ header_at X L q
-  pub valid : IsValidHeader (header_at X L n) n
+  pub file : IsFile X L n
+  pub sequence : sequence_of (header_at Y L n) ≡ sequence_of (header_at X L n)
+  pub user_char : user_char_of (header_at Y L n) ≡ user_char_of (header_at X L n)
+  pub system_char : system_char_of (header_at Y L n) ≡ system_char_of (header_at X L n)
   pub attributes : attributes_of (header_at Y L n) ≡ attributes_of (header_at X L n)
   pub directory : is_directory_header n (header_at Y L n) ≡ is_directory_header n (header_at X L n)
   pub files : (q : ℕ) → IsFile X L q → IsFile Y L q
@@ -44,7 +47,7 @@ IsOfFiles (MarkedFree n b) = ⊥
 IsOfFiles other = Unit {0}
 
 module _ (X Y : List (List ℕ)) (L : VolumeLayout) (n : ℕ) (a : IsAlike X Y L n) where
-  any_chain : (q : ℕ) (ms bs : List ℕ) → IsChain X L q ms bs → (cs : List ℕ) × IsChain Y L q ms cs
+  pub any_chain : (q : ℕ) (ms bs : List ℕ) → IsChain X L q ms bs → (cs : List ℕ) × IsChain Y L q ms cs
   any_chain q ms bs c = elim (cases_eq q n) [
     | inl same ↦
         let own = a.own_chain ms bs (subst (λ z. IsChain X L z ms bs) same c) in
@@ -107,7 +110,7 @@ module _ (X Y : List (List ℕ)) (L : VolumeLayout) (n : ℕ) (a : IsAlike X Y L
   fault_stays BadStorageMap of (inr (file, ns, bs, chain, few)) = inr (a.files 2 file, ns, bs, a.chains 2 ns bs (λ e. absurd (omega (arith, e, a.above))) chain, few)
   fault_stays BadMaster of f = λ file. f (a.were_files 4 file)
   fault_stays (UnsupportedMap q) of (used, is, other) = elim (cases_eq q n) [
-    | inl same ↦ absurd (other (subst (λ z. IsFormat1 (header_at X L z)) (sym same) a.valid.format))
+    | inl same ↦ absurd (other (subst (λ z. IsFormat1 (header_at X L z)) (sym same) a.file.valid.format))
     | inr apart ↦ (subst IsTrue (sym (a.in_use q)) used, subst (λ c. IsHeader c q) (sym (a.headers q apart)) is, λ one. other (subst IsFormat1 (a.headers q apart) one))
   ]
   fault_stays (BadChain q) of (file, inl none) = (a.files q file, inl (λ ms cs chain. let was = was_chain q ms cs chain in none ms was.0 was.1))

@@ -51,7 +51,7 @@ module _ (I J : List (List ℕ)) (L : VolumeLayout) (r : IsReadAs I J L) where
   plain_stays NoMemory of f = absurd f
 
   module _ (Changed : ℕ → Type 0) (contents : KeepContents I J L Changed) where
-    entries_stay : (P : List (List ℕ) → ℕ → Type 0) (n : ℕ) (bs : List ℕ) → ¬ Changed n → HasBlocks I L n bs → P (contents_of I bs) (mark_at I L n bs) → P (contents_of J bs) (mark_at J L n bs)
+    pub entries_stay : (P : List (List ℕ) → ℕ → Type 0) (n : ℕ) (bs : List ℕ) → ¬ Changed n → HasBlocks I L n bs → P (contents_of I bs) (mark_at I L n bs) → P (contents_of J bs) (mark_at J L n bs)
     entries_stay P n bs other has p = subst (λ cs. P cs (mark_at J L n bs)) (sym (contents n bs other has)) (subst (P (contents_of I bs)) (sym (mark_stays n bs)) p)
 
     pub bad_stays : (n : ℕ) → ¬ Changed n → IsTrueOf I L (BadDirectory n) → IsTrueOf J L (BadDirectory n)

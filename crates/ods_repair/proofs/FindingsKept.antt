@@ -8,6 +8,7 @@ use Rattle.ods_header.specs.declared.header.HeaderFault.TheVariants as fault
 use Rattle.ods_header.specs.Header.{IsFirstFault, IsValidHeader, attributes_of, segment_of, sequence_of}
 use Rattle.ods_space.specs.Layout.{VolumeLayout, header_at, is_in_use}
 use Rattle.ods_space.specs.Files.{HasBlocks, IsLayoutOf}
+use Rattle.ods_space.specs.Free.{is_covered, storage_bit}
 use Rattle.ods_directory.specs.Entry.{used_entries}
 use Rattle.ods_directory.specs.Hidden.{HasHidden}
 use Rattle.ods_directory.specs.Names.{HasBadEntry, HasTwins, IsDirectory, names_of}
@@ -41,10 +42,29 @@ KeepDirectories I J L = (n : ℕ) (bs : List ℕ) → IsDirectoryFile I L n → 
 pub directories_back : (I J : List (List ℕ)) (L : VolumeLayout) → IsLayoutOf I L → IsReadAs I J L → KeepDirectories I J L → KeepDirectories J I L
 directories_back I J L layout r kept n bs dir has = sym (kept n bs (directory_stays J I L (read_back I J L layout r) n dir) ((r.has n bs).1 has))
 
-module _ (I J : List (List ℕ)) (L : VolumeLayout) (r : IsReadAs I J L) (kept : KeepDirectories I J L) where
-  with_entries : (P : List (List ℕ) → ℕ → Type 0) (n : ℕ) (bs : List ℕ) → IsDirectoryFile I L n → HasBlocks I L n bs → P (contents_of I bs) (mark_at I L n bs) → P (contents_of J bs) (mark_at J L n bs)
-  with_entries P n bs dir has p = subst (λ cs. P cs (mark_at J L n bs)) (sym (kept n bs dir has)) (subst (P (contents_of I bs)) (sym (mark_stays I J L r n bs)) p)
+-- blocks that no file holds are those that none held, where the bits of the storage bitmap are as before
+pub unheld_stays : (I J : List (List ℕ)) (L : VolumeLayout) → IsReadAs I J L → ((b : ℕ) → IsTrue (is_covered L b) → storage_bit J L b ≡ storage_bit I L b)
+    → (b : ℕ) → IsHeldByNone I L b → IsHeldByNone J L b
+unheld_stays I J L r bits b u = record {
+  marked = record {
+    inside = subst (λ n. b < n) (sym r.long) u.marked.inside;
+    covered = u.marked.covered;
+    used = bits b u.marked.covered ∙ u.marked.used;
+  };
+  other = u.other;
+  place = u.place;
+  none = λ m v holds. u.none m v ((r.holds m v b).1 holds);
+}
 
+-- a finding that hangs on nothing that a directory has
+abbrev pub IsOfNoDirectory : Finding → Type 0
+IsOfNoDirectory (NamesNone d line) = ⊥
+IsOfNoDirectory (LostFile id) = ⊥
+IsOfNoDirectory (HiddenEntries n) = ⊥
+IsOfNoDirectory (Unnamed n) = ⊥
+IsOfNoDirectory other = Unit {0}
+
+module _ (I J : List (List ℕ)) (L : VolumeLayout) (r : IsReadAs I J L) where
   by_header : (P : List ℕ → Type 0) (n : ℕ) → P (header_at I L n) → P (header_at J L n)
   by_header P n p = subst P (sym (r.headers n)) p
 
@@ -53,15 +73,6 @@ module _ (I J : List (List ℕ)) (L : VolumeLayout) (r : IsReadAs I J L) (kept :
 
   id_stays : (n : ℕ) (id : FileId) → id ≡ id_at I L n → id ≡ id_at J L n
   id_stays n id e = e ∙ ap (λ b. record { number = n; sequence = sequence_of b }) (sym (r.headers n))
-
-  name_stays : (d : ℕ) (line : Listed) → HasName I L d line → HasName J L d line
-  name_stays d line h = record {
-    blocks = h.blocks;
-    has = (r.has d h.blocks).0 h.has;
-    file = directory_stays I J L r d h.file;
-    good = with_entries IsDirectory d h.blocks h.file h.has h.good;
-    named = with_entries (λ cs mark. Contains (lines_of (names_of cs mark)) line) d h.blocks h.file h.has h.named;
-  }
 
   id_of_stays : (id : FileId) → IsIdOfFile I L id → IsIdOfFile J L id
   id_of_stays id p = ((r.files id.number).0 p.0, by_header (λ b. sequence_of b ≡ id.sequence) id.number p.1)
@@ -80,6 +91,64 @@ module _ (I J : List (List ℕ)) (L : VolumeLayout) (r : IsReadAs I J L) (kept :
   stray_stays : (n : ℕ) → IsStray I L n → IsStray J L n
   stray_stays n s = record { in_use = used_stays n s.in_use; above = s.above; invalid = by_header (λ b. ¬ IsValidHeader b n) n s.invalid }
 
+module _ (I J : List (List ℕ)) (L : VolumeLayout) (r : IsReadAs I J L) (back : IsReadAs J I L) (unheld : (b : ℕ) → IsHeldByNone I L b ↔ IsHeldByNone J L b) where
+  -- what is found in no directory stays
+  pub plain_finding_stays : (finding : Finding) → IsOfNoDirectory finding → IsFound I L finding → IsFound J L finding
+  plain_finding_stays (BadHeader n why) of (used, low, without) = (used_stays I J L r n used, low, without_stays I J L r n why without)
+  plain_finding_stays (StrayNumbers count first) of (some, c) = (
+    some,
+    record {
+      numbers = c.numbers;
+      are = record {
+        each = λ i d low. let one = c.are.each i d low in (one.0, stray_stays I J L r _ one.1);
+        all = λ n low s. c.are.all n low (stray_stays J I L back n s);
+        once = c.are.once;
+      };
+      size = c.size;
+      lowest = c.lowest;
+    },
+  )
+  plain_finding_stays (HeldByNone b) of run = same_run (IsHeldByNone I L) (IsHeldByNone J L) unheld b b run
+  plain_finding_stays (RunHeldByNone first last) of (low, run) = (low, same_run (IsHeldByNone I L) (IsHeldByNone J L) unheld first last run)
+  plain_finding_stays (NamesNone d line) of found = absurd of
+  plain_finding_stays (LostFile id) of found = absurd of
+  plain_finding_stays (LostHeader id) of (lost, is) = (
+    record {
+      in_use = used_stays I J L r id.number lost.in_use;
+      valid = by_header I J L r (λ b. IsValidHeader b id.number) id.number lost.valid;
+      later = by_header I J L r (λ b. segment_of b ≢ 0) id.number lost.later;
+      lost = λ m v h. lost.lost m v (header_stays J I L back m v id.number h);
+    },
+    id_stays I J L r id.number id is,
+  )
+  plain_finding_stays (EndPast id) of (past, is) = (
+    record {
+      other = past.other;
+      plain = λ dir. past.plain (directory_stays J I L back id.number dir);
+      blocks = past.blocks;
+      has = (r.has id.number past.blocks).0 past.has;
+      past = by_header I J L r (λ b. 512 * length past.blocks < end_of (attributes_of b)) id.number past.past;
+    },
+    id_stays I J L r id.number id is,
+  )
+  plain_finding_stays (HiddenEntries n) of found = absurd of
+  plain_finding_stays (MarkedDeleted id) of (marked, is) = (((r.files id.number).0 marked.0, by_header I J L r SaysDeleted id.number marked.1), id_stays I J L r id.number id is)
+  plain_finding_stays (Locked id) of (locked, is) = (((r.files id.number).0 locked.0, by_header I J L r SaysLocked id.number locked.1), id_stays I J L r id.number id is)
+  plain_finding_stays (Unnamed n) of found = absurd of
+
+module _ (I J : List (List ℕ)) (L : VolumeLayout) (r : IsReadAs I J L) (kept : KeepDirectories I J L) where
+  with_entries : (P : List (List ℕ) → ℕ → Type 0) (n : ℕ) (bs : List ℕ) → IsDirectoryFile I L n → HasBlocks I L n bs → P (contents_of I bs) (mark_at I L n bs) → P (contents_of J bs) (mark_at J L n bs)
+  with_entries P n bs dir has p = subst (λ cs. P cs (mark_at J L n bs)) (sym (kept n bs dir has)) (subst (P (contents_of I bs)) (sym (mark_stays I J L r n bs)) p)
+
+  name_stays : (d : ℕ) (line : Listed) → HasName I L d line → HasName J L d line
+  name_stays d line h = record {
+    blocks = h.blocks;
+    has = (r.has d h.blocks).0 h.has;
+    file = directory_stays I J L r d h.file;
+    good = with_entries IsDirectory d h.blocks h.file h.has h.good;
+    named = with_entries (λ cs mark. Contains (lines_of (names_of cs mark)) line) d h.blocks h.file h.has h.named;
+  }
+
   pub bad_stays : (n : ℕ) → IsTrueOf I L (BadDirectory n) → IsTrueOf J L (BadDirectory n)
   bad_stays n (dir, bs, has, bad) = (directory_stays I J L r n dir, bs, (r.has n bs).0 has, with_entries (λ cs mark. HasBadEntry (used_entries cs mark)) n bs dir has bad)
 
@@ -93,6 +162,9 @@ module _ (I J : List (List ℕ)) (L : VolumeLayout) (layout : IsLayoutOf I L) (r
   kept_too : KeepDirectories J I L
   kept_too = directories_back I J L layout r kept
 
+  plain : (finding : Finding) → IsOfNoDirectory finding → IsFound I L finding → IsFound J L finding
+  plain = plain_finding_stays I J L r back unheld
+
   read_stays : (d : ℕ) → IsRead I L d → IsRead J L d
   read_stays d p = record {
     whole = λ dir. let old = p.whole (directory_stays J I L back d dir) in (old.0, (r.has d old.0).0 old.1);
@@ -102,60 +174,29 @@ module _ (I J : List (List ℕ)) (L : VolumeLayout) (layout : IsLayoutOf I L) (r
 
   -- what is found stays
   pub finding_stays : (finding : Finding) → IsFound I L finding → IsFound J L finding
-  finding_stays (BadHeader n why) (used, low, without) = (used_stays I J L r kept n used, low, without_stays I J L r kept n why without)
-  finding_stays (StrayNumbers count first) (some, c) = (
-    some,
-    record {
-      numbers = c.numbers;
-      are = record {
-        each = λ i d low. let one = c.are.each i d low in (one.0, stray_stays I J L r kept _ one.1);
-        all = λ n low s. c.are.all n low (stray_stays J I L back kept_too n s);
-        once = c.are.once;
-      };
-      size = c.size;
-      lowest = c.lowest;
-    },
-  )
-  finding_stays (HeldByNone b) run = same_run (IsHeldByNone I L) (IsHeldByNone J L) unheld b b run
-  finding_stays (RunHeldByNone first last) (low, run) = (low, same_run (IsHeldByNone I L) (IsHeldByNone J L) unheld first last run)
-  finding_stays (NamesNone d line) (name, none) = (name_stays I J L r kept d line name, λ id. none (id_of_stays J I L back kept_too line.file id))
+  finding_stays (BadHeader n why) found = plain (BadHeader n why) tt found
+  finding_stays (StrayNumbers count first) found = plain (StrayNumbers count first) tt found
+  finding_stays (HeldByNone b) found = plain (HeldByNone b) tt found
+  finding_stays (RunHeldByNone first last) found = plain (RunHeldByNone first last) tt found
+  finding_stays (NamesNone d line) (name, none) = (name_stays I J L r kept d line name, λ id. none (id_of_stays J I L back line.file id))
   finding_stays (LostFile id) (lost, is) = (
     record {
       other = lost.other;
       file = (r.files id.number).0 lost.file;
-      lost = λ d line name e. lost.lost d line (name_stays J I L back kept_too d line name) (id_stays J I L back kept_too id.number line.file e);
+      lost = λ d line name e. lost.lost d line (name_stays J I L back kept_too d line name) (id_stays J I L back id.number line.file e);
     },
-    id_stays I J L r kept id.number id is,
+    id_stays I J L r id.number id is,
   )
-  finding_stays (LostHeader id) (lost, is) = (
-    record {
-      in_use = used_stays I J L r kept id.number lost.in_use;
-      valid = by_header I J L r kept (λ b. IsValidHeader b id.number) id.number lost.valid;
-      later = by_header I J L r kept (λ b. segment_of b ≢ 0) id.number lost.later;
-      lost = λ m v h. lost.lost m v (header_stays J I L back kept_too m v id.number h);
-    },
-    id_stays I J L r kept id.number id is,
-  )
-  finding_stays (EndPast id) (past, is) = (
-    record {
-      other = past.other;
-      plain = λ dir. past.plain (directory_stays J I L back id.number dir);
-      blocks = past.blocks;
-      has = (r.has id.number past.blocks).0 past.has;
-      past = by_header I J L r kept (λ b. 512 * length past.blocks < end_of (attributes_of b)) id.number past.past;
-    },
-    id_stays I J L r kept id.number id is,
-  )
+  finding_stays (LostHeader id) found = plain (LostHeader id) tt found
+  finding_stays (EndPast id) found = plain (EndPast id) tt found
   finding_stays (HiddenEntries n) hiding = record {
     file = directory_stays I J L r n hiding.file;
     blocks = hiding.blocks;
     has = (r.has n hiding.blocks).0 hiding.has;
     hidden = with_entries I J L r kept HasHidden n hiding.blocks hiding.file hiding.has hiding.hidden;
   }
-  finding_stays (MarkedDeleted id) (marked, is) =
-      (((r.files id.number).0 marked.0, by_header I J L r kept SaysDeleted id.number marked.1), id_stays I J L r kept id.number id is)
-  finding_stays (Locked id) (locked, is) =
-      (((r.files id.number).0 locked.0, by_header I J L r kept SaysLocked id.number locked.1), id_stays I J L r kept id.number id is)
+  finding_stays (MarkedDeleted id) found = plain (MarkedDeleted id) tt found
+  finding_stays (Locked id) found = plain (Locked id) tt found
   finding_stays (Unnamed n) unnamed = record {
     system = unnamed.system;
     file = (r.files n).0 unnamed.file;

@@ -27,6 +27,7 @@ pub mod Repointed
 pub mod OtherChains
 pub mod Moving
 pub mod FaultsAlike
+pub mod FindingsAlike
 pub mod Marked
 pub mod OneMoved
 pub mod Together

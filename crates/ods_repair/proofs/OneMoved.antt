@@ -20,6 +20,7 @@ use Rattle.ods_repair.specs.Moved.{CanMove, IsMoved, run_named}
 use Rattle.ods_repair.specs.Repointed.{KeepsFile}
 use Rattle.ods_repair.specs.Unshared.{IsBetween, IsNotShared, Moves}
 use Rattle.ods_repair.proofs.FaultsAlike.{IsAlike, fault_stays}
+use Rattle.ods_repair.proofs.FindingsAlike.{finding_stays}
 use Rattle.ods_repair.proofs.Marked as marked
 use Rattle.ods_repair.proofs.Moving as moving
 use Rattle.ods_repair.proofs.Repointed as repointed
@@ -118,7 +119,10 @@ module _ (I J : List (List ℕ)) (L : VolumeLayout) (n at to : ℕ) (can : CanMo
     long = m.long;
     in_use = moving.bits_kept I J L n at to can m low free;
     headers = moving.header_stays I J L n at to can m low free;
-    valid = can.has.file.valid;
+    file = can.has.file;
+    sequence = repointed.same_sequence (header_at I L n) (header_at J L n) laid kept;
+    user_char = repointed.same_user_char (header_at I L n) (header_at J L n) laid kept;
+    system_char = repointed.same_system_char (header_at I L n) (header_at J L n) laid kept;
     attributes = repointed.same_attributes (header_at I L n) (header_at J L n) laid kept;
     directory = repointed.same_directory (header_at I L n) (header_at J L n) laid kept n;
     files = moving.file_stays I J L n at to can m low free;
@@ -139,7 +143,10 @@ module _ (I J : List (List ℕ)) (L : VolumeLayout) (n at to : ℕ) (can : CanMo
     long = sym m.long;
     in_use = λ q. sym (moving.bits_kept I J L n at to can m low free q);
     headers = λ q other. sym (moving.header_stays I J L n at to can m low free q other);
-    valid = kept.valid n can.has.file.valid;
+    file = moving.file_stays I J L n at to can m low free n can.has.file;
+    sequence = sym (repointed.same_sequence (header_at I L n) (header_at J L n) laid kept);
+    user_char = sym (repointed.same_user_char (header_at I L n) (header_at J L n) laid kept);
+    system_char = sym (repointed.same_system_char (header_at I L n) (header_at J L n) laid kept);
     attributes = sym (repointed.same_attributes (header_at I L n) (header_at J L n) laid kept);
     directory = sym (repointed.same_directory (header_at I L n) (header_at J L n) laid kept n);
     files = moving.file_was I J L n at to can m low free;
@@ -287,6 +294,7 @@ module _ (I J : List (List ℕ)) (L : VolumeLayout) (n at to : ℕ) (can : CanMo
     elsewhere = λ b bitmap header used. m.elsewhere b bitmap header (λ c. used (moving.new_free I J L n at to can m low free b c));
     faults = fault_was;
     still = fault_is;
+    findings = λ finding of. (finding_stays I J L n alike alike_back finding of, finding_stays J I L n alike_back alike finding of);
   }
 
   -- the file holds each block of the new run

@@ -17,7 +17,7 @@ use Rattle.ods_check.specs.Findings.{IsHeldByNone}
 use Rattle.ods_repair.specs.Framed.{IsReadAs}
 use Rattle.ods_repair.specs.Tables.{HasSameTables, TablesSayAll}
 use Rattle.ods_repair.proofs.FaultsKept.{directory_stays, mark_stays, plain_stays}
-use Rattle.ods_repair.proofs.FindingsKept.{KeepDirectories, bad_stays, finding_stays, twins_stay}
+use Rattle.ods_repair.proofs.FindingsKept.{KeepDirectories, bad_stays, finding_stays, twins_stay, unheld_stays}
 use Rattle.ods_repair.proofs.Framed.{contents_stay, kept_back, read_as, read_back}
 
 -- a directory has the same names
@@ -77,18 +77,6 @@ module _ (I J : List (List ℕ)) (L : VolumeLayout) (layout : IsLayoutOf I L) (s
   each_stays NoHome f = absurd f
   each_stays NoMemory f = absurd f
 
-  pub unheld_stays : (b : ℕ) → IsHeldByNone I L b → IsHeldByNone J L b
-  unheld_stays b u = record {
-    marked = record {
-      inside = subst (λ n. b < n) (sym same.own.long) u.marked.inside;
-      covered = u.marked.covered;
-      used = bit_stays b u.marked.covered ∙ u.marked.used;
-    };
-    other = u.other;
-    place = u.place;
-    none = λ m v holds. u.none m v ((r.holds m v b).1 holds);
-  }
-
   pub sound_stays : IsSoundBy I L → IsSoundBy J L
   sound_stays s = record {
     layout = r.layout;
@@ -118,7 +106,7 @@ tables_say_all I J L layout same =
     let r : IsReadAs I J L = read_as I J L layout same.own in
     let there : IsLayoutOf J L = r.layout in
     let back : HasSameTables J I L = same_back I J L layout same in
-    let unheld : (b : ℕ) → IsHeldByNone I L b ↔ IsHeldByNone J L b = λ b. (unheld_stays I J L layout same b, unheld_stays J I L there back b) in
+    let unheld : (b : ℕ) → IsHeldByNone I L b ↔ IsHeldByNone J L b = λ b. (unheld_stays I J L r (bit_stays I J L layout same) b, unheld_stays J I L (read_back I J L layout r) (bit_stays J I L there back) b) in
     let unheld_back : (b : ℕ) → IsHeldByNone J L b ↔ IsHeldByNone I L b = λ b. ((unheld b).1, (unheld b).0) in
     record {
       read = r;

@@ -38,6 +38,7 @@ none_moved I L n layout = record {
   elsewhere = λ b bitmap header used. refl;
   faults = λ fault f. f;
   still = λ fault of f. f;
+  findings = λ finding of. ((λ f. f), (λ f. f));
 }
 
 -- no more are said to have moved, where a run stays
@@ -68,6 +69,7 @@ further I J L n p e more m = record {
   elsewhere = m.elsewhere;
   faults = m.faults;
   still = m.still;
+  findings = m.findings;
 }
 
 -- the first p and then those up to e
@@ -108,4 +110,5 @@ together I J K L n p e more x y = record {
   elsewhere = λ b bitmap header used. y.elsewhere b bitmap header (λ f. used (x.free b f)) ∙ x.elsewhere b bitmap header used;
   faults = λ fault f. x.faults fault (y.faults fault f);
   still = λ fault of f. y.still fault of (x.still fault of f);
+  findings = λ finding of. ((λ f. (y.findings finding of).0 ((x.findings finding of).0 f)), (λ f. (x.findings finding of).1 ((y.findings finding of).1 f)));
 }

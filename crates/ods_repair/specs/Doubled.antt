@@ -9,6 +9,9 @@ use Rattle.ods_directory.specs.Names.{HasBadEntry, IsDirectory}
 use Rattle.ods_mount.specs.declared.fault.MountFault.{MountFault}
 use Rattle.ods_mount.specs.declared.fault.MountFault.TheVariants.{DuplicateName}
 use Rattle.ods_mount.specs.Faults.{FaultIsTrue, IsDirectoryFile, IsSound, IsTrueOf, contents_of, mark_at}
+use Rattle.ods_check.specs.declared.finding.Finding.{Finding}
+use Rattle.ods_check.specs.declared.finding.Finding.TheVariants.{LostFile, NamesNone, Unnamed}
+use Rattle.ods_check.specs.Findings.{IsFound}
 use Rattle.ods_repair.specs.declared.fault.RepairFault.{RepairFault}
 use Rattle.ods_repair.specs.declared.fault.RepairFault.TheVariants.{BadEntry, NoDirectory, NoMemory, VersionsFull}
 use Rattle.ods_repair.specs.Framed.{IsReadAs}
@@ -62,6 +65,13 @@ IsFull old count = (new : ℕ → Entry) × (k : ℕ) × ((j : ℕ) → j < k �
 abbrev pub HasOnlyDoubles : List (List ℕ) → ℕ → Type 0
 HasOnlyDoubles I d = (fault : MountFault) → FaultIsTrue I fault → fault ≡ DuplicateName d
 
+-- a finding that hangs on no names
+abbrev pub IsNotOfNames : Finding → Type 0
+IsNotOfNames (NamesNone n line) = ⊥
+IsNotOfNames (LostFile id) = ⊥
+IsNotOfNames (Unnamed n) = ⊥
+IsNotOfNames other = Unit {0}
+
 -- The blocks J are the blocks I where the names of directory d are new, and nothing else is.
 pub record HasRenumbered (I : List (List ℕ)) (L : VolumeLayout) (d : ℕ) (J : List (List ℕ)) : Type 0 where
   pub file : IsDirectoryFile I L d
@@ -77,6 +87,8 @@ pub record HasRenumbered (I : List (List ℕ)) (L : VolumeLayout) (d : ℕ) (J :
   -- its names are no fault, and each other fault is there where it was
   pub none : ¬ IsTrueOf J L (DuplicateName d)
   pub faults : (fault : MountFault) → fault ≢ DuplicateName d → IsTrueOf I L fault ↔ IsTrueOf J L fault
+  -- what a check finds that a mount does not refuse is as before, where it hangs on no names: those of the directory can be read now
+  pub findings : (finding : Finding) → IsNotOfNames finding → IsFound I L finding ↔ IsFound J L finding
   -- where nothing else was wrong, nothing is
   pub sound : HasOnlyDoubles I d → IsSound J
 

@@ -1,5 +1,5 @@
 -- What it leaves that runs of a file get blocks of their own.
-use Rattle.std.specs.Prelude.{◌≡◌, ◌≢◌, ◌↔◌, ◌⊎◌, ℕ, ◌/◌, ◌<◌, ◌≤◌, true, List, length, Some}
+use Rattle.std.specs.Prelude.{◌≡◌, ◌≢◌, ◌↔◌, ◌⊎◌, ℕ, ◌/◌, ◌<◌, ◌≤◌, true, List, [], length, Some}
 use Rattle.ods_base.specs.Image.{block_at}
 use Rattle.ods_header.specs.Home.{IsHomeAt}
 use Rattle.ods_header.specs.Header.{next_number_of, used_words_of}
@@ -11,7 +11,8 @@ use Rattle.ods_alloc.specs.Extend.{IsStorageBitmap}
 use Rattle.ods_mount.specs.declared.fault.MountFault.{MountFault}
 use Rattle.ods_mount.specs.declared.fault.MountFault.TheVariants.{DoublyUsed}
 use Rattle.ods_mount.specs.Faults.{IsTrueOf, contents_of}
-use Rattle.ods_check.specs.Findings.{IsHeldByNone}
+use Rattle.ods_check.specs.declared.finding.Finding.{Finding}
+use Rattle.ods_check.specs.Findings.{IsFound, IsHeldByNone, run_of}
 use Rattle.ods_check.specs.HeldFree.{IsHeldBesides, IsHeldFree}
 use Rattle.ods_amend.specs.Runs.{HasNoRun}
 use Rattle.ods_repair.specs.Moved.{IsInRun, run_named}
@@ -57,6 +58,8 @@ pub record Moves (I : List (List ℕ)) (L : VolumeLayout) (n a e : ℕ) (J : Lis
   -- no fault is new, and each is there still that is not a block which is held twice
   pub faults : (fault : MountFault) → IsTrueOf J L fault → IsTrueOf I L fault
   pub still : (fault : MountFault) → IsNotShared fault → IsTrueOf I L fault → IsTrueOf J L fault
+  -- what a check finds that a mount does not refuse is as before, but for runs of blocks that no file holds
+  pub findings : (finding : Finding) → run_of finding ≡ [] → IsFound I L finding ↔ IsFound J L finding
 
 -- no block of file n is held by another file too, or twice by this one
 abbrev pub SharesNone : List (List ℕ) → VolumeLayout → ℕ → Type 0
