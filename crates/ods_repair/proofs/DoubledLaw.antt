@@ -33,7 +33,7 @@ use Rattle.ods_repair.specs.Spare.{HasFrom, IsNotSpare}
 use Rattle.ods_repair.proofs.AtHome.{home_fault_stays}
 use Rattle.ods_repair.proofs.Framed.{contents_stay, read_as, read_back}
 use Rattle.ods_repair.proofs.FaultsKept.{KeepContents, bad_stays, directory_stays, entries_stay, mark_stays, plain_stays, twins_stay}
-use Rattle.ods_repair.proofs.FindingsKept.{plain_finding_stays, unheld_stays}
+use Rattle.ods_repair.proofs.FindingsKept.{plain_finding_stays, unheld_run_stays, unheld_stays}
 use Rattle.ods_repair.proofs.Renumbering.{apart_then, good_then}
 
 -- why its blocks cannot change alone is why the names are not new
@@ -184,17 +184,17 @@ module _ (I J : List (List ℕ)) (L : VolumeLayout) (d : ℕ) (bs : List ℕ) (n
   -- what is found that hangs on no names stays
   finding_stays : (X Y : List (List ℕ)) → IsReadAs X Y L → IsReadAs Y X L → ((b : ℕ) → IsHeldByNone X L b ↔ IsHeldByNone Y L b) → ((n : ℕ) → IsHiding X L n → IsHiding Y L n)
       → (finding : Finding) → IsNotOfNames finding → IsFound X L finding → IsFound Y L finding
-  finding_stays X Y r b unheld hiding (BadHeader n why) of f = plain_finding_stays X Y L r b unheld (BadHeader n why) tt f
-  finding_stays X Y r b unheld hiding (StrayNumbers count first) of f = plain_finding_stays X Y L r b unheld (StrayNumbers count first) tt f
-  finding_stays X Y r b unheld hiding (HeldByNone block) of f = plain_finding_stays X Y L r b unheld (HeldByNone block) tt f
-  finding_stays X Y r b unheld hiding (RunHeldByNone first last) of f = plain_finding_stays X Y L r b unheld (RunHeldByNone first last) tt f
+  finding_stays X Y r b unheld hiding (BadHeader n why) of f = plain_finding_stays X Y L r b (BadHeader n why) tt f
+  finding_stays X Y r b unheld hiding (StrayNumbers count first) of f = plain_finding_stays X Y L r b (StrayNumbers count first) tt f
+  finding_stays X Y r b unheld hiding (HeldByNone block) of run = unheld_run_stays X Y L unheld block block run
+  finding_stays X Y r b unheld hiding (RunHeldByNone first last) of (low, run) = (low, unheld_run_stays X Y L unheld first last run)
   finding_stays X Y r b unheld hiding (NamesNone n line) of f = absurd of
   finding_stays X Y r b unheld hiding (LostFile id) of f = absurd of
-  finding_stays X Y r b unheld hiding (LostHeader id) of f = plain_finding_stays X Y L r b unheld (LostHeader id) tt f
-  finding_stays X Y r b unheld hiding (EndPast id) of f = plain_finding_stays X Y L r b unheld (EndPast id) tt f
+  finding_stays X Y r b unheld hiding (LostHeader id) of f = plain_finding_stays X Y L r b (LostHeader id) tt f
+  finding_stays X Y r b unheld hiding (EndPast id) of f = plain_finding_stays X Y L r b (EndPast id) tt f
   finding_stays X Y r b unheld hiding (HiddenEntries n) of f = hiding n f
-  finding_stays X Y r b unheld hiding (MarkedDeleted id) of f = plain_finding_stays X Y L r b unheld (MarkedDeleted id) tt f
-  finding_stays X Y r b unheld hiding (Locked id) of f = plain_finding_stays X Y L r b unheld (Locked id) tt f
+  finding_stays X Y r b unheld hiding (MarkedDeleted id) of f = plain_finding_stays X Y L r b (MarkedDeleted id) tt f
+  finding_stays X Y r b unheld hiding (Locked id) of f = plain_finding_stays X Y L r b (Locked id) tt f
   finding_stays X Y r b unheld hiding (Unnamed n) of f = absurd of
 
   -- a fault of one is a fault of the other, where free blocks and files are the same

@@ -1,5 +1,5 @@
 -- What a check finds of a volume that is read as before is what it found, where directories have what they had and the same blocks are held by none.
-use Rattle.std.proofs.Common.{◌≡◌, ◌≢◌, ℕ, ◌+◌, ◌<◌, ap, sym, ◌∙◌, subst, IsTrue, List, [], length}
+use Rattle.std.proofs.Common.{◌≡◌, ◌≢◌, ℕ, ◌+◌, ◌<◌, refl, ap, sym, ◌∙◌, subst, IsTrue, List, [], length}
 use Rattle.std.specs.Prelude.{◌↔◌, ◌*◌}
 use Rattle.std.specs.List.{Contains}
 use Rattle.ods_base.specs.declared.listed.Listed.{Listed}
@@ -20,7 +20,7 @@ use Rattle.ods_check.specs.declared.finding.NoHeader.{NoHeader}
 use Rattle.ods_check.specs.declared.finding.NoHeader.TheVariants.{NoBlock, Checksum, Number, Level, Areas, Format}
 use Rattle.ods_check.specs.declared.finding.Finding.{Finding}
 use Rattle.ods_check.specs.declared.finding.Finding.TheVariants.{BadHeader, StrayNumbers, LostHeader, HeldByNone, RunHeldByNone, NamesNone, LostFile, EndPast, HiddenEntries, MarkedDeleted, Locked, Unnamed}
-use Rattle.ods_check.specs.Findings.{HasName, IsFound, IsHeldByNone, IsIdOfFile, IsRead, IsStray, IsWithout, SaysDeleted, SaysLocked, end_of, id_at, IsLineOf, system_words}
+use Rattle.ods_check.specs.Findings.{HasName, IsFound, IsHeldByNone, IsIdOfFile, IsLineOf, IsRead, IsStray, IsUnheldRun, IsWithout, SaysDeleted, SaysLocked, end_of, id_at, run_of, system_words}
 use Rattle.ods_check.specs.Runs.{IsRun}
 use Rattle.ods_repair.specs.Framed.{IsReadAs}
 use Rattle.ods_repair.proofs.Framed.{read_back}
@@ -56,13 +56,19 @@ unheld_stays I J L r bits b u = record {
   none = λ m v holds. u.none m v ((r.holds m v b).1 holds);
 }
 
--- a finding that hangs on nothing that a directory has
-abbrev pub IsOfNoDirectory : Finding → Type 0
-IsOfNoDirectory (NamesNone d line) = ⊥
-IsOfNoDirectory (LostFile id) = ⊥
-IsOfNoDirectory (HiddenEntries n) = ⊥
-IsOfNoDirectory (Unnamed n) = ⊥
-IsOfNoDirectory other = Unit {0}
+-- a run of blocks that no file holds is one where the same blocks are held by none
+pub unheld_run_stays : (I J : List (List ℕ)) (L : VolumeLayout) → ((b : ℕ) → IsHeldByNone I L b ↔ IsHeldByNone J L b) → (first last : ℕ) → IsUnheldRun I L first last → IsUnheldRun J L first last
+unheld_run_stays I J L unheld first last run = same_run (IsHeldByNone I L) (IsHeldByNone J L) unheld first last run
+
+-- a finding of headers and chains alone
+abbrev pub IsOfHeaders : Finding → Type 0
+IsOfHeaders (HeldByNone b) = ⊥
+IsOfHeaders (RunHeldByNone first last) = ⊥
+IsOfHeaders (NamesNone d line) = ⊥
+IsOfHeaders (LostFile id) = ⊥
+IsOfHeaders (HiddenEntries n) = ⊥
+IsOfHeaders (Unnamed n) = ⊥
+IsOfHeaders other = Unit {0}
 
 module _ (I J : List (List ℕ)) (L : VolumeLayout) (r : IsReadAs I J L) where
   by_header : (P : List ℕ → Type 0) (n : ℕ) → P (header_at I L n) → P (header_at J L n)
@@ -91,9 +97,9 @@ module _ (I J : List (List ℕ)) (L : VolumeLayout) (r : IsReadAs I J L) where
   stray_stays : (n : ℕ) → IsStray I L n → IsStray J L n
   stray_stays n s = record { in_use = used_stays n s.in_use; above = s.above; invalid = by_header (λ b. ¬ IsValidHeader b n) n s.invalid }
 
-module _ (I J : List (List ℕ)) (L : VolumeLayout) (r : IsReadAs I J L) (back : IsReadAs J I L) (unheld : (b : ℕ) → IsHeldByNone I L b ↔ IsHeldByNone J L b) where
-  -- what is found in no directory stays
-  pub plain_finding_stays : (finding : Finding) → IsOfNoDirectory finding → IsFound I L finding → IsFound J L finding
+module _ (I J : List (List ℕ)) (L : VolumeLayout) (r : IsReadAs I J L) (back : IsReadAs J I L) where
+  -- what is found of headers and chains stays
+  pub plain_finding_stays : (finding : Finding) → IsOfHeaders finding → IsFound I L finding → IsFound J L finding
   plain_finding_stays (BadHeader n why) of (used, low, without) = (used_stays I J L r n used, low, without_stays I J L r n why without)
   plain_finding_stays (StrayNumbers count first) of (some, c) = (
     some,
@@ -108,8 +114,8 @@ module _ (I J : List (List ℕ)) (L : VolumeLayout) (r : IsReadAs I J L) (back :
       lowest = c.lowest;
     },
   )
-  plain_finding_stays (HeldByNone b) of run = same_run (IsHeldByNone I L) (IsHeldByNone J L) unheld b b run
-  plain_finding_stays (RunHeldByNone first last) of (low, run) = (low, same_run (IsHeldByNone I L) (IsHeldByNone J L) unheld first last run)
+  plain_finding_stays (HeldByNone b) of found = absurd of
+  plain_finding_stays (RunHeldByNone first last) of found = absurd of
   plain_finding_stays (NamesNone d line) of found = absurd of
   plain_finding_stays (LostFile id) of found = absurd of
   plain_finding_stays (LostHeader id) of (lost, is) = (
@@ -155,15 +161,15 @@ module _ (I J : List (List ℕ)) (L : VolumeLayout) (r : IsReadAs I J L) (kept :
   pub twins_stay : (n : ℕ) → IsTrueOf I L (DuplicateName n) → IsTrueOf J L (DuplicateName n)
   twins_stay n (dir, bs, has, twins) = (directory_stays I J L r n dir, bs, (r.has n bs).0 has, with_entries (λ cs mark. HasTwins (used_entries cs mark)) n bs dir has twins)
 
-module _ (I J : List (List ℕ)) (L : VolumeLayout) (layout : IsLayoutOf I L) (r : IsReadAs I J L) (kept : KeepDirectories I J L) (unheld : (b : ℕ) → IsHeldByNone I L b ↔ IsHeldByNone J L b) where
+module _ (I J : List (List ℕ)) (L : VolumeLayout) (layout : IsLayoutOf I L) (r : IsReadAs I J L) (kept : KeepDirectories I J L) where
   back : IsReadAs J I L
   back = read_back I J L layout r
 
   kept_too : KeepDirectories J I L
   kept_too = directories_back I J L layout r kept
 
-  plain : (finding : Finding) → IsOfNoDirectory finding → IsFound I L finding → IsFound J L finding
-  plain = plain_finding_stays I J L r back unheld
+  plain : (finding : Finding) → IsOfHeaders finding → IsFound I L finding → IsFound J L finding
+  plain = plain_finding_stays I J L r back
 
   read_stays : (d : ℕ) → IsRead I L d → IsRead J L d
   read_stays d p = record {
@@ -172,14 +178,14 @@ module _ (I J : List (List ℕ)) (L : VolumeLayout) (layout : IsLayoutOf I L) (r
     distinct = λ f. p.distinct (twins_stay J I L back kept_too d f);
   }
 
-  -- what is found stays
-  pub finding_stays : (finding : Finding) → IsFound I L finding → IsFound J L finding
-  finding_stays (BadHeader n why) found = plain (BadHeader n why) tt found
-  finding_stays (StrayNumbers count first) found = plain (StrayNumbers count first) tt found
-  finding_stays (HeldByNone b) found = plain (HeldByNone b) tt found
-  finding_stays (RunHeldByNone first last) found = plain (RunHeldByNone first last) tt found
-  finding_stays (NamesNone d line) (name, none) = (name_stays I J L r kept d line name, λ id. none (id_of_stays J I L back line.file id))
-  finding_stays (LostFile id) (lost, is) = (
+  -- what is found stays, but for runs of blocks that no file holds
+  pub other_finding_stays : (finding : Finding) → run_of finding ≡ [] → IsFound I L finding → IsFound J L finding
+  other_finding_stays (BadHeader n why) of found = plain (BadHeader n why) tt found
+  other_finding_stays (StrayNumbers count first) of found = plain (StrayNumbers count first) tt found
+  other_finding_stays (HeldByNone b) of found = absurd (cc)
+  other_finding_stays (RunHeldByNone first last) of found = absurd (cc)
+  other_finding_stays (NamesNone d line) of (name, none) = (name_stays I J L r kept d line name, λ id. none (id_of_stays J I L back line.file id))
+  other_finding_stays (LostFile id) of (lost, is) = (
     record {
       other = lost.other;
       file = (r.files id.number).0 lost.file;
@@ -187,20 +193,36 @@ module _ (I J : List (List ℕ)) (L : VolumeLayout) (layout : IsLayoutOf I L) (r
     },
     id_stays I J L r id.number id is,
   )
-  finding_stays (LostHeader id) found = plain (LostHeader id) tt found
-  finding_stays (EndPast id) found = plain (EndPast id) tt found
-  finding_stays (HiddenEntries n) hiding = record {
+  other_finding_stays (LostHeader id) of found = plain (LostHeader id) tt found
+  other_finding_stays (EndPast id) of found = plain (EndPast id) tt found
+  other_finding_stays (HiddenEntries n) of hiding = record {
     file = directory_stays I J L r n hiding.file;
     blocks = hiding.blocks;
     has = (r.has n hiding.blocks).0 hiding.has;
     hidden = with_entries I J L r kept HasHidden n hiding.blocks hiding.file hiding.has hiding.hidden;
   }
-  finding_stays (MarkedDeleted id) found = plain (MarkedDeleted id) tt found
-  finding_stays (Locked id) found = plain (Locked id) tt found
-  finding_stays (Unnamed n) unnamed = record {
+  other_finding_stays (MarkedDeleted id) of found = plain (MarkedDeleted id) tt found
+  other_finding_stays (Locked id) of found = plain (Locked id) tt found
+  other_finding_stays (Unnamed n) of unnamed = record {
     system = unnamed.system;
     file = (r.files n).0 unnamed.file;
     read = read_stays 4 unnamed.read;
     none = λ line name is. unnamed.none line (name_stays J I L back kept_too 4 line name)
         (subst (λ b. IsLineOf (system_words n) n (sequence_of b) line) (r.headers n) is);
   }
+
+  module _ (unheld : (b : ℕ) → IsHeldByNone I L b ↔ IsHeldByNone J L b) where
+    -- what is found stays, where the same blocks are held by none
+    pub finding_stays : (finding : Finding) → IsFound I L finding → IsFound J L finding
+    finding_stays (HeldByNone b) run = unheld_run_stays I J L unheld b b run
+    finding_stays (RunHeldByNone first last) (low, run) = (low, unheld_run_stays I J L unheld first last run)
+    finding_stays (BadHeader n why) found = other_finding_stays (BadHeader n why) refl found
+    finding_stays (StrayNumbers count first) found = other_finding_stays (StrayNumbers count first) refl found
+    finding_stays (NamesNone d line) found = other_finding_stays (NamesNone d line) refl found
+    finding_stays (LostFile id) found = other_finding_stays (LostFile id) refl found
+    finding_stays (LostHeader id) found = other_finding_stays (LostHeader id) refl found
+    finding_stays (EndPast id) found = other_finding_stays (EndPast id) refl found
+    finding_stays (HiddenEntries n) found = other_finding_stays (HiddenEntries n) refl found
+    finding_stays (MarkedDeleted id) found = other_finding_stays (MarkedDeleted id) refl found
+    finding_stays (Locked id) found = other_finding_stays (Locked id) refl found
+    finding_stays (Unnamed n) found = other_finding_stays (Unnamed n) refl found

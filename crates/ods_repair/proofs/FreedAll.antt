@@ -1,18 +1,20 @@
 -- What freeing leaves, by what each of its steps says.
-use Rattle.std.proofs.Common.{◌≡◌, ◌≢◌, ℕ, refl, ap, subst, true, List, [], ◌∷◌, get_or, arith, inl, inr}
+use Rattle.std.proofs.Common.{◌≡◌, ◌≢◌, ℕ, refl, ap, sym, subst, true, List, [], ◌∷◌, get_or, arith, inl, inr}
 use Rattle.std.specs.Prelude.{◌↔◌, ◌⊎◌}
 use Rattle.std.specs.List.{All, Contains}
 use Rattle.std.proofs.lemmas.List.Elements.{Contains-get_or}
 use Rattle.ods_space.specs.Layout.{VolumeLayout}
+use Rattle.ods_mount.specs.Sound.{IsSoundBy}
 use Rattle.ods_amend.specs.Bits.{IsLoose}
 use Rattle.ods_check.specs.declared.finding.Finding.{Finding}
-use Rattle.ods_check.specs.Findings.{IsHeldByNone, unheld_line}
+use Rattle.ods_check.specs.Findings.{IsFound, IsHeldByNone, unheld_line}
 use Rattle.ods_check.specs.Runs.{AddsRuns}
 use Rattle.ods_filing.specs.Contiguous.{HasMarked}
 use Rattle.ods_filing.specs.Filed.{Filed}
 use Rattle.ods_repair.specs.Freed.{AreKnown, IsFreed, IsUnknown}
 use Rattle.ods_repair.specs.declared.fault.RepairFault.{RepairFault}
 use Rattle.ods_repair.specs.declared.fault.RepairFault.TheVariants.{NoMemory}
+use Rattle.ods_repair.proofs.FreedFindings.{freed_findings}
 use Rattle.ods_repair.proofs.NoneLeft.{loose, none_left}
 
 -- what holds of one volume holds of the same
@@ -45,13 +47,16 @@ some_there I L blocks exactly b unheld none =
     let low = there.1 in
     absurd (omega (arith, low))
 
-pub are_freed : (old new : Filed) (told : List Finding × ℕ) (blocks : List ℕ) (most : ℕ) → (blocks ≢ [] → AreKnown old.image old.layout) → ((b : ℕ) → Contains blocks b ↔ IsHeldByNone old.image old.layout b)
+pub are_freed : (old new : Filed) (told : List Finding × ℕ) (blocks : List ℕ) (most : ℕ) → IsSoundBy old.image old.layout → (blocks ≢ [] → AreKnown old.image old.layout) → ((b : ℕ) → Contains blocks b ↔ IsHeldByNone old.image old.layout b)
     → HasMarked old blocks true new → AddsRuns (IsHeldByNone old.image old.layout) unheld_line ([], most) told → IsFreed old told.0 new
-are_freed old new told blocks most known exactly marked runs = record {
+are_freed old new told blocks most sound known exactly marked runs = record {
   known = λ b unheld. known (some_there old.image old.layout blocks exactly b unheld);
   blocks = blocks;
   exactly = exactly;
   marked = marked;
   runs = (most, beside (IsHeldByNone old.image old.layout) most told runs);
   none = λ b left. none_left old.image new.image old.layout blocks (λ n held. (exactly n).1 held) marked.marked.0 b (subst (λ M. IsHeldByNone new.image M b) marked.marked.1 left);
+  findings = λ finding of.
+      let here = freed_findings old.image new.image old.layout blocks sound marked.marked.0 finding of in
+      ((λ f. subst (λ M. IsFound new.image M finding) (sym marked.marked.1) (here.0 f)), (λ f. here.1 (subst (λ M. IsFound new.image M finding) marked.marked.1 f)));
 }

@@ -1,5 +1,6 @@
 pub mod NoneLeft
 pub mod FreedAll
+pub mod FreedFindings
 pub mod InCatalogue
 pub mod Keeping
 pub mod Stepping

@@ -3,7 +3,7 @@ use Rattle.std.specs.Prelude.{◌≡◌, ◌⊎◌, ◌↔◌, ℕ, ◌<◌, tru
 use Rattle.std.specs.List.{Contains}
 use Rattle.ods_space.specs.Layout.{VolumeLayout}
 use Rattle.ods_check.specs.declared.finding.Finding.{Finding}
-use Rattle.ods_check.specs.Findings.{IsHeldByNone, IsLostHeader, LacksHeader, id_at, unheld_line}
+use Rattle.ods_check.specs.Findings.{IsFound, IsHeldByNone, IsLostHeader, LacksHeader, id_at, run_of, unheld_line}
 use Rattle.ods_check.specs.Runs.{AddsRuns}
 use Rattle.ods_filing.specs.Contiguous.{HasMarked}
 use Rattle.ods_filing.specs.Filed.{Filed}
@@ -29,8 +29,9 @@ pub record IsFreed (old : Filed) (told : List Finding) (new : Filed) : Type 0 wh
   pub exactly : (b : ℕ) → Contains blocks b ↔ IsHeldByNone old.image old.layout b
   pub marked : HasMarked old blocks true new
   pub runs : (most : ℕ) × AddsRuns (IsHeldByNone old.image old.layout) unheld_line ([], most) (told, most)
-  -- none is left
+  -- none is left, and what a check finds besides is as before
   pub none : (b : ℕ) → ¬ IsHeldByNone new.image new.layout b
+  pub findings : (finding : Finding) → run_of finding ≡ [] → IsFound old.image old.layout finding ↔ IsFound new.image new.layout finding
 
 -- why they are not freed: there are such blocks, and it is not known which blocks are held; or there is no memory
 abbrev pub IsNotFreed : Filed → RepairFault → Type 0

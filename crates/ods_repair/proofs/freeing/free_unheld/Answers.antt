@@ -2,6 +2,7 @@ use Rattle.std.proofs.Common.{◌≡◌, ◌≢◌, ℕ, true, subst, sym, []}
 use Rattle.std.specs.Prelude.{◌↔◌, ◌⊎◌}
 use Rattle.std.specs.List.{All, Contains}
 use Rattle.std.proofs.lemmas.Result.{err_from_is_err_and}
+use Rattle.ods_mount.specs.Sound.{IsSoundBy}
 use Rattle.ods_amend.specs.Bits.{IsLoose}
 use Rattle.ods_check.specs.Findings.{IsHeldByNone, unheld_line}
 use Rattle.ods_check.specs.Runs.{AddsRuns}
@@ -45,5 +46,6 @@ returns-clause-freed c =
     let known : c.in_ok-blocks.blocks.items ≢ [] → AreKnown I L =
     λ some. same_here AreKnown c.disk-3.result.image.now I c.disk-3.result.layout.now L c.disk-3.ensures.image c.disk-3.ensures.layout (c.in_ok-check_known.ensures.ok (subst (λ l. l ≢ []) (sym c.deref.ensures.value) some)) in
     let runs = same_here (λ K M. AddsRuns (IsHeldByNone K M) unheld_line ([], 4294967295) c.in_ok-told.told) c.disk.result.image.now I c.disk.result.layout.now L c.disk.ensures.image c.disk.ensures.layout c.in_ok-told.ensures in
-    are_freed c.args.filing.now c.mark_blocks.new.self told c.in_ok-blocks.blocks.items 4294967295 known exactly
+    let sound : IsSoundBy I L = same_here IsSoundBy c.disk.result.image.now I c.disk.result.layout.now L c.disk.ensures.image c.disk.ensures.layout c.disk.ensures.sound in
+    are_freed c.args.filing.now c.mark_blocks.new.self told c.in_ok-blocks.blocks.items 4294967295 sound known exactly
     (subst (λ bs. HasMarked c.args.filing.now bs true c.mark_blocks.new.self) c.deref-2.ensures.value c.in_ok-mark_blocks.ensures.marked) runs
