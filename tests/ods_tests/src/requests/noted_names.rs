@@ -26,7 +26,7 @@ fn directory_of_many(rt: &impl Abort, volume: &mut Volume) -> Result<FileId, Fai
 }
 
 /// Looks B.TXT up in a directory.
-fn look_into(rt: &impl Abort, volume: &mut Volume, dir: FileId) {
+fn find_b_txt(rt: &impl Abort, volume: &mut Volume, dir: FileId) {
     accept(rt, volume, look(dir, letter(2, TXT), Pick::Highest));
 }
 
@@ -41,10 +41,10 @@ fn least_of_both(
     let mut second = Duration::from_secs(900);
     for _k in 0..LOOKS {
         let begun = Instant::now(rt)?;
-        look_into(rt, volume, one);
+        find_b_txt(rt, volume, one);
         first = first.min(begun.elapsed(rt)?);
         let begun = Instant::now(rt)?;
-        look_into(rt, volume, other);
+        find_b_txt(rt, volume, other);
         second = second.min(begun.elapsed(rt)?);
     }
     Ok((first.as_nanos(), second.as_nanos()))
@@ -59,7 +59,7 @@ fn noted_directory_is_looked_into_faster(rt: HostRuntime) -> Result<(), Fail> {
     let (read, noted) = least_of_both(&rt, &mut volume, old, new)?;
     assert!(rt; 2 * noted < read, "{noted} and {read} nanoseconds");
     for _k in 0..IN_A_ROW {
-        look_into(&rt, &mut volume, old);
+        find_b_txt(&rt, &mut volume, old);
     }
     let (noted, read) = least_of_both(&rt, &mut volume, old, new)?;
     assert!(rt; 2 * noted < read, "{noted} and {read} nanoseconds");
