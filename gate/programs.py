@@ -27,9 +27,13 @@ def chosen(name: str) -> pathlib.Path:
 
 
 def forget() -> None:
-    """Removes the programs and libraries that were built here, so that none is taken for one that is built now. `rt ci` leaves its own then."""
+    """Removes the programs that were built here, so that none is taken for one that is built now."""
     for name in NAMES:
         built(name).unlink(missing_ok=True)
+
+
+def forget_libraries() -> None:
+    """Removes the libraries that were built here: `rt ci` then leaves its own, for gate/edits."""
     for libraries in TOP.glob("crates/*/out/rlib"):
         shutil.rmtree(libraries)
 
