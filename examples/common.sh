@@ -22,6 +22,22 @@ show() {
     "$@" 2>/dev/null
 }
 
+# show_page PAGE: runs the commands of the first block of a page, and shows each with what it prints, as comments, as the page does.
+show_page() {
+    printf '#!/bin/sh\nexec "%s/f11fs" "$@"\n' "$top" >f11fs
+    chmod +x f11fs
+    mkdir examples
+    cp "$top/examples/sample.dsk" examples/
+    # shellcheck disable=SC2016 # these are the marks of a block
+    sed -n '/^```sh$/,/^```$/p' "$top/$1" | sed '/^```/d' >page
+    grep -v '^#' page | while read -r command; do
+        printf '%s\n' "$command"
+        eval "PATH=.:\$PATH; $command" </dev/null | sed 's/^/# /; s/ $//'
+    done >printed
+    cat printed
+    diff page printed >/dev/null || echo "$1 shows other lines"
+}
+
 # put IMAGE LBN PLACE BYTES: puts bytes, in the form of printf, at a place of a block.
 put() {
     # shellcheck disable=SC2059 # the bytes are a format

@@ -1,7 +1,7 @@
 #!/bin/sh
-# Lists the files of a name or pattern in many images, each with the sum of its bytes, so that equal files stand together:
+# Lists the files of a name or pattern in many images, each with the SHA-256 checksum of its bytes, so that equal files are next to each other:
 #     examples/where.sh 'NOTES.*' *.dsk
-# Each line has the sum, the image and the path. F11FS says which program is meant, where it is not ./f11fs.
+# Each line has the checksum, the image and the path. F11FS names the program, if it is not ./f11fs.
 f11fs=${F11FS:-$(cd "$(dirname "$0")/.." && pwd)/f11fs}
 pattern=$1
 shift

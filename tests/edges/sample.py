@@ -12,17 +12,31 @@ from fs_rows import row
 TOP = pathlib.Path(__file__).resolve().parent.parent.parent
 SAMPLE = TOP / "examples" / "sample.dsk"
 README = (TOP / "README.md").read_text("utf-8")
-FIRST = "./f11fs examples/sample.dsk ls -lR"
 
 
 def no_image() -> None:
     return None
 
 
-def blocks() -> list[list[str]]:
-    """The indented blocks of README.md, each as its lines."""
-    found = re.findall(r"(?:^    .*\n)+", README, re.M)
-    return [[line[4:] for line in block.splitlines()] for block in found]
+def shown() -> list[str]:
+    """The lines of the first block of README.md: commands, and what they print as comments."""
+    return re.search(r"^```sh\n(.*?)^```\n", README, re.M | re.S)[1].splitlines()
+
+
+def commands() -> list[str]:
+    """The commands of README.md in order: those of the first block, of indented lines and of the table, but for the one that installs."""
+    later = README.partition("```\n")[2]
+    found = re.findall(r"^    (.*)$|^.*\| `([^`]*)`$", later, re.M)
+    return [line for line in shown() if not line.startswith("#")] + [line or cell for line, cell in found if not line.startswith("./install")]
+
+
+def clone(room: Room) -> dict[str, str]:
+    """Puts what the commands of README.md find in a clone into the folder, and returns an environment in which f11fs is installed."""
+    shutil.copytree(TOP / "examples", room.folder / "examples")
+    (room.folder / "bin").mkdir()
+    for link in ("f11fs", "bin/f11fs"):
+        (room.folder / link).symlink_to(room.program)
+    return {**os.environ, "PATH": f"{room.folder / 'bin'}:{os.environ['PATH']}"}
 
 
 @row(image=no_image)
@@ -34,41 +48,33 @@ def f11fs_alone_makes_the_sample(room: Room) -> None:
 
 
 @row(image=no_image)
-def readme_shows_what_the_first_command_prints(room: Room) -> None:
-    (room.folder / "examples").mkdir()
-    shutil.copy2(SAMPLE, room.folder / "examples")
-    (room.folder / "f11fs").symlink_to(room.program)
-    assert [FIRST] in blocks(), "the first command has no block of its own"
-    ran = subprocess.run(["sh", "-c", FIRST], cwd=room.folder, capture_output=True, text=True, timeout=120)
-    equal((ran.returncode, ran.stderr), (0, ""), "the first command")
-    equal([line.rstrip() for line in ran.stdout.splitlines()], [line.rstrip() for line in listing()], "what it prints")
-
-
-def listing() -> list[str]:
-    """The lines of the fenced block behind the first command."""
-    return re.search(re.escape(FIRST) + r"\n\n```\n(.*?)```\n", README, re.S)[1].splitlines()
+def readme_shows_what_the_first_commands_print(room: Room) -> None:
+    clone(room)
+    printed = []
+    for command in (line for line in shown() if not line.startswith("#")):
+        ran = subprocess.run(["sh", "-c", command], cwd=room.folder, capture_output=True, text=True, timeout=120)
+        equal((ran.returncode, ran.stderr), (7 if " check" in command else 0, ""), command)
+        printed += [command, *(f"# {line}".rstrip() for line in ran.stdout.splitlines())]
+    equal(printed, shown(), "what the first commands print")
+    equal([line for line in printed if len(line) > 80], [], "lines wider than a terminal of 80 columns")
 
 
 @row(image=no_image)
-def commands_for_keepers_run(room: Room) -> None:
-    for name in ("disk.dsk", "bad.dsk"):
-        shutil.copy2(SAMPLE, room.folder / name)
-    (room.folder / "notes.txt").write_bytes(b"one\ntwo\n")
-    (room.folder / "more.txt").write_bytes(b"three\n")
-    (room.folder / "src" / "sub").mkdir(parents=True)
-    (room.folder / "src" / "sub" / "deep.txt").write_bytes(b"deep\n")
-    (room.folder / "f11fs").symlink_to(room.program)
-    (room.folder / "examples").symlink_to(TOP / "examples")
-    for words in (["init", "RX01"], ["mkdir", "1,2", "1,3"], ["put", "notes.txt", "1,2/OLD.TXT"], ["put", "notes.txt", "1,3/NOTES.TXT"]):
-        equal(room.run("old.dsk", *words)[0], 0, f"old.dsk {words}")
-    lines = [line.split(" # ")[0] for block in blocks() if "disk.dsk" in block[0] for line in block]
-    assert len(lines) >= 12, f"only {len(lines)} lines of README.md"
+def commands_of_the_readme_run_in_order(room: Room) -> None:
+    """As they are pasted into a shell in a clone, with f11fs installed."""
+    environment = clone(room)
+    lines = commands()
+    assert len(lines) >= 32, f"only {len(lines)} commands of README.md"
     for line in lines:
-        ran = subprocess.run(["sh", "-c", line], cwd=room.folder, capture_output=True, timeout=300)
-        # The sample has a lost file, which a check finds.
-        equal((ran.returncode, ran.stderr), (7 if "check" in line else 0, b""), line)
-    equal((room.folder / "back.txt").read_bytes(), b"one\ntwo\nthree\n", "the text that came back")
-    equal(room.run("new.dsk", "check"), (0, b"sound\n", b""), "the new volume")
+        ran = subprocess.run(["sh", "-c", line], cwd=room.folder, env=environment, stdin=subprocess.DEVNULL, capture_output=True, timeout=300)
+        # The sample has a lost file, which a check finds; the new volume has more versions than the old one.
+        equal(ran.returncode, 7 if " check" in line or " cmp " in line else 0, f"{line}: {ran.stderr!r}")
+        remarks = [it for it in ran.stderr.splitlines() if b"brings them back" not in it]
+        equal(remarks, [], f"the errors of {line}")
+    equal((room.folder / "gone.txt").read_bytes(), b"I was deleted.\n", "the deleted file")
+    equal((room.folder / "old.dsk").read_bytes(), SAMPLE.read_bytes(), "the image that no command changes")
+    for name in ("disk.dsk", "new.dsk", "floppy.dsk"):
+        equal(room.run(name, "check", "--all"), (0, b"sound\n", b""), name)
 
 
 def with_free_block() -> bytes:
@@ -87,9 +93,8 @@ def commands_for_refused_images_run(room: Room) -> None:
     for name, image in before.items():
         (room.folder / name).write_bytes(image)
     (room.folder / "f11fs").symlink_to(room.program)
-    [lines] = [block for block in blocks() if "bad.dsk check" in block[0]]
-    assert len(lines) == 8, f"{len(lines)} lines of README.md"
-    for line in (line.split(" # ")[0].strip() for line in lines):
+    for line in ("./f11fs bad.dsk check --all", "./f11fs bad.dsk info", "./f11fs bad.dsk ls -lR", "./f11fs bad.dsk get 1,2/NOTES.TXT .", "./f11fs bad.dsk rescue saved",
+            "./f11fs worse.dsk rescue --scan saved", "./f11fs disk.dsk find --deleted -l", "./f11fs disk.dsk get --deleted '#16,1' gone.txt"):
         shutil.rmtree(room.folder / "saved", ignore_errors=True)
         ran = subprocess.run(["sh", "-c", line], cwd=room.folder, capture_output=True, timeout=300)
         status = 7 if "check" in line else 1 if " ls " in line or " info" in line or " get 1,2" in line else 0
@@ -105,8 +110,8 @@ def commands_for_refused_images_run(room: Room) -> None:
 def commands_that_repair_run(room: Room) -> None:
     (room.folder / "bad.dsk").write_bytes(with_free_block())
     (room.folder / "f11fs").symlink_to(room.program)
-    [lines] = [block for block in blocks() if block[0].startswith("cp bad.dsk")]
-    for line in (line.split(" # ")[0].strip() for line in lines):
+    for line in ("cp bad.dsk work.dsk", "./f11fs work.dsk repair -n all", "./f11fs work.dsk repair used share", "./f11fs work.dsk repair double",
+            "./f11fs work.dsk repair names lost free"):
         ran = subprocess.run(["sh", "-c", line], cwd=room.folder, capture_output=True, timeout=300)
         equal((ran.returncode, ran.stderr), (0, b""), line)
     equal(room.run("work.dsk", "check", "--all"), (0, b"sound\n", b""), "what check says of the copy")
