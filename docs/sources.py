@@ -1,5 +1,5 @@
-"""What docs/list_theorem and docs/list_api read of the sources: the definitions of a file of specs/, the items of a file of src/, and what the
-names in either mean by its `use` lines. It relies on the layout that `rt fmt` gives."""
+"""What docs/list_theorem, docs/list_api and gate/edits read of the sources: the definitions of a file of specs/, the items of a file of src/, and which
+definitions the names in either mean by its `use` lines. It relies on the layout that `rt fmt` gives."""
 import functools
 import pathlib
 import re
@@ -7,6 +7,31 @@ import re
 TOP = pathlib.Path(__file__).resolve().parent.parent
 CRATES = TOP / "crates"
 WORD = r"[A-Za-z_][\w'-]*"
+TYPES = ("struct", "enum", "trait", "type", "const")
+
+
+class Wrong(Exception):
+    """A page, docs/theorem.txt or an import names what does not exist."""
+
+
+class Kit:
+    """A name that the kit defines, by its path."""
+
+    def __init__(self, path: str) -> None:
+        self.path, self.name = path, path.rpartition(".")[2]
+
+    @property
+    def key(self) -> str:
+        return ".".join(self.path.split(".")[-2:])
+
+
+def cell(text: str) -> str:
+    """Makes a text fit for a cell of a table."""
+    return text.replace("|", "\\|")
+
+
+def code(text: str) -> str:
+    return f"`{cell(text)}`"
 
 
 def crates_in_order() -> list[str]:
@@ -34,9 +59,8 @@ class Definition:
         return self.file.relative_to(CRATES).parts[0]
 
     @property
-    def place(self) -> str:
-        """Says the file and the line of the name."""
-        return f"{self.file.relative_to(TOP)}:{self.head + 1}"
+    def key(self) -> tuple[str, int]:
+        return (self.path, self.head)
 
     @property
     def path(self) -> str:
@@ -231,3 +255,137 @@ def handed_out(crate: str) -> dict[str, tuple[str, str | None]]:
     uses = rust_uses([line for line in lines if not line.startswith("use ")])
     found = {name: path.removeprefix("crate::").rpartition("::")[::2] for name, path in uses.items()}
     return found | {row[1]: (row[1], None) for row in (re.match(r"pub mod (\w+);", line) for line in lines) if row}
+
+
+# What a text names
+
+def without_comments(lines: list[str]) -> str:
+    """Returns lines of antt or of Rattle as one text, without comments and quoted texts."""
+    return "\n".join(re.sub(r'--(?= |$).*|//.*|"[^"]*"', "", line) for line in lines)
+
+
+def without_labels(text: str) -> str:
+    """Takes out the names of fields that are given a value."""
+    return re.sub(rf"([{{;]\s*){WORD} = ", r"\1", text)
+
+
+def words_in(text: str) -> list[tuple[str, str]]:
+    """Returns the names in a text, each with what stands behind its first dot."""
+    return re.findall(rf"(?<![\w.'-])({WORD})((?:\.{WORD})*)", without_labels(text))
+
+
+def has_operator(name: str, text: str) -> bool:
+    """Says whether a text uses an operator of the kit, as `◌+◌` or `if◌then◌else◌`."""
+    spaced = " " + re.sub(r"([()])", r" \1 ", text).replace("\n", " ") + " "
+    return all(f" {part} " in spaced for part in name.split("◌") if part)
+
+
+def names_in_spec(item: Definition) -> list[Definition | Kit]:
+    """Returns what a definition of specs/ names: definitions, items of src/, and names of the kit."""
+    uses, own, made = spec_uses(item.file), definitions(item.file), constructors(item.file)
+    text, found = without_comments(item.body), []
+    for word, rest in words_in(text):
+        if word in own or word in made:
+            found.append(own[made.get(word, word)])
+        elif word in uses:
+            found += resolve(behind_alias(uses[word], rest))
+    return [other for other in found if other is not item] + operators_in(uses, text)
+
+
+def operators_in(uses: dict[str, str], text: str) -> list[Kit]:
+    """Returns the operators of the kit that a text has, of those that are imported."""
+    return [Kit(path) for name, path in uses.items() if "◌" in name and has_operator(name, text)]
+
+
+def behind_alias(path: str, rest: str) -> str:
+    """Returns the path of what is named behind the alias of a module; a value may have the name of an alias, and then none is meant."""
+    if not path.endswith(".*"):
+        return path
+    return path[:-1] + rest.split(".")[1] if rest else ""
+
+
+def names_in_clauses(file: pathlib.Path, lines: list[str], inner: list[str]) -> list[Definition | Kit]:
+    """Returns what lines of src/ name: by the imports for contracts, those of `inner` too, and by those of the code."""
+    outer = [line for line in lines_of(file) if not line.startswith(" ")]
+    ghosts = ghost_uses(outer) | ghost_uses(inner)
+    uses = rust_uses([line for line in outer if "ghost" not in line])
+    text = re.sub(r"ghost use [^;]*;|#\[.*", "", without_comments(lines))
+    found = []
+    for word, rest in words_in(text.replace("::", " ")):
+        if word in ghosts:
+            found += resolve(behind_alias(ghosts[word], rest))
+        elif word in uses:
+            found += resolve_type(uses[word], file)
+        elif word[0].isupper():
+            found += type_in(file, word)
+    return found + operators_in(ghosts, text)
+
+
+def names_in(item: Definition, whole: frozenset[tuple[str, str]]) -> list[Definition | Kit]:
+    """Returns what a definition or an item names; of a type with a model nothing, but of the types in `whole`."""
+    if item.file.suffix == ".antt":
+        return names_in_spec(item)
+    if (item.path, item.name) in whole or not has_model(item):
+        return [other for other in names_in_clauses(item.file, item.body, item.body) if other is not item]
+    return names_in_clauses(item.file, said_of_value(item), item.body) if item.kind == "impl Model" else []
+
+
+def has_model(item: Definition) -> bool:
+    """Says whether contracts see another value in place of this type's own."""
+    return any(other.kind == "impl Model" and other.name == item.name for other in items(item.file))
+
+
+def said_of_value(model: Definition) -> list[str]:
+    """Returns what a model says of its value: its type, and its invariant where that speaks of the value itself."""
+    said = {row[1]: row[2] for row in re.finditer(r"ghost (\w+) = \{ (.*) \};", "\n".join(model.body))}
+    view, invariant = (said.get(word, "").partition(". ")[2] for word in ("view", "invariant"))
+    return [said["Value"]] + ([invariant.replace(view, "")] if view and view in invariant else [])
+
+
+# What a name means
+
+def resolve(path: str) -> list[Definition | Kit]:
+    """Finds what an antt path means: a definition of specs/, a type of src/ with its model, or a name of the kit."""
+    parts = path.split(".")
+    if not path:
+        return []
+    if parts[0] != "Rattle" or not (CRATES / parts[1]).is_dir():
+        return [Kit(path)]
+    if parts[3] == "declared":
+        return declared(parts[1], parts[4:])
+    file = CRATES / parts[1] / "specs" / ("/".join(parts[3:-1]) + ".antt")
+    own = definitions(file)
+    name = constructors(file).get(parts[-1], parts[-1])
+    if name not in own and name not in spec_uses(file):
+        raise Wrong(f"{file.relative_to(TOP)}: no definition of {name}, which others import")
+    return [own[name]] if name in own else resolve(spec_uses(file)[name])
+
+
+def declared(crate: str, parts: list[str]) -> list[Definition]:
+    """Finds what a path behind `declared` means: a constant, or a type with its model."""
+    if parts[0] == "TheConstants":
+        return [item for file in sorted((CRATES / crate / "src").glob("**/*.rt")) for item in type_in(file, parts[1]) if item.kind == "const"]
+    for length in range(len(parts) - 1, 0, -1):
+        file = source_of(crate, "/".join(parts[:length]))
+        if file:
+            return type_in(file, parts[length])
+    raise Wrong(f"{crate}: no type {'.'.join(parts)}")
+
+
+def type_in(file: pathlib.Path | None, name: str) -> list[Definition]:
+    """Returns the type of this name in a file of src/, and its model."""
+    return [item for item in items(file) if item.name == name and item.kind in TYPES + ("impl Model",)]
+
+
+def resolve_type(path: str, file: pathlib.Path) -> list[Definition | Kit]:
+    """Finds the type that a path of the code means; one of the kit is none."""
+    parts = path.split("::")
+    crate = file.relative_to(CRATES).parts[0] if parts[0] == "crate" else parts[0]
+    if not (CRATES / crate).is_dir():
+        return []
+    if len(parts) > 2:
+        return type_in(source_of(crate, "/".join(parts[1:-1])), parts[-1])
+    module, name = handed_out(crate).get(parts[-1], ("", None))
+    if (CRATES / module.split("::")[0] / "src").is_dir():
+        return resolve_type(f"{module}::{name}", file)
+    return type_in(source_of(crate, module), name) if module and name else []
