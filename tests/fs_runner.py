@@ -1,4 +1,4 @@
-"""Runs rows on f11fs side by side, each in a room of its own, and counts them: what tests/fs_changes and tests/fs_edges share."""
+"""Runs rows on f11fs side by side, each in a room of its own, and counts them, for tests/trees and tests/fs_repairs."""
 import concurrent.futures
 import dataclasses
 import os

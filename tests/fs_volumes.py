@@ -1,8 +1,11 @@
-"""The volumes that tests/fs and tests/fs_changes run the program on, what is spoiled in some of them, and bytes that the rows of tests/rows/ name."""
-from collections.abc import Sequence
+"""The volumes that tests/fs runs the programs on, what is spoiled in some of them, and bytes that the rows of tests/rows/ name."""
+import functools
+import os
+import struct
+from collections.abc import Callable, Sequence
 from typing import Any
 
-from fs_image import BLOCK, BLOCKS, INDEX_BLOCKS, MAP_PLACE, ZEROS, Volume, attributes, changed, entries, sequenced, variable
+from fs_image import BLOCK, BLOCKS, INDEX_BLOCKS, MAP_PLACE, ZEROS, Volume, attributes, changed, entries, name, put_sum, sequenced, variable
 
 TASK = bytes(place % 251 for place in range(700))
 SPOILT = variable(b"good") + b"\x32\x00short"
@@ -249,6 +252,95 @@ def blocks_of(image: bytes, lbn: int, size: int) -> bytes:
     return image[BLOCK * lbn : BLOCK * lbn + size]
 
 
+# The records of an object module, eight cards, and these in blocks; and a record that leaves little of a block, with the mark that the rest is not used.
+OBJECT = [b"\x01\x00\x0a\x0d\x00\xff\x07", b"\x03\x00", b""]
+CARDS = b"".join(f"CARD {number}".encode().ljust(80) for number in range(8))
+IN_BLOCKS = CARDS[:480] + b"#" * 32 + CARDS[480:]
+FIRST = variable(b"a" * 500) + b"\xff\xff"
+
+
+def record_volume() -> bytes:
+    """A volume with a file of each form in [1,2]."""
+    volume = Volume()
+    files = {
+        "PROG.OBJ;1": (variable(*OBJECT), {"size": 128}),
+        "NOTES.TXT;1": (variable(b"one", b"two"), {"control": 2, "size": 3}),
+        "PLAIN.DAT;1": (variable(b"one", b"two"), {"size": 3}),
+        "SPLIT.LST;1": (variable(b"a\nb", b"c"), {"control": 2, "size": 3}),
+        "SEQ.TXT;1": (sequenced((10, b"ten"), (20, b"twenty")), {"kind": 3, "control": 2}),
+        "VFC.TXT;1": (variable(b"abcdone", b"efghtwo"), {"attr": attributes(3, 2, 0, 1, 20)[:15] + b"\4" + bytes(16)}),
+        "CARDS.DAT;1": (CARDS, {"kind": 1, "control": 2, "size": 80}),
+        "BLOCKS.DAT;1": (IN_BLOCKS, {"kind": 1, "control": 10, "size": 80}),
+        "LARGE.DAT;1": (CARDS, {"kind": 1, "control": 10, "size": 600}),
+        "STREAM.TXT;1": (b"one\r\ntwo\r\n", {"kind": 4, "control": 2}),
+        "INDEX.DAT;1": (variable(b"one", b"two"), {"attr": attributes(0o42, 2, 3, 1, 12)}),
+        "LONG.OBJ;1": (variable(*OBJECT), {"size": 5}),
+        "ORG.OBJ;1": (variable(*OBJECT), {"attr": attributes(0o42, 0, 128, 1, len(variable(*OBJECT)))}),
+        "HEADED.OBJ;1": (variable(b"abcd\x00", b"efgh\x01"), {"attr": attributes(3, 0, 0, 1, 16)[:15] + b"\4" + bytes(16)}),
+        "NOEND.DAT;1": (b"", {"attr": attributes(1, 0, 512, 1, 0)[:8] + bytes(24), "places": [75]}),
+    }
+    volume.directory(4, "000000.DIR;1", *entries(f"000000.DIR;1 4,4 001002.DIR;1 6,1 {RESERVED}"))
+    volume.directory(6, "001002.DIR;1", *((text, 10 + place, 1) for place, text in enumerate(files)))
+    for place, (text, (data, more)) in enumerate(files.items()):
+        volume.file(10 + place, text, data, **more)
+    return volume.bytes()
+
+
+def named_volume() -> bytes:
+    """A volume with the directories [1,2] and [A]."""
+    volume = Volume()
+    volume.directory(4, "000000.DIR;1", *entries(f"000000.DIR;1 4,4 001002.DIR;1 6,1 A.DIR;1 7,1 {RESERVED}"))
+    volume.directory(6, "001002.DIR;1", ("NOTES.TXT;1", 9, 1))
+    volume.directory(7, "A.DIR;1")
+    volume.file(9, "NOTES.TXT;1", variable(b"one"), control=2, size=3)
+    return volume.bytes()
+
+
+def hiding_volume() -> bytes:
+    """The same, where the end mark of [1,2] is 0, and its entry stands behind it."""
+    volume = Volume()
+    volume.directory(4, "000000.DIR;1", *entries(f"000000.DIR;1 4,4 001002.DIR;1 6,1 A.DIR;1 7,1 {RESERVED}"))
+    volume.directory(6, "001002.DIR;1", ("NOTES.TXT;1", 9, 1), attr=attributes(1, 0, 16, 1, 0)[:8] + bytes(24))
+    volume.directory(7, "A.DIR;1")
+    volume.file(9, "NOTES.TXT;1", variable(b"one"), control=2, size=3)
+    return volume.bytes()
+
+
+def labelled() -> bytes:
+    """A sound volume whose home block has a label with a byte that is no character, an owner, level 402 and a date."""
+    image = bytearray(plain_volume().bytes())
+    home = image[BLOCK : 2 * BLOCK]
+    struct.pack_into("<H", home, 12, 0o402)
+    home[14:26] = b"DISK\1ONE \0\0\0"
+    home[30:32] = bytes([0o15, 2])
+    home[60:74] = b"05JUN82091500\0"
+    put_sum(home, 29)
+    put_sum(home, 255)
+    image[BLOCK : 2 * BLOCK] = home
+    return bytes(image)
+
+
+def labelled_and_spoiled() -> bytes:
+    """The same volume, with a bit of the storage bitmap that says that block 47 is free, which file 9 holds."""
+    image = bytearray(labelled())
+    image[44 * BLOCK + 47 // 8] |= 1 << 47 % 8
+    return bytes(image)
+
+
+def unused_volume() -> bytes:
+    """A volume with texts whose last records are of many kinds."""
+    volume = Volume(400)
+    volume.directory(4, "000000.DIR;1", *entries(f"000000.DIR;1 4,4 {RESERVED} CUT.TXT;1 9,1 FULL.TXT;1 10,1 BLOCK.TXT;1 11,1 TWO.TXT;1 12,1 NONE.TXT;1 13,1 UNKNOWN.BIN;1 14,1 WIDE.TXT;1 15,1"))
+    volume.file(9, "CUT.TXT;1", FIRST + b"\x77", control=2, size=500)  # the rest of the block begins, and the file ends
+    volume.file(10, "FULL.TXT;1", FIRST.ljust(512, b"\x77"), control=2, size=500)  # it ends with the block
+    volume.file(11, "BLOCK.TXT;1", variable(b"b" * 510), control=2, size=510)  # the last record ends with its block
+    volume.file(12, "TWO.TXT;1", variable(b"c" * 600) + b"\xff\xff", control=2, size=600)  # the mark stands in the second block
+    volume.file(13, "NONE.TXT;1", b"\xff\xff", control=2)  # no record, and the first block is not used
+    volume.file(14, "UNKNOWN.BIN;1", b"bytes", attr=attributes(0, 0, 0, 1, 5))
+    volume.file(15, "WIDE.TXT;1", variable(b"d"), control=2, size=80)
+    return volume.bytes()
+
+
 ODD = odd_volume().bytes()
 # What files have, by the names that the rows call it by.
 CONTENTS = {
@@ -277,4 +369,275 @@ CONTENTS = {
     "z-bytes": b"z" * 5000,
     "thirty-blocks": bytes(30 * BLOCK),
     "few-image": few_volume().bytes(),
+    "marks": b"#" * 1_048_577,
+    "zero-block": bytes(BLOCK),
+    "ten-million": b"x" * 10_000_000,
+    "four-blocks": b"".join(letter * BLOCK for letter in (b"A", b"B", b"C", b"D")),
+    "last-of-four-blocks": bytes(3 * BLOCK) + b"D" * BLOCK,
+    "short-and-long-line": b"short\n" + b"x" * 32768 + b"\n",
 }
+
+
+def with_word_sum(block: bytes, words: int) -> bytes:
+    """Returns a block with the sum of so many words behind them."""
+    return block[: 2 * words] + struct.pack("<H", sum(struct.unpack_from(f"<{words}H", block)) & 0xFFFF) + block[2 * words + 2 :]
+
+
+def with_label(label: bytes, image: bytes) -> bytes:
+    """Returns an image with a label in its home block, and both sums."""
+    home = image[BLOCK : 2 * BLOCK]
+    home = with_word_sum(home[:14] + label.ljust(12, b"\0") + home[26:], 29)
+    home = with_word_sum(home[:472] + label.ljust(12, b" ") + home[484:], 255)
+    return image[:BLOCK] + home + image[2 * BLOCK :]
+
+
+def marked(names: int) -> bytes:
+    """A volume with a directory of two names, whose end mark is after so many of them."""
+    volume = plain_volume()
+    volume.directory(30, "001007.DIR;1", ("A.DAT;1", 3, 3), ("B.DAT;1", 3, 3))
+    return changed(volume.bytes(), 32, 14 + 8, struct.pack("<HHH", 0, 1 if names else 0, 16 * names))
+
+
+def spoiled_twins() -> bytes:
+    """A volume with a directory that has one name twice, and a bad entry behind it."""
+    volume = plain_volume()
+    volume.directory(30, "001007.DIR;1", ("A.DAT;1", 3, 3), ("A.DAT;1", 3, 3), ("B.DAT;1", 3, 3))
+    good, bad = (struct.pack("<4H", 3, 3, 0, word) for word in (name("B.DAT;1")[0], 64_000))
+    image = volume.bytes()
+    assert image.count(good) == 1
+    return image.replace(good, bad)
+
+
+def unnamed(entry: int, number: int = 0) -> bytes:
+    """The plain volume, of whose master directory this entry names another file, or none. The entry of file 4 is the first, of file 1 the third."""
+    return changed(plain_volume().bytes(), 45, 16 * entry, struct.pack("<HH", number, number), has_sum=False)
+
+
+def sized(size: int, said: int | None = None, count: int | None = None) -> bytes:
+    """A sound volume of so many blocks, whose storage control block says its size, or another one, or another count of the bitmap's blocks."""
+    maps = -(-size // 4096)
+    volume = Volume(size)
+    volume.next = MAP_PLACE + 1 + maps
+    volume.put(MAP_PLACE, bytes(BLOCK * (1 + maps)))
+    volume.file(2, "BITMAP.SYS;1", places=range(MAP_PLACE, volume.next), kind=1, data=None)
+    volume.directory(4, "000000.DIR;1", *entries(f"000000.DIR;1 4,4 001002.DIR;1 6,1 {RESERVED}"))
+    volume.directory(6, "001002.DIR;1", ("NOTES.TXT;1", 9, 1))
+    volume.file(9, "NOTES.TXT;1", variable(b"first"), control=2, size=5)
+    control = bytearray(BLOCK)
+    control[3] = maps if count is None else count
+    struct.pack_into("<2H", control, 4 + 4 * maps, *divmod(size if said is None else said, 65536))
+    volume.put(MAP_PLACE, control)
+    return volume.bytes()
+
+
+def tail(size: int, first: bytes = b"") -> bytes:
+    """So many bytes that begin so, none of them alike."""
+    return first + bytes((7 * place + 3) % 251 for place in range(size - len(first)))
+
+
+def shared_bitmap() -> bytes:
+    """The plain volume, with a file that has the block of the storage bitmap, and a block that is marked free."""
+    volume = plain_volume()
+    volume.file(14, "BITS.DAT;1", b"x" * BLOCK, places=[60])
+    return changed(volume.bytes(free=[47]), 2 + 14, 102, struct.pack("<BBH", 0, 0, MAP_PLACE + 1))
+
+
+def headless(number: int, used: Sequence[int] = (65, 66)) -> bytes:
+    """The volume with two used blocks that none holds, or these, and this number in use without a header."""
+    image = bytearray(plain_volume().bytes(used=used))
+    image[2 * BLOCK + (number - 1) // 8] |= 1 << (number - 1) % 8
+    return bytes(image)
+
+
+def later_header() -> bytes:
+    """The volume with an extension header that no file reaches, and two used blocks besides."""
+    volume = plain_volume()
+    volume.file(26, "LATER.TXT;1", b"later", places=[70])
+    return changed(volume.bytes(used=[65, 66]), 2 + 26, 92, b"\1")
+
+
+def lost_volume(number: int = 9, **more: object) -> Volume:
+    """A volume with [1,2], [1,3] and two files that no directory names, of one name; another of that name is in [1,3]."""
+    volume = Volume(**more)
+    volume.directory(4, "000000.DIR;1", *entries(f"000000.DIR;1 4,4 001002.DIR;1 6,1 001003.DIR;1 7,1 {RESERVED}"))
+    volume.directory(6, "001002.DIR;1", *entries("OTHER.TXT;1 10,1"))
+    volume.directory(7, "001003.DIR;1", *entries("NOTES.TXT;4 12,1"))
+    volume.file(number, "NOTES.TXT;9", variable(b"first"), control=2, size=5)
+    volume.file(11, "NOTES.TXT;2", variable(b"second"), control=2, size=6)
+    volume.file(10, "OTHER.TXT;1", variable(b"other"), control=2, size=5)
+    volume.file(12, "NOTES.TXT;4", variable(b"found"), control=2, size=5)
+    return volume
+
+
+def full_volume() -> bytes:
+    """A volume with a lost file and no free block, with room in no directory."""
+    volume = Volume()
+    names = [(f"A{place}.;1", 10, 1) for place in range(22)]
+    volume.directory(4, "000000.DIR;1", *entries(f"000000.DIR;1 4,4 001003.DIR;1 7,1 {RESERVED}"), *[(f"A{place}.;1", 10, 1) for place in range(26)])
+    volume.directory(7, "001003.DIR;1", *names, *[(f"B{place}.;1", 10, 1) for place in range(10)])
+    volume.file(9, "NOTES.TXT;9", variable(b"first"), control=2, size=5)
+    volume.file(10, "OTHER.TXT;1", variable(b"other"), control=2, size=5)
+    return volume.bytes(used=range(volume.next, volume.blocks))
+
+
+CONTIGUOUS = 0o200  # UC.CON of H.UCHA
+DAY = b"29FEB84235959"
+LARGE = bytes(place * place % 251 for place in range(5 * BLOCK))
+
+
+def other_volume(blocks: int = 120) -> Volume:
+    """Another volume: files of many forms in [1,2] and [A], with three versions of a name, and bytes behind the ends of files."""
+    volume = Volume(blocks)
+    volume.directory(4, "000000.DIR;1", *entries(f"000000.DIR;1 4,4 001002.DIR;1 6,1 A.DIR;1 7,1 {RESERVED}"))
+    volume.directory(6, "001002.DIR;1", *entries("NOTES.TXT;1 9,1 NEW.TXT;3 10,1 NEW.TXT;7 11,1 NEW.TXT;5 12,1 NUMBERS.TXT;2 13,1 ZEROS.DAT;1 14,1 PAST.DAT;1 15,1"))
+    volume.directory(7, "A.DIR;1", *entries("ONE.TSK;32767 16,1 EMPTY.DAT;1 17,1"))
+    volume.file(9, "NOTES.TXT;1", variable(b"another"), control=2, size=7, owner=0o1003, rights=0xFE80, dates=DAY * 2)
+    for number, version in ((10, 3), (11, 7), (12, 5)):
+        volume.file(number, f"NEW.TXT;{version}", variable(b"%d" % version), control=2, size=1)
+    volume.file(13, "NUMBERS.TXT;2", sequenced((10, b"ten"), (20, b"twenty!")), kind=3, control=2, size=9)
+    volume.file(14, "ZEROS.DAT;1", b"z" * 700, attr=bytes(32))
+    volume.file(15, "PAST.DAT;1", b"p" * 600, attr=attributes(1, 0, 512, 9, 5000))
+    volume.file(16, "ONE.TSK;32767", LARGE, kind=1, size=512, flags=CONTIGUOUS)
+    volume.file(17, "EMPTY.DAT;1", kind=1, size=512, dates=DAY * 2)
+    return volume
+
+
+def large_volume() -> bytes:
+    """A volume with a file for which another has no room."""
+    volume = Volume(200)
+    volume.directory(4, "000000.DIR;1", *entries(f"000000.DIR;1 4,4 {RESERVED} SMALL.DAT;1 9,1 LARGE.DAT;1 10,1"))
+    volume.file(9, "SMALL.DAT;1", b"s" * 100, kind=1, size=512)
+    volume.file(10, "LARGE.DAT;1", b"l" * (90 * BLOCK), kind=1, size=512)
+    return volume.bytes()
+
+
+def without(image: bytes, lbns: Sequence[int]) -> bytes:
+    """The image with zeros in these blocks."""
+    bare = bytearray(image)
+    for lbn in lbns:
+        bare[BLOCK * lbn : BLOCK * (lbn + 1)] = bytes(BLOCK)
+    return bytes(bare)
+
+
+def bare_of_index() -> bytes:
+    """The plain volume without its home block, its index bitmap and the headers of its reserved files."""
+    return without(plain_volume().bytes(), range(8))
+
+
+def doubly_headed() -> bytes:
+    """The same with a second header of NOTES.TXT, of version 2, in block 78."""
+    image = bare_of_index()
+    return image[: BLOCK * 78] + blocks_of(changed(image, 11, 54, b"\2\0"), 11, BLOCK) + image[BLOCK * 79 :]
+
+
+def holes_volume() -> Volume:
+    """The plain volume with three files of one block more, with holes between their blocks 52, 54 and 56."""
+    volume = plain_volume()
+    volume.directory(6, "001002.DIR;1", *entries("NOTES.TXT;1 9,1 OTHER.TXT;1 10,1 TASK.TSK;3 12,1 B.;1 14,1 D.;1 16,1 F.;1 18,1"), places=[46])
+    for number, letter in ((14, "B"), (16, "D"), (18, "F")):
+        volume.file(number, f"{letter}.;1", letter.encode(), places=[38 + number], kind=1, size=512)
+    return volume
+
+
+# Volumes by the names that rows call them by, besides those that are made together.
+NAMED: dict[str, Callable[[], bytes]] = {
+    "records": record_volume,
+    "named": named_volume,
+    "hiding": hiding_volume,
+    "labelled": labelled,
+    "labelled-spoiled": labelled_and_spoiled,
+    "labelled-simh": lambda: labelled() + b"simh" + bytes(508),
+    "zeros-40": lambda: bytes(40 * BLOCK),
+    "unused": unused_volume,
+    "wide": lambda: plain_volume(blocks=200).bytes(),
+    "scattered": lambda: plain_volume(blocks=600).bytes(used=range(100, 600, 2)),  # a large file has many pointers
+    "shut-notes": lambda: plain_volume(rights=0xFE80, owner=0o200 << 8 | 0o40).bytes(),
+    # What chmod, chown and label make of the plain volume: NOTES.TXT is file 9, and [1,2] file 6.
+    "protected": lambda: changed(volume_named("plain"), 2 + 9, 10, b"\x00\xec"),
+    "denied": lambda: changed(volume_named("plain"), 2 + 9, 10, b"\xff\xff"),
+    "owned": lambda: changed(changed(volume_named("plain"), 2 + 9, 8, b"\x08\x07"), 2 + 6, 8, b"\x08\x07"),
+    "three-changes": lambda: with_label(b"WORK", changed(volume_named("plain"), 2 + 9, 8, b"\x08\x07\x00\xff")),
+    **{f"label-{label}": functools.partial(with_label, label.encode(), plain_volume().bytes()) for label in ("WORK.2", "A", "ABCDEFGHIJ12")},
+    # What check finds.
+    "marked-0": lambda: marked(0),
+    "marked-1": lambda: marked(1),
+    "marked-2": lambda: marked(2),
+    "spoiled-twins": spoiled_twins,
+    "used-runs": lambda: plain_volume().bytes(used=[60, 65, 66, 68, 77, 78, 79]),
+    "used-over-256": lambda: plain_volume(blocks=300).bytes(used=range(250, 262)),
+    "marked": lambda: plain_volume(flags=0o200 << 8).bytes(),
+    "locked": lambda: plain_volume(flags=0o100).bytes(),
+    "longer": lambda: plain_volume(size=4).bytes(),
+    "numbers": lambda: changed(plain_volume().bytes(), 2, 510, b"\x01\x80", has_sum=False),
+    "other-characteristics": lambda: plain_volume(flags=0x7FBF).bytes(),
+    "unnamed-index": lambda: unnamed(2),
+    "unnamed-bitmap": lambda: unnamed(3, 5),
+    "unnamed-master": lambda: unnamed(0, 3),
+    # Images of other lengths than their volume.
+    "sized-80": lambda: sized(80),
+    # What repair mends, or leaves.
+    "free-system": lambda: plain_volume().bytes(free=[0, 1, 2, 44, 45, 46, 47, 49]),
+    "spoiled-1": lambda: changed(plain_volume().bytes(free=[47]), 2 + 1, 200, b"\x11", has_sum=False),
+    "spoiled-2": lambda: changed(plain_volume().bytes(free=[47]), 2 + 2, 200, b"\x11", has_sum=False),
+    "homeless-used": lambda: changed(plain_volume().bytes(used=[65, 66]), 1, 0, b"\2", has_sum=False),
+    "shared-bitmap": shared_bitmap,
+    "home-places": lambda: plain_volume(blocks=600).bytes(used=[0, 1, 250, *range(254, 258), 511, 512, 513, 599]),
+    "home-places-freed": lambda: plain_volume(blocks=600).bytes(used=[256, 512]),
+    "headless-used": lambda: headless(25),
+    "headless-4096": lambda: headless(4096),
+    "headless-25": lambda: headless(25, ()),
+    "later-used": later_header,
+    "lost-two": lambda: lost_volume().bytes(),
+    "lost-last": lambda: changed(lost_volume().bytes(), 47, 14, struct.pack("<H", 32767), has_sum=False),  # the name in [1,3] has the last version
+    "lost-full": full_volume,
+    "two-kinds": lambda: plain_volume().bytes(free=[47], used=[65, 66]),
+    "chainless": lambda: changed(plain_volume().bytes(), 2 + 9, 94, b"\x1b\0\1\0"),
+    "holes": lambda: holes_volume().bytes(),
+    # What a scan gets files of.
+    "scan-headless": bare_of_index,
+    "scan-no-index": lambda: without(plain_volume().bytes(), [3]),
+    "scan-rubbish": lambda: os.urandom(BLOCK * 200),
+    "scan-doubled": doubly_headed,
+    "scan-same-name": lambda: changed(bare_of_index(), 2 + 10, 46, struct.pack("<5H", *name("NOTES.TXT;1"))),
+    "scan-chainless": lambda: changed(bare_of_index(), 11, 94, b"\x1e\0\1\0"),
+    "scan-past": lambda: changed(bare_of_index(), 11, 104, b"\xc8\0"),
+    "scan-bare": lambda: Volume().bytes(),
+    # What cp --from copies of.
+    "between": lambda: other_volume().bytes(),
+    "between-chainless": lambda: changed(other_volume().bytes(), 2 + 10, 94, b"\x1e\0\1\0"),
+    "between-cut": lambda: other_volume().bytes()[:-7],
+    "between-holes": lambda: plain_volume().bytes(used=range(53, 80, 3)),
+    "between-large": large_volume,
+    # Bytes that are no volume.
+    "zeros-100": lambda: bytes(100 * BLOCK),
+    "looks-gzip": lambda: b"\x1f\x8b\x08" + bytes(600),
+    "looks-zip": lambda: b"PK\x03\x04" + bytes(508),
+    "looks-vhd": lambda: b"conectix" + bytes(1016),
+    "looks-imd": lambda: b"IMD 1.18: 01/01/2000\r\n" + bytes(5),
+    "looks-teledisk": lambda: b"TD\0\0" + bytes(9),
+    "looks-rt11": lambda: bytes(1008) + b"DECRT11A    " + bytes(4),
+    "looks-ods2": lambda: bytes(1008) + b"DECFILE11B  " + bytes(4),
+    "looks-rx01": lambda: bytes(256256),
+    "looks-rx02": lambda: bytes(512512),
+    "looks-rx50": lambda: bytes(409600),
+    "sized-4800": lambda: sized(4800) + tail(72 * BLOCK),
+    "sized-simh": lambda: sized(80) + tail(BLOCK, b"simh"),
+    "sized-vhd": lambda: sized(80) + tail(BLOCK, b"conectix"),
+    "sized-odd": lambda: sized(80) + tail(7),
+    "sized-short": lambda: sized(80)[: BLOCK * 70],
+    "sized-odd-count": lambda: sized(80, count=2) + tail(7),
+    "sized-short-count": lambda: sized(80, count=2)[: BLOCK * 70],
+    "sized-low": lambda: sized(80, said=47) + tail(BLOCK, b"simh"),
+}
+
+
+@functools.cache
+def made_once() -> dict[str, bytes]:
+    """The images that are made together."""
+    return {**images(), **more_images(), **repair_images(), **spoiled_images()}
+
+
+@functools.cache
+def volume_named(name: str) -> bytes | None:
+    """The volume that rows call by this name, if one is."""
+    return NAMED[name]() if name in NAMED else made_once().get(name)

@@ -1,25 +1,36 @@
-"""Reads the rows of tests/rows/: a file a group, each row a command of f11fs with what has to come of it. tests/fs runs those of reads/, on volumes that no
-command changes, and tests/fs_changes those of changes/, each on a volume of its own that is called disk.
+"""Reads the rows of tests/rows/: transcripts of f11fs and f11, each in a folder of its own, with what has to come of every command.
 
 A file begins with what it is about. Then each line says by its first word what it is; a blank line ends a row, and a line that begins with # says nothing:
 
-    == NAME                  a row, and its name; rows with no blank line between them share what stands below their commands
-    $ f11fs IMAGE WORD..     its command, quoted as for a shell; \\xHH is a byte that is no text
-    status N                 its status, where that is not 0
-    > TEXT                   a line that it prints; + TEXT goes on with the line above
+    == NAME                  a row, and its name; rows with no blank line between them share what stands below their first commands
+    each VALUE..             the row is there for each value, which stands in for {} in its lines, its first word for {0}, and its parts between bars for {1}, {2} ..
+    image NAME               the volume that is called disk is this one of fs_volumes.py; without this line it is the plain one; none for no image
+    : LINE                   a line of sh that makes disk, with the functions of examples/common.sh; v40, v512 and file are short for some
+    $ f11fs IMAGE WORD..     a command, quoted as for a shell; \\xHH is a byte that is no text. f11 is the other program
+    $ headers N..            what f11 says of these headers of the file `new`
+
+What stands below a command is of that command; commands with no line between them share it:
+
+    status N..               its status, or one of these, where that is not 0
+    > TEXT                   a line that it prints; + TEXT goes on with the line above; >* N TEXT stands for N lines, in which # is their number
+    or                       what follows is another output, which may come as well
     ! TEXT                   a line of its errors
     >~ PATTERN, !~ PATTERN   a pattern of all that it prints, or of all errors
     >= CONTENT               all that it prints, where that is no text of lines
+    as above                 it prints what the command above printed
     any order                its lines are printed in any order
     archive                  it prints an archive of tar, with just these members in this order, by Python's tarfile:
     member PATH = CONTENT    a member, with these bytes
     record KEYWORD=VALUE     a record of the member above; those that stand here are all that it has
     time STAMP               the local time of the member above
     into FILE                what it prints goes into this file
-    image NAME               the volume that is called disk is this one, where that is not the plain one
     input CONTENT            what it reads from standard input
+    < TEXT                   a line of the file script.1, which is there before; <* N TEXT stands for N lines
+    script                   what follows is script.2, and so on
     with PATH = CONTENT      a file of the host that is there before; with PATH/ a folder
+    spoil LBN PLACE HEX      what disk has before it at a place of a block, whose last word becomes the sum of a header
     leaves PATH = CONTENT    a file of the host that is there behind it, besides those; leaves PATH/ a folder
+    size PATH N              how many bytes a file of the host has then
 
 and of a command that changes the volume; one that has none of these lines leaves the image as it was, its times too:
 
@@ -28,23 +39,28 @@ and of a command that changes the volume; one that has none of these lines leave
     header PATH NAME=WORD..  what the header of a file says
     directory PATH           a directory that comes; no directory PATH one that goes
     frees N                  how many blocks become free
+    becomes CONTENT          the image has these bytes
+    writes FILE              the volume that these lines speak of is in this new file, and disk is left as it was
+    bytes LBN PLACE HEX      what the file `new` has at a place of a block
 
-A CONTENT is a text in double quotes with the escapes of Python, or a name of fs_volumes.CONTENTS; NAME[:N] are the first N bytes of that.
+A CONTENT is a text in double quotes with the escapes of Python, or a name of fs_volumes.CONTENTS; image:NAME is a volume, NAME[:N] are the first N bytes.
 """
 import ast
 import dataclasses
 import pathlib
 import re
 import shlex
-from collections.abc import Mapping
+from collections.abc import Callable
 
 ROWS = pathlib.Path(__file__).resolve().parent / "rows"
 # What a command prints, or writes to standard error: bytes, or a pattern of the whole.
 Said = bytes | re.Pattern[bytes]
 # Files of a host by their paths; a folder has no bytes.
 Files = dict[str, bytes | None]
-# The words of a header that are numbers; owner and protection are octal.
-NUMBERS = {"number": 10, "kind": 10, "control": 10, "size": 10, "highest": 10, "end": 10, "owner": 8, "protection": 8}
+Header = dict[str, int | str | bytes | list[int]]
+Contents = Callable[[str], bytes]
+# The words of a header that are numbers; owner, protection and flags are octal.
+NUMBERS = {"number": 10, "kind": 10, "control": 10, "size": 10, "highest": 10, "end": 10, "sequence": 10, "owner": 8, "protection": 8, "flags": 8}
 
 
 @dataclasses.dataclass
@@ -58,32 +74,42 @@ class Member:
 
 
 @dataclasses.dataclass
-class Row:
+class Step:
     """A command with what comes of it, as the lines above say it."""
 
-    name: str
-    words: list[str | bytes] = dataclasses.field(default_factory=list)
-    status: int = 0
-    out: Said = b""
+    words: list[str | bytes]
+    statuses: list[int] = dataclasses.field(default_factory=lambda: [0])
+    outs: list[Said] = dataclasses.field(default_factory=lambda: [b""])
     err: Said = b""
     any_order: bool = False
+    as_above: bool = False
     archive: list[Member] | None = None
     into: str | None = None
-    image: str = "plain"
     input: bytes | None = None
+    scripts: list[str] = dataclasses.field(default_factory=list)
     before: Files = dataclasses.field(default_factory=dict)
+    spoils: list[tuple[int, int, bytes]] = dataclasses.field(default_factory=list)
     leaves: Files = dataclasses.field(default_factory=dict)
+    sizes: dict[str, int] = dataclasses.field(default_factory=dict)
     changes: bool = False
     makes: Files = dataclasses.field(default_factory=dict)
-    headers: dict[str, dict[str, int | str | bytes]] = dataclasses.field(default_factory=dict)
+    headers: dict[str, Header] = dataclasses.field(default_factory=dict)
     has: list[str] = dataclasses.field(default_factory=list)
     lacks: list[str] = dataclasses.field(default_factory=list)
     frees: int | None = None
+    becomes: bytes | None = None
+    writes: str | None = None
+    places: list[tuple[int, int, bytes]] = dataclasses.field(default_factory=list)
 
-    @property
-    def here(self) -> Files:
-        """The files of the host that are there behind the command."""
-        return {**self.before, **self.leaves}
+
+@dataclasses.dataclass
+class Row:
+    """Commands one behind another on an image, in a folder."""
+
+    name: str
+    steps: list[Step] = dataclasses.field(default_factory=list)
+    image: str = ""
+    lines: list[str] = dataclasses.field(default_factory=list)
 
 
 def word_of(word: str) -> str | bytes:
@@ -92,145 +118,215 @@ def word_of(word: str) -> str | bytes:
     return word if len(parts) == 1 else b"".join(bytes.fromhex(part) if at % 2 else part.encode() for at, part in enumerate(parts))
 
 
-def header_of(words: list[str]) -> dict[str, int | str | bytes]:
+def header_of(words: list[str]) -> Header:
     """Returns what a header says, by the names of its words."""
-    found: dict[str, int | str | bytes] = {}
+    found: Header = {}
     for name, _, value in (word.partition("=") for word in words):
-        found[name] = int(value, NUMBERS[name]) if name in NUMBERS else value if name == "name" else value.encode()
+        if name == "blocks":
+            found[name] = [int(lbn) for lbn in value.split(",") if lbn]
+            continue
+        found[name] = int(value, NUMBERS[name]) if name in NUMBERS else value if name == "name" else bytes.fromhex(value) if name == "attributes" else value.encode()
     return found
 
 
 class Reader:
-    """Reads the rows of a file; `contents` has bytes by their names."""
+    """Reads the rows of a file."""
 
-    def __init__(self, path: pathlib.Path, contents: Mapping[str, bytes]) -> None:
-        self.path, self.contents, self.rows = path, contents, list[Row]()
-        self.shared: list[Row] = []  # the rows that the lines here speak of
-        self.wants_command = False
-        lines = path.read_text("utf-8").split("\n")
-        begin = next((at for at, line in enumerate(lines) if line.startswith("== ")), len(lines))
-        for number, line in enumerate(lines[begin:], begin + 1):
+    def __init__(self, path: pathlib.Path, contents: Contents) -> None:
+        self.contents, self.rows = contents, list[Row]()
+        self.group: list[Row] = []  # the rows that the lines here speak of
+        for number, line, begins in lines_of(path.read_bytes().decode()):
+            if begins:
+                self.end()
             try:
-                self.read(line)
+                self.read(*line.partition(" ")[::2])
             except (KeyError, ValueError, SyntaxError, IndexError) as error:
                 raise ValueError(f"{path}:{number}: {line!r} is no line of a row: {error}") from error
         self.end()
 
-    def read(self, line: str) -> None:
-        """Reads a line."""
-        if line.startswith("#"):
-            return
-        if not line:
-            self.end()
-            return
-        word, _, rest = line.partition(" ")
-        if (word == "$") != self.wants_command:
-            raise ValueError("a command stands below a name")
-        self.wants_command = word == "=="
-        if word == "==":
-            self.shared.append(Row(rest))
-        elif word == "$":
-            program, *words = shlex.split(rest)
-            if program != "f11fs":
-                raise ValueError("a command is one of f11fs")
-            self.shared[-1].words = [word_of(word) for word in words]
-        else:
-            for row in self.shared:
-                self.add(row, word, rest)
-
     def end(self) -> None:
         """Ends the rows that share what was read."""
-        self.rows += self.shared
-        self.shared = []
+        self.rows += self.group
+        self.group, self.shared, self.last = [], list[Step](), "=="
+
+    def read(self, word: str, rest: str) -> None:
+        """Reads a line."""
+        last, self.last = self.last, word
+        if word == "==":
+            self.group.append(Row(rest))
+            if len(self.group) > 1:
+                self.group[-1].image, self.group[-1].lines = self.group[0].image, self.group[0].lines
+        elif word == "image":
+            for row in self.group:
+                row.image = rest
+        elif word == ":":
+            self.group[-1].lines.append(rest)
+        elif word == "$":
+            program, *words = shlex.split(rest)
+            if program not in ("f11fs", "f11", "headers"):
+                raise ValueError("a command is one of f11fs or f11")
+            self.add_step([program, *map(word_of, words)], last)
+        elif not self.shared:
+            raise ValueError("a command stands below a name")
+        else:
+            for step in self.shared:
+                self.add(step, word, rest)
+
+    def add_step(self, words: list[str | bytes], last: str) -> None:
+        """Adds a command: to the row whose name stands above, which shares what follows with the rows before it; or behind others, to all rows."""
+        if not self.group[-1].steps:
+            self.group[-1].steps.append(Step(words))
+            self.shared.append(self.group[-1].steps[-1])
+            return
+        if last != "$":
+            self.shared = []
+        for row in self.group:
+            row.steps.append(Step(words))
+            self.shared.append(row.steps[-1])
 
     def content_of(self, text: str) -> bytes:
         """Returns the bytes that a text in quotes or a name stands for."""
         if text.startswith('"'):
             return ast.literal_eval(f"b{text}")
         name, _, end = text.partition("[:")
-        return self.contents[name][: int(end.removesuffix("]")) if end else None]
+        return self.contents(name)[: int(end.removesuffix("]")) if end else None]
 
     def file_of(self, text: str) -> tuple[str, bytes | None]:
         """Returns a path with its bytes, or a folder."""
         path, found, content = text.partition(" = ")
         return (path, self.content_of(content)) if found else (path.removesuffix("/"), None)
 
-    def add(self, row: Row, word: str, rest: str) -> None:
-        """Adds to a row what a line says."""
-        if word == ">":
-            row.out, self.last = bytes_of(row.out) + f"{rest}\n".encode(), "out"
-        elif word == "!":
-            row.err, self.last = bytes_of(row.err) + f"{rest}\n".encode(), "err"
+    def add(self, step: Step, word: str, rest: str) -> None:
+        """Adds to a command what a line says."""
+        if word in (">", "!"):
+            self.say(step, word, f"{rest}\n".encode())
         elif word == "+":
-            setattr(row, self.last, bytes_of(getattr(row, self.last)).removesuffix(b"\n") + f"{rest}\n".encode())
-        elif word == ">~":
-            row.out = re.compile(rest.encode())
-        elif word == "!~":
-            row.err = re.compile(rest.encode())
+            self.last = self.said
+            self.say(step, self.said, f"{rest}\n".encode(), joined=True)
+        elif word in (">*", "<*"):
+            count, _, text = rest.partition(" ")
+            self.add(step, word[0], "\n".join(text.replace("#", str(number)) if word == ">*" else text for number in range(1, int(count) + 1)))
+        elif word in (">~", "!~"):
+            self.say(step, word[0], re.compile(rest.encode()))
         elif word == ">=":
-            row.out = self.content_of(rest)
+            step.outs[-1] = self.content_of(rest)
+        elif word == "or":
+            step.outs.append(b"")
         elif word == "status":
-            row.status = int(rest)
-        elif (word, rest) == ("any", "order"):
-            row.any_order = True
+            step.statuses = [int(status) for status in rest.split()]
+        elif (word, rest) in (("any", "order"), ("as", "above")):
+            setattr(step, f"{word}_{rest}", True)
         elif word == "archive":
-            row.archive = []
+            step.archive = []
         elif word in ("member", "record", "time"):
-            self.add_member(row, word, rest)
-        elif word in ("into", "image"):
-            setattr(row, word, rest)
+            self.add_member(step, word, rest)
+        elif word == "into":
+            step.into = rest
         elif word == "input":
-            row.input = self.content_of(rest)
+            step.input = self.content_of(rest)
+        elif word == "<":
+            step.scripts = step.scripts or [""]
+            step.scripts[-1] += f"{rest}\n"
+        elif word == "script":
+            step.scripts.append("")
         elif word == "with":
-            row.before.update([self.file_of(rest)])
+            step.before.update([self.file_of(rest)])
         elif word == "leaves":
-            row.leaves.update([self.file_of(rest)])
+            step.leaves.update([self.file_of(rest)])
+        elif word == "size":
+            path, _, count = rest.rpartition(" ")
+            step.sizes[path] = int(count)
+        elif word in ("bytes", "spoil"):
+            lbn, place, text = rest.split()
+            (step.places if word == "bytes" else step.spoils).append((int(lbn), int(place), bytes.fromhex(text)))
         else:
-            self.add_change(row, word, rest)
+            self.add_change(step, word, rest)
 
-    def add_member(self, row: Row, word: str, rest: str) -> None:
-        """Adds to a row what a line says of the archive that it prints."""
-        if row.archive is None:
+    def say(self, step: Step, sign: str, said: Said, joined: bool = False) -> None:
+        """Adds to what a command prints, or to its errors."""
+        self.said = sign
+        old = step.outs[-1] if sign == ">" else step.err
+        if not isinstance(said, re.Pattern):
+            if isinstance(old, re.Pattern):
+                raise ValueError("a pattern is of the whole")
+            said = (old.removesuffix(b"\n") if joined else old) + said
+        if sign == ">":
+            step.outs[-1] = said
+        else:
+            step.err = said
+
+    def add_member(self, step: Step, word: str, rest: str) -> None:
+        """Adds to a command what a line says of the archive that it prints."""
+        if step.archive is None:
             raise ValueError("a member is one of an archive")
         if word == "member":
             path, data = self.file_of(rest)
-            row.archive.append(Member(path, data or b""))
+            step.archive.append(Member(path, data or b""))
         elif word == "record":
             keyword, _, value = rest.partition("=")
-            row.archive[-1].records[keyword] = value
+            step.archive[-1].records[keyword] = value
         else:
-            row.archive[-1].stamp = rest
+            step.archive[-1].stamp = rest
 
-    def add_change(self, row: Row, word: str, rest: str) -> None:
-        """Adds to a row what a line says of the volume."""
-        row.changes = True
+    def add_change(self, step: Step, word: str, rest: str) -> None:
+        """Adds to a command what a line says of the volume."""
+        step.changes = True
         if word == "makes":
-            row.makes.update([self.file_of(rest)])
+            step.makes.update([self.file_of(rest)])
         elif word == "removes":
-            row.makes[rest] = None
+            step.makes[rest] = None
         elif word == "header":
             path, *words = rest.split(" ")
-            row.headers[path] = header_of(words)
+            step.headers.setdefault(path, {}).update(header_of(words))
         elif word == "directory":
-            row.has.append(rest)
+            step.has.append(rest)
         elif word == "no" and rest.startswith("directory "):
-            row.lacks.append(rest.removeprefix("directory "))
+            step.lacks.append(rest.removeprefix("directory "))
         elif word == "frees":
-            row.frees = int(rest)
+            step.frees = int(rest)
+        elif word == "becomes":
+            step.becomes = self.content_of(rest)
+        elif word == "writes":
+            step.writes = rest
         else:
             raise ValueError("no row has such a line")
 
 
-def bytes_of(said: Said) -> bytes:
-    """Returns what was said so far, which is no pattern."""
-    if isinstance(said, re.Pattern):
-        raise ValueError("a pattern is of the whole")
-    return said
+def lines_of(text: str) -> list[tuple[int, str, bool]]:
+    """Returns the lines that say something, with their numbers and whether one is the first of a group; a group with `each` is there for each value."""
+    lines = list(enumerate(text.split("\n"), 1))
+    lines = lines[next((at for at, (_, line) in enumerate(lines) if line.startswith("== ")), len(lines)) :]
+    found, group = [], list[tuple[int, str]]()
+    for number, line in [*lines, (0, "")]:
+        if line:
+            group.append((number, line))
+            continue
+        for value in next((shlex.split(line[5:]) for _, line in group if line.startswith("each ")), [None]):
+            kept = [(at, line) for at, line in group if not line.startswith(("#", "each "))]
+            found += [(at, line if value is None else filled(line, value), place == 0) for place, (at, line) in enumerate(kept)]
+        group = []
+    return found
 
 
-def rows_of(folder: str, contents: Mapping[str, bytes]) -> list[Row]:
+def filled(line: str, value: str) -> str:
+    """Returns a line of a row that is there for each value: the name has the value behind it."""
+    if line.startswith("== ") and "{" not in line:
+        return f"{line}: {value}"
+    for number, part in enumerate(value.split("|"), 1):
+        line = line.replace(f"{{{number}}}", part)
+    return line.replace("{}", value).replace("{0}", value.partition(" ")[0])
+
+
+def rows_of(folder: str, contents: Contents) -> list[Row]:
     """Returns the rows of the files of a folder of tests/rows."""
     rows = [row for path in sorted((ROWS / folder).glob("*.rows")) for row in Reader(path, contents).rows]
     if not rows:
         raise ValueError(f"{ROWS / folder} has no rows")
     return rows
+
+
+def f11_row(name: str) -> tuple[str, list[str], list[str]]:
+    """Returns of a row of f11 the lines that make its image, the words for f11 beside the image, the scripts and --out, and its scripts."""
+    [row] = [row for row in rows_of("f11", lambda name: b"") if row.name == f"f11: {name}"]
+    words = [word for word in row.steps[0].words[2:] if isinstance(word, str) and word not in ("--out", "new") and not word.startswith("script.")]
+    return "".join(f"{line}\n" for line in row.lines), words, row.steps[0].scripts

@@ -1,4 +1,4 @@
-//! INDEXF.SYS grows inside a request that needs more numbers than are free. What can be said as data is in examples/rows.
+//! INDEXF.SYS grows inside a request that needs more numbers than are free. What can be said as data is in tests/rows/f11.
 use super::growing::header_of;
 use super::rows::{create, dat, delete, id, made};
 use super::trial::{Trial, ask_quickly, has_totals, plays, start};

@@ -1,4 +1,4 @@
-//! Published sequences of Truncate, and cuts that trip. What can be said as data is in examples/rows.
+//! Published sequences of Truncate, and cuts that trip. What can be said as data is in tests/rows/f11.
 use super::cut_image::cut_image;
 use super::growing::{are_extended, header_of, two_in_turn};
 use super::rows::{
