@@ -3,6 +3,7 @@
 # A script sets `here` to its own folder before it reads this file.
 
 top=$(cd "$here/.." && pwd)
+program=${F11:-$top/f11}
 scratch=${TMPDIR:-/tmp}/f11-example.$$
 mkdir "$scratch" || exit 1
 trap 'rm -rf "$scratch"' EXIT
@@ -12,7 +13,7 @@ cd "$scratch" || exit 1
 f11() {
     printf '$ f11 %s\n' "$*"
     status=0
-    "$top/f11" "$@" || status=$?
+    "$program" "$@" || status=$?
     [ $status -eq 0 ] || printf '(status %d)\n' "$status"
 }
 
@@ -70,7 +71,7 @@ header() {
 # make_volume IMAGE: the sample volume, 40 blocks with five reserved files, which f11 has inside. The blocks from 22 on are free and hold
 # old bytes.
 make_volume() {
-    "$top/f11" --out "$1" >/dev/null
+    "$program" --out "$1" >/dev/null
 }
 
 # make_large IMAGE: the same with 512 blocks. The storage bitmap says of the new ones, too, that they are free.

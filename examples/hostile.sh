@@ -23,7 +23,7 @@ while [ $byte -lt 256 ]; do
     printf "STAT 4,4\\$(printf %03o $byte)\n"
     byte=$((byte + 1))
 done >bytes
-"$top/f11" good.dsk bytes | sed 's/^BAD .*/BAD/' | LC_ALL=C sort | uniq -c | awk '{ $1 = $1; print }'
+"$program" good.dsk bytes | sed 's/^BAD .*/BAD/' | LC_ALL=C sort | uniq -c | awk '{ $1 = $1; print }'
 
 echo '# every byte but the line feed, on one line'
 printf '%b' "$(awk 'BEGIN { for (i = 0; i < 256; i++) if (i != 10) printf "\\0%03o", i }')" >all

@@ -2,7 +2,7 @@
 # Runs each example and compares what it prints with the .out file beside it. The last line is 'N passed, M failed', and the status is 1
 # where one differs.
 here=$(cd "$(dirname "$0")" && pwd)
-"$here/../f11" --help >/dev/null || { echo '0 passed, 1 failed'; exit 1; }
+"${F11:-$here/../f11}" --help >/dev/null || { echo '0 passed, 1 failed'; exit 1; }
 passed=0
 failed=0
 for expected in "$here"/*.out; do

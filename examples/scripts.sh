@@ -4,7 +4,7 @@ here=$(cd "$(dirname "$0")" && pwd)
 . "$here/common.sh"
 
 f11() {
-    "$top/f11" "$@"
+    "$program" "$@"
 }
 sed -n '/^## Try it/,/^## The language/s/^    //p' "$top/docs/SCRIPTS.md" | sed 's/ *# .*//' >commands
 while read -r command; do

@@ -12,7 +12,7 @@ apart() {
 # The same, without the command line.
 apart_as() {
     status=0
-    "$top/f11" "$@" </dev/null >out 2>err || status=$?
+    "$program" "$@" </dev/null >out 2>err || status=$?
     shown
 }
 
@@ -23,7 +23,7 @@ onto() {
     printf '$ f11 %s >%s\n' "$*" "$file"
     : >out
     status=0
-    "$top/f11" "$@" </dev/null >"$file" 2>err || status=$?
+    "$program" "$@" </dev/null >"$file" 2>err || status=$?
     shown
 }
 
@@ -37,7 +37,7 @@ into_closed_pipe() {
     exec 4>pipe
     wait
     status=0
-    "$top/f11" "$@" </dev/null >&4 2>err || status=$?
+    "$program" "$@" </dev/null >&4 2>err || status=$?
     exec 4>&-
     shown
 }
@@ -80,7 +80,7 @@ printf '$ f11 (byte 255)\n'
 apart_as "$(printf '\377')"
 printf '$ f11 --header 0 2>/dev/full\n'
 status=0
-"$top/f11" --header 0 >out 2>/dev/full || status=$?
+"$program" --header 0 >out 2>/dev/full || status=$?
 : >err
 shown
 
