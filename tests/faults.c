@@ -3,8 +3,8 @@
    With TURN set, only writes to files that the program opened are counted, and the first byte of that one is another. With MEDDLE set to a path,
    only calls of fsync are counted, and before that one another program appends a byte to the file of this path.
    With FULL set no call is counted: so many bytes are written to files that the program opened, and then the disk is full.
-   What is asked of /proc is not counted, since it changes from run to run. It writes which call it was to the file FAILED. For LD_PRELOAD: see tests/faults,
-   tests/fs_faults and tests/trees. */
+   What is asked of /proc is not counted, since it changes from run to run. It writes which call it was to the file FAILED. For LD_PRELOAD: see
+   tests/faults and tests/trees. */
 #define _GNU_SOURCE
 #include <dlfcn.h>
 #include <errno.h>
@@ -18,7 +18,7 @@
 #include <sys/syscall.h>
 #include <unistd.h>
 
-static long left, room;
+static long left, room, threads;
 
 __attribute__((constructor)) static void begin(void) {
     const char *number = getenv("FAIL"), *bytes = getenv("FULL");
@@ -107,7 +107,7 @@ int open(const char *path, int flags, ...) {
 
 int pthread_create(pthread_t *thread, const pthread_attr_t *how, void *(*work)(void *), void *with) {
     int (*next)(pthread_t *, const pthread_attr_t *, void *(*)(void *), void *) = dlsym(RTLD_NEXT, "pthread_create");
-    return fails() && is_it("thread", 0) ? EAGAIN : next(thread, how, work, with);
+    return fails() && is_it("thread", ++threads) ? EAGAIN : next(thread, how, work, with);
 }
 
 /* Whether this call of those that save files is the one. */
@@ -128,19 +128,12 @@ int fsync(int file) {
 }
 
 int flock(int file, int how) { return saves("flock", how) ? -1 : syscall(SYS_flock, file, how); }
-
 off_t lseek(int file, off_t to, int from) { return saves("lseek", file) ? -1 : syscall(SYS_lseek, file, to, from); }
-
 int ftruncate(int file, off_t size) { return saves("ftruncate", file) ? -1 : syscall(SYS_ftruncate, file, size); }
-
 int rename(const char *from, const char *to) { return saves("rename", 0) ? -1 : syscall(SYS_rename, from, to); }
-
 int link(const char *from, const char *to) { return saves("link", 0) ? -1 : syscall(SYS_link, from, to); }
-
 int unlink(const char *path) { return saves("unlink", 0) ? -1 : syscall(SYS_unlink, path); }
-
 int fchown(int file, uid_t user, gid_t group) { return saves("fchown", file) ? -1 : syscall(SYS_fchown, file, user, group); }
-
 int fchmod(int file, mode_t mode) { return saves("fchmod", file) ? -1 : syscall(SYS_fchmod, file, mode); }
 
 int statx(int at, const char *path, int flags, unsigned mask, struct statx *found) {
