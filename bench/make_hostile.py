@@ -6,17 +6,14 @@ usage: make_hostile.py IMAGE one FILES         files that name one block
        make_hostile.py IMAGE dirs COUNT BLOCKS directories over the same blocks, full of names that name no file
        make_hostile.py IMAGE nested COUNT      directories one in another; the volume is sound
 """
-
-import struct
+import pathlib
 import sys
 from collections.abc import Callable
 
-from make_image import BLOCK, File, PROTECTION, Space, name_words, put_sum
-
-FIRST = 6
+from make_image import FIRST_NUMBER, SYSTEM, Volume, lines
 
 
-def base_40(number: int) -> str:
+def title(number: int) -> str:
     """A number as a name of nine characters."""
     text = ""
     while number:
@@ -25,119 +22,52 @@ def base_40(number: int) -> str:
     return text or "A"
 
 
-class Volume:
-    """A volume with the five reserved files and so many more."""
-
-    def __init__(self, files: int, blocks: int) -> None:
-        self.most_files = files + FIRST
-        self.index_size = -(-self.most_files // 4096)
-        self.index_blocks = 2 + self.index_size + self.most_files
-        room = self.index_blocks + blocks
-        self.map_blocks = 1 + -(-(room + room // 4096 + 2) // 4096)
-        self.size = room + self.map_blocks
-        self.image = bytearray(BLOCK * self.size)
-        self.space = Space(self.index_blocks + self.map_blocks, self.size)
-        self.held = set()
-        self.later = []
-        self.file(File(1, "INDEXF", "SYS", [(0, self.index_blocks)]))
-        self.file(File(2, "BITMAP", "SYS", [(self.index_blocks, self.map_blocks)]))
-        for number, name in ((3, "BADBLK"), (5, "CORIMG")):
-            self.file(File(number, name, "SYS", []))
-
-    def put(self, lbn: int, data: bytes | bytearray) -> None:
-        self.image[BLOCK * lbn : BLOCK * lbn + len(data)] = data
-
-    def file(self, file: File) -> None:
-        """Writes the header of a file, with an extension header where its pointers want one, and notes its blocks."""
-        self.held.update(lbn + at for lbn, count in file.pieces for at in range(count))
-        runs = file.runs()
-        parts = [runs[at : at + 102] for at in range(0, len(runs), 102)] or [[]]
-        numbers = [file.number] + [self.extension() for _ in parts[1:]]
-        for place, part in enumerate(parts):
-            following = (numbers[place + 1], file.sequence()) if place + 1 < len(parts) else (0, 0)
-            self.put(1 + self.index_size + numbers[place], file.header(numbers[place], file.sequence(), place, following, part))
-            self.image[2 * BLOCK + (numbers[place] - 1) // 8] |= 1 << (numbers[place] - 1) % 8
-
-    def extension(self) -> int:
-        """A header that no file has; the greatest ones are taken."""
-        self.later.append(self.most_files - len(self.later))
-        return self.later[-1]
-
-    def directory(self, number: int, name: str, entries: list[bytes], pieces: list[tuple[int, int]] | None = None) -> None:
-        """A directory with these entries, in these blocks or new ones."""
-        data = b"".join(entries)
-        if pieces is None:
-            pieces = [self.space.take(-(-len(data) // BLOCK))] if data else []
-        if pieces:
-            self.put(pieces[0][0], data)
-        self.file(File(number, name, "DIR", pieces, len(data)))
-
-    def bytes(self) -> bytearray:
-        home = bytearray(BLOCK)
-        struct.pack_into("<7H", home, 0, self.index_size, 0, 2, self.most_files, 1, 0, 0o401)
-        struct.pack_into("<H", home, 36, PROTECTION)
-        put_sum(home, 29)
-        home[496:508] = b"DECFILE11A  "
-        put_sum(home, 255)
-        self.put(1, home)
-        at = BLOCK * (self.index_blocks + 1)
-        for lbn in range(self.size):
-            if lbn not in self.held:
-                self.image[at + lbn // 8] |= 1 << lbn % 8
-        return self.image
+def volume_for(files: int, blocks: int) -> Volume:
+    """A volume with room for so many files, and for so many blocks. The greatest numbers are those of extension headers."""
+    most = files + FIRST_NUMBER
+    size = most + most // 4096 + 3 + blocks
+    return Volume(size + size // 4095 + 2, most, range(most, 0, -1))
 
 
-def entry(number: int, sequence: int, name: str, kind: str, version: int = 1) -> bytes:
-    return struct.pack("<8H", number, sequence, 0, *name_words(name, kind, version))
-
-
-def same_blocks(count: int, block_of: Callable[[int], int]) -> bytearray:
+def same_blocks(count: int, block_of: Callable[[int], int]) -> bytes:
     """Files that the master directory names; each has one block, the one that `block_of` says of its number."""
-    volume = Volume(count, count // 32 + 2 + count // 2 + 1)
-    files = [File(FIRST + place, base_40(place), "DAT", [(0, 1)]) for place in range(count)]
-    reserved = [entry(number, number, *text) for number, text in ((1, ("INDEXF", "SYS")), (2, ("BITMAP", "SYS")), (4, ("000000", "DIR")))]
-    volume.directory(4, "000000", reserved + [file.entry() for file in files])
-    first, _ = volume.space.take(count // 2)
-    for place, file in enumerate(files):
-        file.pieces = [(first + block_of(place), 1)]
-        volume.file(file)
+    volume = volume_for(count, count // 32 + 2 + count // 2 + 1)
+    names = [f"{title(place)}.DAT;1" for place in range(count)]
+    volume.directory(4, "000000.DIR;1", *SYSTEM, *((text, FIRST_NUMBER + place, 1) for place, text in enumerate(names)))
+    first = volume.take(count // 2).start
+    for place, text in enumerate(names):
+        volume.file(FIRST_NUMBER + place, text, None, [first + block_of(place)], kind=0)
     return volume.bytes()
 
 
-def same_directories(count: int, blocks: int) -> bytearray:
+def same_directories(count: int, blocks: int) -> bytes:
     """Directories over the same blocks, each entry of which names a file that is not there."""
-    volume = Volume(count + 8, blocks + 8)
-    names = [entry(30000, 9, base_40(number), "DAT") for number in range(32 * blocks)]
-    place = volume.space.take(blocks)
-    volume.directory(4, "000000", [entry(FIRST + number, 1, base_40(number), "DIR") for number in range(count)])
+    volume = volume_for(count + 8, blocks + 8)
+    names, places = lines((f"{title(number)}.DAT;1", 30000, 9) for number in range(32 * blocks)), volume.take(blocks)
+    volume.directory(4, "000000.DIR;1", *((f"{title(number)}.DIR;1", FIRST_NUMBER + number, 1) for number in range(count)))
     for number in range(count):
-        volume.directory(FIRST + number, base_40(number), names, [place])
+        volume.file(FIRST_NUMBER + number, f"{title(number)}.DIR;1", names, places, kind=1, size=16)
     return volume.bytes()
 
 
-def nested(count: int) -> bytearray:
+def nested(count: int) -> bytes:
     """Directories of which each names the next one."""
-    volume = Volume(count, count + 8)
-    volume.directory(4, "000000", [entry(FIRST, 1, base_40(0), "DIR")])
-    for place in range(count):
-        inner = [entry(FIRST + place + 1, 1, base_40(place + 1), "DIR")] if place + 1 < count else []
-        volume.directory(FIRST + place, base_40(place), inner)
+    volume, names = volume_for(count, count + 8), [f"{title(place)}.DIR;1" for place in range(count)]
+    for place, text in enumerate(["000000.DIR;1", *names]):
+        volume.directory(FIRST_NUMBER + place - 1 if place else 4, text, *((name, FIRST_NUMBER + place, 1) for name in names[place : place + 1]))
     return volume.bytes()
 
 
 def main() -> None:
-    _, image, kind, *counts = sys.argv
-    counts = [int(count) for count in counts]
-    if kind == "one":
-        data = same_blocks(counts[0], lambda _: 0)
-    elif kind == "pairs":
-        data = same_blocks(counts[0], lambda place: place % (counts[0] // 2))
-    elif kind == "dirs":
-        data = same_directories(*counts)
-    else:
-        data = nested(*counts)
-    with open(image, "wb") as out:
-        out.write(data)
+    _, image, kind, *words = sys.argv
+    counts = [int(word) for word in words]
+    makers: dict[str, Callable[..., bytes]] = {
+        "one": lambda files: same_blocks(files, lambda _: 0),
+        "pairs": lambda files: same_blocks(files, lambda place: place % (files // 2)),
+        "dirs": same_directories,
+        "nested": nested,
+    }
+    pathlib.Path(image).write_bytes(makers[kind](*counts))
 
 
 if __name__ == "__main__":

@@ -1,4 +1,4 @@
-//! The measure for scripts: serves the loads of make_load.py as `f11` does, in plain Rust, and prints the same. A session in a thread of its own asks a
+//! The measure for scripts: serves the loads of loads.py as `f11` does, in plain Rust, and prints the same. A session in a thread of its own asks a
 //! desk under a lock. The desk has the list of accepted requests, the image as it was mounted and as it is, and where a script has a VIEW two versions
 //! for readers, of which one is shown. At the end the list is compared with the sessions' calls. Blocks of requests and answers are shared.
 //! It checks of an image and of a line what these loads need, and knows no headers past 16 and no chains of several headers.

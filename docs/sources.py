@@ -76,14 +76,9 @@ class Definition:
         return self.lines[self.head - self.first:]
 
 
-def starts_definition(line: str) -> re.Match[str] | None:
-    """Says whether a line of specs/ begins a definition: with the words of one that others may cite, or with a name and its type."""
-    return re.match(rf"(abbrev|unfoldable|record|data) |pub (?!use |mod )|{WORD} :(?= )", line)
-
-
-def comment_above(lines: list[str], at: int, mark: str) -> int:
-    """Returns the first of the lines of comment that stand directly above a line."""
-    while at and lines[at - 1].lstrip().startswith(mark):
+def comment_above(lines: list[str], at: int, mark: str = r" *(///|//(?!!)|#\[)") -> int:
+    """Returns the first of the lines of comment, or of attributes, that stand directly above a line."""
+    while at and re.match(mark, lines[at - 1]):
         at -= 1
     return at
 
@@ -92,8 +87,9 @@ def comment_above(lines: list[str], at: int, mark: str) -> int:
 def definitions(file: pathlib.Path) -> dict[str, Definition]:
     """Returns the definitions of a file of specs/ by name, in their order."""
     lines = lines_of(file)
-    heads = [at for at, line in enumerate(lines) if starts_definition(line)]
-    firsts = [comment_above(lines, head, "--") for head in heads]
+    # With the words of a definition that others may cite, or with a name and its type.
+    heads = [at for at, line in enumerate(lines) if re.match(rf"(abbrev|unfoldable|record|data) |pub (?!use |mod )|{WORD} :(?= )", line)]
+    firsts = [comment_above(lines, head, r"\s*--") for head in heads]
     found = {}
     for head, first, last in zip(heads, firsts, firsts[1:] + [len(lines)]):
         name = re.match(rf"(?:(?:abbrev|unfoldable|pub|record|data) )*({WORD})", lines[head])[1]
@@ -133,23 +129,19 @@ def split_commas(text: str) -> list[str]:
     return [part.strip() for part in parts if part.strip()]
 
 
+def uses_in(lines: list[str], form: str) -> dict[str, str]:
+    """Returns what these lines import in a form: the path of each name."""
+    return dict(pair for row in re.findall(form, "\n".join(lines), re.M) for pair in split_uses(row))
+
+
 @functools.cache
 def spec_uses(file: pathlib.Path) -> dict[str, str]:
     """Returns what a file of specs/ imports: the path of each name."""
-    rows = (re.match(r"(?:pub )?use (.*)", line) for line in lines_of(file))
-    return dict(pair for row in rows if row for pair in split_uses(row[1]))
+    return uses_in(lines_of(file), r"^(?:pub )?use (.*)")
 
 
-def ghost_uses(lines: list[str]) -> dict[str, str]:
-    """Returns what these lines of src/ import for contracts."""
-    text = "\n".join(lines)
-    return dict(pair for row in re.findall(r"ghost use ([^;]*);", text) for pair in split_uses(row))
-
-
-def rust_uses(lines: list[str]) -> dict[str, str]:
-    """Returns what these lines of src/ import for the code."""
-    text = "\n".join(lines)
-    return dict(pair for row in re.findall(r"^ *(?:pub )?use ([^;]*);", text, re.M) for pair in split_uses(row))
+# What lines of src/ import for contracts, and for the code.
+GHOST, RUST = r"ghost use ([^;]*);", r"^ *(?:pub )?use ([^;]*);"
 
 
 ITEM = re.compile(r"(?:pub(?:\(crate\))? )?(?:const |unsafe )*(struct|enum|trait|const|type|fn) (\w+)")
@@ -165,17 +157,10 @@ def items(file: pathlib.Path) -> list[Definition]:
         said = ITEM.match(line)
         if said or impl:
             last = end_of_item(lines, head)
-            first = comment_above_item(lines, head)
+            first = comment_above(lines, head)
             kind = f"impl {impl[1] or ''}".strip() if impl else said[1]
             found.append(Definition(file, impl[2] if impl else said[2], first, last, head, kind))
     return found
-
-
-def comment_above_item(lines: list[str], at: int) -> int:
-    """Returns the first of the lines of comment and of attributes that stand directly above an item."""
-    while at and re.match(r" *(///|//|#\[)", lines[at - 1]) and not lines[at - 1].startswith("//!"):
-        at -= 1
-    return at
 
 
 def end_of_item(lines: list[str], head: int) -> int:
@@ -195,7 +180,7 @@ def methods(impl: Definition) -> list[Definition]:
     for head in range(impl.head + 1, impl.head + len(impl.body)):
         said = METHOD.match(lines[head])
         if said:
-            found.append(Definition(impl.file, said[1], comment_above_item(lines, head), end_of_item(lines, head), head, "fn"))
+            found.append(Definition(impl.file, said[1], comment_above(lines, head), end_of_item(lines, head), head, "fn"))
     return found
 
 
@@ -241,18 +226,15 @@ def first_sentence(text: str) -> str:
 
 def source_of(crate: str, module: str) -> pathlib.Path | None:
     """Returns the file of src/ that has a module of a crate."""
-    folder = CRATES / crate / "src"
-    for name in (module.replace("::", "/").replace(".", "/") + ".rt", module.replace("::", "/").replace(".", "/") + "/mod.rt"):
-        if (folder / name).is_file():
-            return folder / name
-    return None
+    place = CRATES / crate / "src" / re.sub(r"::|\.", "/", module)
+    return next((file for file in (place.with_suffix(".rt"), place / "mod.rt") if file.is_file()), None)
 
 
 @functools.cache
 def handed_out(crate: str) -> dict[str, tuple[str, str | None]]:
     """Returns what the lib.rt of a crate hands out: for each name the module and the name there; a public module stands for itself."""
     lines = lines_of(CRATES / crate / "src" / "lib.rt")
-    uses = rust_uses([line for line in lines if not line.startswith("use ")])
+    uses = uses_in([line for line in lines if not line.startswith("use ")], RUST)
     found = {name: path.removeprefix("crate::").rpartition("::")[::2] for name, path in uses.items()}
     return found | {row[1]: (row[1], None) for row in (re.match(r"pub mod (\w+);", line) for line in lines) if row}
 
@@ -264,14 +246,9 @@ def without_comments(lines: list[str]) -> str:
     return "\n".join(re.sub(r'--(?= |$).*|//.*|"[^"]*"', "", line) for line in lines)
 
 
-def without_labels(text: str) -> str:
-    """Takes out the names of fields that are given a value."""
-    return re.sub(rf"([{{;]\s*){WORD} = ", r"\1", text)
-
-
 def words_in(text: str) -> list[tuple[str, str]]:
-    """Returns the names in a text, each with what stands behind its first dot."""
-    return re.findall(rf"(?<![\w.'-])({WORD})((?:\.{WORD})*)", without_labels(text))
+    """Returns the names in a text, each with what stands behind its first dot; the names of fields that are given a value are left out."""
+    return re.findall(rf"(?<![\w.'-])({WORD})((?:\.{WORD})*)", re.sub(rf"([{{;]\s*){WORD} = ", r"\1", text))
 
 
 def has_operator(name: str, text: str) -> bool:
@@ -307,8 +284,8 @@ def behind_alias(path: str, rest: str) -> str:
 def names_in_clauses(file: pathlib.Path, lines: list[str], inner: list[str]) -> list[Definition | Kit]:
     """Returns what lines of src/ name: by the imports for contracts, those of `inner` too, and by those of the code."""
     outer = [line for line in lines_of(file) if not line.startswith(" ")]
-    ghosts = ghost_uses(outer) | ghost_uses(inner)
-    uses = rust_uses([line for line in outer if "ghost" not in line])
+    ghosts = uses_in(outer, GHOST) | uses_in(inner, GHOST)
+    uses = uses_in([line for line in outer if "ghost" not in line], RUST)
     text = re.sub(r"ghost use [^;]*;|#\[.*", "", without_comments(lines))
     found = []
     for word, rest in words_in(text.replace("::", " ")):

@@ -25,7 +25,7 @@ show() {
 
 # show_page PAGE: runs the commands of the first block of a page, and shows each with what it prints, as comments, as the page does.
 show_page() {
-    printf '#!/bin/sh\nexec "%s/f11fs" "$@"\n' "$top" >f11fs
+    printf '#!/bin/sh\nexec "%s" "$@"\n' "${F11FS:-$top/f11fs}" >f11fs
     chmod +x f11fs
     mkdir examples
     cp "$top/examples/sample.dsk" examples/

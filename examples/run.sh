@@ -1,6 +1,6 @@
 #!/bin/sh
-# Runs each example and compares what it prints with the .out file beside it. The last line is 'N passed, M failed', and the status is 1
-# where one differs.
+# Runs each example, and compares its output with its .out file. The last line is 'N passed, M failed', and the status is 1
+# if one differs.
 here=$(cd "$(dirname "$0")" && pwd)
 "${F11:-$here/../f11}" --help >/dev/null || { echo '0 passed, 1 failed'; exit 1; }
 passed=0

@@ -3,17 +3,19 @@
 here=$(cd "$(dirname "$0")" && pwd)
 . "$here/common.sh"
 
-# Runs f11 and shows its streams and its status: apart WORD..
-apart() {
-    printf '$ f11 %s\n' "$*"
-    apart_as "$@"
+# Runs f11 with its output to descriptor 4, and shows its streams and its status: run WORD..
+run() {
+    status=0
+    "$program" "$@" </dev/null >&4 2>err || status=$?
+    exec 4>&-
+    shown
 }
 
-# The same, without the command line.
-apart_as() {
-    status=0
-    "$program" "$@" </dev/null >out 2>err || status=$?
-    shown
+# The same, with the command line: apart WORD..
+apart() {
+    printf '$ f11 %s\n' "$*"
+    exec 4>out
+    run "$@"
 }
 
 # The same, with standard output onto this file: onto FILE WORD..
@@ -22,9 +24,8 @@ onto() {
     shift
     printf '$ f11 %s >%s\n' "$*" "$file"
     : >out
-    status=0
-    "$program" "$@" </dev/null >"$file" 2>err || status=$?
-    shown
+    exec 4>"$file"
+    run "$@"
 }
 
 # The same, with standard output into a pipe that its reader has closed.
@@ -36,10 +37,7 @@ into_closed_pipe() {
     : <pipe &
     exec 4>pipe
     wait
-    status=0
-    "$program" "$@" </dev/null >&4 2>err || status=$?
-    exec 4>&-
-    shown
+    run "$@"
 }
 
 shown() {
@@ -77,7 +75,8 @@ apart --header 1 --header 2
 apart --nope
 apart good.dsk other.dsk
 printf '$ f11 (byte 255)\n'
-apart_as "$(printf '\377')"
+exec 4>out
+run "$(printf '\377')"
 printf '$ f11 --header 0 2>/dev/full\n'
 status=0
 "$program" --header 0 >out 2>/dev/full || status=$?

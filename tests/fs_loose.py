@@ -5,12 +5,23 @@
 import dataclasses
 import functools
 import struct
+from collections.abc import Sequence
 
-from fs_reader import BLOCK, name_text, words
-
+BLOCK = 512
+CODES = " ABCDEFGHIJKLMNOPQRSTUVWXYZ$&%0123456789"
 # An entry of a directory: the number and the sequence number that it names, and the five words of its name.
 Line = tuple[int, int, tuple[int, ...]]
 DIRECTORY = 1600 * 4 + 40 * 9 + 18  # DIR, as one word
+
+
+def words(data: bytes, at: int, count: int) -> tuple[int, ...]:
+    return struct.unpack_from(f"<{count}H", data, at)
+
+
+def text_of(name: Sequence[int]) -> str:
+    """A name by its words, as NOTES.TXT;2: three of a name, one of a type and the version."""
+    letters = "".join(CODES[code // 1600] + CODES[code // 40 % 40] + CODES[code % 40] for code in name[:4])
+    return f"{letters[:9].rstrip()}.{letters[9:].rstrip()};{name[4]}"
 
 
 @dataclasses.dataclass(frozen=True)
@@ -209,11 +220,6 @@ class Loose:
 def is_good(line: Line) -> bool:
     """Whether the words of an entry spell a name with a version."""
     return all(word < 64_000 for word in line[2][:4]) and 0 < line[2][4] <= 0o77777
-
-
-def text_of(name: tuple[int, ...]) -> str:
-    """A name by its words, as NOTES.TXT;2."""
-    return name_text(name)
 
 
 def runs_of(numbers: list[int]) -> list[tuple[int, int]]:

@@ -6,21 +6,17 @@ import dataclasses
 import random
 import struct
 
-from fs_image import BLOCK, MAP_PLACE, MOST_FILES, Entry, Volume, attributes, name, put_sum
+from fs_image import BLOCK, MAP_PLACE, MOST_FILES, SYSTEM, Entry, Volume, attributes, changed, lines
 from fs_loose import Loose
 
 LETTERS = "ABCDEFGHIJKLMNOPQRSTUVWXYZ0123456789$%&"
-SYSTEM = [("INDEXF.SYS;1", 1, 1), ("BITMAP.SYS;1", 2, 2), ("BADBLK.SYS;1", 3, 3), ("000000.DIR;1", 4, 4), ("CORIMG.SYS;1", 5, 5)]
 LOST = "001003.DIR;1"
 
 
 def patch(image: bytearray, lbn: int, at: int, data: bytes, has_sum: bool = True) -> None:
     """Puts bytes into a block, and where it is a header makes its sum right."""
-    block = image[BLOCK * lbn : BLOCK * (lbn + 1)]
-    block[at : at + len(data)] = data
-    if has_sum:
-        put_sum(block, 255)
-    image[BLOCK * lbn : BLOCK * (lbn + 1)] = block
+    place = slice(BLOCK * lbn, BLOCK * (lbn + 1))
+    image[place] = changed(bytes(image[place]), 0, at, data, has_sum)
 
 
 def set_bit(image: bytearray, lbn: int, bit: int, value: bool) -> None:
@@ -110,14 +106,14 @@ class Maker:
 
     def write_directories(self) -> None:
         """Writes the directories: their entries in any order, empty ones between them, and in some a used one behind the end."""
-        for number, lines in self.lines.items():
+        for number, entries in self.lines.items():
             pick = self.pick
-            slots = lines + [None] * pick.choice((0, 0, 1, 3))
+            slots = entries + [None] * pick.choice((0, 0, 1, 3))
             pick.shuffle(slots)
-            data = b"".join(bytes(16) if line is None else struct.pack("<8H", line[1], line[2], 0, *name(line[0])) for line in slots)
+            data = lines(slots)
             end = len(data)
             if pick.random() < 0.1:
-                data += struct.pack("<8H", pick.choice((3, 99)), 3, 0, *name("HIDDEN.TXT;1"))
+                data += lines([("HIDDEN.TXT;1", pick.choice((3, 99)), 3)])
             places = self.take(max(-(-len(data) // BLOCK), pick.choice((0, 1, 1, 2))))
             self.add_chain(number, self.names[number], data, places, 1, size=16, end=end)
 

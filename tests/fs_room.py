@@ -17,6 +17,11 @@ STAMP = "24NOV85093000"
 NOBODY = 65534
 
 
+def files_of(folder: pathlib.Path) -> dict[str, bytes | None]:
+    """The files below a folder of the host by their paths, and its folders, which have no bytes."""
+    return {str(path.relative_to(folder)): path.read_bytes() if path.is_file() else None for path in folder.rglob("*")}
+
+
 class Folder:
     """What a test does in its folder."""
 
@@ -37,6 +42,17 @@ class Folder:
         how = {"stdin": None if "input" in more else subprocess.DEVNULL, "capture_output": True, "cwd": self.folder, "timeout": 120, **more}
         ran = subprocess.run([self.program, *words], **how)
         return ran.returncode, ran.stdout, ran.stderr
+
+    def does(self, *words: str | bytes, **more: Any) -> bytes:
+        """These words are obeyed, and nothing is said; what is printed."""
+        status, out, err = self.f11fs(*words, **more)
+        equal((status, err), (0, b""), f"{words}")
+        return out
+
+    def is_sound(self, *names: str) -> None:
+        """check --all has nothing to tell of these images, or of the one."""
+        for name in names or ("disk",):
+            equal(self.f11fs(name, "check", "--all"), (0, b"sound\n", b""), f"check of {name}")
 
     def names(self) -> list[str]:
         return sorted(path.name for path in self.folder.iterdir())
@@ -69,12 +85,6 @@ class Disk(Folder, harness.Case):
         self.program, self.f11 = harness.programs
         self.lay(getattr(getattr(self, self._testMethodName), "image", lambda: volume_named("plain"))())
 
-    def does(self, *words: str | bytes, **more: Any) -> bytes:
-        """These words are obeyed, and nothing is said; what is printed."""
-        status, out, err = self.f11fs(*words, **more)
-        self.assertEqual((status, err), (0, b""), words)
-        return out
-
     def refuses(self, status: int, why: str | re.Pattern[bytes], *words: str | bytes, **more: Any) -> None:
         """These words are refused with this line, or one of this pattern, and nothing is touched."""
         names = self.names()
@@ -90,10 +100,6 @@ class Disk(Folder, harness.Case):
             self.assertTrue(expected.fullmatch(found), f"{what}: {found!r:.500}, not {expected.pattern!r:.500}")
         else:
             self.assertEqual(found.decode(), expected, what)
-
-    def is_sound(self, name: str = "disk") -> None:
-        """check --all has nothing to tell."""
-        self.assertEqual(self.f11fs(name, "check", "--all"), (0, b"sound\n", b""), "check")
 
     def write(self, files: dict[str, bytes]) -> None:
         """Makes files of the host, with their folders."""

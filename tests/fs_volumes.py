@@ -286,21 +286,11 @@ def record_volume() -> bytes:
     return volume.bytes()
 
 
-def named_volume() -> bytes:
-    """A volume with the directories [1,2] and [A]."""
+def named_volume(**more: Any) -> bytes:
+    """A volume with the directories [1,2] and [A], the first with these further attributes."""
     volume = Volume()
     volume.directory(4, "000000.DIR;1", *entries(f"000000.DIR;1 4,4 001002.DIR;1 6,1 A.DIR;1 7,1 {RESERVED}"))
-    volume.directory(6, "001002.DIR;1", ("NOTES.TXT;1", 9, 1))
-    volume.directory(7, "A.DIR;1")
-    volume.file(9, "NOTES.TXT;1", variable(b"one"), control=2, size=3)
-    return volume.bytes()
-
-
-def hiding_volume() -> bytes:
-    """The same, where the end mark of [1,2] is 0, and its entry stands behind it."""
-    volume = Volume()
-    volume.directory(4, "000000.DIR;1", *entries(f"000000.DIR;1 4,4 001002.DIR;1 6,1 A.DIR;1 7,1 {RESERVED}"))
-    volume.directory(6, "001002.DIR;1", ("NOTES.TXT;1", 9, 1), attr=attributes(1, 0, 16, 1, 0)[:8] + bytes(24))
+    volume.directory(6, "001002.DIR;1", ("NOTES.TXT;1", 9, 1), **more)
     volume.directory(7, "A.DIR;1")
     volume.file(9, "NOTES.TXT;1", variable(b"one"), control=2, size=3)
     return volume.bytes()
@@ -417,9 +407,6 @@ def sized(size: int, said: int | None = None, count: int | None = None) -> bytes
     """A sound volume of so many blocks, whose storage control block says its size, or another one, or another count of the bitmap's blocks."""
     maps = -(-size // 4096)
     volume = Volume(size)
-    volume.next = MAP_PLACE + 1 + maps
-    volume.put(MAP_PLACE, bytes(BLOCK * (1 + maps)))
-    volume.file(2, "BITMAP.SYS;1", places=range(MAP_PLACE, volume.next), kind=1, data=None)
     volume.directory(4, "000000.DIR;1", *entries(f"000000.DIR;1 4,4 001002.DIR;1 6,1 {RESERVED}"))
     volume.directory(6, "001002.DIR;1", ("NOTES.TXT;1", 9, 1))
     volume.file(9, "NOTES.TXT;1", variable(b"first"), control=2, size=5)
@@ -543,7 +530,7 @@ def holes_volume() -> Volume:
 NAMED: dict[str, Callable[[], bytes]] = {
     "records": record_volume,
     "named": named_volume,
-    "hiding": hiding_volume,
+    "hiding": lambda: named_volume(attr=attributes(1, 0, 16, 1, 0)[:8] + bytes(24)),  # the end mark of [1,2] is 0, and its entry stands behind it
     "labelled": labelled,
     "labelled-spoiled": labelled_and_spoiled,
     "labelled-simh": lambda: labelled() + b"simh" + bytes(508),

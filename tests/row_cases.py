@@ -12,23 +12,12 @@ import time
 import harness
 from fs_image import changed
 from fs_reader import Reader
+from fs_room import OLD, STAMP, files_of
 from fs_volumes import CONTENTS, volume_named
-from row_files import Files, Member, Row, Said, Step, rows_of
+from row_files import Files, Member, Row, Said, Step, make, rows_of
 
-TOP = pathlib.Path(__file__).resolve().parent.parent
-OLD = 1_000_000_000  # when images were written, in seconds
-STAMP = "24NOV85093000"
-# For the lines of sh that make an image of f11.
-MAKING = """here="$TOP/examples"; . "$here/common.sh"; top=$PROGRAMS; cd "$FOLDER" || exit 1
-image=disk; v40() { make_volume "$image"; }; v512() { make_large "$image"; }; file() { header "$image" "$@"; }
-"""
 # Commands whose files get dates, which have to be known.
 DATED = {"put", "cp", "mkdir", "repair", "untar", "init"}
-
-
-def tree(folder: pathlib.Path) -> Files:
-    """The files below a folder, and its folders, which have no bytes."""
-    return {str(path.relative_to(folder)): path.read_bytes() if path.is_file() else None for path in folder.rglob("*")}
 
 
 def fits(said: bytes, expected: list[Said], any_order: bool) -> bool:
@@ -86,9 +75,8 @@ class Judge:
         self.disk, self.out = folder / "disk", b""
         folder.mkdir()
         if row.lines:
-            how = {**os.environ, "TOP": str(TOP), "PROGRAMS": str(programs), "FOLDER": str(folder)}
-            subprocess.run(["sh", "-c", MAKING + "\n".join(row.lines)], env=how, check=True, stdin=subprocess.DEVNULL)
-            self.here = {path: data for path, data in tree(folder).items() if path != "disk"}
+            make(row.lines, programs, folder / "disk")
+            self.here = {path: data for path, data in files_of(folder).items() if path != "disk"}
         elif row.image != "none" and (row.image or any("disk" in step.words for step in row.steps)):
             self.disk.write_bytes(volume_named(row.image or "plain"))
 
@@ -146,7 +134,7 @@ class Judge:
 
     def looked_at(self, step: Step, out: bytes) -> list[str]:
         """Returns what differs of the files of the host and of the volumes."""
-        wrong, found = [], tree(self.folder)
+        wrong, found = [], files_of(self.folder)
         written = step.writes or ("new" if step.words[0] == "f11" and "--out" in step.words and step.statuses == [0] else None)
         if written and written in found:
             self.here[written] = found[written]

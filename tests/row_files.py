@@ -47,12 +47,18 @@ A CONTENT is a text in double quotes with the escapes of Python, or a name of fs
 """
 import ast
 import dataclasses
+import os
 import pathlib
 import re
 import shlex
+import subprocess
 from collections.abc import Callable
 
 ROWS = pathlib.Path(__file__).resolve().parent / "rows"
+# For the lines of sh that make an image of f11.
+MAKING = """here="$TOP/examples"; image=$IMAGE; folder=$PWD; . "$here/common.sh"; top=$PROGRAMS; cd "$folder" || exit 1
+v40() { make_volume "$image"; }; v512() { make_large "$image"; }; file() { header "$image" "$@"; }
+"""
 # What a command prints, or writes to standard error: bytes, or a pattern of the whole.
 Said = bytes | re.Pattern[bytes]
 # Files of a host by their paths; a folder has no bytes.
@@ -129,6 +135,11 @@ def header_of(words: list[str]) -> Header:
     return found
 
 
+def spot_of(lbn: str, place: str, data: str) -> tuple[int, int, bytes]:
+    """Returns a block, a place of it and bytes."""
+    return int(lbn), int(place), bytes.fromhex(data)
+
+
 class Reader:
     """Reads the rows of a file."""
 
@@ -140,7 +151,7 @@ class Reader:
                 self.end()
             try:
                 self.read(*line.partition(" ")[::2])
-            except (KeyError, ValueError, SyntaxError, IndexError) as error:
+            except (KeyError, ValueError, TypeError, AttributeError, SyntaxError, IndexError) as error:
                 raise ValueError(f"{path}:{number}: {line!r} is no line of a row: {error}") from error
         self.end()
 
@@ -198,6 +209,7 @@ class Reader:
 
     def add(self, step: Step, word: str, rest: str) -> None:
         """Adds to a command what a line says."""
+        step.changes |= word in CHANGES
         if word in (">", "!"):
             self.say(step, word, f"{rest}\n".encode())
         elif word == "+":
@@ -210,37 +222,27 @@ class Reader:
             self.say(step, word[0], re.compile(rest.encode()))
         elif word == ">=":
             step.outs[-1] = self.content_of(rest)
-        elif word == "or":
-            step.outs.append(b"")
-        elif word == "status":
-            step.statuses = [int(status) for status in rest.split()]
-        elif (word, rest) in (("any", "order"), ("as", "above")):
-            setattr(step, f"{word}_{rest}", True)
-        elif word == "archive":
-            step.archive = []
-        elif word in ("member", "record", "time"):
-            self.add_member(step, word, rest)
-        elif word == "into":
-            step.into = rest
-        elif word == "input":
-            step.input = self.content_of(rest)
         elif word == "<":
             step.scripts = step.scripts or [""]
             step.scripts[-1] += f"{rest}\n"
-        elif word == "script":
-            step.scripts.append("")
-        elif word == "with":
-            step.before.update([self.file_of(rest)])
-        elif word == "leaves":
-            step.leaves.update([self.file_of(rest)])
-        elif word == "size":
-            path, _, count = rest.rpartition(" ")
-            step.sizes[path] = int(count)
-        elif word in ("bytes", "spoil"):
-            lbn, place, text = rest.split()
-            (step.places if word == "bytes" else step.spoils).append((int(lbn), int(place), bytes.fromhex(text)))
+        elif (word, rest) in (("any", "order"), ("as", "above")):
+            setattr(step, f"{word}_{rest}", True)
+        elif word == "record":
+            step.archive[-1].records.update([rest.split("=", 1)])
+        elif word == "time":
+            step.archive[-1].stamp = rest
+        elif word == "header":
+            path, *words = rest.split(" ")
+            step.headers.setdefault(path, {}).update(header_of(words))
+        elif word in SET:
+            part, read = SET[word]
+            setattr(step, part, read(self, rest))
+        elif word in APPENDED:
+            part, read = APPENDED[word]
+            getattr(step, part).append(read(self, rest))
         else:
-            self.add_change(step, word, rest)
+            part, read = UPDATED[word]
+            getattr(step, part).update([read(self, rest)])
 
     def say(self, step: Step, sign: str, said: Said, joined: bool = False) -> None:
         """Adds to what a command prints, or to its errors."""
@@ -255,41 +257,35 @@ class Reader:
         else:
             step.err = said
 
-    def add_member(self, step: Step, word: str, rest: str) -> None:
-        """Adds to a command what a line says of the archive that it prints."""
-        if step.archive is None:
-            raise ValueError("a member is one of an archive")
-        if word == "member":
-            path, data = self.file_of(rest)
-            step.archive.append(Member(path, data or b""))
-        elif word == "record":
-            keyword, _, value = rest.partition("=")
-            step.archive[-1].records[keyword] = value
-        else:
-            step.archive[-1].stamp = rest
 
-    def add_change(self, step: Step, word: str, rest: str) -> None:
-        """Adds to a command what a line says of the volume."""
-        step.changes = True
-        if word == "makes":
-            step.makes.update([self.file_of(rest)])
-        elif word == "removes":
-            step.makes[rest] = None
-        elif word == "header":
-            path, *words = rest.split(" ")
-            step.headers.setdefault(path, {}).update(header_of(words))
-        elif word == "directory":
-            step.has.append(rest)
-        elif word == "no" and rest.startswith("directory "):
-            step.lacks.append(rest.removeprefix("directory "))
-        elif word == "frees":
-            step.frees = int(rest)
-        elif word == "becomes":
-            step.becomes = self.content_of(rest)
-        elif word == "writes":
-            step.writes = rest
-        else:
-            raise ValueError("no row has such a line")
+# Lines that set a part of a command, that add to a list, and that add to a dictionary: the part, and what is read of the rest of the line.
+SET = {
+    "status": ("statuses", lambda _, rest: [int(status) for status in rest.split()]),
+    "archive": ("archive", lambda _, rest: []),
+    "into": ("into", lambda _, rest: rest),
+    "input": ("input", Reader.content_of),
+    "frees": ("frees", lambda _, rest: int(rest)),
+    "becomes": ("becomes", Reader.content_of),
+    "writes": ("writes", lambda _, rest: rest),
+}
+APPENDED = {
+    "or": ("outs", lambda _, rest: b""),
+    "member": ("archive", lambda reader, rest: Member(*reader.file_of(rest))),
+    "script": ("scripts", lambda _, rest: ""),
+    "bytes": ("places", lambda _, rest: spot_of(*rest.split())),
+    "spoil": ("spoils", lambda _, rest: spot_of(*rest.split())),
+    "directory": ("has", lambda _, rest: rest),
+    "no": ("lacks", lambda _, rest: re.fullmatch("directory (.*)", rest)[1]),
+}
+UPDATED = {
+    "with": ("before", Reader.file_of),
+    "leaves": ("leaves", Reader.file_of),
+    "size": ("sizes", lambda _, rest: (rest.rpartition(" ")[0], int(rest.rpartition(" ")[2]))),
+    "makes": ("makes", Reader.file_of),
+    "removes": ("makes", lambda _, rest: (rest, None)),
+}
+# Lines of what becomes of the volume.
+CHANGES = {"makes", "removes", "header", "directory", "no", "frees", "becomes", "writes"}
 
 
 def lines_of(text: str) -> list[tuple[int, str, bool]]:
@@ -325,8 +321,14 @@ def rows_of(folder: str, contents: Contents) -> list[Row]:
     return rows
 
 
-def f11_row(name: str) -> tuple[str, list[str], list[str]]:
+def make(lines: list[str], programs: pathlib.Path, image: pathlib.Path) -> None:
+    """Makes an image by the lines of sh of a row, in its folder and with the f11 of another."""
+    how = {**os.environ, "TOP": str(ROWS.parent.parent), "PROGRAMS": str(programs), "IMAGE": image.name}
+    subprocess.run(["sh", "-c", MAKING + "\n".join(lines)], env=how, cwd=image.parent, check=True, stdin=subprocess.DEVNULL)
+
+
+def f11_row(name: str) -> tuple[list[str], list[str], list[str]]:
     """Returns of a row of f11 the lines that make its image, the words for f11 beside the image, the scripts and --out, and its scripts."""
     [row] = [row for row in rows_of("f11", lambda name: b"") if row.name == f"f11: {name}"]
     words = [word for word in row.steps[0].words[2:] if isinstance(word, str) and word not in ("--out", "new") and not word.startswith("script.")]
-    return "".join(f"{line}\n" for line in row.lines), words, row.steps[0].scripts
+    return row.lines, words, row.steps[0].scripts

@@ -1,5 +1,5 @@
 //! Random requests of all kinds, beside the plain program: what each is answered, and what the blocks show after it.
-//! `bench/random_requests.sh` runs more of them: TRIALS says how many times as many.
+//! `bench/measure random_requests` runs more of them: TRIALS says how many times as many.
 use super::growing::two_in_turn;
 use super::rows::{
     Reply, a_txt, create, dat, delete, enter, extend, id, letter, list, look, made, read, remove,

@@ -1,4 +1,4 @@
-//! Loads of one kind of request, which `bench/requests.sh` times: TRIALS says how many times 60 requests are made.
+//! Loads of one kind of request, which `bench/measure requests` times: TRIALS says how many times 60 requests are made.
 use super::random::times;
 use super::rows::{
     create, dat, delete, enter, extend, id, letter, look, read, remove, sub_dir, write_a,

@@ -1,4 +1,4 @@
-//! Loads of views, which `bench/views.sh` times: viewers look at a volume while one more thread writes, and one viewer beside looks with no
+//! Loads of views, which `bench/measure views` times: viewers look at a volume while one more thread writes, and one viewer beside looks with no
 //! viewer. TRIALS says how many times 100 looks each makes, and VIEWERS how many viewers there are. What was timed is printed where TRIALS is set.
 ghost use Rattle.std.specs.Prelude.{◌≡◌, ◌≤◌};
 
