@@ -11,6 +11,7 @@ use crate::early::{Early, read_bytes};
 use crate::host::Host;
 use crate::lines::{say_bad_line, say_bad_words, say_no_memory, say_wrong};
 use crate::looking::{look_all, only_look};
+use crate::version::VERSION;
 use fs_host::{Collecting, HostFault, Noting};
 use fs_reads::{Progress, Stop, WordFault, check_image, info_image, obey, say_end, show_space};
 use fs_words::{Action, Change, Words, line_words, parse_line};
@@ -144,7 +145,7 @@ fn read_line_early<'a, R: Host>(
         Ok(words) => words,
         Err(_) => return Ok(()),
     };
-    match parse_line(rt.alloc(), outer.image, words.as_slice()) {
+    match parse_line(rt.alloc(), outer.image, words.as_slice(), VERSION) {
         Ok(Some(own)) => {
             if reads_input(outer, &own) {
                 return Ok(());
@@ -254,7 +255,7 @@ fn obey_line<R: Host>(
         Ok(words) => words,
         Err(fault) => return (say_bad_line(rt, fault), true),
     };
-    match parse_line(rt.alloc(), run.outer.image, words.as_slice()) {
+    match parse_line(rt.alloc(), run.outer.image, words.as_slice(), VERSION) {
         Ok(Some(own)) => obey_words(rt, filing, run, own, early),
         Ok(None) => (Status::Done, true),
         Err(fault) => (say_bad_words(rt, fault), true),

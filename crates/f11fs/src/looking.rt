@@ -13,6 +13,7 @@ use crate::command_files::{NO_COMMAND, SAVED_BEFORE, as_outer, ends_run, write_p
 use crate::host::Host;
 use crate::lines::{say_bad_line, say_bad_words, say_wrong};
 use crate::orders::layers_of;
+use crate::version::VERSION;
 use fs_host::Collecting;
 use fs_reads::{Progress, Readable, Stop, check_image, info_image, obey, open_readable, say_end};
 use fs_words::{Action, LineFault, Words, WordsFault, line_words, parse_line};
@@ -41,7 +42,7 @@ fn want_mounted(alloc: Global, image: &str, line: &str) -> Result<bool, AllocErr
         Err(LineFault::Open) => return Ok(false),
         Err(LineFault::NoMemory) => return Err(AllocError),
     };
-    match parse_line(alloc, image, words.as_slice()) {
+    match parse_line(alloc, image, words.as_slice(), VERSION) {
         Ok(Some(own)) => Ok(is_for_mounted(&own.action)),
         Err(WordsFault::NoMemory) => Err(AllocError),
         Ok(None) | Err(_) => Ok(false),
@@ -96,7 +97,7 @@ fn look_line<R: Host>(rt: &R, volume: &Readable, outer: &Words<'_>, line: &str) 
         Ok(words) => words,
         Err(fault) => return say_bad_line(rt, fault),
     };
-    match parse_line(rt.alloc(), outer.image, words.as_slice()) {
+    match parse_line(rt.alloc(), outer.image, words.as_slice(), VERSION) {
         Ok(Some(own)) => look_words(rt, volume, outer, own),
         Ok(None) => Status::Done,
         Err(fault) => say_bad_words(rt, fault),

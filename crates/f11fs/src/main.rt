@@ -27,6 +27,7 @@ mod repair_lines;
 mod repairing;
 mod telling;
 mod untarring;
+mod version;
 
 use commands::{Seen, run_command};
 use fs_host::hold_streams;
@@ -37,6 +38,7 @@ use ods_shell::Status;
 use std::io::IsTerminal;
 use std::process::ExitCode;
 use std::{env, io};
+use version::VERSION;
 
 fn main(rt: HostRuntime) -> ExitCode {
     // They live until `main` returns, so that no file that is opened is a stream.
@@ -65,7 +67,7 @@ fn run<R: Host>(rt: &R, seen: Seen) -> Status {
     let Ok(words) = args.skip(1).collect::<Vec<String>>(rt.alloc()) else {
         return say_no_memory(rt);
     };
-    match parse_words(rt.alloc(), words.as_slice()) {
+    match parse_words(rt.alloc(), words.as_slice(), VERSION) {
         Ok(found) => run_command(rt, &found, seen),
         Err(fault) => say_bad_words(rt, fault),
     }

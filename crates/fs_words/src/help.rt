@@ -4,9 +4,6 @@
 pub(crate) const ABOUT: &str =
     "List, check, copy and change the files of RSX-11 disk images (Files-11 structure level 1, ODS-1)";
 
-/// What `--version` prints behind the name.
-pub(crate) const VERSION: &str = "1.0";
-
 /// What the help says behind the words.
 pub(crate) const AFTER_HELP: &str =
     "A path names files on the volume, such as [1,2]NOTES.TXT;3 or 1,2/NOTES.TXT.

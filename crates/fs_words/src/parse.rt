@@ -8,7 +8,7 @@ ghost use Rattle.ods_words.specs.Telling.{IsToldOf};
 ghost use Rattle.fs_words.specs.{Parses.IsKindAt, Parses.IsParseOf, Rules.choice_rule, Rules.front_app, Rules.image_rules, Rules.program_app, Rules.whole_app, Rules.with_rules, Saying.rest_among};
 
 use crate::commands::command_of;
-use crate::help::{ABOUT, AFTER_HELP, VERSION};
+use crate::help::{ABOUT, AFTER_HELP};
 use crate::options::{CHOICES, Choice};
 use crate::verbs::{VERBS, Verb};
 use clap::error::ErrorKind;
@@ -21,18 +21,19 @@ use std::convert::AsStr;
 pub(crate) fn first_matches<'a, S: AsStr>(
     alloc: Global,
     words: &'a [S],
+    version: &'a str,
     has_image: bool,
 ) -> Result<ArgMatches<'a>, Error>
     ensures found { IfOk result (IsParseOf (program_app has_image) (map S.text words.entry.now)) }
     ensures refused { IfErr result (λ e. takes (program_app has_image) (map S.text words.entry.now) ≡ true → kind_of e ≡ ErrorKind.OutOfMemory) }
     ensures kinds { IfErr result (λ e. IsKindAt (program_app has_image) (map S.text words.entry.now) (kind_of e)) }
 {
-    let command = program(alloc, has_image)?;
+    let command = program(alloc, version, has_image)?;
     command.try_get_matches_from(words)
 }
 
 /// What may stand before the command, and the words from its name on.
-fn program<'a>(alloc: Global, has_image: bool) -> Result<Command<'a>, AllocError>
+fn program<'a>(alloc: Global, version: &'a str, has_image: bool) -> Result<Command<'a>, AllocError>
     ensures { IfOk result (λ c. app_of c ≡ program_app has_image) }
 {
     let rest = Arg::new(alloc, "rest")
@@ -40,7 +41,7 @@ fn program<'a>(alloc: Global, has_image: bool) -> Result<Command<'a>, AllocError
         .num_args(0..)
         .trailing_var_arg(true)
         .hide(true);
-    let command = front(alloc, has_image)?.arg(rest)?;
+    let command = front(alloc, version, has_image)?.arg(rest)?;
     Ok(command)
 }
 
@@ -104,7 +105,7 @@ fn with_options<'a>(
 }
 
 /// What may stand before the command, the image where `has_image`.
-fn front<'a>(alloc: Global, has_image: bool) -> Result<Command<'a>, AllocError>
+fn front<'a>(alloc: Global, version: &'a str, has_image: bool) -> Result<Command<'a>, AllocError>
     ensures { IfOk result (λ c. app_of c ≡ front_app has_image) }
 {
     let file = Arg::new(alloc, "commands")
@@ -115,7 +116,7 @@ fn front<'a>(alloc: Global, has_image: bool) -> Result<Command<'a>, AllocError>
     let command = Command::new(alloc, "f11fs")
         .about(ABOUT)
         .after_help(AFTER_HELP)
-        .version(VERSION)
+        .version(version)
         .override_usage("f11fs [OPTIONS] IMAGE COMMAND [WORD..]")
         .no_binary_name(true)
         .disable_help_subcommand(true);
@@ -144,7 +145,7 @@ fn with_image<'a>(
 }
 
 /// The help of all commands, or of the one whose name is the first word that is no option: `f11fs ls --help`.
-fn help<S: AsStr>(alloc: Global, words: &[S]) -> Result<String, AllocError> {
+fn help<S: AsStr>(alloc: Global, words: &[S], version: &str) -> Result<String, AllocError> {
     let first = match words.iter().find(|word| !word.as_str().starts_with('-')) {
         Some(word) => Verb::of_name(word.as_str()),
         None => None,
@@ -152,7 +153,7 @@ fn help<S: AsStr>(alloc: Global, words: &[S]) -> Result<String, AllocError> {
     if let Some(verb) = first {
         return whole_command(alloc, verb)?.render_help();
     }
-    let mut command = front(alloc, true)?;
+    let mut command = front(alloc, version, true)?;
     for verb in &VERBS {
         command = command.subcommand(command_of(alloc, *verb)?)?;
     }
@@ -164,11 +165,12 @@ pub(crate) fn tell<S: AsStr>(
     alloc: Global,
     error: &Error,
     words: &[S],
+    version: &str,
 ) -> Result<WordsFault, AllocError>
     ensures { IfOk result (IsToldOf (kind_of error.now)) }
 {
     match error.kind() {
-        ErrorKind::DisplayHelp => Ok(WordsFault::Help(help(alloc, words)?)),
+        ErrorKind::DisplayHelp => Ok(WordsFault::Help(help(alloc, words, version)?)),
         _ => tell_error(alloc, error),
     }
 }

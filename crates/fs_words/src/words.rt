@@ -69,14 +69,18 @@ impl Saving<'_> {
     }
 }
 
-/// What the words after the program's name ask for.
-pub fn parse_words<'a, S: AsStr>(alloc: Global, words: &'a [S]) -> Result<Words<'a>, WordsFault>
+/// Parses the words after the program's name. `--version` prints the text `version` after the name.
+pub fn parse_words<'a, S: AsStr>(
+    alloc: Global,
+    words: &'a [S],
+    version: &'a str,
+) -> Result<Words<'a>, WordsFault>
     ensures found { IfOk result (AreWordsOf (map S.text words.entry.now)) }
     ensures refused { IfErr result (HasReason (AreNoWords (map S.text words.entry.now))) }
 {
-    let before = match first_matches(alloc, words, true) {
+    let before = match first_matches(alloc, words, version, true) {
         Ok(before) => before,
-        Err(error) => return Err(tell(alloc, &error, words)?),
+        Err(error) => return Err(tell(alloc, &error, words, version)?),
     };
     let rest = rest_of(&before, words);
     let Some(image) = before.get_str("image") else {
@@ -86,7 +90,7 @@ pub fn parse_words<'a, S: AsStr>(alloc: Global, words: &'a [S]) -> Result<Words<
     match (before.get_str("commands"), word) {
         (Some(file), None) => file_words(alloc, image, file, &before),
         (None, Some(word)) => match Verb::of_name(word.as_str()) {
-            Some(verb) => obeyed_words(alloc, image, verb, rest, Some(&before)),
+            Some(verb) => obeyed_words(alloc, image, verb, rest, version, Some(&before)),
             None => Err(before_image(alloc, image, word.as_str())?),
         },
         (None, None) => Err(wanting(alloc, false)?),
@@ -102,6 +106,7 @@ pub fn parse_line<'a, S: AsStr>(
     alloc: Global,
     image: &'a str,
     words: &'a [S],
+    version: &'a str,
 ) -> Result<Option<Words<'a>>, WordsFault>
     ensures found { IfOk result (IsLineOf image.entry (map S.text words.entry.now)) }
     ensures refused { IfErr result (HasReason (IsNoLine (map S.text words.entry.now))) }
@@ -109,9 +114,9 @@ pub fn parse_line<'a, S: AsStr>(
     if words.is_empty() {
         return Ok(None);
     }
-    let before = match first_matches(alloc, words, false) {
+    let before = match first_matches(alloc, words, version, false) {
         Ok(before) => before,
-        Err(error) => return Err(tell(alloc, &error, words)?),
+        Err(error) => return Err(tell(alloc, &error, words, version)?),
     };
     if before.get_str("commands").is_some() {
         let text = "error: no command for a file of commands";
@@ -122,7 +127,7 @@ pub fn parse_line<'a, S: AsStr>(
         return Err(wanting(alloc, false)?);
     };
     match Verb::of_name(name.as_str()) {
-        Some(verb) => match obeyed_words(alloc, image, verb, rest, Some(&before)) {
+        Some(verb) => match obeyed_words(alloc, image, verb, rest, version, Some(&before)) {
             Ok(words) => Ok(Some(words)),
             Err(fault) => Err(fault),
         },
@@ -155,6 +160,7 @@ fn obeyed_words<'a, S: AsStr>(
     image: &'a str,
     verb: Verb,
     words: &'a [S],
+    version: &str,
     before: Option<&ArgMatches<'a>>,
 ) -> Result<Words<'a>, WordsFault>
     ensures found { IfOk result (AreOfCommand image.entry verb (map S.text (drop 1 words.entry.now)) before.entry) }
@@ -162,7 +168,7 @@ fn obeyed_words<'a, S: AsStr>(
 {
     let own = match command_matches(alloc, verb, behind_first(words)) {
         Ok(own) => own,
-        Err(error) => return Err(tell(alloc, &error, words)?),
+        Err(error) => return Err(tell(alloc, &error, words, version)?),
     };
     let said = Said {
         before,
