@@ -3,7 +3,7 @@ ghost use Rattle.std.specs.Prelude.{◌≡◌, ◌⊎◌, ◌&&◌, true, false,
 ghost use Rattle.fs_host.specs.{Found.SaysShort, Kept.force_kept, Kept.is_floppy, Kept.remark_kept, Times.IsStampOfLocal};
 ghost use Rattle.ods_shell.specs.declared.status.Status.{Status as Code};
 ghost use Rattle.ods_upkeep.specs.Pieces.{HasStatus};
-ghost use Rattle.fs_reads.specs.Ends.{StopsWith};
+ghost use Rattle.fs_reads.specs.{Ends.StopsWith, Volumes.LacksBlocks};
 ghost use Rattle.fs_reads.specs.declared.stop.Stop.{Stop as End};
 ghost use Rattle.fs_reads.specs.declared.stop.WordFault.{WordFault as AWordFault};
 ghost use Rattle.f11fs.specs.{Changed.IsChanged, Changed.IsLabelled, Changed.IsNoLabel, Changed.IsRefusal, Changed.KeepsTo, Saved.EndsSaved, Saved.IsNotLocked, Saved.IsNotSaved, Saved.IsSavedStatus, Saved.IsWrittenTo};
@@ -18,7 +18,10 @@ use crate::putting_tree::put_files;
 use crate::telling::plan_text;
 use crate::untarring::untar;
 use fs_host::{Locked, Shown, Unfinished, stamp_of_now};
-use fs_reads::{Stop, WordFault, image_of, say_extent, send, stop_about, volume_of};
+use fs_reads::{
+    Stop, WordFault, image_of, lacks_blocks, say_extent, send, stop_about, stop_at_own_output,
+    volume_of,
+};
 use fs_words::{Change, Saving, Words};
 use ods_base::{Image, Uic};
 use ods_filing::Filing;
@@ -46,6 +49,7 @@ pub fn change_image<'a, R: Host>(
 ) -> Result<Status, Stop<'a>>
     ensures { IfOk result IsSavedStatus }
 {
+    stop_at_own_output(rt, words.image)?;
     let mut early = Early::of(rt, words.image);
     early.read_words(rt, words)?;
     let (mut locked, volume) = lock_volume(rt, words, false)?;
@@ -98,8 +102,9 @@ pub fn lock_volume<'a, R: Host>(
     }
 }
 
-/// Locks the image, and reads its blocks.
+/// Locks the image, and reads its blocks. An image that ends before a block of a file is refused.
 pub fn lock_image<'a, R: Host>(rt: &R, words: &Words<'a>) -> Result<(Locked, Image), Stop<'a>>
+    ensures whole { IfOk result (λ found. ¬ LacksBlocks (remark_kept found.0) found.1) }
     ensures { IfErr result (IsNotLocked words.now.image (not (is_some words.now.saving.out) && not words.now.saving.only_tells) words.now.force) }
 {
     let writes = words.saving.out.is_none() && !words.saving.only_tells;
@@ -109,9 +114,14 @@ pub fn lock_image<'a, R: Host>(rt: &R, words: &Words<'a>) -> Result<(Locked, Ima
     };
     let image = locked.read(rt.alloc(), words.blocks, layers_of(words.order));
     say_extent(rt, words.image, locked.extent(), false);
-    match image_of(rt, words.image, image) {
-        Ok(image) => Ok((locked, image)),
-        Err(stop) => Err(stop),
+    let image = match image_of(rt, words.image, image) {
+        Ok(image) => image,
+        Err(stop) => return Err(stop),
+    };
+    match lacks_blocks(rt.alloc(), &image, locked.extent()) {
+        Ok(false) => Ok((locked, image)),
+        Ok(true) => Err(Stop::Word(words.image, WordFault::Lacking)),
+        Err(_) => Err(Stop::from(AllocError)),
     }
 }
 

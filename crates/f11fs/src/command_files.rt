@@ -13,7 +13,10 @@ use crate::lines::{say_bad_line, say_bad_words, say_no_memory, say_wrong};
 use crate::looking::{look_all, only_look};
 use crate::version::VERSION;
 use fs_host::{Collecting, HostFault, Noting};
-use fs_reads::{Progress, Stop, WordFault, check_image, info_image, obey, say_end, show_space};
+use fs_reads::{
+    Progress, Stop, WordFault, check_image, info_image, obey, say_end, show_space,
+    stop_at_own_output,
+};
 use fs_words::{Action, Change, Words, line_words, parse_line};
 use ods_base::write_bytes;
 use ods_filing::Filing;
@@ -42,6 +45,7 @@ pub fn obey_file<'a, R: Host>(
     file: &'a str,
     keep_going: bool,
 ) -> Result<Status, Stop<'a>> {
+    stop_at_own_output(rt, words.image)?;
     let bytes = commands_in(rt, file)?;
     let Some(text) = commands_text(bytes.as_slice()) else {
         return Err(Stop::Word(file, WordFault::NoText));

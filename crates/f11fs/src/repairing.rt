@@ -6,7 +6,7 @@ use crate::changing::{asker_of, lock_image, save_image, status_of};
 use crate::host::Host;
 use crate::mending::{Wishes, mend};
 use crate::repair_lines::Report;
-use fs_reads::{Stop, send};
+use fs_reads::{Stop, send, stop_at_own_output};
 use fs_words::{Repairs, Words};
 use ods_shell::Status;
 
@@ -22,6 +22,7 @@ pub fn repair_image<'a, R: Host>(
 ) -> Result<Status, Stop<'a>>
     ensures { IfOk result (λ s. (s ≡ Code.Done) ⊎ ((s ≡ Code.Found) ⊎ (s ≡ Code.Host))) }
 {
+    stop_at_own_output(rt, words.image)?;
     let (mut locked, image) = lock_image(rt, words)?;
     let asker = asker_of(rt, words)?;
     let wishes = Wishes {

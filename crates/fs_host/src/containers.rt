@@ -92,7 +92,7 @@ pub enum Extent {
     Vhd(usize),
     /// The file has so many whole blocks, and the volume so many.
     #[error("the image ends at block {0} of {1}")]
-    Shorter(u64, u32),
+    Shorter(u32, u32),
 }
 
 impl Extent {
@@ -103,7 +103,7 @@ impl Extent {
         let blocks = contained.image.len();
         let behind = contained.behind.len();
         if contained.length < 512 * blocks as u64 {
-            return Some(Extent::Shorter(contained.length / 512, blocks));
+            return Some(Extent::Shorter((contained.length / 512) as u32, blocks));
         }
         if behind == 0 {
             return None;

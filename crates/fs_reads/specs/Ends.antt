@@ -23,6 +23,7 @@ HasWordStatus fault.NoPath s = s ≡ status.Words
 HasWordStatus (fault.OtherSize bytes) s = s ≡ status.Words
 HasWordStatus (fault.OtherBlocks blocks) s = s ≡ status.Words
 HasWordStatus fault.Short s = s ≡ status.Refused
+HasWordStatus fault.Lacking s = s ≡ status.Refused
 HasWordStatus (fault.Large size room) s = s ≡ status.Refused
 HasWordStatus (fault.LargeStream room) s = s ≡ status.Refused
 HasWordStatus (fault.Unread why) s = s ≡ status.Host

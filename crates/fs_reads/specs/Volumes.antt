@@ -8,6 +8,7 @@ use Rattle.ods_base.specs.declared.faults.ImageError.{ImageError}
 use Rattle.ods_base.specs.declared.faults.ImageError.TheVariants as image
 use Rattle.fs_host.specs.declared.layers.ReadFault.{ReadFault}
 use Rattle.fs_host.specs.declared.layers.ReadFault.TheVariants as reading
+use Rattle.ods_container.specs.Part.{HaveBlocksBelow, IsReadablePart}
 use Rattle.ods_order.specs.Order.{container_size}
 use Rattle.ods_mount.specs.Faults.{FaultIsTrue}
 use Rattle.ods_mount.specs.declared.fault.MountFault.{MountFault}
@@ -82,3 +83,19 @@ is_short (extent.Vhd count) = false
 abbrev pub said_extent : Bool → Option Extent → Option Extent
 said_extent tells_behind None = None
 said_extent tells_behind (Some extent) = if tells_behind || is_short extent then Some extent else None
+
+-- the part of an image that can be read, by the remark on the length of its file
+abbrev pub IsPartThere : Option Extent → List (List ℕ) → List (List ℕ) → Type 0
+IsPartThere (Some (extent.Shorter blocks all)) I part = IsReadablePart I blocks part
+IsPartThere (Some (extent.Longer count)) I part = part ≡ I
+IsPartThere (Some (extent.Simh count)) I part = part ≡ I
+IsPartThere (Some (extent.Vhd count)) I part = part ≡ I
+IsPartThere None I part = part ≡ I
+
+-- the file of the host ends before a block of a file of the volume
+abbrev pub LacksBlocks : Option Extent → List (List ℕ) → Type 0
+LacksBlocks (Some (extent.Shorter blocks all)) I = ¬ HaveBlocksBelow I blocks
+LacksBlocks (Some (extent.Longer count)) I = ⊥
+LacksBlocks (Some (extent.Simh count)) I = ⊥
+LacksBlocks (Some (extent.Vhd count)) I = ⊥
+LacksBlocks None I = ⊥

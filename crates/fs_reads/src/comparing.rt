@@ -17,7 +17,7 @@ use crate::finding::find_all;
 use crate::progress::Progress;
 use crate::readable::{Readable, open_readable};
 use crate::reading::check_right;
-use crate::stop::{Stop, send, stop_about};
+use crate::stop::{Stop, send, stop_about, stop_at_own_output};
 use fs_host::Layers;
 use fs_words::Words;
 use ods_base::{FileId, Listed, Uic};
@@ -54,6 +54,7 @@ pub(crate) fn compare_all<'a, R: Files<File = File> + Clock + AllocGlobal + Prin
     let Some(path) = words.paths.first() else {
         return Ok(Status::Words);
     };
+    stop_at_own_output(rt, *path)?;
     let opened = open_readable(rt, *path, None, Layers::Found, false)?;
     let other = opened.disk();
     let alloc = rt.alloc();

@@ -44,5 +44,5 @@ pub use obeying::{obey, show_space};
 pub use progress::Progress;
 pub use readable::{Readable, open_readable};
 pub use rescuing::rescue;
-pub use stop::{Stop, WordFault, say_end, send, stop_about};
-pub use volume::{VolumeFault, image_of, open_volume, say_extent, volume_of};
+pub use stop::{Stop, WordFault, say_end, send, stop_about, stop_at_own_output};
+pub use volume::{VolumeFault, image_of, lacks_blocks, open_volume, say_extent, volume_of};

@@ -78,6 +78,9 @@ pub enum WordFault {
     /// The image would be saved, and is shorter than its volume.
     #[error("the image is shorter than its volume; --force writes it whole")]
     Short,
+    /// The image would be changed, and its file ends before a block of a file of the volume.
+    #[error("the image ends before blocks of files; 'check --all' lists these files, 'rescue' copies the others")]
+    Lacking,
     /// The image has another size than a floppy of the order that is said, which has so many bytes.
     #[error("OtherSize: a floppy in this order has {0} bytes; another --order may fit")]
     OtherSize(usize),
@@ -118,9 +121,10 @@ impl WordFault {
             | WordFault::OtherBlocks(_)
             | WordFault::OtherSize(_)
             | WordFault::NoPath => Status::Words,
-            WordFault::Short | WordFault::Large(_, _) | WordFault::LargeStream(_) => {
-                Status::Refused
-            }
+            WordFault::Short
+            | WordFault::Lacking
+            | WordFault::Large(_, _)
+            | WordFault::LargeStream(_) => Status::Refused,
             WordFault::Unread(_)
             | WordFault::OwnOutput
             | WordFault::NotEmpty
@@ -266,8 +270,8 @@ pub fn send<'a, R: Print>(rt: &R, text: &str) -> Result<Status, Stop<'a>>
     }
 }
 
-/// Ends a command that prints where standard output is appended to the image itself.
-pub(crate) fn stop_at_own_output<'a, R: Files>(rt: &R, image: &'a str) -> Result<(), Stop<'a>>
+/// Refuses a command that prints if standard output is the image itself.
+pub fn stop_at_own_output<'a, R: Files>(rt: &R, image: &'a str) -> Result<(), Stop<'a>>
     ensures { IfErr result (λ stop. stop ≡ End.Word image.entry WordFault.OwnOutput) }
 {
     let (Ok(output), Ok(found)) = (fs::metadata(rt, "/proc/self/fd/1"), fs::metadata(rt, image))

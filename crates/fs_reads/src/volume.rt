@@ -1,16 +1,18 @@
 //! The volume of an image in a file.
-ghost use Rattle.std.specs.Prelude.{◌≡◌, IfErr, IfOk, Ok, option_map};
+ghost use Rattle.std.specs.Prelude.{◌≡◌, IfErr, IfOk, MatchBool, Ok, option_map};
 ghost use Rattle.ods_shell.specs.Remedies.{advice_words};
-ghost use Rattle.fs_reads.specs.{Advised.advice_for, Volumes.IsFaultOf, Volumes.IsNoVolume, Volumes.IsNotMounted, Volumes.IsNotOpened, Volumes.IsNotRead, Volumes.IsNotReadIn, Volumes.look_in, Volumes.said_extent as extent_said};
+ghost use Rattle.fs_reads.specs.{Advised.advice_for, Volumes.IsFaultOf, Volumes.IsPartThere, Volumes.LacksBlocks, Volumes.IsNoVolume, Volumes.IsNotMounted, Volumes.IsNotOpened, Volumes.IsNotRead, Volumes.IsNotReadIn, Volumes.look_in, Volumes.said_extent as extent_said};
 ghost use Rattle.fs_reads.specs.declared.volume.VolumeFault.{VolumeFault as Fault};
 
 use crate::looks::{Look, looks_like};
 use crate::stop::{Stop, WordFault, say_about};
 use fs_host::{Extent, HostFault, Layers, Noting, ReadFault, layered_in, read_some};
 use ods_base::{Coded, Image, ImageError};
+use ods_container::{has_all_blocks, readable_part};
 use ods_mount::{MountFault, Mounted, mount};
 use ods_order::Order;
 use ods_shell::{Advice, remedy};
+use std::alloc::{AllocError, Global};
 use std::fs;
 use std::fs::File;
 use std::io::Read;
@@ -63,8 +65,8 @@ impl VolumeFault {
     }
 }
 
-/// The volume in the image at this path, of so many blocks where a number is given, with its sectors in the order that is said, and what is
-/// to be said of an image that is longer or shorter than it.
+/// Reads the volume in the image at this path, and returns it with the remark on an image that is longer or shorter. The volume has `given` blocks, if
+/// that is a number, and its sectors are in the order of `layers`. If the image ends before a block of a file, only the blocks that it has are returned.
 #[tactic(auto, using(crate::proofs::Mounting::not_opened))]
 pub(crate) fn open_image<R: Files<File = File> + AllocGlobal>(
     rt: &R,
@@ -83,9 +85,37 @@ pub(crate) fn open_image<R: Files<File = File> + AllocGlobal>(
         Ok(read) => {
             let contained = read.contained;
             let extent = Extent::of(&contained);
-            Ok((contained.image, extent))
+            match part_there(rt.alloc(), contained.image, extent) {
+                Ok(image) => Ok((image, extent)),
+                Err(_) => Err(VolumeFault::NoMemory),
+            }
         }
         Err(fault) => Err(not_read_in(rt, path, fault, noting.why())),
+    }
+}
+
+/// Returns the part of an image that can be read, by the remark on the length of its file: the first blocks, as many as the file has, if a file of the
+/// volume has others too.
+fn part_there(alloc: Global, image: Image, extent: Option<Extent>) -> Result<Image, AllocError>
+    ensures { IfOk result (IsPartThere extent image) }
+{
+    match extent {
+        Some(Extent::Shorter(count, _)) => readable_part(alloc, image, count),
+        _ => Ok(image),
+    }
+}
+
+/// Returns whether an image ends before a block of a file, by the remark on the length of its file. The error is for memory.
+pub fn lacks_blocks(
+    alloc: Global,
+    image: &Image,
+    extent: Option<Extent>,
+) -> Result<bool, AllocError>
+    ensures { IfOk result (λ lacks. MatchBool lacks (LacksBlocks extent image.now) (¬ LacksBlocks extent image.now)) }
+{
+    match extent {
+        Some(Extent::Shorter(count, _)) => Ok(!has_all_blocks(alloc, image, count)?),
+        _ => Ok(false),
     }
 }
 

@@ -5,12 +5,14 @@
 mod container;
 mod filling;
 mod footer;
+mod part;
 mod reading;
 mod size;
 mod writing;
 
 pub use container::{Contained, contained_in, read_contained};
 pub use footer::{Footer, footer_of};
+pub use part::{has_all_blocks, readable_part};
 pub use reading::MOST_BYTES;
 pub use size::believed_size;
 pub use writing::write_contained;

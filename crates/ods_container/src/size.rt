@@ -80,7 +80,7 @@ fn size_word(count: usize) -> usize
 
 /// Whether each header that counts maps only blocks below this size.
 #[tactic(auto, using(crate::proofs::Sizes::next_mapped, crate::proofs::Sizes::all_mapped, crate::proofs::Sizes::not_mapped))]
-fn are_mapped_below(disk: &Disk<'_>, size: u32) -> bool
+pub(crate) fn are_mapped_below(disk: &Disk<'_>, size: u32) -> bool
     ensures { MatchBool result (on AreMappedBelow disk.now size) (¬ on AreMappedBelow disk.now size) }
 {
     for number in 0..last_number(disk.layout) as u32 + 1 {
