@@ -1,6 +1,7 @@
 -- When the files in a directory and below it are got, and into which folders of the host.
-use Rattle.std.specs.Prelude.{◌≡◌, ℕ, true, false, if◌then◌else◌, List, [], ◌∷◌, Option, Some, None, codes, vec_len}
+use Rattle.std.specs.Prelude.{◌≡◌, ◌⊎◌, ◌++◌, ℕ, true, false, if◌then◌else◌, List, [], ◌∷◌, Option, Some, None, codes, vec_len}
 use Rattle.std.specs.Borrow.{Bor}
+use Rattle.std.specs.Fmt.{decimal}
 use Rattle.std.specs.List.{All}
 use Rattle.ods_base.specs.Name.{RadName}
 use Rattle.ods_base.specs.declared.file_id.Uic.{Uic}
@@ -57,3 +58,7 @@ target_folder (Some folder) = folder.now
 abbrev pub host_folder : List ℕ → List RadName → List ℕ
 host_folder root [] = root
 host_folder root (name ∷ names) = name_below root (small_text (folder_text (name ∷ names)))
+
+-- The folder of the host for a directory: the one that is said; or, if another directory has it, that name with the number of the directory's file.
+abbrev pub IsOwnFolder : List ℕ → ℕ → List ℕ → Type 0
+IsOwnFolder said number folder = (folder ≡ said) ⊎ (folder ≡ said ++ (codes " #" ++ decimal number))
