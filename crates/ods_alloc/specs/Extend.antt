@@ -132,8 +132,8 @@ pub record GivesBack (I : List (List ℕ)) (L : VolumeLayout) (blocks numbers : 
   pub bits : GivesBits I L blocks numbers J
   pub only : ChangesOnly I L numbers J
 
--- The conditions of extend_chain for its caller. The file does not lay out the volume. The blocks ascend, and none holds headers or bitmaps. The
--- numbers are free, ascending, and not n. There are exactly as many as the runs need past the room of the last header.
+-- The conditions of extend_chain for its caller. The file is neither INDEXF.SYS nor BITMAP.SYS. The blocks ascend, and none holds headers or bitmaps.
+-- The numbers are free, ascending, and not n. There are exactly as many as the runs need past the room of the last header.
 pub record CanExtend (I : List (List ℕ)) (L : VolumeLayout) (n : ℕ) (others blocks numbers : List ℕ) : Type 0 where
   pub file : 3 ≤ n
   pub ascending : IsStrictlyIncreasing blocks

@@ -131,7 +131,8 @@ impl Image {
         }
     }
 
-    /// Replaces the block at this LBN with zeros. An image over a fixed one stores one block of zeros for all blocks that became zeros.
+    /// Replaces the block at this LBN with zeros. In an image over a fixed one, all blocks that became zeros before they had their own seat share one
+    /// block of zeros.
     pub fn set_zeros(&mut self, lbn: u32)
         requires { lbn < length self.old }
         ensures { self.new ≡ slice_set self.old lbn zeros }

@@ -53,7 +53,8 @@ pub fn is_other_home(layout: &Layout, home_lbn: u32) -> bool
     !is_at(index, 0, home_lbn as u64) && !is_at(index, 1, home_lbn as u64)
 }
 
-/// Returns the first block of the index bitmap and of headers 1 to 16 that INDEXF.SYS does not map as the home block locates it, counted from 0.
+/// Returns the first block of the index bitmap and headers 1 to 16 that INDEXF.SYS does not map as the home block locates it. The index counts from
+/// 0.
 pub fn first_misplaced(layout: &Layout) -> Option<u32>
     ensures some { IfSome result (λ i. IsElsewhere layout.now i × ((k : ℕ) → k < i → ¬ IsElsewhere layout.now k)) }
     ensures few { IfSome result (λ i. i < 65536 + 16) }

@@ -21,7 +21,7 @@ pub fn each_byte_has_a_sector()
     ensures { EachByteHasASector }
 {}
 
-/// A volume of the right size can be laid out in any container.
+/// A volume of the right size can be laid out in any container, and reading the container then returns it.
 pub fn can_be_laid_out()
     ensures { CanBeLaidOut }
 {}

@@ -41,7 +41,7 @@ abbrev pub RefusedHasNoStep : Type 0
 RefusedHasNoStep = (C : Catalogue) (who : Uic) (r : Request) (a : Answer) →
     IsTrue (is_some (fault_of C who r)) → step C who r a ≡ None
 
--- every request except Create has exactly one answer and one resulting catalogue
+-- every request except Create has at most one answer and one resulting catalogue
 abbrev pub AnswerIsDetermined : Type 0
 AnswerIsDetermined = (C D : Catalogue) (who : Uic) (r : Request) (a : Answer) →
     creates r ≡ false → step C who r a ≡ Some D → (a ≡ answer_of C r) × (D ≡ after C r)

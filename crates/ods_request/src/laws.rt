@@ -21,7 +21,7 @@ pub fn refused_has_no_step()
     ensures { RefusedHasNoStep }
 {}
 
-/// Every request except Create has exactly one answer.
+/// Every request except Create has at most one answer.
 pub fn answer_is_determined()
     ensures { AnswerIsDetermined }
 {}

@@ -41,8 +41,8 @@ pub data IsReason (v : State) (who : Uic) (r : Request) : Refusal → Type 0 whe
   lacks : (f : Refusal) → Lacks v.image v.layout r f → IsReason v who r f
   no_memory : takes_memory r ≡ true → IsReason v who r refusal.NoMemory
 
--- an accepted request with its answer, the blocks that it changes, the blocks that INDEXF.SYS receives, the new counts of the bitmaps, if they are
--- computed, and the new note about the end of a file's chain
+-- an accepted request with its answer, the blocks that it changes, and the blocks that INDEXF.SYS receives; the new counts of the bitmaps, if they
+-- are computed; and the new note about the end of a file's chain
 pub record Plan : Type 0 where
   pub entry : Entry
   pub changes : Changes
