@@ -196,7 +196,7 @@ impl Image {
     }
 }
 
-/// Two images are equal where their blocks have the same bytes.
+/// Two images are equal if their blocks have the same bytes.
 impl PartialEq for Image {
     ghost use Rattle.std.specs.Prelude.{nat_eq};
     ghost use Rattle.std.specs.Cmp.{partial_equiv_from_equiv};

@@ -16,7 +16,7 @@ pub enum Verdict {
     Twice,
 }
 
-/// `Good` is no refusal, and `Twice` has no number of its own: both have 0.
+/// `Good` is not a refusal, and `Twice` has no number of its own: both have 0.
 impl Coded for Verdict {
     fn row(&self) -> Row {
         match self {

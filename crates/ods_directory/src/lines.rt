@@ -67,7 +67,7 @@ impl Row for Listed {
     }
 }
 
-/// The line of an entry, where it is good.
+/// The line of an entry, if it is valid.
 impl Row for Option<Listed> {
     ghost use Rattle.std.specs.Prelude.{⊤};
     ghost use Rattle.ods_directory.specs.{Entry.Entry, Lines.good_line};
