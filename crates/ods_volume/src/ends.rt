@@ -1,4 +1,4 @@
-//! Where the chains of some files end, as a volume notes it from one request to the next.
+//! The ends of the chains of some files, which a volume notes from one request to the next.
 ghost use Rattle.std.specs.Prelude.{◌≡◌, ◌<◌, ◌≢◌, ℕ, List, None, Some, IfSome, map, slice_get};
 ghost use Rattle.std.specs.List.{All, Contains};
 ghost use Rattle.ods_volume.specs.Ends.{AreNotedThen, IsNotOf, IsOneMore, falls_for, kept_by, stays};

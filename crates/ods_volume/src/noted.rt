@@ -1,4 +1,4 @@
-//! The names of one directory, as a volume notes them from one request to the next.
+//! The names of one directory, which a volume notes from one request to the next.
 ghost use Rattle.std.specs.Prelude.{◌≡◌, ◌≢◌, ◌<◌, ◌⊎◌, ℕ, List, [], length, true, is_some, slice_index, slice_index_or, IfSome};
 ghost use Rattle.ods_space.specs.{Disks.on, Draft.applied, Files.AreInside, Files.HasBlocks, Layout.VolumeLayout};
 ghost use Rattle.ods_look.specs.Blocks.{AreTaggedBlocks};

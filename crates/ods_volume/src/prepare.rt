@@ -1,5 +1,5 @@
-//! What a request is answered, and what it makes of the volume. This file alone calls what answers a request or drafts
-//! its change in the layers below.
+//! The answer of a request, and its change of the volume. Only this file calls the functions of the lower layers that answer a request or draft its
+//! change.
 ghost use Rattle.std.specs.Prelude.{◌≡◌, false, true, MatchResult, IfOk, IfSome, OnErr};
 ghost use Rattle.ods_alloc.specs.Counts.{AreCountsAfter, counts_of};
 ghost use Rattle.ods_space.specs.{Draft.applied, Layout.VolumeLayout};
