@@ -1,4 +1,4 @@
-//! Where the structures of a new volume lie.
+//! The LBNs and sizes of the structures of a new volume.
 ghost use Rattle.std.specs.Prelude.{◌≡◌, ◌≤◌, ◌^◌, MatchOption};
 ghost use Rattle.ods_init.specs.Places.{HasRoom, places};
 
@@ -8,7 +8,7 @@ use ods_header::HEADER_BLOCKS;
 /// The blocks that the one header of INDEXF.SYS can map.
 const MOST_INDEX_BLOCKS: u32 = HEADER_BLOCKS as u32;
 
-/// Where the structures of a new volume lie. INDEXF.SYS has the blocks from LBN 0 on, the index bitmap from LBN 2 on.
+/// The LBNs and sizes of the structures of a new volume. INDEXF.SYS has the blocks from LBN 0 on, and the index bitmap begins at LBN 2.
 #[derive(Clone, Copy)]
 pub struct Places {
     /// The greatest file number, H.FMAX.
@@ -23,7 +23,7 @@ pub struct Places {
     pub master: u32,
 }
 
-/// The structures of a volume, where they fit into it, and the blocks of INDEXF.SYS into one header.
+/// Returns the structures of a volume. It returns `None` if they do not fit into the volume, or if INDEXF.SYS has more blocks than one header maps.
 pub fn places_of(volume: &NewVolume) -> Option<Places>
     requires { volume.now.blocks ≤ 2 ^ 20 }
     ensures { MatchOption result (¬ HasRoom volume.now.blocks volume.now.files)

@@ -6,11 +6,11 @@ ghost use Rattle.ods_volume.specs.Ends.{AreNotedThen, IsNotOf, IsOneMore, falls_
 use ods_request::{Answer, Request};
 use ods_state::KnownEnd;
 
-/// Which of what is noted a change makes untrue.
+/// The notes that a change invalidates.
 #[derive(Clone, Copy)]
 pub(crate) enum Falls {
     Nothing,
-    /// What is noted of the file with this number, whose chain changes, and of INDEXF.SYS, which may grow.
+    /// The notes of the file with this number, whose chain changes, and of INDEXF.SYS, which may grow.
     File(u16),
     /// The same, where the file may get a block behind its own, and no other change of its chain.
     Growth(u16),
