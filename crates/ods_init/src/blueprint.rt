@@ -14,7 +14,7 @@ pub struct Blueprint {
     pub owner: Uic,
     /// The label and the date of the volume. A bare volume has none, and stores only what a mount reads.
     pub details: Option<Details>,
-    /// Each byte of its free blocks.
+    /// The value of each byte of its free blocks.
     pub filling: u8,
 }
 

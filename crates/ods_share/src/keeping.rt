@@ -20,7 +20,7 @@ pub trait Keep: Drop {
     fn begin(alloc: Global, script: &[Command]) -> Result<Self, AllocError>
         ensures { IfOk result (λ kept. keeps [] [] kept) };
 
-    /// Keeps the reply to the next command.
+    /// Keeps the reply to the next command. It fails only when out of memory.
     fn keep(&mut self, command: &Command, reply: Reply) -> Result<(), AllocError>
         ensures { (cs : List Command) (rs : List Reply) → keeps cs rs self.old → OnOk result (keeps (cs ++ command.now ∷ []) (rs ++ reply ∷ []) self.new) };
 }
