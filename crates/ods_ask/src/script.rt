@@ -8,7 +8,7 @@ use std::sync::Arc;
 pub enum Id {
     /// The file with this ID.
     Given(FileId),
-    /// The file that `$` stands for.
+    /// The file for which `$` stands.
     Last,
 }
 

@@ -11,15 +11,15 @@ const MOST_INDEX_BLOCKS: u32 = HEADER_BLOCKS as u32;
 /// The LBNs and sizes of the structures of a new volume. INDEXF.SYS has the blocks from LBN 0 on, and the index bitmap begins at LBN 2.
 #[derive(Clone, Copy)]
 pub struct Places {
-    /// The greatest file number, H.FMAX.
+    /// The highest file number, H.FMAX.
     pub most_files: u32,
-    /// The blocks of the index bitmap, H.IBSZ.
+    /// The number of blocks of the index bitmap, H.IBSZ.
     pub index_bitmap_size: u32,
-    /// The LBN of the storage control block, which is the first behind INDEXF.SYS.
+    /// The LBN of the storage control block, which is the first block after INDEXF.SYS.
     pub control: u32,
-    /// The blocks of the storage bitmap, behind it.
+    /// The number of blocks of the storage bitmap, which follows the storage control block.
     pub map_blocks: u32,
-    /// The LBN of the master directory, behind the bitmap. What follows is free.
+    /// The LBN of the master directory, after the bitmap. The blocks after it are free.
     pub master: u32,
 }
 
