@@ -30,7 +30,7 @@ pub fn last_from(last: Option<FileId>, answer: &CompactAnswer) -> Option<FileId>
 }
 
 /// Returns the request of a command, or `None` if it uses `$`, and `$` stands for no file. A Write shares the block of the command. It takes no
-/// memory, and fails only if the owners of that block cannot be counted any more.
+/// memory, and fails only if that block already has as many owners as can be counted.
 pub fn request_for(
     stamp: Stamp,
     last: Option<FileId>,

@@ -49,7 +49,7 @@ fn make_in_run(
     }
 }
 
-/// Adds a new file with these bytes in one run of blocks, as [`put_file`](crate::put_file) does. Its blocks are the lowest run of enough free blocks,
+/// Adds a new file with these bytes in one run of blocks, as `put_file` does. Its blocks are the lowest run of enough free blocks,
 /// and its header marks it as contiguous if it has any block. The refusal is ChainFull if one header cannot map so many blocks, and VolumeFull if no
 /// run is long enough. After a refusal the volume may have a part of the file, and blocks that count as in use: for all or nothing, keep a copy.
 pub fn put_contiguous(

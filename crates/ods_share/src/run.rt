@@ -132,8 +132,8 @@ fn run_desk<K: Keep + Send, J: Naming + Send + Sync, G: Gate + Sync, R: Threads 
 /// memory or of threads, all threads have ended too, and the volume is dropped.
 ///
 /// An outcome has one reply for each command, in order. Its calls are exactly the accepted requests, each once and in order. The reply that the list
-/// is full comes only if the list of the returned volume has as many entries as its limit. The reply BAD comes only to a line that is not a valid
-/// command, and to a command whose `$` stands for no file. A query without the lock is not a call. The first VIEW of a session shows a list that
+/// is full comes only if the list of the returned volume has as many entries as its limit. The reply BAD comes exactly to a line that is not a
+/// valid command, and to a command whose `$` stands for no file. A query without the lock is not a call. The first VIEW of a session shows a list that
 /// begins with the entries that its viewer had seen. The returned volume is over the same mounted image and has the same limit, and its list begins
 /// with its former entries.
 pub fn run_sessions<J: Naming + Send + Sync, G: Gate + Sync, R: Threads + Wait + Sync>(

@@ -12,7 +12,8 @@ use ods_request::{Answer, CompactAnswer, CompactRequest, Entry, Listing, Refusal
 
 impl Volume {
     /// Prepares a request: returns its plan, with all the memory that its change takes. [`Volume::apply`] then takes memory at most to note a
-    /// directory. The volume is unchanged. The contract states when each refusal comes.
+    /// directory. The volume is unchanged. At the limit of the list the refusal is ListFull. Otherwise it is the first fault for the present
+    /// catalogue, a lack of the volume, or NoMemory.
     pub fn prepare(
         &self,
         session: u16,
@@ -192,7 +193,8 @@ impl Volume {
         Ok(given)
     }
 
-    /// Prepares a request and makes its change. At the limit the result is ListFull. After a refusal the volume is unchanged.
+    /// Prepares a request and makes its change. At the limit of the list the refusal is ListFull. Otherwise it is the first fault for the present
+    /// catalogue, a lack of the volume, or NoMemory. After a refusal the volume is unchanged.
     pub fn request(
         &mut self,
         session: u16,

@@ -201,7 +201,7 @@ impl Entries {
         self.push_answered(session, nth, who, request, &mut answer);
     }
 
-    /// Puts an entry behind the others, of which the answer lies in this place. It takes no memory. Lines are taken out of the place.
+    /// Appends an entry whose answer is in `answer`. It takes no memory. The lines of a directory are moved out of `answer`.
     pub(crate) fn push_answered(
         &mut self,
         session: u16,
@@ -325,7 +325,7 @@ impl Entries {
         })
     }
 
-    /// Where the list has its memory.
+    /// Returns the allocator of the list.
     pub(crate) fn allocator(&self) -> Global {
         *self.rows.allocator()
     }

@@ -48,7 +48,7 @@ fn lines_of(answer: &Answer) -> Result<Option<Listing>, AllocError>
 }
 
 impl Prepared {
-    /// The change of a request that is answered so, under a session's number. Only the lines of the answer take memory.
+    /// Returns the plan of a request with this answer and this change, under a session's number. Only the lines of the answer take memory.
     pub(crate) fn of(
         session: u16,
         nth: u32,

@@ -153,7 +153,7 @@ impl Sound {
         ods_alloc::number_count(&self.disk())
     }
 
-    /// Writes the answer of a query into this place, and gives the change, which changes nothing. It takes no memory.
+    /// Writes the answer of a query into `answer`, and returns a change that changes nothing. It takes no memory.
     pub(crate) fn look(
         &self,
         who: Uic,
@@ -224,7 +224,7 @@ impl Sound {
         })
     }
 
-    /// Does what [`Sound::prepare`] does. Nothing with room for a block is made of a request that only looks.
+    /// Prepares a request as [`Sound::prepare`] does. A query is not copied into a value with room for a block.
     pub(crate) fn prepare_shared(
         &self,
         who: Uic,
@@ -436,8 +436,8 @@ impl Sound {
     }
 
     /// Marks blocks, given by their LBNs, as free or as in use in the storage bitmap. Blocks that the bitmap does not cover are skipped. A block to
-    /// free must belong to no file, and must not be a block where a home block is searched. It fails only when out of memory, and then the volume is
-    /// unchanged.
+    /// free must belong to no file, and must not be a place before the home block where a mount searches for one. It fails only when out of memory,
+    /// and then the volume is unchanged.
     pub fn mark_blocks(&mut self, blocks: &[u32], free: bool) -> Result<(), AllocError>
         requires { free ≡ true → All (IsLoose self.old.image self.old.layout) blocks.now }
         ensures marked { OnOk result (MarksAs self.old blocks.now free self.new) }
