@@ -108,7 +108,7 @@ fn headers_left(layout: &Layout) -> u32
 }
 
 /// Drafts headers for `count` more files in INDEXF.SYS, all at once, from the lowest free blocks. The refusal is HeadersFull if INDEXF.SYS may not
-/// have so many, if too few blocks are free, or if its last header has no room for the pointers. Otherwise it is NoMemory.
+/// have so many, or too few blocks are free. It is HeadersFull too if its last header has no room for the pointers. Otherwise it is NoMemory.
 pub fn grow_headers(
     alloc: Global,
     disk: &Disk<'_>,

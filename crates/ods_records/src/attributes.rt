@@ -6,8 +6,8 @@ ghost use Rattle.ods_records.specs.Records.{word_at};
 
 use crate::{RecordKind, TextForm};
 
-/// Returns the attributes (the standard's FCS file attributes) of a file of `length` bytes with variable records, each a line of text (F.RATT 2,
-/// carriage return is implied). `longest` is the size of the longest record in bytes.
+/// Returns the attributes (the standard's FCS file attributes) of a file of `length` bytes with variable records. Each record is a line of text
+/// (F.RATT 2, carriage return is implied). `longest` is the size of the longest record in bytes.
 pub fn text_attributes(longest: u16, length: u64) -> [u8; 32]
     requires { length < 512 * 2 ^ 20 }
     ensures value { result ≡ attributes 2 2 longest length }

@@ -166,8 +166,7 @@ impl<J: Naming, L: Ledger, G: Gate, R: Wait> Session<'_, J, L, G, R> {
     }
 
     /// Runs a script from its first command on, as user [1,1], with a viewer and a share of its own. The list of calls takes all its room first.
-    /// Afterwards memory is taken only by the desk, the copies of the names of a directory, the boxes of long answers, and what is kept of the
-    /// replies.
+    /// Memory is taken later only by the desk, the copies of directory names, the boxes of long answers, and the kept replies.
     pub(crate) fn sit<K: Keep>(
         &self,
         chair: Chair<J, L>,

@@ -82,8 +82,8 @@ impl<J: Naming> Viewer<J> {
         }
     }
 
-    /// Notes that the desk's list has at least the entries of `told`. From then on the viewer answers only from a version with at least as many entries.
-    /// A viewer that learns of more entries than its desk ever has replies Closed from then on.
+    /// Notes that the desk's list has at least the entries of `told`. From then on the viewer answers only from a version with at least as many
+    /// entries. A viewer that learns of more entries than its desk ever has replies Closed from then on.
     pub fn learn(&mut self, told: Told<J>)
         ensures { self.new ≡ record self.old { least = max self.old.least (length told) } }
     {

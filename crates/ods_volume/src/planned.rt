@@ -11,7 +11,7 @@ use std::alloc::{AllocError, Global};
 use std::marker::Model;
 
 /// An accepted request with its answer and its change, which is not made yet. The lines of a directory are stored twice, once for the list and once
-/// for the caller, so that making the change takes no memory for them.
+/// for the caller. So making the change takes no memory for them.
 #[derive(Drop)]
 pub struct Prepared {
     pub(crate) entry: Entry,
