@@ -1,5 +1,5 @@
-//! `f11`: a processor of RSX-11 volumes, structure level 1. The work is done by `ods_cli`; here are the files,
-//! the streams and the exit status.
+//! `f11`: a processor of RSX-11 volumes, structure level 1. The crate `ods_cli` does the work; this crate has the files, the streams and the exit
+//! status.
 #![tactic(auto)]
 
 mod headers;

@@ -15,26 +15,26 @@ const LIMIT: u32 = 4096;
 /// The stamp of new files where none is given.
 const STAMP: &str = "01JAN80000000";
 
-/// What the words ask for.
+/// The parsed words of the command line.
 #[derive(Debug, PartialEq, Eq, Drop)]
 pub struct Words<'a> {
-    /// The path of an image; with none the sample volume of 40 blocks is meant.
+    /// The path of an image. With none, it is the sample volume of 40 blocks.
     pub image: Option<&'a str>,
-    /// The number, from 1 to 16, of the header that is asked for; with none the image is to be served.
+    /// The number, from 1 to 16, of the requested header. With none, scripts run on the image.
     pub header: Option<u16>,
-    /// How many requests are accepted at most, from 1 to 65,536.
+    /// The highest number of accepted requests, from 1 to 65,536.
     pub limit: u32,
-    /// The stamp of the files that are made.
+    /// The stamp of new files.
     pub stamp: Stamp,
-    /// The path of the file that the image is written to, if one is given.
+    /// The path of the file to which the image is written, if one is given.
     pub out: Option<&'a str>,
     /// The paths of at most 8 scripts.
     pub scripts: Vec<&'a str>,
-    /// There is no word at all.
+    /// Whether there is no word at all.
     pub is_bare: bool,
 }
 
-/// Parses the words after the program's name. `--version` prints the text `version` after the name.
+/// Parses the words after the program's name. `--version` prints `version` after the name. The error is the line for wrong words, or out of memory.
 pub fn parse_words<'a, S: AsStr>(
     alloc: Global,
     words: &'a [S],

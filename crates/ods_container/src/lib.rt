@@ -1,5 +1,5 @@
-//! Which bytes of a file of the host are the volume: the first blocks, as many as the volume says itself, with zeros where the bytes end.
-//! What stands behind them is kept.
+//! The bytes of a host file that are the volume: the first blocks, as many as the volume itself states, padded with zeros. The bytes after them are
+//! kept.
 #![tactic(auto)]
 
 mod container;
