@@ -64,8 +64,7 @@ abbrev pub IsFilled : ℕ → List ℕ → List ℕ → List ℕ → Type 0
 IsFilled n places old new = (lbn : ℕ) → lbn < length old →
     (Contains places lbn × (slice_index old lbn ≡ 0) × (slice_index new lbn ≡ n)) ⊎ (((¬ Contains places lbn) ⊎ (slice_index old lbn ≢ 0)) × (slice_index new lbn ≡ slice_index old lbn))
 
--- n is stored where its front names a block that no earlier file names, and the headers of its front are seen. Nothing changes if n is not a
--- deleted file.
+-- n is a deleted file. It is stored where its front names a block that no earlier file names, and the headers of its front are seen.
 pub record IsNoted (I : List (List ℕ)) (L : VolumeLayout) (n : ℕ) (old : List ℕ) (was : List Bool) (new : List ℕ) (seen : List Bool) : Type 0 where
   pub headers : List ℕ
   pub blocks : List ℕ
