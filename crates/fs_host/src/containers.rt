@@ -10,8 +10,8 @@ use std::alloc::Global;
 use std::io::{Read, Seek, SeekFrom};
 use thiserror::Error;
 
-/// Reads the volume in a file, with the size in blocks if `given` is a size. A file whose size is too large is not read. Only a file whose bytes in
-/// their order are not an image is read twice.
+/// Reads the volume in a file, with the size in blocks if `given` is a size. A file whose size is too large is not read. Only a file whose bytes
+/// are not directly a valid image is read twice.
 pub fn volume_in<F: Read + Seek>(
     alloc: Global,
     file: &mut F,

@@ -45,9 +45,8 @@ pub const MOST_LINES: u32 = 10_000;
 ///   pair with itself.
 ///
 /// A sound image costs a mount. Any other image costs a few walks over all its chains. Each file that shares a block with an earlier file costs a
-/// walk over the chains of all earlier files, and meanwhile four bytes for each block of the image. So the time is at most one walk over all chains
-/// for each kept line.
-/// An error means out of memory.
+/// walk over the chains of all earlier files. During this walk it takes four bytes for each block of the image. So the time is at most one walk
+/// over all chains for each kept line. An error means out of memory.
 pub fn check_all(alloc: Global, image: &Image) -> Result<Checked, AllocError>
     ensures true_of { IfOk result (λ c. All (λ line. FaultIsTrue image.now (fault_of line)) c.faults.0) }
     ensures lines { IfOk result (λ c. All (LineIsTrue image.now) c.faults.0) }

@@ -15,8 +15,8 @@ pub struct First {
     pub answer: Option<MountFault>,
 }
 
-/// Returns the result of a mount, and the layout if there is one. Costs a mount, and a second read of the layout if the image is refused. An error
-/// means out of memory.
+/// Returns the result of a mount, and the layout if there is one. Costs a mount, and for a refused image also a read of its layout. An error means
+/// out of memory.
 pub fn check_first(alloc: Global, image: &Image) -> Result<First, AllocError>
     ensures answer { IfOk result (λ c. IfSome c.answer (FaultIsTrue image.now) × IfNone c.answer (IsSound image.now)) }
     ensures layout { IfOk result (λ c. IfSome c.layout (IsLayoutOf image.now)) }

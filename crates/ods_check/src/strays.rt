@@ -16,7 +16,7 @@ struct Strays {
     first: u16,
 }
 
-/// Adds the count of the numbers up to 65,535 that are in use, that no file may have, and that have no valid header, unless it is 0.
+/// Counts the numbers up to 65,535 that are in use, that no file may have, and that have no valid header. Adds the count, unless it is 0.
 pub(crate) fn push_strays(disk: &Disk<'_>, findings: &mut Told<Finding>) -> Result<(), AllocError>
     ensures adds { OnOk result (Adds (on IsOtherFound disk.now) findings.old findings.new) }
     ensures told { OnOk result (on TellsStrays disk.now findings.new.0) }

@@ -10,7 +10,7 @@ use ods_space::{Disk, Layout};
 use std::alloc::Global;
 
 /// Checks that the blocks of this file, from index `first` on, can change without another effect. None is at a location of a home block, of the
-/// index bitmap or of headers 1 to 16, no other file holds one, and the file has no block twice.
+/// index bitmap or of headers 1 to 16. No other file holds one, and the file has no block twice.
 pub(crate) fn check_spare(
     alloc: Global,
     disk: &Disk<'_>,

@@ -15,8 +15,13 @@ use std::alloc::Global;
 
 /// Marks as used each block that a file with a whole chain holds and that the storage bitmap marks free. Returns the LBNs of these blocks in
 /// ascending order. The image may be one that a mount refuses. If there are such blocks, the repair is refused if the storage bitmap cannot change
-/// without another effect: one of its blocks is at a location of a home block, of the index bitmap or of headers 1 to 16, or another file holds it,
-/// or BITMAP.SYS has a block twice. After a refusal, the image is unchanged.
+/// without another effect:
+///
+/// - one of its blocks is at a location of a home block, of the index bitmap or of headers 1 to 16;
+/// - another file holds one of its blocks;
+/// - BITMAP.SYS has a block twice.
+///
+/// After a refusal, the image is unchanged.
 pub fn mark_used(alloc: Global, image: &mut Image, layout: &Layout) -> Result<Vec<u32>, RepairFault>
     requires { IsLayoutOf image.old layout.now }
     // These blocks are used then, and nothing else was done.

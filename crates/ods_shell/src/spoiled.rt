@@ -10,8 +10,8 @@ use ods_records::{LongRecord, RecordFault, first_long, kind_of, record_size, rec
 use ods_space::{ChainFault, Disk};
 use std::alloc::{AllocError, Global};
 
-/// Returns the first fault in the records of the file with this number. Returns `None` if they are whole, if the file has no records, or if it is
-/// not a file with a whole chain and an end within its blocks.
+/// Returns the first fault in the records of the file with this number. Returns `None` if they are whole, or if the file has no records. Also
+/// returns `None` if it is not a file with a whole chain and an end within its blocks.
 pub fn spoiled_records(
     alloc: Global,
     disk: &Disk<'_>,
