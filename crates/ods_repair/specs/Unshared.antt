@@ -77,8 +77,8 @@ LacksRoom I L n J = (at : ℕ) × (at < used_words_of (header_at I L n) / 2) × 
 abbrev pub HasExtension : List (List ℕ) → VolumeLayout → ℕ → Type 0
 HasExtension I L n = next_number_of (header_at I L n) ≢ 0
 
--- Runs of file n with a block that is held twice have blocks of their own, and no other run moves. A run is left if an extension header names it, or if
--- no run of free blocks is as long.
+-- Runs of file n with a block that is held twice have blocks of their own, and no other run moves. A run is left if an extension header names it,
+-- or if no run of free blocks is as long.
 pub record HasOwnRuns (I : List (List ℕ)) (L : VolumeLayout) (n : ℕ) (told : Unshared) (J : List (List ℕ)) : Type 0 where
   pub mapped : ℕ
   pub moves : Moves I L n 0 mapped J
