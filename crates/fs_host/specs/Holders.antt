@@ -13,7 +13,7 @@ LacksLine text = (i : ℕ) → i < length text → slice_index text i ≢ 10
 abbrev pub name_held : Holder → List ℕ
 name_held holder = take holder.length holder.name
 
--- what is said of the process: its number, and its name where that is a text
+-- the text for the process: its number, and its name if it is a text
 abbrev pub shown_holder : Holder → List ℕ
 shown_holder holder =
     if is_utf8 (name_held holder) then codes "process " ++ (decimal holder.process ++ (codes " (" ++ (shown_text (name_held holder) ++ codes ")"))) else codes "process " ++ decimal holder.process

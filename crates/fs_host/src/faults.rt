@@ -1,4 +1,4 @@
-//! Why an image cannot be locked for a change, or cannot be saved.
+//! The reason why an image cannot be locked for a change, or cannot be saved.
 ghost use Rattle.std.specs.Prelude.{◌≡◌};
 ghost use Rattle.fs_host.specs.declared.faults.SaveFault.TheVariants.{NoMemory};
 
@@ -7,16 +7,16 @@ use crate::host_fault::HostFault;
 use std::alloc::AllocError;
 use thiserror::Error;
 
-/// Why an image is not taken for a change, or not saved.
+/// The reason why an image is not locked for a change, or not saved.
 #[derive(Clone, Copy, Debug, PartialEq, Eq, Error)]
 pub enum SaveFault {
     /// Opening or reading the image failed.
     #[error("reading failed: {0}")]
     Read(HostFault),
-    /// The user of the host may not write the image.
+    /// The user of the host has no right to write the image.
     #[error("no right to write to it")]
     Denied,
-    /// The image is no plain file.
+    /// The image is not a plain file.
     #[error("it is no plain file")]
     NotPlain,
     /// Another program has locked the image.
@@ -34,19 +34,19 @@ pub enum SaveFault {
     /// The image has several names, as hard links.
     #[error("it has several names (hard links); --break-links changes this one alone")]
     Links,
-    /// The file to write is there already.
+    /// The file to write exists already.
     #[error("it is there")]
     IsThere,
-    /// The new file cannot be made.
+    /// The new file cannot be created.
     #[error("no new file can be made: {0}")]
     Make(HostFault),
-    /// The new file cannot get the owner or the mode of the image.
+    /// The new file cannot receive the owner or the mode of the image.
     #[error("its owner or mode cannot be kept: {0}")]
     Mode(HostFault),
-    /// Opening the image for writing failed, or writing the new file did.
+    /// Opening the image for writing failed, or writing the new file failed.
     #[error("writing failed: {0}")]
     Write(HostFault),
-    /// The bytes that were read back are not those that were written.
+    /// The bytes that were read back differ from the bytes that were written.
     #[error("what was written is not what is read back")]
     Differs,
     /// The volume does not fill the sectors of the floppy.
@@ -71,7 +71,7 @@ impl From<AllocError> for SaveFault {
     }
 }
 
-/// What is wanting behind the saving of an image, which stands under its name.
+/// The incomplete step after an image is saved under its name.
 #[derive(Clone, Copy, Debug, PartialEq, Eq, Error)]
 pub enum Unfinished {
     /// Syncing the folder of the image failed.

@@ -1,4 +1,4 @@
-//! Why the host does not do what it is asked for, in words.
+//! The reason why the host does not do what is requested, in words.
 ghost use Rattle.std.specs.Prelude.{◌≡◌};
 ghost use Rattle.fs_host.specs.Reasons.{reason_of, reason_of_number};
 ghost use Rattle.fs_host.specs.declared.host_fault.HostFault.TheVariants.{NoMemory};
@@ -8,7 +8,7 @@ use std::io;
 use std::io::ErrorKind;
 use thiserror::Error;
 
-/// Why the host does not do what it is asked for.
+/// The reason why the host does not do what is requested.
 #[derive(Clone, Copy, Debug, PartialEq, Eq, Error)]
 pub enum HostFault {
     /// There is no such file.
@@ -17,16 +17,16 @@ pub enum HostFault {
     /// The host denies permission.
     #[error("no permission")]
     Denied,
-    /// The path leads to a folder.
+    /// The path reaches a folder.
     #[error("it is a folder")]
     IsFolder,
-    /// A part of the path before the last is no folder.
+    /// A part of the path before the last is not a folder.
     #[error("a part of its path is no folder")]
     NotFolder,
-    /// The path leads to a file that is no plain one.
+    /// The path reaches a file that is not a plain file.
     #[error("it is no plain file")]
     NotPlain,
-    /// A file of this name is there already.
+    /// A file with this name exists already.
     #[error("it is there")]
     IsThere,
     /// Another run has locked the hidden new file.
@@ -41,7 +41,7 @@ pub enum HostFault {
     /// The device or the quota is full.
     #[error("no room")]
     NoRoom,
-    /// Memory was refused.
+    /// Out of memory.
     #[error("no memory")]
     NoMemory,
     /// The file is larger than the limit.
@@ -53,10 +53,10 @@ pub enum HostFault {
     /// The process or the host has too many files open.
     #[error("too many files are open")]
     TooManyOpen,
-    /// The host takes no file of this name.
+    /// The host accepts no file with this name.
     #[error("its name is too long, or no name")]
     BadName,
-    /// Symbolic links lead round in a circle.
+    /// Symbolic links form a cycle.
     #[error("its symbolic links have no end")]
     Links,
     /// The file or device is in use.
@@ -74,7 +74,7 @@ pub enum HostFault {
     /// The file system does not support the call.
     #[error("the file system cannot do it")]
     Unsupported,
-    /// Another error of the system, by its number.
+    /// Another system error, by its number.
     #[error("error {0} of the system")]
     Failed(i32),
     /// The host gives no reason.
@@ -83,7 +83,7 @@ pub enum HostFault {
 }
 
 impl HostFault {
-    /// The reason of an error.
+    /// Returns the reason of an error.
     pub fn of(error: &io::Error) -> HostFault
         ensures { result ≡ reason_of error.now }
     {

@@ -1,4 +1,4 @@
-//! Which other process of the host has a file open, as far as `/proc` tells. No contract of std says what is read there.
+//! The processes of the host that have a file open, as far as `/proc` reports them. No contract of std states the bytes that are read there.
 ghost use Rattle.std.specs.Prelude.{◌≡◌, ◌≤◌, Some, IfSome, take};
 ghost use Rattle.fs_host.specs.Holders.{LacksLine, name_held, shown_holder};
 
@@ -32,8 +32,8 @@ impl Display for Holder {
     }
 }
 
-/// A process other than this one that has the file open, and keeps it so for half a second: a reader, or a program that is just being
-/// started, has it only for a moment.
+/// Returns a process other than this one that has the file open, and keeps it open for half a second. A reader, or a program that just starts, has
+/// it open only for a moment.
 pub fn holder_of<R: Files<File = File> + Clock + AllocGlobal + Clone + Drop>(
     rt: &R,
     file: &Metadata,

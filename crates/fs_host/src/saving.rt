@@ -1,4 +1,4 @@
-//! Images of the host that are changed: locked before they are read, and saved whole under their name or not at all.
+//! Images of the host that are changed: locked before they are read, and saved as a whole under their name or not at all.
 ghost use Rattle.std.specs.Prelude.{◌≡◌, ◌↔◌, ◌||◌, ◌<◌, ◌^◌, ℕ, List, [], Some, None, not, IfOk, IfErr, IfSome, OnOk, OnErr, IsSomeAnd, IsTrue, IsFalse, length};
 ghost use Rattle.std.specs.Fs.{metadata_len};
 ghost use Rattle.fs_host.specs.Faults.{may_end_opening, may_end_asking, may_end_locking, may_end_keeping, may_end_giving, may_end_leaving, may_end_saving, may_end_storing, may_end_copying, is_unsynced, may_be_wanting};
@@ -32,27 +32,27 @@ use std::rt::{Clock, Files};
 /// The bits of a mode that say who may do what.
 const MODE_BITS: u32 = 0o7777;
 
-/// An image that no other run of this program changes while this value is there. It is open only for reading.
+/// An image that no other run of this program changes while this value exists. It is open only for reading.
 #[derive(Drop)]
 pub struct Locked {
     file: File,
-    /// Its path, with no link at its end.
+    /// Its path, without a link at its end.
     path: String,
     mark: Mark,
     /// The bits of its mode.
     mode: u32,
     /// Whether another process may have it open.
     force: bool,
-    /// What stands behind the volume that was read, and what is to be said of it.
+    /// The bytes after the volume that was read, and the remark on its length.
     behind: Vec<u8>,
     extent: Option<Extent>,
-    /// The bytes of a floppy in physical order, where the image is one.
+    /// The bytes of a floppy in physical order, if the image is one.
     floppy: Option<Floppy>,
 }
 
 impl Locked {
-    /// Locks the image at this path, for a change that `writes` it or one that leaves it as it is. One that is written is refused where
-    /// another process has it open, unless by `force`; it has to be a plain file, and the other may be a block device.
+    /// Locks the image at this path for a change that `writes` it, or for one that leaves it unchanged. An image that is written has to be a plain
+    /// file. It is refused if another process has it open, unless `force`. An image that is not written may be a block device.
     #[tactic(auto, using(crate::proofs::MayEnd::reason_given, crate::proofs::MayEnd::opening_ends_locking, crate::proofs::MayEnd::asking_ends_locking))]
     pub fn of<R: Files<File = File> + Clock + AllocGlobal + Clone + Drop>(
         rt: &R,
@@ -96,8 +96,8 @@ impl Locked {
         Ok(locked)
     }
 
-    /// The volume in the image that was locked, of so many blocks where a number is given, and in the order that is said.
-    /// No contract can say which bytes a host file gives.
+    /// Reads the volume in the locked image, with the number of blocks if it is given, and in the given order.
+    /// No contract can state which bytes a host file returns.
     pub fn read(
         &mut self,
         alloc: Global,
@@ -123,14 +123,14 @@ impl Locked {
         }
     }
 
-    /// What is to be said of an image that is longer or shorter than its volume.
+    /// Returns the remark on an image that is longer or shorter than its volume.
     pub fn extent(&self) -> Option<Extent>
         ensures { result ≡ remark_kept self.now }
     {
         self.extent
     }
 
-    /// Whether the image is shorter than its volume.
+    /// Returns whether the image is shorter than its volume.
     pub fn is_short(&self) -> bool
         ensures { IsTrue result ↔ IsSomeAnd (remark_kept self.now) SaysShort }
     {
@@ -140,7 +140,7 @@ impl Locked {
         }
     }
 
-    /// What stands behind the volume.
+    /// Returns the bytes after the volume.
     pub fn behind(&self) -> &[u8]
         ensures { result.now ≡ bytes_kept self.now }
     {
@@ -160,8 +160,8 @@ impl Locked {
         }
     }
 
-    /// Whether the file has the bytes of this volume, and those that stood behind it. A floppy is kept with this volume then.
-    /// No contract can say which bytes a host file gives.
+    /// Returns whether the file has the bytes of this volume, and the bytes that were after it. A kept floppy then has this volume.
+    /// No contract can state which bytes a host file returns.
     pub fn is(&mut self, image: &Image) -> bool
         ensures keeps { KeepsAll self.old self.new }
         ensures laid { IsTrue result → IsLaidIn image.now (bytes_kept self.old) (floppy_kept self.old) (floppy_kept self.new) }
@@ -176,7 +176,7 @@ impl Locked {
         }
     }
 
-    /// The bits of its mode, as `write_new` takes them.
+    /// Returns the bits of its mode, as `write_new` accepts them.
     pub fn mode(&self) -> Option<u32>
         ensures { result ≡ Some (mode_kept self.now) }
     {
@@ -213,8 +213,8 @@ impl Locked {
         }
     }
 
-    /// Saves the image under the name of the one that was locked, as `store` says. A floppy gets the volume in its places, and keeps its
-    /// other bytes.
+    /// Saves the image under the name of the locked one, as `store` specifies. A floppy receives the volume in its sectors, and keeps its other
+    /// bytes.
     #[tactic(auto, using(crate::proofs::MayEnd::memory_ends_storing, crate::proofs::Failed::on_ok, crate::proofs::Storing::unfit_ends_storing, crate::proofs::Storing::errs_storing))]
     pub fn save<R: Files<File = File> + Clock + AllocGlobal + Clone + Drop>(
         &mut self,
@@ -239,8 +239,8 @@ impl Locked {
         }
     }
 
-    /// Writes the image to a file that is not there before, as `write_new` says, with the mode of the one that was locked. A floppy
-    /// is written whole.
+    /// Writes the image to a file that does not exist before, in the same way as `write_new`, with the mode of the locked one. A floppy is written
+    /// as a whole.
     #[tactic(auto, using(crate::proofs::Failed::on_ok, crate::proofs::Storing::unfit_ends_copying, crate::proofs::Storing::errs_copying))]
     pub fn write_copy<R: Files<File = File> + AllocGlobal>(
         &mut self,

@@ -1,11 +1,11 @@
--- Why each refusal comes, and what one can do.
+-- The reason for each refusal, and a remedy.
 use Rattle.std.specs.Prelude.{ℕ, List, [], ◌∷◌, Option, codes}
 use Rattle.std.specs.List.{find}
 use Rattle.std.specs.Str.{bytes_eq}
 use Rattle.ods_shell.specs.declared.remedies.Advice.{Advice}
 use Rattle.ods_shell.specs.declared.remedies.Row.{Row as CodeRow}
 
--- a row: the name of a refusal, why it comes, what one can do
+-- a row: the name of a refusal, the reason for it, and a remedy
 abbrev pub Row : Type 0
 Row = List ℕ × List ℕ × List ℕ
 
@@ -46,15 +46,15 @@ rows =
     (codes "BadName", codes "a name has at most 9 and a type at most 3 of A to Z, 0 to 9, $", codes "'put FILE PATH' says another name") ∷
     []
 
--- the row of a name, where there is one
+-- the row of a name, if there is one
 abbrev pub row_of : List ℕ → Option Row
 row_of name = find (λ r. bytes_eq r.0 name) rows
 
--- why, and what one can do
+-- the reason, and the remedy
 abbrev pub row_words : Row → List ℕ × List ℕ
 row_words r = (r.1, r.2)
 
--- the same of an advice
+-- the same for an advice
 abbrev pub advice_words : Advice → List ℕ × List ℕ
 advice_words a = (a.why.now, a.what.now)
 

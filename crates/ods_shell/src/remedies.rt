@@ -1,10 +1,10 @@
-//! Why a refusal comes, and what one can do: a row for each name under which `f11fs` prints one.
+//! The reason for each refusal, and a remedy: a row for each name under which `f11fs` prints one.
 ghost use Rattle.std.specs.Prelude.{◌≡◌, option_map, map};
 ghost use Rattle.std.specs.List.{find};
 ghost use Rattle.std.specs.Str.{bytes_eq};
 ghost use Rattle.ods_shell.specs.Remedies.{row_of, row_words, advice_words, words_of};
 
-/// Why a refusal comes, and what one can do, as they stand behind its name in a line.
+/// The reason for a refusal, and a remedy, as a line prints them after its name.
 #[derive(Clone, Copy, Debug, PartialEq, Eq)]
 pub struct Advice {
     pub why: &'static str,
@@ -246,7 +246,7 @@ const ROWS: [Row; 32] = [
     },
 ];
 
-/// Why the refusal of this name comes, and what one can do: the row of the table, or none where there is none.
+/// Returns the reason for the refusal with this name, and a remedy. Returns `None` if the table has no row for the name.
 pub fn remedy(name: &str) -> Option<Advice>
     ensures { option_map advice_words result ≡ option_map row_words (row_of name.now) }
 {

@@ -1,4 +1,4 @@
-//! Of which files the name is there in another version too, so that each gets a name of its own on a host.
+//! The names that several versions have, so that each file has a unique name on a host.
 ghost use Rattle.std.specs.Prelude.{◌≡◌, List, IfOk, MatchBool, OnOk};
 ghost use Rattle.ods_shell.specs.Versioned.{AreKnownOf, HasOther, IsJoined, is_other, joined, known_of, name_key, version_at};
 ghost use Rattle.ods_shell.specs.declared.found.Found.{Found as One};
@@ -11,7 +11,7 @@ use std::marker::Model;
 /// A name: the word of its type, and its three words.
 type Key = [u16; 4];
 
-/// The names of some files, each with its one version, or with none where it has several.
+/// The names of some files. Each has its single version, or none if there are several versions.
 #[derive(Drop)]
 pub struct Versioned {
     versions: BTreeMap<Key, Option<u16>>,
@@ -26,7 +26,7 @@ impl Model for Versioned {
 }
 
 impl Versioned {
-    /// Those of these files.
+    /// Collects the names of these files.
     pub fn of(alloc: Global, files: &[Found]) -> Result<Versioned, AllocError>
         ensures { IfOk result (AreKnownOf files.now) }
     {
@@ -39,7 +39,7 @@ impl Versioned {
         Ok(all)
     }
 
-    /// Whether the name of this file stands there with another version too.
+    /// Returns whether the name of this file is present with another version.
     pub fn has_other(&self, file: &Found) -> bool
         ensures { (files : List One) → AreKnownOf files self.now → MatchBool result (HasOther files file.now.place) (¬ HasOther files file.now.place) }
     {
