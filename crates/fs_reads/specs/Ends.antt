@@ -12,7 +12,7 @@ use Rattle.fs_reads.specs.declared.stop.Stop.TheVariants as stop
 use Rattle.fs_reads.specs.declared.stop.WordFault.{WordFault}
 use Rattle.fs_reads.specs.declared.stop.WordFault.TheVariants as fault
 
--- a wrong word is wrong words; what has no room, or would be lost, is refused; otherwise the status belongs to the host
+-- the status is `Words` for a wrong word, `Refused` for a lack of room or a loss of blocks, and otherwise `Host`
 abbrev pub HasWordStatus : WordFault → Status → Type 0
 HasWordStatus fault.NoFolder s = s ≡ status.Words
 HasWordStatus fault.OneDirectory s = s ≡ status.Words
