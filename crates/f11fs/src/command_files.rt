@@ -213,7 +213,7 @@ fn obey_lines<R: Host>(
     (status, true)
 }
 
-/// Returns whether a line ends the run: the volume is not usable any more, or the line is refused and the run does not go on after a refusal.
+/// Returns whether a line ends the run: it has changed the volume in part, or the line is refused and the run does not go on after a refusal.
 pub fn ends_run(done: Status, stands: bool, goes_on: bool) -> bool
     ensures { result ≡ (not stands || (is_refused done && not goes_on)) }
 {
