@@ -7,12 +7,12 @@ use Rattle.ods_upkeep.specs.declared.asked.Placing.TheVariants.{Anywhere, InOneP
 use Rattle.ods_upkeep.specs.declared.asked.PutForm.{PutForm}
 use Rattle.ods_upkeep.specs.declared.asked.PutForm.TheVariants as form
 
--- four bytes specify it, otherwise a word does
+-- four bytes specify the form, otherwise an option does
 abbrev pub form_or : PutWords → Option (List ℕ) → PutForm
 form_or how (Some four) = form.Said four
 form_or how None = if how.text then form.Text else if how.binary then form.Binary else form.ByContents
 
--- the form that comes before the others applies
+-- the given four bytes take precedence
 abbrev pub form_said : PutWords → PutForm
 form_said how = form_or how how.form
 

@@ -20,7 +20,7 @@ changes_to word v = (osa_table (chars word) (chars (verb_text v))).last_row (len
 abbrev pub most_changes : List ℕ → ℕ
 most_changes word = if nat_le (length word) 4 then 1 else 2
 
--- the command among these that needs the fewest changes, if this number of changes makes the word its name
+-- the command among these that needs the fewest changes, at most `most_changes`; none if each needs more
 abbrev pub IsClosest : List ℕ → List Verb → Option Verb → Type 0
 IsClosest word vs None = All (λ (u : Verb). most_changes word < changes_to word u) vs
 IsClosest word vs (Some v) = (changes_to word v ≤ most_changes word) × All (λ (u : Verb). changes_to word v ≤ changes_to word u) vs
@@ -40,7 +40,7 @@ IsNear word near = MatchOption (habit_named word)
     (MatchBool (nat_lt 16 (length word)) (near ≡ None) ((v : Option Verb) × IsClosest word verbs v × (near ≡ name_where v)))
     (λ (name : List ℕ). near ≡ Some name)
 
--- the form of the words
+-- the usage of the command line
 unfoldable pub usage : List ℕ
 usage = codes "usage: f11fs [OPTIONS] IMAGE COMMAND [WORD..]\nf11fs --help names the commands"
 
