@@ -28,7 +28,8 @@ struct Taken {
 #[derive(Drop)]
 pub struct Early {
     taken: Vec<Taken>,
-    /// How many bytes may still be read: in total no more than the image has. None if there is no image.
+    /// How many bytes may still be read: in total the length of the image file, or the largest image size if it is not a plain file. None if there
+    /// is no image.
     room: Option<u64>,
 }
 
@@ -69,7 +70,7 @@ impl Early {
         }
     }
 
-    /// Reads each of these that is no plain file.
+    /// Reads each of these that is not a plain file.
     fn read_all<'a, R: Files<File = File> + Input + AllocGlobal>(
         &mut self,
         rt: &R,
@@ -83,7 +84,7 @@ impl Early {
         Ok(())
     }
 
-    /// Reads what is at this path, where it is no plain file.
+    /// Reads the file at this path, if it is not a plain file.
     fn read_stream<'a, R: Files<File = File> + Input + AllocGlobal>(
         &mut self,
         rt: &R,

@@ -57,9 +57,9 @@ pub fn untar<'a, R: Host>(
 /// Which times files get.
 #[derive(Drop)]
 struct Times {
-    /// The time of the run, or the one that is said.
+    /// The specified time, or else the time of the run.
     run: Stamp,
-    /// The zone by which the times of members are local ones, where no time is said.
+    /// The zone that turns the times of members into local times, if no time is specified.
     zone: Option<HostZone>,
 }
 

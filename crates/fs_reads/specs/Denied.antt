@@ -44,7 +44,7 @@ AreClosedTo I L (Some who) closed = All (IsClosedTo I L who) closed × ((n : ℕ
 abbrev pub AddsClosed : List (List ℕ) → VolumeLayout → Uic → ℕ → List ℕ → List ℕ → Type 0
 AddsClosed I L who n old new = (IsClosedTo I L who n × (new ≡ old ++ n ∷ [])) ⊎ ((¬ IsClosedTo I L who n) × (new ≡ old))
 
--- the status of a command that goes on past these closed directories
+-- the status of a command that continues past these closed directories
 abbrev pub IsClosedStatus : Option Uic → List Met → Status → Type 0
 IsClosedStatus None met s = s ≡ status.Done
 IsClosedStatus (Some who) [] s = s ≡ status.Done

@@ -20,7 +20,7 @@ use Rattle.ods_shell.specs.declared.status.Status.TheVariants.{Refused}
 use Rattle.ods_space.specs.Layout.{VolumeLayout}
 use Rattle.fs_reads.specs.Denied.{IsClosedStatus}
 
--- this path selects these files, past these closed directories; without a version the highest counts, and a folder alone selects this
+-- this path selects these files, past these closed directories; without a version the highest counts, and `meaning` is the selection of only a folder
 abbrev pub AreOfPath : List (List ℕ) → VolumeLayout → Alone → List ℕ → List ℕ → List Found → Type 0
 AreOfPath I L meaning closed path found = (says : Said) × Says path says × AreNamedBy I L closed says (highest meaning) found
 
@@ -41,7 +41,7 @@ AreFoundBy I L closed path found = (folder : Folder) × (files : Option Files) �
 abbrev pub everywhere : Folder
 everywhere = record { steps = []; below = true }
 
--- the files that a path selects, or the files in a folder alone, come after the others, past the closed directories that are met
+-- the files that a path selects, or the files in a folder if it has only a folder, come after the others, past the closed directories that are met
 abbrev pub AddsFiles : List (List ℕ) → VolumeLayout → List ℕ → List ℕ → List Met → List Found → List Found → Type 0
 AddsFiles I L closed path met old new =
     (found : List Found) × (new ≡ old ++ found) × ((shut : List ℕ) → CountAsClosed closed met shut → AreOfPath I L alone.Files shut path found)

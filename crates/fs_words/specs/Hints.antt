@@ -25,7 +25,7 @@ abbrev pub IsClosest : List ℕ → List Verb → Option Verb → Type 0
 IsClosest word vs None = All (λ (u : Verb). most_changes word < changes_to word u) vs
 IsClosest word vs (Some v) = (changes_to word v ≤ most_changes word) × All (λ (u : Verb). changes_to word v ≤ changes_to word u) vs
 
--- the name of a command, where there is one
+-- the name of a command, if there is one
 abbrev pub name_where : Option Verb → Option (List ℕ)
 name_where None = None
 name_where (Some v) = Some (verb_text v)

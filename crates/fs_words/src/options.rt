@@ -19,21 +19,21 @@ pub enum Choice {
     Out,
     /// `--backup`: keeps the old image.
     Backup,
-    /// `--break-links`: changes an image with several hard links under this name alone.
+    /// `--break-links`: changes an image with several hard links only under this name.
     BreakLinks,
     /// `-n`: writes nothing, and prints what would be done.
     OnlyTells,
     /// `--force`: replaces files of the host, or changes an image that another process has open.
     Force,
-    /// `--json`: prints JSON, an object a line.
+    /// `--json`: prints JSON, one object per line.
     Json,
     /// `--stamp`: the time of new files.
     Stamp,
     /// `-u`: the user whose rights are checked.
     User,
-    /// `-q`: shows no progress, and no remarks that are no faults.
+    /// `-q`: shows no progress, and no remarks that are not faults.
     Quiet,
-    /// `--keep-going`: goes on past commands of a file that are refused.
+    /// `--keep-going`: continues past refused commands of a file.
     KeepGoing,
     /// `--blocks`: the size of the volume in blocks, regardless of the image.
     Blocks,
@@ -142,7 +142,7 @@ impl Choice {
         }
     }
 
-    /// What it does for a command, or where none is said for all that it serves.
+    /// Returns its effect for a command, or without one for all commands that it serves.
     fn help<'a>(self, verb: Option<Verb>) -> &'a str {
         match self {
             Choice::Out if verb == Some(Verb::Get) => {

@@ -83,7 +83,7 @@ abbrev pub IsPadded : List ℕ → ℕ → Type 0
 IsPadded old pad = (records : List (List ℕ)) × Spells Variable old records
     × ((more : List (List ℕ)) → All (λ r. length r ≤ 32767) more → Spells Variable (old ++ (replicate pad 0 ++ flat_map written more)) (records ++ more))
 
--- the attributes with the greater record size, F.RSIZ; where it is 0 it stays
+-- the attributes with the greater record size, F.RSIZ; if it is 0 it stays
 abbrev pub with_size : List ℕ → ℕ → List ℕ
 with_size own longest = if (word_at own 2 == 0) || nat_le longest (word_at own 2) then own else take 2 own ++ (word longest ++ drop 4 own)
 

@@ -66,7 +66,7 @@ pub data IsUncopyable (user : Uic) (to : Target) (found : Found) : Why → Type 
 abbrev pub IsUnread : List (List ℕ) → VolumeLayout → ℕ → Why → Type 0
 IsUnread I L n why = (why ≡ Request refusal.NoMemory) ⊎ ((why ≡ Path fault.NoSuchFile) × ((body : Body) → ¬ HasBody I L n body))
 
--- the reply to it: a file that does not exist, or has no whole chain, counts as none
+-- the refusal for this: a file without a whole chain is reported like a file that does not exist
 abbrev pub why_unread : FileFault → Why
 why_unread NoSuchFile = Path fault.NoSuchFile
 why_unread (Chain BadChain) = Path fault.NoSuchFile

@@ -44,7 +44,7 @@ abbrev pub IsFirstNotOfNames : List (Bor (List ℕ)) → Failure → Type 0
 IsFirstNotOfNames [] failure = ⊥
 IsFirstNotOfNames (path ∷ paths) failure = (IsNotOfNames path.now failure.why × HasPath failure path.now) ⊎ (HasNoVersion path.now × IsFirstNotOfNames paths failure)
 
--- all versions are selected, and only directories select nothing
+-- all versions are selected, and a path with only directories selects nothing
 abbrev pub every_version : Unsaid
 every_version = record { versions = Some Every; alone = alone.Refused }
 
@@ -58,7 +58,7 @@ abbrev pub count_named : List ℕ → List Found → ℕ
 count_named name [] = 0
 count_named name (f ∷ found) = if bytes_eq (name_key f.place) name then count_named name found + 1 else count_named name found
 
--- This one is removed if this number of its name follow it. Directories stay, and so do the volume's own files.
+-- This one is removed if at least this number of entries with its name follow it. Directories stay, and so do the volume's own files.
 abbrev pub goes : ℕ → Found → List Found → Bool
 goes keep f behind = nat_le keep (count_named (name_key f.place) behind) && not (is_passed_over f.facts)
 

@@ -40,7 +40,7 @@ for_fault fault.NoMemory = no_memory
 abbrev pub IsRefusedBy : Filed → Asked → Why → Type 0
 IsRefusedBy f r why = (reason : Refusal) × (why ≡ Request reason) × IsRefusedFor f r reason
 
--- why a request is not done: the volume refuses it; or it has a version that is not valid, and is not made
+-- why a request is not done: the volume refuses it; or its version is not valid, and it is not made
 abbrev pub IsNotDone : Filed → Asked → Why → Type 0
 IsNotDone f r why = IsRefusedBy f r why ⊎ ((¬ CanBeAsked r) × (why ≡ Request refusal.VersionsFull))
 
@@ -83,7 +83,7 @@ IsFirstKept IsKept [] failure = ⊥
 IsFirstKept IsKept (f ∷ found) failure =
     (IsKept f failure.why × HasPath failure (string_bytes f.path)) ⊎ (((why : Why) → ¬ IsKept f why) × IsFirstKept IsKept found failure)
 
--- none of these may not be changed
+-- each of these may be changed
 abbrev pub AreNotKept : (Found → Why → Type 0) → List Found → Type 0
 AreNotKept IsKept found = All (λ f. (why : Why) → ¬ IsKept f why) found
 

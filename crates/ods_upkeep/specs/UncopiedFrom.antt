@@ -58,7 +58,7 @@ abbrev pub AreAllPassed : List Found → Failure → Type 0
 AreAllPassed all failure =
     (first : Found) × ((rest : List Found) × (all ≡ first ∷ rest) × (are_passed_over all ≡ true) × (failure.why ≡ passed_why first.facts) × HasPath failure (string_bytes first.path))
 
--- why a path is refused whose names must be determined to be distinct: it finds two entries of one name, or it selects nothing
+-- why a path is refused by the check for twins: it finds two entries of one name, or it selects nothing
 abbrev pub IsTwinned : List (List ℕ) → VolumeLayout → List ℕ → Why → Type 0
 IsTwinned I L path why =
     ((why ≡ Request refusal.NameTaken) × ((found : List Found) × AreOfPath I L (highest alone.Files) path found × HaveTwins found)) ⊎ IsNoSource I L (highest alone.Files) path why

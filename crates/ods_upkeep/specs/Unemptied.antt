@@ -42,7 +42,7 @@ IsNoEmptyFile I L facts why =
     ⊎ ((facts.kind ≡ Directory) × IsDirectoryFile I L facts.file.number
     × (((why ≡ Request refusal.Reserved) × (facts.file.number ≤ 5)) ⊎ ((5 < facts.file.number) × HasSome I L facts.file.number why)))
 
--- why an entry names no directory: it names no file, or one that is not a directory
+-- why an entry names no empty directory: it names no file, or one that is not an empty directory
 abbrev pub IsNotEmpty : List (List ℕ) → VolumeLayout → Found → Why → Type 0
 IsNotEmpty I L found why = ((found.facts ≡ None) × (why ≡ Path fault.NoSuchFile)) ⊎ ((facts : Facts) × (found.facts ≡ Some facts) × IsNoEmptyFile I L facts why)
 

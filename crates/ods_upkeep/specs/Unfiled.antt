@@ -14,7 +14,7 @@ use Rattle.ods_upkeep.specs.declared.asked.Placing.{Placing}
 use Rattle.ods_upkeep.specs.declared.failure.Why.{Why}
 use Rattle.ods_upkeep.specs.declared.failure.Why.TheVariants.{Request, DirectoryType}
 
--- The owner has made the file on the old volume, which the user requests again.
+-- The owner has made the file on the old volume. Afterwards the user makes the requests again.
 pub record IsFilled (placing : Placing) (owner : Uic) (heading : Heading) (attributes bytes : List ℕ) (file : FileId) (old new : Filed) : Type 0 where
   pub made : Filed
   pub stored : IsStored placing heading attributes bytes file (for_another old owner) made

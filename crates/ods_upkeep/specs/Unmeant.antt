@@ -34,7 +34,7 @@ AreUnfit files why =
     ((why ≡ Several) × (¬ MayBeFirst files.versions))
     ⊎ (MayBeFirst files.versions × (((why ≡ BadName) × (files.name ≡ [])) ⊎ ((why ≡ no_memory) × (files.name ≢ []))))
 
--- why files of a path name no directory: the type is another; and else they are unfit
+-- why files of a path name no directory: the type is another; otherwise they are unfit
 abbrev pub AreNoDirectory : List ℕ → Files → Why → Type 0
 AreNoDirectory text files why = ((why ≡ BadName) × (¬ MayBeDirectory text files.kind)) ⊎ (MayBeDirectory text files.kind × AreUnfit files why)
 

@@ -78,7 +78,8 @@ pub record MayBeCalled (p : InPut) (host : List ℕ) (name : RadName) : Type 0 w
   pub named : IsNameFor p.target.name host name
   pub plain : name.ext ≢ directory_type
 
--- Why a host file is not put. It has no name, or one of the type DIR. Or its bytes are not written in the form. Or something is to be remarked, and there is no memory for it. In each of these cases nothing was done. Or else what is written is not put under its name.
+-- Why a host file is not put. It has no name, or one of the type DIR. Or its bytes are not written in the form. Or there is a remark, and no memory for
+-- it. In each of these cases nothing was done. Or the written bytes are not put under the name.
 pub data IsNotPut (p : InPut) (host bytes : List ℕ) (old new : Filed) : Why → Type 0 where
   nameless : (why : Why) → IsNameless p.target.name host why → new ≡ old → IsNotPut p host bytes old new why
   of_directory : (name : RadName) → IsNameFor p.target.name host name → name.ext ≡ directory_type → new ≡ old → IsNotPut p host bytes old new DirectoryType

@@ -22,7 +22,7 @@ Noted = List (List ℕ × ℕ)
 abbrev pub version_in : Noted → RadName → Option ℕ
 version_in noted name = lookup (is_at (slice_cmp nat_cmp (key_of name))) noted
 
--- the highest version that these entries have of a name; none where no entry has it
+-- the highest version that these entries have of a name; none if no entry has it
 abbrev pub IsHighestOf : List Listed → RadName → Option ℕ → Type 0
 IsHighestOf entries name None = (e : Listed) → Contains entries e → e.name ≢ name
 IsHighestOf entries name (Some version) =

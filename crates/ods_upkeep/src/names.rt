@@ -52,7 +52,7 @@ impl Names {
         Ok(names)
     }
 
-    /// Counts the entries of a directory; none where the number is that of no directory.
+    /// Counts the entries of a directory, or none if the number does not belong to a directory.
     fn add_directory(
         &mut self,
         alloc: Global,
@@ -72,7 +72,7 @@ impl Names {
         Ok(())
     }
 
-    /// One entry more names its file, where that is there.
+    /// Counts this entry for its file, if the file exists.
     fn add_entry(&mut self, volume: &Mounted, entry: &Listed)
         ensures { (entries : List Entry) → length entries < 2 ^ 63 → AreCountsOf volume.now.image volume.now.layout entries (slice_index self.old)
             → AreCountsOf volume.now.image volume.now.layout (entries ++ entry.now ∷ []) (slice_index self.new) }
