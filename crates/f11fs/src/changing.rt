@@ -38,7 +38,7 @@ pub const KEEPER: Uic = Uic {
     member: 1,
 };
 
-/// Changes the image: makes the requested change on the locked volume, and saves it.
+/// Makes the requested change on the locked image and saves it, or with `-n` prints what would change.
 pub fn change_image<'a, R: Host>(
     rt: &R,
     words: &Words<'a>,

@@ -28,8 +28,8 @@ struct Taken {
 #[derive(Drop)]
 pub struct Early {
     taken: Vec<Taken>,
-    /// How many bytes may still be read: in total the length of the image file, or the largest image size if it is not a plain file. None if there
-    /// is no image.
+    /// How many bytes may still be read: in total the length of the image file, or the largest image size if it is not a plain file.
+    /// For an archive, `archive_room` raises the limit. None if there is no image.
     room: Option<u64>,
 }
 

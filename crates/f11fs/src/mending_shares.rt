@@ -20,7 +20,7 @@ use std::alloc::{AllocError, Global};
 /// Of at most so many files a run moves blocks: each takes a pass over the image.
 const MOST_FILES: usize = 100;
 
-/// Returns the image in which each run with blocks in use twice has blocks of its own, if this repair is requested.
+/// Returns the image in which runs with blocks in use twice have blocks of their own, if this repair is requested.
 pub fn mend_share<'a>(
     alloc: Global,
     image: Image,

@@ -57,7 +57,7 @@ pub(crate) const CHOICES: [Choice; 12] = [
     Choice::Order,
 ];
 
-/// Returns whether an option has an effect for a command.
+/// Returns whether an option may have an effect for a command.
 pub fn serves(choice: Choice, verb: Verb) -> bool
     ensures { result ≡ option_serves choice verb }
 {

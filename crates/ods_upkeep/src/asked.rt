@@ -31,9 +31,9 @@ pub struct HostFile<'a> {
 /// How names are removed.
 #[derive(Clone, Copy, Debug, PartialEq, Eq)]
 pub struct Removal {
-    /// Removes only the entry. The file stays.
+    /// Whether only the entry is removed, and its file stays.
     pub entry_alone: bool,
-    /// Selects the highest version if no version is given. Otherwise such a path is refused.
+    /// Whether a path without a version selects the highest. If false, such a path is refused.
     pub newest: bool,
 }
 
