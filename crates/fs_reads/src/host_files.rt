@@ -47,8 +47,8 @@ pub(crate) fn could_write<R: Files>(rt: &R, host: &str, replaces: bool) -> Writt
     }
 }
 
-/// Writes the contents to this path: to a new file, or with `replaces` over an existing plain file. If `changed` is given, a plain file receives this
-/// modification time, in seconds since 1970.
+/// Writes the contents to this path: to a new file, or with `replaces` to one that takes the place of an existing plain file. If `changed` is given,
+/// a plain file receives this modification time, in seconds since 1970.
 pub(crate) fn write_host<R: Files<File = File> + AllocGlobal>(
     rt: &R,
     contents: &Contents<'_>,
