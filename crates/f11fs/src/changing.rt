@@ -35,13 +35,13 @@ use ods_upkeep::{
 };
 use std::alloc::{AllocError, Global};
 
-/// The user of whom changes ask rights where none is said.
+/// The user whose rights apply to changes if no user is specified.
 pub const KEEPER: Uic = Uic {
     group: 1,
     member: 1,
 };
 
-/// A change of the image.
+/// Makes the requested change on the locked image and saves it, or with `-n` prints what would change.
 pub fn change_image<'a, R: Host>(
     rt: &R,
     words: &Words<'a>,
@@ -76,7 +76,8 @@ fn changed<'a, R: Host>(
     Ok(filing)
 }
 
-/// Locks the image, and gives its volume. Where it is to be copied, it shares its blocks with its copies.
+/// Locks the image, and returns its volume. With `is_copied`, or if the command only prints what would change, the volume shares its blocks with
+/// its copies.
 pub fn lock_volume<'a, R: Host>(
     rt: &R,
     words: &Words<'a>,
@@ -136,7 +137,7 @@ fn sharing<'a>(volume: Mounted) -> Result<Mounted, Stop<'a>>
     }
 }
 
-/// The volume as it is before a change, where it is told what would change.
+/// Returns a copy of the volume before a change, if the command only prints what would change.
 pub fn kept_before<'a>(words: &Words<'_>, volume: &Mounted) -> Result<Option<Mounted>, Stop<'a>>
     ensures { IfOk result (λ kept. MatchOption kept (words.now.saving.only_tells ≡ false) (λ copy. (words.now.saving.only_tells ≡ true) × (copy ≡ volume.now))) }
 {
@@ -147,16 +148,16 @@ pub fn kept_before<'a>(words: &Words<'_>, volume: &Mounted) -> Result<Option<Mou
     }
 }
 
-/// How a run of changes ended, where nothing failed.
+/// How a run of changes ended, if nothing failed.
 #[derive(Clone, Copy)]
 pub enum Finished {
-    /// It was told what would change, or nothing has changed.
+    /// The changes were printed and not saved, or nothing has changed.
     Told(Status),
     /// The changed image is saved.
     Saved(Status),
 }
 
-/// The status of a run that ended so.
+/// Returns the exit status of a run that ended this way.
 pub fn status_of(finished: Finished) -> Status
     ensures { EndsSaved finished → IsSavedStatus result }
 {
@@ -166,14 +167,15 @@ pub fn status_of(finished: Finished) -> Status
     }
 }
 
-/// Who asks, and the time that new files get.
+/// The requesting user, and the time of new files.
 #[derive(Clone, Copy)]
 pub struct Asker {
     pub user: Uic,
     pub stamp: Stamp,
 }
 
-/// Who asks for changes, and the time that new files get.
+/// Returns the requesting user, and the time of new files: from the words, otherwise `KEEPER` and the local time. Fails with `NoTime` if the words
+/// specify no time and the host has none.
 pub fn asker_of<'a, R: Host>(rt: &R, words: &Words<'a>) -> Result<Asker, Stop<'a>>
     ensures user { IfOk result (λ asker. asker.user ≡ unwrap_or words.now.user KEEPER) }
     ensures stamp { IfOk result (λ asker. MatchOption words.now.stamp (IsStampOfLocal asker.stamp) (λ said. asker.stamp ≡ said)) }
@@ -189,8 +191,8 @@ pub fn asker_of<'a, R: Host>(rt: &R, words: &Words<'a>) -> Result<Asker, Stop<'a
     }
 }
 
-/// Tells what would change, where the volume before is given. Else saves the changed image where the words say; one that is as it was is left
-/// alone.
+/// Prints what would change, if the volume before is given. Otherwise saves the changed image as the words specify. An unchanged image is not
+/// written.
 pub fn finish<'a, R: Host>(
     rt: &R,
     words: &Words<'a>,
@@ -212,7 +214,8 @@ pub fn finish<'a, R: Host>(
     save_image(rt, words, locked, volume.image())
 }
 
-/// Saves the changed image where the words say; one that is as it was is left alone.
+/// Saves the changed image as the words specify. Without `-o`, an unchanged image is not written, and an image shorter than its volume only with
+/// `--force`.
 pub fn save_image<'a, R: Host>(
     rt: &R,
     words: &Words<'a>,
@@ -248,7 +251,7 @@ pub fn save_image<'a, R: Host>(
     }
 }
 
-/// Says what is wanting of an image that is saved, and gives the status.
+/// Prints what is unfinished about a saved image, if anything, and returns the status: `Host` in that case.
 pub fn say_unfinished<R: Eprint>(rt: &R, path: &str, wanting: Option<Unfinished>) -> Status
     ensures { MatchOption wanting (result ≡ Code.Done) (λ _. result ≡ Code.Host) }
 {
@@ -262,7 +265,7 @@ pub fn say_unfinished<R: Eprint>(rt: &R, path: &str, wanting: Option<Unfinished>
     }
 }
 
-/// Makes the change that the words ask for. Refused, it may be made in part.
+/// Makes the requested change. A refused change may be made in part.
 #[tactic(auto, using(crate::proofs::Giving::done_or_same, crate::proofs::Giving::some_got, crate::proofs::Leading::through, crate::proofs::Leading::unmoved))]
 pub fn change_volume<'a, R: Host>(
     rt: &R,
@@ -368,7 +371,7 @@ fn say_nested<R: AllocGlobal + Eprint>(rt: &R, words: &Words<'_>) {
     }
 }
 
-/// The end of a command whose change is refused.
+/// Returns the end of a command whose change is refused.
 #[tactic(auto, using(crate::proofs::Refusals::is_refusal))]
 pub fn stop_failed<'a>(alloc: Global, failure: &Failure) -> Stop<'a>
     ensures refused { IsRefusal result }

@@ -1,4 +1,4 @@
-//! Files of commands that only look at a volume: they take no lock, and go on where a mount refuses the volume.
+//! Files of commands that only look at a volume: they take no lock, and go on if a mount refuses the volume.
 ghost use Rattle.std.specs.Prelude.{◌≡◌, ◌⊎◌, ℕ, List, false, true, IfErr, IfOk, IsTrue};
 ghost use Rattle.std.specs.{List.Contains, Str.Lines.lines};
 ghost use Rattle.fs_host.specs.Faults.{is_reason};
@@ -21,7 +21,7 @@ use ods_shell::Status;
 use std::alloc::{AllocError, Global};
 use std::cell::RefCell;
 
-/// Whether these lines only look at the volume of an image, whether a mount takes it or not.
+/// Returns whether these lines only look at the volume of an image. A mount may refuse the volume.
 pub fn only_look<'a>(alloc: Global, image: &'a str, text: &str) -> Result<bool, AllocError>
     ensures { IfOk result (λ looks. looks ≡ false → (line : List ℕ) × Contains (lines text.now) line × WantsMounted image.entry line) }
 {
@@ -56,7 +56,7 @@ fn is_for_mounted(action: &Action<'_>) -> bool
     matches!(action, Action::Change(_) | Action::Df)
 }
 
-/// Obeys lines that only look at a volume, and prints what they show. A refusal ends the run, unless it is to go on.
+/// Runs lines that only look at a volume, and prints their output. A refusal ends the run, unless `keep_going`.
 pub fn look_all<'a, R: Host>(
     rt: &R,
     words: &Words<'a>,

@@ -1,5 +1,5 @@
-//! `f11fs`: looks at RSX-11 volumes, structure level 1, gets files out of them and changes them. What a path finds and what is printed is settled by
-//! `ods_shell`, what a change does by `ods_upkeep`; here are the files of the host, the streams and the exit status.
+//! `f11fs`: looks at RSX-11 volumes, structure level 1, extracts files and changes them. `ods_shell` determines what a path finds and what is
+//! printed, and `ods_upkeep` what a change does. This crate has the files of the host, the streams and the exit status.
 #![tactic(auto)]
 
 ghost use Rattle.std.specs.Prelude.{◌≡◌, ◌≤◌, IfSome};

@@ -1,4 +1,4 @@
-//! `repair`: mends what is wrong with an image, also with one that a mount refuses, and saves what comes of it.
+//! `repair`: repairs an image, also one that a mount refuses, and saves the result.
 ghost use Rattle.std.specs.Prelude.{◌≡◌, ◌⊎◌, IfOk, if◌then◌else◌};
 ghost use Rattle.ods_shell.specs.declared.status.Status.{Status as Code};
 
@@ -13,7 +13,7 @@ use ods_shell::Status;
 /// The directory of lost files where none is said.
 const LOST: &str = "[1,3]";
 
-/// Makes the repairs that are asked for, and saves the image that comes of them. What was done is told when it is saved; with `-n` nothing is saved.
+/// Makes the requested repairs, and saves the resulting image. The lines are printed after it is saved. With `-n` nothing is saved.
 pub fn repair_image<'a, R: Host>(
     rt: &R,
     words: &Words<'a>,

@@ -22,7 +22,7 @@ use std::str;
 /// The bit of UC.CON among the characteristics of the user.
 const CONTIGUOUS: u8 = 128;
 
-/// `untar`: the first word is the archive, or `-`, and the second a directory of the volume.
+/// Runs `untar`: the first word is the archive, or `-`, and the second a directory of the volume.
 pub fn untar<'a, R: Host>(
     rt: &R,
     filing: &mut Filing,
@@ -57,14 +57,14 @@ pub fn untar<'a, R: Host>(
 /// Which times files get.
 #[derive(Drop)]
 struct Times {
-    /// The time of the run, or the one that is said.
+    /// The specified time, or else the time of the run.
     run: Stamp,
-    /// The zone by which the times of members are local ones, where no time is said.
+    /// The zone that turns the times of members into local times, if no time is specified.
     zone: Option<HostZone>,
 }
 
 impl Times {
-    /// The time of a file whose member has this time, in seconds since 1970.
+    /// Returns the time of a file whose member has this time, in seconds since 1970.
     fn of(&self, second: u64) -> Stamp
         ensures { IsTimeOf (not (is_some self.now.zone)) self.now.run second result }
     {
@@ -72,7 +72,7 @@ impl Times {
     }
 }
 
-/// The archive that the words name: the first one, or standard input.
+/// Returns the archive that the words name: the first word, or standard input.
 pub fn archive_among<'a>(words: &[&'a str]) -> &'a str
     ensures { result.now ≡ archive_among words.now }
 {

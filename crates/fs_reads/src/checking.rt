@@ -1,4 +1,4 @@
-//! `check`: what is wrong with an image, sound or not.
+//! `check`: the faults and findings of an image, sound or not.
 ghost use Rattle.std.specs.Prelude.{◌≡◌, ◌++◌, ◌⊎◌, None, IfOk, MatchOption, OnOk, string_bytes};
 ghost use Rattle.ods_mount.specs.Faults.{IsDirectoryFile, IsSound};
 ghost use Rattle.ods_shell.specs.ByNumber.{AreNames};
@@ -22,7 +22,7 @@ use std::alloc::{AllocError, Global};
 use std::fs::File;
 use std::rt::Files;
 
-/// `check` of the image at this path.
+/// Checks the image at this path and prints what is wrong (`check`).
 pub fn check<'a, R: Files<File = File> + AllocGlobal + Print + Eprint>(
     rt: &R,
     path: &'a str,
@@ -55,7 +55,7 @@ pub fn check<'a, R: Files<File = File> + AllocGlobal + Print + Eprint>(
     }
 }
 
-/// `check` of an image.
+/// Checks an image and prints what is wrong. The status is `Done` only if the image is sound.
 pub fn check_image<'a, R: AllocGlobal + Print>(
     rt: &R,
     image: &Image,

@@ -40,7 +40,7 @@ pub struct Known {
     pub file: FileId,
 }
 
-/// `cmp` with the image at the first path.
+/// Compares the volume with the image at the first path (`cmp`).
 pub(crate) fn compare_all<'a, R: Files<File = File> + Clock + AllocGlobal + Print + Eprint>(
     rt: &R,
     disk: &Disk<'_>,
@@ -112,7 +112,7 @@ fn objects(alloc: Global, text: &str) -> Result<String, AllocError> {
     Ok(objects)
 }
 
-/// All paths of a sound volume, in the order of their bytes.
+/// Returns all paths of a sound volume, sorted by their bytes.
 pub fn all_known<'a>(
     alloc: Global,
     volume: &Mounted,
@@ -203,7 +203,7 @@ fn compare_path(known: &Known, path: &str) -> Ordering
     known.path.as_str().cmp(path)
 }
 
-/// The place of a path.
+/// Returns the index of a path in the sorted list `all`, or None if it is not in the list.
 pub fn place_of(all: &[Known], path: &str) -> Option<usize>
     ensures there { IfSome result (HoldsAt (has_path path.now) all.now) }
     ensures within { IfSome result (λ place. place < length all.now) }
@@ -337,7 +337,7 @@ fn push_if(text: &mut String, path: &str, differs: bool, what: &str) -> Result<(
     Ok(())
 }
 
-/// What differs between the files with these IDs of two sound volumes.
+/// Returns the first difference between the files with these IDs of two sound volumes, or None.
 pub fn difference_by_id<'a>(
     alloc: Global,
     volume: &Mounted,

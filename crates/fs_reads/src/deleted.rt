@@ -12,7 +12,7 @@ use ods_shell::{Deletion, PathFault, Status, deletion_lines, deletion_objects, k
 use ods_space::Disk;
 use std::alloc::{AllocError, Global};
 
-/// Appends what `find --deleted` shows. The texts of the paths before one that is refused stay.
+/// Appends the output of `find --deleted`. If a path is refused, the text of the paths before it stays.
 pub(crate) fn push_deleted<'a>(
     alloc: Global,
     disk: &Disk<'_>,

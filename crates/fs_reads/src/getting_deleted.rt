@@ -1,4 +1,4 @@
-//! `get --deleted`: deleted files whose headers are still there, written to files of the host.
+//! `get --deleted`: deleted files whose headers still exist, written to files of the host.
 ghost use Rattle.std.specs.Prelude.{◌≡◌, ◌⊎◌, ℕ, List, Option, true, IfErr, IfOk, OnOk};
 ghost use Rattle.std.specs.Borrow.{Bor};
 ghost use Rattle.std.specs.List.{All};
@@ -36,8 +36,9 @@ use std::io;
 use std::rt::Files;
 use std::time::Clock;
 
-/// `get --deleted`: the deleted files that the IDs name, to a destination; where none is said the last word is it, of two or more. Where
-/// `partial`, what is left of those that are not whole too. With a zone each file of the host gets the creation date of its file. No file is written where a path is no ID.
+/// `get --deleted`: extracts the deleted files with these IDs. Without `said`, the last of two or more words is the destination. With `partial`, also
+/// extracts the rest of files that are not whole. With a zone, each host file receives the creation date of its file. No file is written if a path is
+/// not an ID.
 pub(crate) fn get_deleted<'a, R: Files<File = File> + Clock + AllocGlobal + Print + Eprint>(
     rt: &R,
     disk: &Disk<'_>,

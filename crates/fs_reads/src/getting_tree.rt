@@ -1,4 +1,4 @@
-//! `get -r`: the files in a directory and below it, in folders of the host that are named as the directories are.
+//! `get -r`: the files in a directory and below it, in host folders that are named like the directories.
 ghost use Rattle.std.specs.Prelude.{◌≡◌, ◌⊎◌, ◌∷◌, ◌++◌, ℕ, List, Option, [], IfErr, IfOk, OnOk, if◌then◌else◌, string_bytes, true};
 ghost use Rattle.std.specs.Borrow.{Bor};
 ghost use Rattle.std.specs.List.{All};
@@ -33,8 +33,9 @@ use std::fs::File;
 use std::rt::Files;
 use std::time::Clock;
 
-/// `get -r`: the files in the one directory that the path says, and below it, in a folder of the host, which is made where it is not there. Each
-/// directory has a folder in it. Where a name has several versions all are got. With a zone each file of the host gets the creation date of its file.
+/// `get -r`: extracts the files in the one directory that the path specifies, and below it. The target is a host folder, which is created if it does
+/// not exist. Each directory below has a folder in it. All versions of a name are extracted. With a zone, each host file receives the creation date
+/// of its file.
 pub(crate) fn get_tree<'a, R: Files<File = File> + Clock + AllocGlobal + Print + Eprint>(
     rt: &R,
     disk: &Disk<'_>,

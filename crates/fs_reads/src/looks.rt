@@ -1,10 +1,10 @@
-//! What bytes that are no image of a volume look like.
+//! The apparent type of bytes that are not the image of a volume.
 ghost use Rattle.std.specs.Prelude.{◌≡◌};
 ghost use Rattle.fs_reads.specs.{Looks.look_of, Looks.stands, Looks.look_of_front as front_look, Looks.look_of_length as length_look};
 
 use thiserror::Error;
 
-/// What a file of the host looks like that is no image of a volume, and what one can do.
+/// The apparent type of a host file that is not the image of a volume, with a remedy.
 #[derive(Clone, Copy, Debug, PartialEq, Eq, Error)]
 pub enum Look {
     /// The file has no bytes.
@@ -45,7 +45,7 @@ pub enum Look {
 /// At which byte the mark of a home block of RT-11 and of ODS-2 stands.
 const HOME_MARK: usize = 1008;
 
-/// What a file of this length with these first bytes, two blocks at most, looks like.
+/// Returns the apparent type of a file of this length with these first bytes, at most two blocks.
 pub fn looks_like(bytes: &[u8], length: u64) -> Option<Look>
     ensures { result ≡ look_of bytes.now length }
 {

@@ -1,4 +1,4 @@
-//! `rescue`: each file whose own chain is whole, copied out of an image that may be refused.
+//! `rescue`: each file whose own chain is whole, copied out of an image that a mount may refuse.
 ghost use Rattle.std.specs.Prelude.{◌≡◌, ◌⊎◌, IfNone, IfOk, IfSome};
 ghost use Rattle.fs_reads.specs.Ends.{StopsWith};
 ghost use Rattle.ods_shell.specs.declared.status.Status.{Status as Code};
@@ -39,18 +39,18 @@ const NUMBERS: usize = 65536;
 /// How files are copied.
 #[derive(Clone, Copy)]
 pub(crate) struct How<'a> {
-    /// The folder of the host that they are written to.
+    /// The host folder that receives the files.
     pub folder: &'a str,
-    /// Whether records become lines where they are whole.
+    /// Whether records become lines if they are whole.
     pub text: bool,
-    /// Whether of a file that lacks headers or blocks what is there is copied.
+    /// Whether the available part of a file is copied if headers or blocks are missing.
     pub partial: bool,
-    /// Whether nothing is written, and it is told what would be.
+    /// Whether the command only prints what it would write.
     pub only_tells: bool,
     pub json: bool,
 }
 
-/// `rescue` into the folder of the first word. With `scan`, and where no layout leads to the headers, the files are those that a scan finds.
+/// `rescue` into the folder that the first word specifies. With `scan`, or if no layout locates the headers, a scan finds the files.
 pub fn rescue<'a, R: Files<File = File> + Clock + AllocGlobal + Print + Eprint>(
     rt: &R,
     words: &Words<'a>,
@@ -293,7 +293,7 @@ fn say_rest<'a, R: AllocGlobal + Print>(
     )
 }
 
-/// A line of the fault that a mount answers.
+/// Prints a line, or an object, for the fault that a mount reports.
 pub(crate) fn say_fault<'a, R: AllocGlobal + Print>(
     rt: &R,
     path: &str,
@@ -311,7 +311,7 @@ pub(crate) fn say_fault<'a, R: AllocGlobal + Print>(
     send(rt, line.as_str())
 }
 
-/// A line, or an object, for what is left.
+/// Prints a line, or an object, for something that is left out.
 pub(crate) fn say_left<'a, R: AllocGlobal + Print>(
     rt: &R,
     what: &str,
@@ -328,7 +328,7 @@ pub(crate) fn say_left<'a, R: AllocGlobal + Print>(
     send(rt, line)
 }
 
-/// A line, or an object, for a file of which something is missing, and which is copied all the same.
+/// Prints a line, or an object, for a file that is copied although a part of it is missing.
 pub(crate) fn say_part<'a, R: AllocGlobal + Print>(
     rt: &R,
     what: &str,
@@ -426,7 +426,8 @@ fn keep_below<'a, R: Files<File = File> + AllocGlobal + Print + Eprint>(
     keep(rt, how, file, name, contents, &mut kept.names)
 }
 
-/// Writes what is got out of a file into a new file of the folder, under its name, or with its ID behind that where the name is taken.
+/// Writes the contents of a file to a new file of the folder, under its name. If the name is taken, the ID is appended to the name. With `only_tells`
+/// only prints what it would write.
 pub(crate) fn keep<'a, R: Files<File = File> + AllocGlobal + Print + Eprint>(
     rt: &R,
     how: How<'_>,

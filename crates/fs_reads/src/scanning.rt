@@ -1,4 +1,4 @@
-//! `rescue --scan`: each file whose first header is still there, copied by its headers alone.
+//! `rescue --scan`: each file whose first header still exists, copied by only its headers.
 ghost use Rattle.std.specs.Prelude.{◌≡◌, ◌⊎◌, ◌<◌, ◌+◌, ◌-◌, min, if◌then◌else◌, length, string_bytes, IfOk};
 ghost use Rattle.ods_remains.specs.Scanned.{IsScanned};
 ghost use Rattle.fs_reads.specs.Scans.{id_text, placed_name, status_lacking};

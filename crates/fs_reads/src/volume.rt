@@ -22,28 +22,28 @@ use thiserror::Error;
 /// Of how many bytes it is seen what a file looks like.
 const FRONT: u64 = 1024;
 
-/// Why there is no volume.
+/// Why an image is not a volume.
 #[derive(Clone, Copy, Debug, PartialEq, Eq, Error)]
 pub enum VolumeFault {
-    /// The file is not there, or reading it failed.
+    /// The file does not exist, or reading it failed.
     #[error("reading failed: {0}")]
     Read(HostFault),
     /// The allocator refused memory.
     #[error("no memory")]
     NoMemory,
-    /// The file has another size than a floppy of this order, which was said.
+    /// The file size differs from the size of a floppy in this order, which was specified.
     #[error("OtherSize")]
     OtherSize(Order),
-    /// The bytes are no image; and what they look like.
+    /// The bytes are not a valid image. Also their apparent type.
     #[error("{0}")]
     Image(ImageError, Option<Look>),
-    /// The image is no sound volume; and what it looks like where it has no home block.
+    /// The image is not a sound volume. Also its apparent type if it has no home block.
     #[error("{0}")]
     Volume(MountFault, Option<Look>),
 }
 
 impl VolumeFault {
-    /// Why the refusal comes, and what one can do.
+    /// Returns the reason for the refusal and a remedy, if there is one for the fault.
     pub fn advice(&self) -> Option<Advice>
         ensures { option_map advice_words result ≡ advice_for self.now }
     {
@@ -54,7 +54,7 @@ impl VolumeFault {
         }
     }
 
-    /// What the bytes look like.
+    /// Returns the apparent type of the bytes, if the fault has one.
     pub fn look(&self) -> Option<Look>
         ensures { result ≡ look_in self.now }
     {
@@ -119,7 +119,7 @@ pub fn lacks_blocks(
     }
 }
 
-/// Says of an image that it is shorter than its volume; and where `tells_behind` that it is longer, which is no fault.
+/// Prints that an image is shorter than its volume. With `tells_behind` also prints that it is longer, which is not a fault.
 pub fn say_extent<R: Eprint>(rt: &R, path: &str, extent: Option<Extent>, tells_behind: bool) {
     if let Some(extent) = said_extent(extent, tells_behind) {
         say_about(rt, path, extent);
@@ -136,7 +136,7 @@ fn said_extent(extent: Option<Extent>, tells_behind: bool) -> Option<Extent>
     }
 }
 
-/// Why there is no volume in the order that was said; `why` reading failed, if it did.
+/// Returns the fault of an image that was not read in the specified order. `why` is the reason if reading failed.
 pub(crate) fn not_read_in<R: Files<File = File> + AllocGlobal>(
     rt: &R,
     path: &str,
@@ -151,7 +151,7 @@ pub(crate) fn not_read_in<R: Files<File = File> + AllocGlobal>(
     }
 }
 
-/// Why there is no image; `why` reading failed, if it did.
+/// Returns the fault of an image that was not read. `why` is the reason if reading failed.
 pub(crate) fn not_read<R: Files<File = File> + AllocGlobal>(
     rt: &R,
     path: &str,
@@ -167,7 +167,7 @@ pub(crate) fn not_read<R: Files<File = File> + AllocGlobal>(
     }
 }
 
-/// What the plain file at this path looks like.
+/// Returns the apparent type of the plain file at this path.
 pub(crate) fn look_at<R: Files<File = File> + AllocGlobal>(rt: &R, path: &str) -> Option<Look> {
     let Ok(found) = fs::metadata(rt, path) else {
         return None;
@@ -200,7 +200,7 @@ fn mount_image<R: Files<File = File> + AllocGlobal>(
     }
 }
 
-/// Why an image that was read from this path is no sound volume, in the words of a mount.
+/// Returns the fault of an image that was read from this path, from the fault of its mount.
 pub(crate) fn not_mounted<R: Files<File = File> + AllocGlobal>(
     rt: &R,
     path: &str,
@@ -215,8 +215,8 @@ pub(crate) fn not_mounted<R: Files<File = File> + AllocGlobal>(
     }
 }
 
-/// The volume of the image at this path, of so many blocks where a number is given, with its sectors in the order that is said; that an image is
-/// refused is said, and that it is shorter than its volume, or where `tells_behind` longer.
+/// Mounts the image at this path, of `given` blocks if a number is given, with its sectors in the order that `layers` specifies. Prints that the
+/// image is shorter than its volume, and with `tells_behind` also that it is longer. A refusal is returned as the end of the command.
 pub fn open_volume<'a, R: Files<File = File> + AllocGlobal + Eprint>(
     rt: &R,
     path: &'a str,
@@ -235,7 +235,7 @@ pub fn open_volume<'a, R: Files<File = File> + AllocGlobal + Eprint>(
     }
 }
 
-/// The volume of an image that was read from this path; that it is refused is said.
+/// Mounts an image that was read from this path. A refusal is returned as the end of the command.
 pub fn volume_of<'a, R: Files<File = File> + AllocGlobal>(
     rt: &R,
     path: &'a str,
@@ -250,7 +250,7 @@ pub fn volume_of<'a, R: Files<File = File> + AllocGlobal>(
     }
 }
 
-/// The image that was read from this path; that there is none is said.
+/// Returns the image that was read from this path. A fault is returned as the end of the command.
 pub fn image_of<'a, R: Files<File = File> + AllocGlobal>(
     rt: &R,
     path: &'a str,
@@ -280,7 +280,7 @@ fn mount_or_stop<'a, R: Files<File = File> + AllocGlobal>(
     }
 }
 
-/// Why there is no volume at this path.
+/// Returns the end of the command for this fault of the image at this path.
 pub(crate) fn no_volume<'a>(path: &'a str, fault: VolumeFault) -> Stop<'a>
     ensures { IsNoVolume path.entry fault result }
 {

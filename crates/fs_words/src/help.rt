@@ -1,10 +1,10 @@
 //! The texts of the help of all commands.
 
-/// What the program is for.
+/// The purpose of the program.
 pub(crate) const ABOUT: &str =
     "List, check, copy and change the files of RSX-11 disk images (Files-11 structure level 1, ODS-1)";
 
-/// What the help says behind the words.
+/// The text that the help prints after the words.
 pub(crate) const AFTER_HELP: &str =
     "A path names files on the volume, such as [1,2]NOTES.TXT;3 or 1,2/NOTES.TXT.
 In a shell, put quotes around '[1,2]' and ';*'. The form 1,2/NOTES.TXT needs none. A path has these parts:

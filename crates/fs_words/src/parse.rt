@@ -1,5 +1,5 @@
-//! The words in two parts: what stands before the command, and the command with what stands behind it. An image may have any name, so a word is a
-//! command by its place alone.
+//! The words in two parts: the words before the command, and the command with the words after it. An image may have any name, so only its position
+//! makes a word a command.
 ghost use Rattle.std.specs.Prelude.{◌≡◌, ◌-◌, IfErr, IfOk, drop, length, map, true};
 ghost use Rattle.clap.specs.Simple.{app_of};
 ghost use Rattle.clap.specs.Takes.{takes};
@@ -17,7 +17,8 @@ use ods_words::{WordsFault, tell_error};
 use std::alloc::{AllocError, Global};
 use std::convert::AsStr;
 
-/// What is found before the command, an image where `has_image`. The words from the command's name on are kept together, as `rest`.
+/// Returns the parse of the words before the command, which begin with an image if `has_image`. The words from the name of the command on are kept
+/// together, as `rest`.
 pub(crate) fn first_matches<'a, S: AsStr>(
     alloc: Global,
     words: &'a [S],
@@ -45,7 +46,7 @@ fn program<'a>(alloc: Global, version: &'a str, has_image: bool) -> Result<Comma
     Ok(command)
 }
 
-/// The words from the name of the command on: as many of the last ones as were kept together.
+/// Returns the words from the name of the command on: the last words that were kept together.
 pub(crate) fn rest_of<'a, S>(before: &ArgMatches<'a>, words: &'a [S]) -> &'a [S]
     ensures { result.now ≡ drop (length words.now - length (rest_among before.now)) words.now }
 {
@@ -58,14 +59,14 @@ pub(crate) fn rest_of<'a, S>(before: &ArgMatches<'a>, words: &'a [S]) -> &'a [S]
         .unwrap_or(&[])
 }
 
-/// The words behind the first one.
+/// Returns the words after the first one.
 pub(crate) fn behind_first<'a, S>(words: &'a [S]) -> &'a [S]
     ensures { result.now ≡ drop 1 words.now }
 {
     words.get(1..).unwrap_or(&[])
 }
 
-/// What is found behind the name of a command.
+/// Returns the parse of the words after the name of a command.
 pub(crate) fn command_matches<'a, S: AsStr>(
     alloc: Global,
     verb: Verb,
@@ -160,7 +161,7 @@ fn help<S: AsStr>(alloc: Global, words: &[S], version: &str) -> Result<String, A
     command.render_help()
 }
 
-/// What is said where clap found no words of the program's: the first of `words` may name a command, whose help is asked for.
+/// Returns the message if clap accepts no words of the program. The first of `words` may name a command, whose help is requested.
 pub(crate) fn tell<S: AsStr>(
     alloc: Global,
     error: &Error,

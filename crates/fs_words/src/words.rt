@@ -1,4 +1,4 @@
-//! What the words of a command line, or of a line in a file of commands, ask for.
+//! The request in the words of a command line, or of a line in a file of commands.
 ghost use Rattle.std.specs.Prelude.{◌≡◌, ◌++◌, ◌&&◌, true, false, All, IfErr, IfOk, OnOk, codes, drop, is_some, map, not};
 ghost use Rattle.ods_words.specs.Telling.{IsWrong};
 ghost use Rattle.fs_words.specs.{Found.AreOfCommand, Found.AreOfFile, Found.IsFound, Found.IsSaving, Found.IsStamp, Found.PlansWhereJson, Found.ServesWhereSaid, Names.verb_text, Options.option_serves, Options.option_text, Options.options, Parts.AreWordsOf, Parts.IsLineOf, Refused.AreNoWords, Refused.HasIdle, Refused.HasReason, Refused.IsBeside, Refused.IsIdle, Refused.IsJsonAlone, Refused.IsNoCommand, Refused.IsNoFile, Refused.IsNoLine, Refused.IsNoValue, Saying.text_said, Values.IsValue};
@@ -21,47 +21,47 @@ use ods_words::{WordsFault, say_wrong};
 use std::alloc::{AllocError, Global};
 use std::convert::AsStr;
 
-/// What the words ask for.
+/// The request in the words.
 #[derive(Drop)]
 pub struct Words<'a> {
     /// The path of the image.
     pub image: &'a str,
     pub action: Action<'a>,
-    /// The words behind the command: paths on the volume.
+    /// The words after the command: paths on the volume.
     pub paths: Vec<&'a str>,
-    /// A host file may be replaced.
+    /// Whether a host file may be replaced.
     pub force: bool,
-    /// What is printed is JSON, an object a line.
+    /// Whether the output is JSON, an object per line.
     pub json: bool,
-    /// Neither progress is shown nor remarks that are no faults.
+    /// Whether progress, and remarks that are not faults, are hidden.
     pub quiet: bool,
-    /// Who reads: with none every file is read, as the keeper of the image may. Who changes: with none [1,1].
+    /// The user. A read without one reads every file, as the keeper of the image may. A change without one is made by [1,1].
     pub user: Option<Uic>,
-    /// The time that new files get; with none that of the host.
+    /// The time of new files. Without one, the time of the host applies.
     pub stamp: Option<Stamp>,
     /// How a changed image is saved.
     pub saving: Saving<'a>,
-    /// How many blocks the volume has, whatever the image says.
+    /// How many blocks the volume has, regardless of the image.
     pub blocks: Option<u32>,
-    /// How the sectors of the volume stand in the image, where it is said; with none `f11fs` looks itself.
+    /// How the sectors of the volume are ordered in the image. Without a value, `f11fs` detects the order.
     pub order: Option<Layering>,
 }
 
 /// How a changed image is saved.
 #[derive(Clone, Copy, Debug, PartialEq, Eq, Drop)]
 pub struct Saving<'a> {
-    /// The new file of the host that it is written to, in place of the image.
+    /// The new file of the host that receives the image, instead of the image file.
     pub out: Option<&'a str>,
-    /// The old image is kept, under its name with a tilde.
+    /// Whether the old image is kept, under its name with a tilde.
     pub backup: bool,
-    /// Nothing is written; it is told what would be.
+    /// Whether nothing is written, and the command only prints what it would write.
     pub only_tells: bool,
-    /// An image with several names is changed under this one alone.
+    /// Whether an image with several names is changed only under this name.
     pub break_links: bool,
 }
 
 impl Saving<'_> {
-    /// Whether nothing is said of saving.
+    /// Returns whether no option about saving is given.
     pub fn says_nothing(&self) -> bool
         ensures { result ≡ (not (is_some self.now.out) && (not self.now.backup && (not self.now.only_tells && not self.now.break_links))) }
     {
@@ -69,7 +69,7 @@ impl Saving<'_> {
     }
 }
 
-/// Parses the words after the program's name. `--version` prints the text `version` after the name.
+/// Returns the request in the words after the program's name. `--version` prints `version` after the name.
 pub fn parse_words<'a, S: AsStr>(
     alloc: Global,
     words: &'a [S],
@@ -101,7 +101,7 @@ pub fn parse_words<'a, S: AsStr>(
     }
 }
 
-/// What the words of a line in a file of commands for this image ask for; None where there is no word. The line has no word for the image.
+/// Returns the request in the words of a line in a file of commands for this image, or None without any word. The line has no word for the image.
 pub fn parse_line<'a, S: AsStr>(
     alloc: Global,
     image: &'a str,
