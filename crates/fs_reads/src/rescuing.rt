@@ -13,7 +13,7 @@ use crate::rescue_folder::take_folder;
 use crate::rescue_image::read_whole_blocks;
 use crate::rescue_way::{Kept, Way};
 use crate::scanning::rescue_scanned;
-use crate::stop::{Stop, send, stop_about, stop_at_own_output};
+use crate::stop::{Stop, say_end, send, stop_about, stop_at_own_output};
 use fs_host::{HostFault, Layers, SaveFault, Shown};
 use fs_words::Words;
 use ods_base::{FileId, Image, Listed, print_name};
@@ -417,10 +417,12 @@ fn keep_below<'a, R: Files<File = File> + AllocGlobal + Print + Eprint>(
     way: Way<'_>,
     kept: &mut Kept,
 ) -> Result<Status, Stop<'a>>
-    ensures { IfOk result (λ s. s ≡ Code.Done) }
+    ensures { IfOk result (λ s. (s ≡ Code.Done) ⊎ (s ≡ Code.Found)) }
 {
-    if !how.only_tells {
-        way.make(rt, how.folder, &mut kept.folders)?;
+    if !how.only_tells
+        && let Err(stop) = way.make(rt, how.folder, &mut kept.folders)
+    {
+        return leave_unwritten(rt, stop);
     }
     let name = way.name(rt.alloc(), name.as_str())?;
     keep(rt, how, file, name, contents, &mut kept.names)
@@ -436,7 +438,7 @@ pub(crate) fn keep<'a, R: Files<File = File> + AllocGlobal + Print + Eprint>(
     contents: &Contents<'_>,
     taken: &mut BTreeSet<String>,
 ) -> Result<Status, Stop<'a>>
-    ensures { IfOk result (λ s. s ≡ Code.Done) }
+    ensures { IfOk result (λ s. (s ≡ Code.Done) ⊎ (s ≡ Code.Found)) }
 {
     let name = if taken.contains(&name) {
         format!(in rt.alloc(); "{} #{},{}", name.as_str(), file.number, file.sequence)?
@@ -449,7 +451,12 @@ pub(crate) fn keep<'a, R: Files<File = File> + AllocGlobal + Print + Eprint>(
     } else {
         let written = write_host(rt, contents, path.as_str(), None, false);
         if written != Written::Done {
-            return Err(stop_unwritten(rt.alloc(), path.as_str(), written));
+            let stop = stop_unwritten(rt.alloc(), path.as_str(), written);
+            return if has_no_room(written) {
+                Err(stop)
+            } else {
+                leave_unwritten(rt, stop)
+            };
         }
         let line = if how.json {
             text_object(rt.alloc(), "rescued", name.as_str())?
@@ -481,6 +488,27 @@ fn tell<'a, R: AllocGlobal + Print>(
         format!(in rt.alloc(); "rescue {} to {path}\n", from.as_str())?
     };
     send(rt, line.as_str())
+}
+
+/// Whether the disk of the host is full, so that it takes no other file either.
+fn has_no_room(written: Written) -> bool {
+    matches!(
+        written,
+        Written::Unmade(HostFault::NoRoom) | Written::Failed(HostFault::NoRoom)
+    )
+}
+
+/// Prints why the host does not take a file, which is left. Any other stop ends the rescue.
+fn leave_unwritten<'a, R: Eprint>(rt: &R, stop: Stop<'a>) -> Result<Status, Stop<'a>>
+    ensures { IfOk result (λ s. s ≡ Code.Found) }
+{
+    match stop {
+        Stop::Lines(_, Status::Host) => {
+            let _ = say_end(rt, Err(stop));
+            Ok(Status::Found)
+        }
+        stop => Err(stop),
+    }
 }
 
 /// The end of a rescue that does not write a file.

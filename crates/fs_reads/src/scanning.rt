@@ -133,7 +133,8 @@ fn keep_scanned<'a, R: Files<File = File> + AllocGlobal + Print + Eprint>(
     let kept = say_missing(rt, place.as_str(), found.missing, how.json)?;
     let id = named.file;
     let name = choose_name(named.name, place, has_twin);
-    Ok(kept.or(keep(rt, how, id, name, contents, taken)?))
+    let done = keep(rt, how, id, name, contents, taken)?;
+    Ok(kept.or(done))
 }
 
 /// The name of a file, or its name and place where another first header has its number.
