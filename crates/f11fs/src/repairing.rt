@@ -2,7 +2,7 @@
 ghost use Rattle.std.specs.Prelude.{◌≡◌, ◌⊎◌, IfOk, if◌then◌else◌};
 ghost use Rattle.ods_shell.specs.declared.status.Status.{Status as Code};
 
-use crate::changing::{asker_of, lock_image, save_image, status_of};
+use crate::changing::{Finished, asker_of, lock_image, save_image, status_of};
 use crate::host::Host;
 use crate::mending::{Wishes, mend};
 use crate::repair_lines::Report;
@@ -33,13 +33,16 @@ pub fn repair_image<'a, R: Host>(
     };
     let mut report = Report::new(rt.alloc());
     let image = mend(rt.alloc(), image, &wishes, &mut report)?;
-    let saved = if words.saving.only_tells {
-        Status::Done
+    let finished = if words.saving.only_tells {
+        Finished::Told(Status::Done)
     } else {
-        status_of(save_image(rt, words, &mut locked, &image)?)
+        save_image(rt, words, &mut locked, &image)?
     };
-    send(rt, report.text.as_str())?;
-    Ok(saved.or(status_left(&report)))
+    match (send(rt, report.text.as_str()), finished) {
+        (Ok(_), finished) => Ok(status_of(finished).or(status_left(&report))),
+        (Err(Stop::Unwritten(why)), Finished::Saved(_)) => Err(Stop::SavedUnwritten(why)),
+        (Err(stop), _) => Err(stop),
+    }
 }
 
 /// The status of repairs: something is found where something stays that was to be repaired.

@@ -291,9 +291,11 @@ fn get_into<'a, R: Files<File = File> + AllocGlobal + Print + Eprint>(
     ensures { IfOk result (EndsGet how.entry.reader.user (λ n. on IsGot disk.now n how.entry.wanted) (λ n. on IsNotGot disk.now n how.entry.wanted) found.now) }
 {
     let path = path_within(rt.alloc(), folder, name.as_str())?;
-    if written.contains(&name) && (how.force || how.only_tells) {
+    if written.contains(&name) {
         let (from, path) = (found.path.as_str(), Shown(path.as_str()));
-        let _ = eprintln!(rt; "f11fs: {from}: {path} has been written by this command");
+        let _ = eprintln!(rt;
+            "f11fs: {from}: {path} has been written by this command; -r makes a folder for each directory"
+        );
         return Ok(Status::Host);
     }
     let done = get_file(rt, disk, found, path.as_str(), how)?;

@@ -8,11 +8,11 @@ use Rattle.std.specs.Map.{lookup}
 use Rattle.ods_shell.specs.declared.found.EntryPlace.{EntryPlace}
 use Rattle.ods_shell.specs.declared.found.Found.{Found}
 
--- the key that decides whether two names are equal: the word of the type, and the three words of the name; zeros if a path selects the file by its
--- ID
+-- the key of a name in a directory: the number of the directory's file, the word of the type, and the three words of the name; zeros if a path selects
+-- the file by its ID
 abbrev pub name_key : Option EntryPlace → List ℕ
-name_key None = 0 ∷ 0 ∷ 0 ∷ 0 ∷ []
-name_key (Some place) = place.entry.name.ext ∷ place.entry.name.words
+name_key None = 0 ∷ 0 ∷ 0 ∷ 0 ∷ 0 ∷ []
+name_key (Some place) = place.directory.number ∷ place.entry.name.ext ∷ place.entry.name.words
 
 -- the version of an entry; 0 if a path selects the file by its ID
 abbrev pub version_at : Option EntryPlace → ℕ
@@ -57,6 +57,6 @@ is_other None version = false
 is_other (Some None) version = true
 is_other (Some (Some one)) version = not (one == version)
 
--- the name of an entry occurs among these files in another version
+-- the name of an entry occurs in its directory among these files in another version
 abbrev pub HasOther : List Found → Option EntryPlace → Type 0
 HasOther files place = (f : Found) × Contains files f × (name_key f.place ≡ name_key place) × (version_at f.place ≢ version_at place)

@@ -8,10 +8,10 @@ use std::alloc::{AllocError, Global};
 use std::collections::BTreeMap;
 use std::marker::Model;
 
-/// A name: the word of its type, and its three words.
-type Key = [u16; 4];
+/// A name in a directory: the number of the directory's file, the word of the type, and the three words of the name.
+type Key = [u16; 5];
 
-/// The names of some files. Each has its single version, or none if there are several versions.
+/// The names of some files in their directories. Each has its single version, or none if there are several versions.
 #[derive(Drop)]
 pub struct Versioned {
     versions: BTreeMap<Key, Option<u16>>,
@@ -63,16 +63,17 @@ impl Versioned {
     }
 }
 
-/// The words of the name of an entry; zeros where a file is named by its ID.
+/// The directory of an entry, and the words of its name; zeros if a path selects the file by its ID.
 fn key(place: &Option<EntryPlace>) -> Key
     ensures { result ≡ name_key place.now }
 {
     match place {
         Some(place) => {
             let words = place.entry.name.words();
-            [place.entry.name.ext(), words[0], words[1], words[2]]
+            let ext = place.entry.name.ext();
+            [place.directory.number, ext, words[0], words[1], words[2]]
         }
-        None => [0; 4],
+        None => [0; 5],
     }
 }
 
