@@ -106,7 +106,7 @@ pub fn lock_volume<'a, R: Host>(
 /// Locks the image, and reads its blocks. An image that ends before a block of a file is refused.
 pub fn lock_image<'a, R: Host>(rt: &R, words: &Words<'a>) -> Result<(Locked, Image), Stop<'a>>
     ensures whole { IfOk result (λ found. ¬ LacksBlocks (remark_kept found.0) found.1) }
-    ensures { IfErr result (IsNotLocked words.now.image (not (is_some words.now.saving.out) && not words.now.saving.only_tells) words.now.force) }
+    ensures err { IfErr result (IsNotLocked words.now.image (not (is_some words.now.saving.out) && not words.now.saving.only_tells) words.now.force) }
 {
     let writes = words.saving.out.is_none() && !words.saving.only_tells;
     let mut locked = match Locked::of(rt, words.image, writes, words.force) {
