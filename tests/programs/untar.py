@@ -313,7 +313,7 @@ class Untar(Disk):
 
     def test_put_for_words(self) -> None:
         (self.folder / "a.tar").write_bytes(archive(member("x.txt", TEXT)))
-        for words, line in ((("a.tar", "[1,2]", "more"), "error: untar takes an archive and a directory, and no more words\n"),):
+        for words, line in ((("a.tar", "[1,2]", "more"), "error: untar takes at most two words: an archive and a directory\n"),):
             ended, out, err = self.f11fs("disk", "untar", *words)
             self.assertEqual((ended, out, err.decode(), self.is_untouched()), (2, b"", line, True), f"{words}")
         for directory in ("[9,9", "[1,2]NOTES.TXT", "no way"):

@@ -29,10 +29,10 @@ use std::rt::Files;
 const MOST: u64 = 1_048_576;
 
 /// What is said of a command that no file of commands has.
-pub const NO_COMMAND: &str = "error: no command for a file of commands";
+pub const NO_COMMAND: &str = "error: a file of commands cannot have this command";
 
 /// What is said of a line that says how the image is saved.
-pub const SAVED_BEFORE: &str = "error: how the image is saved is said before IMAGE";
+pub const SAVED_BEFORE: &str = "error: -o, --backup, --break-links and -n must be before IMAGE";
 
 /// Obeys the commands in this file. A refusal ends the run, and nothing is saved; with `keep_going` the refused command has done nothing.
 pub fn obey_file<'a, R: Host>(
@@ -354,7 +354,10 @@ fn obey_action<R: Host>(
         Action::Change(Change::Put(_) | Change::Append | Change::Untar)
             if reads_input(run.outer, own) => {
             (
-                say_wrong(rt, "error: standard input has the commands"),
+                say_wrong(
+                    rt,
+                    "error: standard input has the commands; name a file instead",
+                ),
                 true,
             )
         }

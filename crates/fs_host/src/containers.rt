@@ -82,13 +82,13 @@ pub fn end_of<F: Seek>(file: &mut F) -> Result<u64, ImageError>
 #[derive(Clone, Copy, Debug, PartialEq, Eq, Error)]
 pub enum Extent {
     /// So many bytes stand behind the volume.
-    #[error("{0} bytes behind the volume")]
+    #[error("{0} bytes after the volume")]
     Longer(usize),
     /// So many bytes stand behind the volume, and begin as a footer of simh.
-    #[error("{0} bytes behind the volume (a simh footer)")]
+    #[error("{0} bytes after the volume (a simh footer)")]
     Simh(usize),
     /// So many bytes stand behind the volume, and begin as a footer of a VHD.
-    #[error("{0} bytes behind the volume (a VHD footer)")]
+    #[error("{0} bytes after the volume (a VHD footer)")]
     Vhd(usize),
     /// The file has so many whole blocks, and the volume so many.
     #[error("the image ends at block {0} of {1}")]

@@ -292,7 +292,9 @@ fn get_into<'a, R: Files<File = File> + AllocGlobal + Print + Eprint>(
     let path = path_within(rt.alloc(), folder, name.as_str())?;
     if written.contains(&name) && (how.force || how.only_tells) {
         let (from, path) = (found.path.as_str(), Shown(path.as_str()));
-        let _ = eprintln!(rt; "f11fs: {from}: {path} has been written by this command");
+        let _ = eprintln!(rt;
+            "f11fs: {from}: this command already wrote {path}; get this file to another TARGET"
+        );
         return Ok(Status::Host);
     }
     let done = get_file(rt, disk, found, path.as_str(), how)?;
@@ -416,7 +418,9 @@ fn say_written<R: Eprint>(rt: &R, path: &str, host: &str, written: Written) -> S
     let host = Shown(host);
     let _ = match written {
         Written::Done => return Status::Done,
-        Written::IsThere => { eprintln!(rt; "f11fs: {path}: {host} is there; --force replaces it") }
+        Written::IsThere => {
+            eprintln!(rt; "f11fs: {path}: {host} already exists; --force replaces it")
+        }
         Written::Unmade(why) => eprintln!(rt; "f11fs: {path}: {host} cannot be made: {why}"),
         Written::Failed(HostFault::Left) => eprintln!(rt;
             "f11fs: {path}: {host}: {}",

@@ -61,13 +61,13 @@ pub enum WordFault {
     #[error("standard output is the image; send it elsewhere")]
     OwnOutput,
     /// Several files would be written to this file of the host.
-    #[error("no folder")]
+    #[error("it is not a folder, and the command needs one")]
     NoFolder,
     /// Files, several directories or an ID, where one directory is wanted.
-    #[error("one directory is wanted: -r copies the files in it and below it")]
+    #[error("-r needs exactly one directory: it copies the files in and below it")]
     OneDirectory,
     /// A folder with names, or something else, is there.
-    #[error("an empty folder, or none, is wanted there")]
+    #[error("it exists and is not an empty folder; give a new folder")]
     NotEmpty,
     /// The host does not make this folder.
     #[error("the folder cannot be made: {0}")]
@@ -76,25 +76,25 @@ pub enum WordFault {
     #[error("{0}")]
     Unsaved(SaveFault),
     /// The image would be saved, and is shorter than its volume.
-    #[error("the image is shorter than its volume; --force writes it whole")]
+    #[error("the image is shorter than its volume; --force adds zeros for the missing blocks")]
     Short,
     /// The image has another size than a floppy of the order that is said, which has so many bytes.
     #[error("OtherSize: a floppy in this order has {0} bytes; another --order may fit")]
     OtherSize(usize),
     /// A file of commands is no text.
-    #[error("no UTF-8 text")]
+    #[error("it is not UTF-8 text")]
     NoText,
     /// A file of commands has more bytes than this.
     #[error("a file of commands has at most {0} bytes")]
     ManyBytes(u64),
     /// No label of a volume.
-    #[error("no label: 1 to 12 of A to Z, 0 to 9 and dots")]
+    #[error("not a valid label: use 1 to 12 of A to Z, 0 to 9 and dots")]
     NoLabel,
     /// A new floppy of the order that is said has so many blocks, and another number is said.
     #[error("a floppy in this order has {0} blocks")]
     OtherBlocks(u32),
     /// Standard input is put, and no path of the volume is said.
-    #[error("standard input wants a PATH")]
+    #[error("standard input needs a PATH")]
     NoPath,
     /// A file of the host with so many bytes, where the free blocks hold so many.
     #[error("VolumeFull: it has {0} bytes, and the free blocks of the volume hold {1}")]
@@ -186,15 +186,19 @@ fn say_stop<R: Eprint>(rt: &R, stop: &Stop<'_>) -> Status
             Status::Host
         }
         Stop::SavedUnwritten(why) => {
-            let _ = eprintln!(rt; "f11fs: the image is saved; writing failed: {why}");
+            let _ = eprintln!(rt;
+                "f11fs: the image is saved, but writing to standard output failed: {why}"
+            );
             Status::Host
         }
         Stop::NoTime => {
-            let _ = eprintln!(rt; "f11fs: the host's clock says no time; --stamp does");
+            let _ = eprintln!(rt;
+                "f11fs: the host's clock gives no valid time; set one with --stamp"
+            );
             Status::Host
         }
         Stop::NoMemory => {
-            let _ = eprintln!(rt; "f11fs: no memory");
+            let _ = eprintln!(rt; "f11fs: out of memory");
             Status::Host
         }
         Stop::Lines(lines, status) => {
@@ -220,7 +224,7 @@ pub(crate) fn say_about<R: Eprint, D: Display + Drop>(rt: &R, what: &str, why: D
 /// Says that standard output takes no more; that whoever reads it wants no more is no matter.
 fn say_unwritten<R: Eprint>(rt: &R, why: HostFault) {
     if why != HostFault::NoReader {
-        let _ = eprintln!(rt; "f11fs: writing failed: {why}");
+        let _ = eprintln!(rt; "f11fs: writing to standard output failed: {why}");
     }
 }
 

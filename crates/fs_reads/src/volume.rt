@@ -27,7 +27,7 @@ pub enum VolumeFault {
     #[error("reading failed: {0}")]
     Read(HostFault),
     /// The allocator refused memory.
-    #[error("no memory")]
+    #[error("out of memory")]
     NoMemory,
     /// The file has another size than a floppy of this order, which was said.
     #[error("OtherSize")]
