@@ -235,7 +235,7 @@ class Host(Disk):
             calls = preloaded(f"int link(const char *from, const char *to) {{ errno = {error}; return -1; }}\n")
             self.assertEqual(self.f11fs("-o", f"new{number}", *MKDIR, env=calls), (0, b"", b""), "a change elsewhere")
             assert "[NEW]" in self.volume(f"new{number}").directories, "the change is not there"
-            self.assertEqual(self.f11fs("-o", f"new{number}", *MKDIR, env=calls), (3, b"", f"f11fs: new{number}: it is there\n".encode()),
+            self.assertEqual(self.f11fs("-o", f"new{number}", *MKDIR, env=calls), (3, b"", f"f11fs: new{number}: it already exists\n".encode()),
                     "a file that is there")
         self.assertEqual(self.names(), ["disk", "new0", "new1"], "files of the host")
         self.image.chmod(0o640)
@@ -293,7 +293,7 @@ class Host(Disk):
 
     def test_links_are_not_written_through(self) -> None:
         (self.folder / "new").symlink_to("none")
-        self.assertEqual(self.f11fs("-o", "new", *MKDIR), (3, b"", b"f11fs: new: it is there\n"), "a link that leads to nothing")
+        self.assertEqual(self.f11fs("-o", "new", *MKDIR), (3, b"", b"f11fs: new: it already exists\n"), "a link that leads to nothing")
         (self.folder / ".other.f11fs-new").symlink_to("disk")
         self.assertEqual(self.f11fs("-o", "other", *MKDIR), (3, b"", b"f11fs: other: no new file can be made: it is not a regular file\n"),
                 "a link under the hidden name")

@@ -19,7 +19,7 @@ def keeps(self: Size, name: str) -> None:
     self.write({"more.txt": b"more\n"})
     self.does("disk", "put", "more.txt", "1,2/")
     end, after = BLOCK * (4800 if name == "sized-4800" else 80), self.image.read_bytes()
-    self.assertEqual(after[end:], self.before[end:], "the bytes after the volume")
+    self.assertEqual(after[end:], self.before[end:], "the bytes behind the volume")
     self.assertNotEqual(after[:end], self.before[:end])
     self.write({"alone": after[:end]})
     self.assertEqual(self.volume("alone").records("[1,2]MORE.TXT;1"), [b"more"])

@@ -291,7 +291,7 @@ class Untar(Disk):
             refused(self, data, "a.tar")
         (self.folder / "a.tar").unlink()
         ended, out, err = self.f11fs("disk", "untar", "a.tar")
-        self.assertEqual((ended, out, err, self.is_untouched()), (3, b"", b"f11fs: a.tar: reading failed: not there\n", True), "no archive")
+        self.assertEqual((ended, out, err, self.is_untouched()), (3, b"", b"f11fs: a.tar: reading failed: no such file or folder\n", True), "no archive")
 
     def test_more_than_there_is_room_for(self) -> None:
         refused(self, archive(member("1,2/small.dat", b"x"), member("1,2/large.dat", b"x" * (60 * BLOCK))), "large.dat", "VolumeFull")

@@ -33,7 +33,7 @@ pub enum FormFault {
     #[error("its header chain is broken")]
     BadChain,
     /// Its headers name this block, which lies past the image.
-    #[error("its block {0} is past the end of the image")]
+    #[error("it uses block {0}, which is past the end of the image")]
     OutsideVolume(u32),
     /// The end of file lies past the blocks, and not all blocks are asked for.
     #[error("its end of file is past its last block")]

@@ -37,7 +37,7 @@ pub enum Why {
     #[error("it is a directory, and the command needs a file: 'rmdir' removes an empty directory, 'mv' moves one")]
     IsDirectory,
     /// A file of the type DIR would be one, or an entry of that type would name no directory.
-    #[error("all directories and no other files have the type DIR: 'mkdir' makes a directory")]
+    #[error("the type DIR is for directories, and each directory has it: 'mkdir' makes one")]
     DirectoryType,
     /// A directory of the name is there.
     #[error("NameTaken: a directory of this name exists; 'ls' shows it")]
