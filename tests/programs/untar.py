@@ -254,7 +254,7 @@ class Untar(Disk):
 
     def test_names_that_lead_out(self) -> None:
         for path in ("../x.txt", "1,2/../x.txt", "/x.txt", "/1,2/x.txt", "1,2/..", "..", "1,2/../../x.txt", "//x.txt"):
-            refused(self, archive(member("1,2/good.txt", TEXT), member(path, TEXT)), path, "leads out")
+            refused(self, archive(member("1,2/good.txt", TEXT), member(path, TEXT)), path, "leaves the directory")
 
     def test_links_and_devices(self) -> None:
         for kind, said in ((tarfile.SYMTYPE, "link"), (tarfile.LNKTYPE, "link"), (tarfile.CHRTYPE, "device"), (tarfile.BLKTYPE, "device"), (tarfile.FIFOTYPE, "device")):

@@ -32,7 +32,7 @@ pub(crate) const ROW: Row<'static> = Row {
         Argument::Text(
             "--like",
             "PATH",
-            "Copy the record type and carriage control of this file. Take the larger record size.\nWith -b: copy all attributes of this file except the end of file",
+            "Copy the record type and carriage control of this file. Use the larger record size.\nWith -b: copy all attributes of this file except the end of file",
         ),
         Argument::Flag(
             "--contiguous",
