@@ -90,13 +90,13 @@ impl Report {
         if left == 0 {
             return writeln!(
                 self.text,
-                "share: file {file}: {moved} runs were moved to free blocks"
+                "share: file {file}: {moved} runs moved to free blocks"
             );
         }
         self.is_left = true;
         writeln!(
             self.text,
-            "share: file {file}: {moved} runs were moved to free blocks, and {left} runs or blocks were not, because too few blocks are free"
+            "share: file {file}: {moved} runs moved to free blocks; {left} runs or blocks stay shared"
         )
     }
 

@@ -37,8 +37,6 @@ pub(crate) fn large_number_of(alloc: Global, text: &str) -> Result<u64, WordsFau
 fn odd_number(alloc: Global, text: &str) -> Result<WordsFault, AllocError>
     ensures { IfOk result (IsWrong (codes "error: '" ++ text.now ++ codes "' is no number: it has a sign or a leading zero")) }
 {
-    let line = format!(in alloc;
-        "error: '{text}' is not a valid number: it has a sign or a leading zero"
-    )?;
+    let line = format!(in alloc; "error: '{text}' is no number: it has a sign or a leading zero")?;
     Ok(WordsFault::Wrong(line))
 }

@@ -37,7 +37,7 @@ pub enum RepairFault {
     #[error("file {0} is a reserved file, whose blocks are not moved")]
     Reserved(u16),
     /// The file has no whole chain.
-    #[error("the header chain of file {0} is broken")]
+    #[error("headers or blocks of file {0} are missing")]
     NoChain(u16),
     /// A file holds this block, and it is marked as free.
     #[error("block {0} belongs to a file and is marked as free: 'repair used' marks it as used")]
