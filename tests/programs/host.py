@@ -128,7 +128,7 @@ def ended(run: subprocess.Popen[bytes], given: bytes = b"one\n") -> tuple[int, b
 
 def busy(process: int, name: str = r".+", path: str = "disk") -> re.Pattern[bytes]:
     """The line of an image that a process has open."""
-    return re.compile(rf"f11fs: {path}: process {process} \({name}\) has it open; detach it there, or --force goes on\n".encode())
+    return re.compile(rf"f11fs: {path}: process {process} \({name}\) has it open; detach it there, or use --force\n".encode())
 
 
 def open_elsewhere(room: Disk, how: str) -> None:
@@ -235,7 +235,7 @@ class Host(Disk):
             calls = preloaded(f"int link(const char *from, const char *to) {{ errno = {error}; return -1; }}\n")
             self.assertEqual(self.f11fs("-o", f"new{number}", *MKDIR, env=calls), (0, b"", b""), "a change elsewhere")
             assert "[NEW]" in self.volume(f"new{number}").directories, "the change is not there"
-            self.assertEqual(self.f11fs("-o", f"new{number}", *MKDIR, env=calls), (3, b"", f"f11fs: new{number}: it is there\n".encode()),
+            self.assertEqual(self.f11fs("-o", f"new{number}", *MKDIR, env=calls), (3, b"", f"f11fs: new{number}: it already exists\n".encode()),
                     "a file that is there")
         self.assertEqual(self.names(), ["disk", "new0", "new1"], "files of the host")
         self.image.chmod(0o640)
@@ -285,7 +285,7 @@ class Host(Disk):
         hidden.write_bytes(b"a part")
         with open(hidden, "rb") as held:
             fcntl.flock(held, fcntl.LOCK_EX)
-            self.assertEqual(self.f11fs("-o", "new", *MKDIR), (3, b"", b"f11fs: new: no new file can be made: another program writes it\n"),
+            self.assertEqual(self.f11fs("-o", "new", *MKDIR), (3, b"", b"f11fs: new: no new file can be made: another program is writing to it\n"),
                     "a change elsewhere")
         self.assertEqual((hidden.read_bytes(), self.names()), (b"a part", [".new.f11fs-new", "disk"]), "files of the host")
         self.assertEqual(self.f11fs("-o", "new", *MKDIR), (0, b"", b""), "a change elsewhere")
@@ -293,9 +293,9 @@ class Host(Disk):
 
     def test_links_are_not_written_through(self) -> None:
         (self.folder / "new").symlink_to("none")
-        self.assertEqual(self.f11fs("-o", "new", *MKDIR), (3, b"", b"f11fs: new: it is there\n"), "a link that leads to nothing")
+        self.assertEqual(self.f11fs("-o", "new", *MKDIR), (3, b"", b"f11fs: new: it already exists\n"), "a link that leads to nothing")
         (self.folder / ".other.f11fs-new").symlink_to("disk")
-        self.assertEqual(self.f11fs("-o", "other", *MKDIR), (3, b"", b"f11fs: other: no new file can be made: it is no plain file\n"),
+        self.assertEqual(self.f11fs("-o", "other", *MKDIR), (3, b"", b"f11fs: other: no new file can be made: it is not a regular file\n"),
                 "a link under the hidden name")
         assert self.is_untouched(), "the image was touched"
         self.assertEqual(self.names(), [".other.f11fs-new", "disk", "new"], "files of the host")
@@ -309,7 +309,7 @@ class Host(Disk):
         os.link(self.image, self.folder / "other")
         os.link(self.image, self.folder / ".disk.f11fs-old")
         status, _, err = self.f11fs("--stamp", STAMP, "disk", "mkdir", "MORE")
-        self.assertEqual((status, err), (3, b"f11fs: disk: it has several names (hard links); --break-links changes this one alone\n"), "another name")
+        self.assertEqual((status, err), (3, b"f11fs: disk: it has several names (hard links); --break-links changes only this one\n"), "another name")
 
     def test_folder_whose_name_is_no_text(self) -> None:
         folder = os.path.join(os.fsencode(self.folder), b"caf\xe9")
@@ -341,7 +341,7 @@ class Host(Disk):
         assert "[NEW]" in self.volume().directories, "the change is not there"
         (self.folder / "ring").symlink_to("gnir")
         (self.folder / "gnir").symlink_to("ring")
-        self.assertEqual(self.f11fs("ring", "mkdir", "NEW"), (3, b"", b"f11fs: ring: reading failed: its symbolic links have no end\n"), "a ring")
+        self.assertEqual(self.f11fs("ring", "mkdir", "NEW"), (3, b"", b"f11fs: ring: reading failed: its symbolic links form a loop\n"), "a ring")
 
     def test_block_device(self) -> None:
         if os.geteuid() != 0:
@@ -351,7 +351,7 @@ class Host(Disk):
             return
         device = made.stdout.decode().strip()
         try:
-            self.assertEqual(self.f11fs("--stamp", STAMP, device, "mkdir", "NEW"), (3, b"", f"f11fs: {device}: it is no plain file\n".encode()), "a change")
+            self.assertEqual(self.f11fs("--stamp", STAMP, device, "mkdir", "NEW"), (3, b"", f"f11fs: {device}: it is not a regular file\n".encode()), "a change")
             self.assertEqual(self.f11fs("-n", "--stamp", STAMP, device, "mkdir", "NEW")[::2], (0, b""), "a change that is told")
             self.assertEqual(self.f11fs("-o", "new", "--stamp", STAMP, device, "mkdir", "NEW"), (0, b"", b""), "a change elsewhere")
             assert "[NEW]" in self.volume("new").directories, "the change is not there"
@@ -365,7 +365,7 @@ class Host(Disk):
         os.chown(self.image, NOBODY, NOBODY)
         os.chown(self.folder, NOBODY, NOBODY)
         how = {"user": NOBODY, "group": NOBODY, "extra_groups": []}
-        self.assertEqual(self.f11fs(*MKDIR, **how), (3, b"", b"f11fs: disk: no right to write to it\n"), "a change")
+        self.assertEqual(self.f11fs(*MKDIR, **how), (3, b"", b"f11fs: disk: no permission to write to it\n"), "a change")
         self.assertEqual(self.f11fs("-o", "new", *MKDIR, **how), (0, b"", b""), "a change elsewhere")
         self.image.chmod(0o644)
         self.folder.chmod(0o555)

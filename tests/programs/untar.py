@@ -254,7 +254,7 @@ class Untar(Disk):
 
     def test_names_that_lead_out(self) -> None:
         for path in ("../x.txt", "1,2/../x.txt", "/x.txt", "/1,2/x.txt", "1,2/..", "..", "1,2/../../x.txt", "//x.txt"):
-            refused(self, archive(member("1,2/good.txt", TEXT), member(path, TEXT)), path, "leads out")
+            refused(self, archive(member("1,2/good.txt", TEXT), member(path, TEXT)), path, "leaves the directory")
 
     def test_links_and_devices(self) -> None:
         for kind, said in ((tarfile.SYMTYPE, "link"), (tarfile.LNKTYPE, "link"), (tarfile.CHRTYPE, "device"), (tarfile.BLKTYPE, "device"), (tarfile.FIFOTYPE, "device")):
@@ -291,7 +291,7 @@ class Untar(Disk):
             refused(self, data, "a.tar")
         (self.folder / "a.tar").unlink()
         ended, out, err = self.f11fs("disk", "untar", "a.tar")
-        self.assertEqual((ended, out, err, self.is_untouched()), (3, b"", b"f11fs: a.tar: reading failed: not there\n", True), "no archive")
+        self.assertEqual((ended, out, err, self.is_untouched()), (3, b"", b"f11fs: a.tar: reading failed: no such file or folder\n", True), "no archive")
 
     def test_more_than_there_is_room_for(self) -> None:
         refused(self, archive(member("1,2/small.dat", b"x"), member("1,2/large.dat", b"x" * (60 * BLOCK))), "large.dat", "VolumeFull")
@@ -313,7 +313,7 @@ class Untar(Disk):
 
     def test_put_for_words(self) -> None:
         (self.folder / "a.tar").write_bytes(archive(member("x.txt", TEXT)))
-        for words, line in ((("a.tar", "[1,2]", "more"), "error: untar takes an archive and a directory, and no more words\n"),):
+        for words, line in ((("a.tar", "[1,2]", "more"), "error: untar takes at most two words: an archive and a directory\n"),):
             ended, out, err = self.f11fs("disk", "untar", *words)
             self.assertEqual((ended, out, err.decode(), self.is_untouched()), (2, b"", line, True), f"{words}")
         for directory in ("[9,9", "[1,2]NOTES.TXT", "no way"):

@@ -365,7 +365,7 @@ fn say_nested<R: AllocGlobal + Eprint>(rt: &R, words: &Words<'_>) {
         if let Ok(true) = is_below_another(rt.alloc(), *path) {
             let path = Shown(*path);
             let _ = eprintln!(rt;
-                "f11fs: {path}: RSX knows directories in the master directory alone"
+                "f11fs: {path}: RSX knows only directories in the master directory"
             );
         }
     }

@@ -33,10 +33,10 @@ use std::rt::Files;
 const MOST: u64 = 1_048_576;
 
 /// The message for a command that a file of commands may not contain.
-pub const NO_COMMAND: &str = "error: no command for a file of commands";
+pub const NO_COMMAND: &str = "error: a file of commands cannot have this command";
 
 /// The message for a line with an option that specifies how the image is saved.
-pub const SAVED_BEFORE: &str = "error: how the image is saved is said before IMAGE";
+pub const SAVED_BEFORE: &str = "error: -o, --backup, --break-links and -n must be before IMAGE";
 
 /// Runs the commands in this file. A refusal ends the run, and nothing is saved. With `keep_going` the run goes on, and the refused command has done
 /// nothing.
@@ -361,7 +361,10 @@ fn obey_action<R: Host>(
         Action::Change(Change::Put(_) | Change::Append | Change::Untar)
             if reads_input(run.outer, own) => {
             (
-                say_wrong(rt, "error: standard input has the commands"),
+                say_wrong(
+                    rt,
+                    "error: standard input has the commands; name a file instead",
+                ),
                 true,
             )
         }

@@ -21,10 +21,10 @@ enum TreeFault {
     #[error("{0}")]
     Name(Why),
     /// The name of a folder is not a valid name of a directory.
-    #[error("no name of a directory: a name has at most 9 of A to Z, 0 to 9, $, or is a group and a member, as 1,2")]
+    #[error("not a valid directory name: it has at most 9 of A to Z, 0 to 9, $, or is a group and a member, such as 1,2")]
     Folder,
     /// It is neither a plain file nor a folder.
-    #[error("no file and no folder")]
+    #[error("neither a file nor a folder")]
     Other,
     /// It is a link into the tree.
     #[error("a link into its own tree")]

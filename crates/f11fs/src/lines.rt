@@ -22,7 +22,7 @@ pub fn say_wrong<R: Eprint>(rt: &R, text: &str) -> Status
 pub fn say_no_memory<R: Eprint>(rt: &R) -> Status
     ensures { result ≡ Code.Host }
 {
-    let _ = eprintln!(rt; "f11fs: no memory");
+    let _ = eprintln!(rt; "f11fs: out of memory");
     Status::Host
 }
 

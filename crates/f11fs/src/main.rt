@@ -82,10 +82,10 @@ fn say_no_text<R: Host>(rt: &R) -> Status
 {
     match spoiled_word(rt) {
         Some(number) => {
-            let _ = eprintln!(rt; "error: word {number} is no UTF-8 text");
+            let _ = eprintln!(rt; "error: word {number} is not UTF-8 text");
             Status::Words
         }
-        None => say_wrong(rt, "error: a word is no UTF-8 text"),
+        None => say_wrong(rt, "error: a word is not UTF-8 text"),
     }
 }
 

@@ -419,7 +419,12 @@ fn directory_of<'a>(alloc: Global, filing: &Filing, path: &'a str) -> Result<Fil
     };
     match directory_in(&found) {
         Some(dir) => Ok(dir),
-        None => Err(stop_about(alloc, path, "lost files go to one directory", Status::Words)),
+        None => Err(stop_about(
+            alloc,
+            path,
+            "--into needs exactly one directory",
+            Status::Words,
+        )),
     }
 }
 

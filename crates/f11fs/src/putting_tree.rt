@@ -84,7 +84,7 @@ fn tree_words<'a>(alloc: Global, words: &[&'a str]) -> Result<(&'a str, &'a str)
         [folder] => Ok((*folder, "[0,0]")),
         [folder, to] => Ok((*folder, *to)),
         [_, other, ..] => {
-            let why = "one folder is wanted: -r puts all that is in it and below it";
+            let why = "-r needs exactly one folder: it copies all files and folders below it";
             Err(stop_about(alloc, *other, why, Status::Words))
         }
         [] => Err(Stop::Lines(String::new(alloc), Status::Words)),

@@ -63,7 +63,7 @@ impl Report {
     {
         self.is_left = true;
         let said = format!(in alloc; "{part}")?;
-        writeln!(self.text, "{said}: not done in this run; run it once more")
+        writeln!(self.text, "{said}: not done in this run; run repair again")
     }
 
     /// Reports how many faults are not looked at in this run, if any.
@@ -77,7 +77,7 @@ impl Report {
         self.is_left = true;
         writeln!(
             self.text,
-            "double: the image has {more} more faults than this run looks at; run it once more"
+            "double: the image has {more} more faults than one run repairs; run repair again"
         )
     }
 
@@ -90,13 +90,13 @@ impl Report {
         if left == 0 {
             return writeln!(
                 self.text,
-                "share: file {file}: {moved} runs have blocks of their own"
+                "share: file {file}: {moved} runs moved to free blocks"
             );
         }
         self.is_left = true;
         writeln!(
             self.text,
-            "share: file {file}: {moved} runs have blocks of their own, and {left} runs or blocks find no free ones"
+            "share: file {file}: {moved} runs moved to free blocks; {left} runs or blocks stay shared"
         )
     }
 
@@ -117,7 +117,7 @@ impl Report {
         self.is_left = true;
         writeln!(
             self.text,
-            "share: not done: the image has more faults than a run looks at"
+            "share: not done: the image has more faults than one run repairs"
         )
     }
 

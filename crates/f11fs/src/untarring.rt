@@ -130,7 +130,7 @@ fn put_one<'a>(
         return Err(stop_about(
             alloc,
             "an archive",
-            "the path of a member is no text",
+            "the path of a member is not UTF-8 text",
             Status::Refused,
         ));
     };

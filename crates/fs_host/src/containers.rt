@@ -82,13 +82,13 @@ pub fn end_of<F: Seek>(file: &mut F) -> Result<u64, ImageError>
 #[derive(Clone, Copy, Debug, PartialEq, Eq, Error)]
 pub enum Extent {
     /// The number of bytes after the volume.
-    #[error("{0} bytes behind the volume")]
+    #[error("{0} bytes after the volume")]
     Longer(usize),
     /// The number of bytes after the volume, which begin like a simh footer.
-    #[error("{0} bytes behind the volume (a simh footer)")]
+    #[error("{0} bytes after the volume (a simh footer)")]
     Simh(usize),
     /// The number of bytes after the volume, which begin like a VHD footer.
-    #[error("{0} bytes behind the volume (a VHD footer)")]
+    #[error("{0} bytes after the volume (a VHD footer)")]
     Vhd(usize),
     /// The number of whole blocks of the file, and the number of blocks of the volume.
     #[error("the image ends at block {0} of {1}")]

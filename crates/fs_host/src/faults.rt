@@ -14,10 +14,10 @@ pub enum SaveFault {
     #[error("reading failed: {0}")]
     Read(HostFault),
     /// The user of the host has no right to write the image.
-    #[error("no right to write to it")]
+    #[error("no permission to write to it")]
     Denied,
     /// The image is not a plain file.
-    #[error("it is no plain file")]
+    #[error("it is not a regular file")]
     NotPlain,
     /// Another program has locked the image.
     #[error("another program has locked it")]
@@ -26,16 +26,16 @@ pub enum SaveFault {
     #[error("locking failed: {0}")]
     Lock(HostFault),
     /// This process has the image open.
-    #[error("{0} has it open; detach it there, or --force goes on")]
+    #[error("{0} has it open; detach it there, or use --force")]
     InUse(Holder),
     /// Another program changed or replaced the image since it was locked.
-    #[error("it was changed or replaced meanwhile")]
+    #[error("another program changed or replaced it meanwhile")]
     Changed,
     /// The image has several names, as hard links.
-    #[error("it has several names (hard links); --break-links changes this one alone")]
+    #[error("it has several names (hard links); --break-links changes only this one")]
     Links,
     /// The file to write exists already.
-    #[error("it is there")]
+    #[error("it already exists")]
     IsThere,
     /// The new file cannot be created.
     #[error("no new file can be made: {0}")]
@@ -47,10 +47,10 @@ pub enum SaveFault {
     #[error("writing failed: {0}")]
     Write(HostFault),
     /// The bytes that were read back differ from the bytes that were written.
-    #[error("what was written is not what is read back")]
+    #[error("the bytes read back differ from the bytes written")]
     Differs,
     /// The volume does not fill the sectors of the floppy.
-    #[error("the volume and the floppy have not the same size")]
+    #[error("the volume and the floppy differ in size")]
     Unfit,
     /// The old image cannot be kept under its other name.
     #[error("the old image cannot be kept: {0}")]
@@ -59,7 +59,7 @@ pub enum SaveFault {
     #[error("the new file cannot take its name: {0}")]
     Rename(HostFault),
     /// The allocator refused memory.
-    #[error("no memory")]
+    #[error("out of memory")]
     NoMemory,
 }
 

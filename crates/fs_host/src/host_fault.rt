@@ -12,7 +12,7 @@ use thiserror::Error;
 #[derive(Clone, Copy, Debug, PartialEq, Eq, Error)]
 pub enum HostFault {
     /// There is no such file.
-    #[error("not there")]
+    #[error("no such file or folder")]
     NotThere,
     /// The host denies permission.
     #[error("no permission")]
@@ -21,28 +21,28 @@ pub enum HostFault {
     #[error("it is a folder")]
     IsFolder,
     /// A part of the path before the last is not a folder.
-    #[error("a part of its path is no folder")]
+    #[error("a part of its path is not a folder")]
     NotFolder,
     /// The path reaches a file that is not a plain file.
-    #[error("it is no plain file")]
+    #[error("it is not a regular file")]
     NotPlain,
     /// A file with this name exists already.
-    #[error("it is there")]
+    #[error("it already exists")]
     IsThere,
     /// Another run has locked the hidden new file.
-    #[error("another program writes it")]
+    #[error("another program is writing to it")]
     Held,
     /// Another program replaced the file.
-    #[error("it was changed or replaced meanwhile")]
+    #[error("another program changed or replaced it meanwhile")]
     Changed,
     /// The file is written, and its hidden name could not be removed.
     #[error("it is written, but its second, hidden name could not be removed")]
     Left,
     /// The device or the quota is full.
-    #[error("no room")]
+    #[error("no space left")]
     NoRoom,
     /// Out of memory.
-    #[error("no memory")]
+    #[error("out of memory")]
     NoMemory,
     /// The file is larger than the limit.
     #[error("it is too large")]
@@ -54,10 +54,10 @@ pub enum HostFault {
     #[error("too many files are open")]
     TooManyOpen,
     /// The host accepts no file with this name.
-    #[error("its name is too long, or no name")]
+    #[error("its name is too long or not valid")]
     BadName,
     /// Symbolic links form a cycle.
-    #[error("its symbolic links have no end")]
+    #[error("its symbolic links form a loop")]
     Links,
     /// The file or device is in use.
     #[error("it is in use")]
@@ -75,10 +75,10 @@ pub enum HostFault {
     #[error("the file system cannot do it")]
     Unsupported,
     /// Another system error, by its number.
-    #[error("error {0} of the system")]
+    #[error("system error {0}")]
     Failed(i32),
     /// The host gives no reason.
-    #[error("the system does not say why")]
+    #[error("the system gives no reason")]
     Unknown,
 }
 

@@ -190,7 +190,7 @@ fn tell_all<'a, R: AllocGlobal + Print>(
         rt,
         "more_sharing",
         sharing,
-        "files that share blocks with files before them",
+        "files that share blocks with earlier files",
     )?;
     if let Some(layout) = &checked.layout {
         let disk = Disk { image, layout };
@@ -242,7 +242,7 @@ fn tell_unread<'a, R: Print>(
     output.say(
         rt,
         "remark",
-        "files that no directory names are not listed, since a directory is not read",
+        "files that no directory names are not listed, because a directory cannot be read",
     )
 }
 

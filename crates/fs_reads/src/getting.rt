@@ -294,7 +294,7 @@ fn get_into<'a, R: Files<File = File> + AllocGlobal + Print + Eprint>(
     if written.contains(&name) {
         let (from, path) = (found.path.as_str(), Shown(path.as_str()));
         let _ = eprintln!(rt;
-            "f11fs: {from}: {path} has been written by this command; -r makes a folder for each directory"
+            "f11fs: {from}: this command already wrote {path}; get this file to another TARGET"
         );
         return Ok(Status::Host);
     }
@@ -419,7 +419,9 @@ fn say_written<R: Eprint>(rt: &R, path: &str, host: &str, written: Written) -> S
     let host = Shown(host);
     let _ = match written {
         Written::Done => return Status::Done,
-        Written::IsThere => { eprintln!(rt; "f11fs: {path}: {host} is there; --force replaces it") }
+        Written::IsThere => {
+            eprintln!(rt; "f11fs: {path}: {host} already exists; --force replaces it")
+        }
         Written::Unmade(why) => eprintln!(rt; "f11fs: {path}: {host} cannot be made: {why}"),
         Written::Failed(HostFault::Left) => eprintln!(rt;
             "f11fs: {path}: {host}: {}",

@@ -89,7 +89,7 @@ fn id_in<'a>(alloc: Global, path: &'a str) -> Result<FileId, Stop<'a>>
     match parse_path(path.as_bytes()) {
         Ok(Path::File(id)) => Ok(id),
         Ok(Path::Within(_, _)) => {
-            let why = "a deleted file is in no directory: say its ID, which find --deleted shows";
+            let why = "a deleted file is in no directory: give its ID, which find --deleted shows";
             Err(stop_about(alloc, path, why, Status::Words))
         }
         Err(bad) => Err(Stop::Path(path, PathFault::Bad(bad))),
@@ -148,7 +148,7 @@ fn get_id<'a, R: Files<File = File> + AllocGlobal + Print + Eprint>(
             say_about(
                 rt,
                 path,
-                "no deleted file has this ID; find --deleted shows those that are left",
+                "no deleted file has this ID; find --deleted lists the deleted files",
             );
             Ok(Status::Refused)
         }
@@ -238,7 +238,9 @@ fn put_into<'a, R: Files<File = File> + AllocGlobal + Print + Eprint>(
     let path = path_within(rt.alloc(), folder, name.as_str())?;
     if written.contains(&name) && (how.force || how.only_tells) {
         let path = Shown(path.as_str());
-        let _ = eprintln!(rt; "f11fs: {from}: {path} has been written by this command");
+        let _ = eprintln!(rt;
+            "f11fs: {from}: this command already wrote {path}; get this file to another TARGET"
+        );
         return Ok(Status::Host);
     }
     let done = keep(rt, from, contents, path.as_str(), changed, how)?;

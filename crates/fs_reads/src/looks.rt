@@ -17,28 +17,28 @@ pub enum Look {
     #[error("it looks like a zip archive: unpack it")]
     Zip,
     /// A VHD of growing size, by its first eight bytes.
-    #[error("it looks like a VHD that grows: make one of fixed size of it")]
+    #[error("it looks like a dynamic VHD: convert it to a fixed VHD")]
     Vhd,
     /// A floppy image of IMD, by its first four bytes.
-    #[error("it looks like an image of IMD: make one of its sectors alone")]
+    #[error("it looks like an IMD image: convert it to a raw image of its sectors")]
     Imd,
     /// A floppy image of TeleDisk, by its first three bytes.
-    #[error("it looks like an image of TeleDisk: make one of its sectors alone")]
+    #[error("it looks like a TeleDisk image: convert it to a raw image of its sectors")]
     TeleDisk,
     /// An RT-11 volume, by the mark in block 1.
-    #[error("it looks like a volume of RT-11")]
+    #[error("it looks like an RT-11 volume, which f11fs does not read")]
     Rt11,
     /// An ODS-2 volume, by the mark in block 1.
-    #[error("it looks like a volume of Files-11 ODS-2, which VMS has")]
+    #[error("it looks like a Files-11 ODS-2 volume of VMS, which f11fs does not read")]
     Ods2,
     /// An RX01 image in physical order, by its length of 256,256 bytes.
-    #[error("it is as long as an RX01 in physical order, which --order rx01 reads")]
+    #[error("it has the length of an RX01 image in physical order: try --order rx01")]
     Rx01,
     /// An RX02 image in physical order, by its length of 512,512 bytes.
-    #[error("it is as long as an RX02 in physical order, which --order rx02 reads")]
+    #[error("it has the length of an RX02 image in physical order: try --order rx02")]
     Rx02,
     /// An RX50 image, perhaps in physical order, by its length of 409,600 bytes.
-    #[error("it is as long as an RX50, which --order rx50 reads in physical order")]
+    #[error("it has the length of an RX50 image: if it is in physical order, try --order rx50")]
     Rx50,
 }
 

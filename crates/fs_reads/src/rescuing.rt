@@ -281,13 +281,13 @@ fn say_rest<'a, R: AllocGlobal + Print>(
 {
     let path = Shown(path);
     let line = format!(in rt.alloc();
-        "{path}: {rest} bytes behind the last whole block are left\n"
+        "{path}: {rest} bytes after the last whole block are left out\n"
     )?;
-    let what = format!(in rt.alloc(); "{rest} bytes behind the last whole block")?;
+    let what = format!(in rt.alloc(); "{rest} bytes after the last whole block")?;
     say_left(
         rt,
         what.as_str(),
-        "they are no whole block",
+        "they are not a whole block",
         line.as_str(),
         json,
     )

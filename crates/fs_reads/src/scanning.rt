@@ -22,13 +22,13 @@ use std::time::Clock;
 const TIMES: u64 = 64;
 
 /// What is said of an image where a scan finds nothing.
-const NONE: &str = "no header of a file is there";
+const NONE: &str = "the image has no file header";
 
 /// Why a file is left that names more than the image has.
 const MANY: &str = "it has more headers and blocks than the image has blocks";
 
 /// Why a file is left where the files before it have all that is copied.
-const FULL: &str = "the files before it have 64 times the blocks of the image";
+const FULL: &str = "the files copied before it have 64 times the blocks of the image";
 
 /// Copies each file that a scan of the image finds.
 pub(crate) fn rescue_scanned<'a, R: Files<File = File> + Clock + AllocGlobal + Print + Eprint>(

@@ -61,13 +61,13 @@ pub enum WordFault {
     #[error("standard output is the image; send it elsewhere")]
     OwnOutput,
     /// Several files would be written to this file of the host.
-    #[error("no folder")]
+    #[error("it is not a folder, and the command needs one")]
     NoFolder,
     /// Files, several directories or an ID, when one directory is required.
-    #[error("one directory is wanted: -r copies the files in it and below it")]
+    #[error("-r needs exactly one directory: it copies the files in and below it")]
     OneDirectory,
     /// The target is a folder with names, or is not a folder.
-    #[error("an empty folder, or none, is wanted there")]
+    #[error("it exists and is not an empty folder; give a new folder")]
     NotEmpty,
     /// The host cannot create this folder.
     #[error("the folder cannot be made: {0}")]
@@ -76,7 +76,7 @@ pub enum WordFault {
     #[error("{0}")]
     Unsaved(SaveFault),
     /// The image to save is shorter than its volume.
-    #[error("the image is shorter than its volume; --force writes it whole")]
+    #[error("the image is shorter than its volume; --force adds zeros for the missing blocks")]
     Short,
     /// The image would be changed, and its file ends before a block of a file of the volume.
     #[error("the image ends before blocks of files; 'check --all' lists these files, 'rescue' copies the others")]
@@ -85,19 +85,19 @@ pub enum WordFault {
     #[error("OtherSize: a floppy in this order has {0} bytes; another --order may fit")]
     OtherSize(usize),
     /// A file of commands is not valid text.
-    #[error("no UTF-8 text")]
+    #[error("it is not UTF-8 text")]
     NoText,
     /// A file of commands has more bytes than this limit.
     #[error("a file of commands has at most {0} bytes")]
     ManyBytes(u64),
     /// The label is not valid for a volume.
-    #[error("no label: 1 to 12 of A to Z, 0 to 9 and dots")]
+    #[error("not a valid label: use 1 to 12 of A to Z, 0 to 9 and dots")]
     NoLabel,
     /// The specified number of blocks differs from this number, the size of a new floppy in the specified order.
     #[error("a floppy in this order has {0} blocks")]
     OtherBlocks(u32),
     /// Standard input is put, and no path on the volume is given.
-    #[error("standard input wants a PATH")]
+    #[error("standard input needs a PATH")]
     NoPath,
     /// A host file with the first number of bytes. The free blocks hold only the second number of bytes.
     #[error("VolumeFull: it has {0} bytes, and the free blocks of the volume hold {1}")]
@@ -190,15 +190,19 @@ fn say_stop<R: Eprint>(rt: &R, stop: &Stop<'_>) -> Status
             Status::Host
         }
         Stop::SavedUnwritten(why) => {
-            let _ = eprintln!(rt; "f11fs: the image is saved; writing failed: {why}");
+            let _ = eprintln!(rt;
+                "f11fs: the image is saved, but writing to standard output failed: {why}"
+            );
             Status::Host
         }
         Stop::NoTime => {
-            let _ = eprintln!(rt; "f11fs: the host's clock says no time; --stamp does");
+            let _ = eprintln!(rt;
+                "f11fs: the host's clock gives no valid time; set one with --stamp"
+            );
             Status::Host
         }
         Stop::NoMemory => {
-            let _ = eprintln!(rt; "f11fs: no memory");
+            let _ = eprintln!(rt; "f11fs: out of memory");
             Status::Host
         }
         Stop::Lines(lines, status) => {
@@ -224,7 +228,7 @@ pub(crate) fn say_about<R: Eprint, D: Display + Drop>(rt: &R, what: &str, why: D
 /// Says that standard output takes no more; that whoever reads it wants no more is no matter.
 fn say_unwritten<R: Eprint>(rt: &R, why: HostFault) {
     if why != HostFault::NoReader {
-        let _ = eprintln!(rt; "f11fs: writing failed: {why}");
+        let _ = eprintln!(rt; "f11fs: writing to standard output failed: {why}");
     }
 }
 

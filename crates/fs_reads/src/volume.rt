@@ -29,7 +29,7 @@ pub enum VolumeFault {
     #[error("reading failed: {0}")]
     Read(HostFault),
     /// The allocator refused memory.
-    #[error("no memory")]
+    #[error("out of memory")]
     NoMemory,
     /// The file size differs from the size of a floppy in this order, which was specified.
     #[error("OtherSize")]

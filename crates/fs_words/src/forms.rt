@@ -23,7 +23,7 @@ pub(crate) const RAW: Argument<'static> = Argument::Flag("--raw", "Write the byt
 /// `--partial`.
 pub(crate) const PARTIAL: Argument<'static> = Argument::Flag(
     "--partial",
-    "Copy damaged files too: the blocks up to the first that is missing, with zeros for those outside the volume",
+    "Copy damaged files too: the blocks up to the first that is missing, with zeros for blocks outside the volume",
 );
 
 /// The form options that exclude each other.

@@ -30,7 +30,11 @@ pub(crate) fn read_layering(
     };
     match layering_of(text) {
         Some(layering) => Ok(Some(layering)),
-        None => Err(wrong(alloc, text, "is no order: say plain, rx01, rx02 or rx50")?),
+        None => Err(wrong(
+            alloc,
+            text,
+            "is not a valid order: use plain, rx01, rx02 or rx50",
+        )?),
     }
 }
 

@@ -149,10 +149,10 @@ impl Choice {
                 "Write to this host file or folder. - is standard output"
             }
             Choice::Out if verb.is_none() => {
-                "Write the changed image to FILE, and keep IMAGE as it is. FILE must not exist. For get: write to FILE"
+                "Write the changed image to FILE, and leave IMAGE unchanged. FILE must not exist. For get: write to FILE"
             }
             Choice::Out => {
-                "Write the changed image to FILE, and keep IMAGE as it is. FILE must not exist"
+                "Write the changed image to FILE, and leave IMAGE unchanged. FILE must not exist"
             }
             Choice::Backup => "Keep the old image as IMAGE~",
             Choice::BreakLinks => {
@@ -166,7 +166,7 @@ impl Choice {
             Choice::Quiet => "Hide progress and remarks, but not errors",
             Choice::KeepGoing => "With -f: skip a command that f11fs refuses, and go on",
             Choice::Blocks => {
-                "Assume that the volume has N blocks, 1 to 1048576, whatever the image says"
+                "Assume that the volume has N blocks, 1 to 1048576, whatever size the image states"
             }
             Choice::Order => order_help(verb),
         }

@@ -18,7 +18,7 @@ pub(crate) fn known_kinds(alloc: Global, words: &[&str]) -> Result<Repairs, Word
         return Err(wrong(
             alloc,
             word,
-            "names no repair: say used, share, double, names, lost, free or all",
+            "is not a repair: KIND is used, share, double, names, lost, free or all",
         )?);
     }
     Ok(repairs_in(words))

@@ -12,7 +12,7 @@ use ods_words::WordsFault;
 use std::alloc::Global;
 
 /// What is said of a text that is no owner.
-const NO_OWNER: &str = "is no owner, as [1,2]";
+const NO_OWNER: &str = "is not a valid owner, such as [1,2]";
 
 /// Returns the user in a text, such as `[1,2]` or `1,2`, in octal.
 pub(crate) fn user_of(text: &str) -> Option<Uic>

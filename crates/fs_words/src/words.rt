@@ -95,7 +95,7 @@ pub fn parse_words<'a, S: AsStr>(
         },
         (None, None) => Err(wanting(alloc, false)?),
         (Some(_), Some(_)) => {
-            let text = "error: commands stand in FILE or behind IMAGE, not in both";
+            let text = "error: give the commands in FILE or after IMAGE, not both";
             Err(say_wrong(alloc, text)?)
         }
     }
@@ -119,7 +119,7 @@ pub fn parse_line<'a, S: AsStr>(
         Err(error) => return Err(tell(alloc, &error, words, version)?),
     };
     if before.get_str("commands").is_some() {
-        let text = "error: no command for a file of commands";
+        let text = "error: a file of commands cannot have -f";
         return Err(say_wrong(alloc, text)?);
     }
     let rest = rest_of(&before, words);
@@ -198,7 +198,11 @@ fn found_words<'a>(
         force: said.flag(Choice::Force),
         json: said.flag(Choice::Json),
         quiet: said.flag(Choice::Quiet),
-        user: said_user(alloc, said.text(Choice::User), "is no user, as [1,2]")?,
+        user: said_user(
+            alloc,
+            said.text(Choice::User),
+            "is not a valid user, such as [1,2]",
+        )?,
         stamp: said_stamp(alloc, said)?,
         saving: how_saved(said, verb),
         blocks: number_of(alloc, said.text(Choice::Blocks))?,
@@ -306,7 +310,7 @@ fn said_stamp(alloc: Global, said: &Said<'_, '_, '_>) -> Result<Option<Stamp>, W
     };
     match Stamp::parse(text.as_bytes()) {
         Some(stamp) if is_true_day(&stamp) => Ok(Some(stamp)),
-        Some(_) => Err(wrong(alloc, text, "is no day and time that there is")?),
-        None => Err(wrong(alloc, text, "is no stamp, as 24NOV85093000")?),
+        Some(_) => Err(wrong(alloc, text, "is not a valid date and time")?),
+        None => Err(wrong(alloc, text, "is not a valid stamp, such as 24NOV85093000")?),
     }
 }

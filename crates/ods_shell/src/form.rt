@@ -30,13 +30,13 @@ pub enum FormFault {
     #[error("no such file")]
     NoSuchFile,
     /// A header of its chain is missing.
-    #[error("its headers do not go on as they say")]
+    #[error("its header chain is broken")]
     BadChain,
     /// Its headers name this block, which is past the image.
-    #[error("it goes on behind the end of the image, with block {0}")]
+    #[error("it uses block {0}, which is past the end of the image")]
     OutsideVolume(u32),
     /// The end of file is past the blocks, and not all blocks are requested.
-    #[error("its end lies past its blocks")]
+    #[error("its end of file is past its last block")]
     EndPastBlocks,
     /// The first fault of the records.
     #[error("{0}")]
@@ -45,7 +45,7 @@ pub enum FormFault {
     #[error("records of {0} bytes do not fit in a block")]
     TooLongForBlock(u16),
     /// The allocator refused memory.
-    #[error("no memory")]
+    #[error("out of memory")]
     NoMemory,
 }
 
@@ -78,14 +78,16 @@ impl fmt::Display for Remark {
                 let form = print_form(form);
                 write!(
                     f,
-                    "records that are no text, got as bytes; put -b --form {form} brings them back"
+                    "its records are not text, so it is copied as bytes; put -b --form {form} restores the records"
                 )
             }
-            Remark::NoForm => f.write_str("records that are no text, got as bytes"),
+            Remark::NoForm => f.write_str("its records are not text, so it is copied as bytes"),
             Remark::NoAttributes => {
-                f.write_str("nothing says where it ends, so all blocks are got")
+                f.write_str("its attributes do not state its end, so all blocks are copied")
             }
-            Remark::NoEnd => f.write_str("it ends at 0 and has blocks; --raw gets them"),
+            Remark::NoEnd => f.write_str(
+                "its end of file is 0, but it has blocks; --raw copies them",
+            ),
         }
     }
 }

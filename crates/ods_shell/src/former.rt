@@ -68,7 +68,7 @@ fn write_lacking<W: fmt::Write>(f: &mut fmt::Formatter<W>, left: &Deletion) -> f
         let (number, sequence) = (file.number, file.sequence);
         write!(f, ", shares blocks with #{number},{sequence}")?;
     }
-    f.write_str("; --partial gets what is left")
+    f.write_str("; --partial copies what is left")
 }
 
 /// Returns the deleted file with this ID. Returns `None` if the ID is not the ID of a deleted file.

@@ -13,22 +13,22 @@ pub enum PathFault {
     #[error("{0}")]
     Bad(BadPath),
     /// The path selects a directory and no file in it.
-    #[error("a directory, and no file in it: A/*.* are all files in A, A. is a file with no type")]
+    #[error("it is a directory: A/*.* selects all files in A, and A. is the file A with no type")]
     NoName,
     /// Versions are required, and the path specifies none.
-    #[error("no version is said: say ';*' (in quotes) for all, or --newest")]
+    #[error("the path has no version: give one, ';*' (in quotes) for all, or --newest")]
     NoVersion,
     /// The path is an ID, and the command lists names.
-    #[error("names are listed; stat shows a file by its ID")]
+    #[error("this command takes no ID; stat shows a file by its ID")]
     IsId,
     /// The path selects nothing.
-    #[error("nothing there")]
+    #[error("no such file or directory")]
     Nothing,
     /// The ID is not the ID of a file.
     #[error("no such file")]
     NoSuchFile,
     /// The allocator refused memory.
-    #[error("no memory")]
+    #[error("out of memory")]
     NoMemory,
 }
 

@@ -31,34 +31,34 @@ pub enum Why {
     #[error("{0}")]
     Put(PutFault),
     /// A text, or the name in a header, is not a valid name of a file.
-    #[error("no name of a file: a name has at most 9 and 3 of A to Z, 0 to 9, $")]
+    #[error("not a valid file name: a name has at most 9 and a type at most 3 of A to Z, 0 to 9, $")]
     BadName,
     /// A directory is given, but a file is required.
-    #[error("a directory, and a file is wanted: 'rmdir' removes an empty directory, 'mv' moves one")]
+    #[error("it is a directory, and the command needs a file: 'rmdir' removes an empty directory, 'mv' moves one")]
     IsDirectory,
     /// A file with the type DIR would be created, or an entry of that type would name no directory.
-    #[error("the type DIR is that of directories, and theirs alone: 'mkdir' makes one")]
+    #[error("the type DIR is for directories, and each directory has it: 'mkdir' makes one")]
     DirectoryType,
     /// A directory with this name exists.
-    #[error("NameTaken: a directory of this name is there; 'ls' shows it")]
+    #[error("NameTaken: a directory of this name exists; 'ls' shows it")]
     DirectoryThere,
     /// A directory would be entered in itself, or below itself.
-    #[error("a directory does not go into itself, nor below")]
+    #[error("a directory cannot be moved into itself or below itself")]
     IntoItself,
     /// An ID is given, but a name is required.
-    #[error("a name is wanted, and no ID: 'find' shows the names of all files")]
+    #[error("the command needs a name, not an ID: 'find' shows the names of all files")]
     IsId,
     /// Patterns, several files or directories, or several versions are given, but one is required.
-    #[error("more than one is meant, where one is wanted: say it without * and ?")]
+    #[error("only one file or directory is possible here: use no * or ?, and a directory for several files")]
     Several,
     /// Versions are given, but only names are allowed.
-    #[error("versions are said, where those below the highest go: say the name without ';'")]
+    #[error("purge itself selects the versions: give the name without ';'")]
     Versioned,
     /// A file that would be deleted by its ID has a name.
-    #[error("a name stands for it: 'find' shows it, and 'rm' of all its names deletes the file")]
+    #[error("it still has a name: 'find' shows it, and 'rm' of all its names deletes the file")]
     IsNamed,
     /// A file would be cut past its end.
-    #[error("past the end of the file: 'stat' says how many bytes it has")]
+    #[error("past the end of the file: 'stat' shows how many bytes it has")]
     PastEnd,
     /// Entries past the end mark of a directory name files. A new name could be one of theirs.
     #[error("the directory's end mark hides used entries: 'check --all' lists such directories")]

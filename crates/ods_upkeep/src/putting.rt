@@ -313,9 +313,9 @@ fn remark(alloc: Global, written: &Written<'_>) -> Result<Option<String>, Why>
     let Some(near) = written.near else {
         return Ok(None);
     };
-    let mut text = format!(in alloc; "put as bytes, since {near}")?;
+    let mut text = format!(in alloc; "stored as bytes, because {near}")?;
     if near != NearText::LongLine {
-        text.push_str("; -t makes records")?;
+        text.push_str("; -t stores lines as records")?;
     }
     Ok(Some(text))
 }

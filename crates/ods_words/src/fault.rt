@@ -46,7 +46,12 @@ pub fn tell_error(alloc: Global, error: &Error) -> Result<WordsFault, AllocError
 fn line_of(alloc: Global, error: &Error, kind: ErrorKind) -> Result<String, AllocError> {
     let text = format!(in alloc; "{error}")?;
     let mut lines = text.as_str().lines();
-    let mut line = String::from_str(alloc, lines.next().unwrap_or("error: wrong words"))?;
+    let mut line = String::from_str(
+        alloc,
+        lines
+            .next()
+            .unwrap_or("error: the command line is not valid"),
+    )?;
     if kind == ErrorKind::MissingRequiredArgument {
         line.push(' ')?;
         line.push_str(lines.next().unwrap_or("").trim())?;
