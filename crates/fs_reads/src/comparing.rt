@@ -56,37 +56,111 @@ pub(crate) fn compare_all<'a, R: Files<File = File> + Clock + AllocGlobal + Prin
     };
     stop_at_own_output(rt, *path)?;
     let opened = open_readable(rt, *path, None, Layers::Found, false)?;
-    let other = opened.disk();
+    compare_with(rt, disk, &opened, words, all, progress)
+}
+
+/// Compares the volume with this one, and prints what differs.
+fn compare_with<'a, R: Clock + AllocGlobal + Print + Eprint>(
+    rt: &R,
+    disk: &Disk<'_>,
+    opened: &Readable,
+    words: &Words<'a>,
+    all: bool,
+    progress: &mut Progress,
+) -> Result<Status, Stop<'a>>
+    requires { on FindsFiles disk.now }
+    ensures { IfOk result EndsCompare }
+{
+    let text = differences(rt, disk, &opened.disk(), words, all, progress)?;
+    if text.is_empty() {
+        return Ok(end_comparison(opened, true));
+    }
+    print_differences(rt, text.as_str(), words.json)?;
+    Ok(end_comparison(opened, false))
+}
+
+/// The lines of what differs between two volumes.
+fn differences<'a, R: Clock + AllocGlobal + Eprint>(
+    rt: &R,
+    disk: &Disk<'_>,
+    other: &Disk<'_>,
+    words: &Words<'a>,
+    all: bool,
+    progress: &mut Progress,
+) -> Result<String, Stop<'a>>
+    requires one { on FindsFiles disk.now }
+    requires other { on FindsFiles other.now }
+{
     let alloc = rt.alloc();
     let ours = all_paths(alloc, disk, words.user)?;
-    let theirs = all_paths(alloc, &other, words.user)?;
+    let theirs = all_paths(alloc, other, words.user)?;
     let mut text = String::new(alloc);
+    push_of_first(
+        rt, disk, &ours, other, &theirs, words, all, progress, &mut text,
+    )?;
+    push_of_second(&ours, &theirs, &mut text)?;
+    Ok(text)
+}
+
+/// Appends a line for each path of the first volume that the second lacks, or whose file differs there.
+fn push_of_first<'a, R: Clock + AllocGlobal + Eprint>(
+    rt: &R,
+    disk: &Disk<'_>,
+    ours: &[Known],
+    other: &Disk<'_>,
+    theirs: &[Known],
+    words: &Words<'a>,
+    all: bool,
+    progress: &mut Progress,
+    text: &mut String,
+) -> Result<(), Stop<'a>>
+    requires one { on FindsFiles disk.now }
+    requires other { on FindsFiles other.now }
+{
     for (done, one) in ours.iter().enumerate() {
         progress.show(rt, done as u64, ours.len() as u64);
-        match place_of(&theirs, one.path.as_str()) {
+        match place_of(theirs, one.path.as_str()) {
             Some(place) => {
                 if let Some(found) = theirs.get(place) {
                     push_difference(
-                        alloc, disk, one, &other, found.file, words.user, all, &mut text,
+                        rt.alloc(),
+                        disk,
+                        one,
+                        other,
+                        found.file,
+                        words.user,
+                        all,
+                        text,
                     )?;
                 }
             }
             None => writeln!(text, "{}: only in the first image", one.path.as_str())?,
         }
     }
-    for one in &theirs {
-        if place_of(&ours, one.path.as_str()).is_none() {
+    Ok(())
+}
+
+/// Appends a line for each path of the second volume that the first lacks.
+fn push_of_second(ours: &[Known], theirs: &[Known], text: &mut String) -> Result<(), AllocError> {
+    for one in theirs {
+        if place_of(ours, one.path.as_str()).is_none() {
             writeln!(text, "{}: only in the second image", one.path.as_str())?;
         }
     }
-    if text.is_empty() {
-        return Ok(end_comparison(&opened, true));
+    Ok(())
+}
+
+/// Prints the lines of what differs, or an object for each.
+fn print_differences<'a, R: AllocGlobal + Print>(
+    rt: &R,
+    lines: &str,
+    json: bool,
+) -> Result<Status, Stop<'a>> {
+    if !json {
+        return send(rt, lines);
     }
-    if words.json {
-        text = objects(alloc, text.as_str())?;
-    }
-    send(rt, text.as_str())?;
-    Ok(end_comparison(&opened, false))
+    let objects = objects(rt.alloc(), lines)?;
+    send(rt, objects.as_str())
 }
 
 /// The status of a comparison with this image, by whether the two are alike.

@@ -78,23 +78,45 @@ pub fn rescue<'a, R: Files<File = File> + Clock + AllocGlobal + Print + Eprint>(
         say_rest(rt, path, rest, how.json)?;
         status = Status::Found;
     }
-    let first = check_first(rt.alloc(), &image)?;
+    let done = rescue_image(rt, path, &image, how, scan, progress)?;
+    Ok(status.or(done))
+}
+
+/// Copies the files of an image: those that its layout finds, or with `scan`, or if there is no layout, those that a scan finds.
+fn rescue_image<'a, R: Files<File = File> + Clock + AllocGlobal + Print + Eprint>(
+    rt: &R,
+    path: &'a str,
+    image: &Image,
+    how: How<'a>,
+    scan: bool,
+    progress: &mut Progress,
+) -> Result<Status, Stop<'a>> {
+    let first = check_first(rt.alloc(), image)?;
     if let Some(fault) = &first.answer {
         let fault = format!(in rt.alloc(); "{fault}")?;
         say_fault(rt, path, fault.as_str(), how.json)?;
     }
-    if !scan {
-        let found = layout_for(rt.alloc(), &image, first.layout)?;
-        if let Some(layout) = &found {
-            take_folder(rt, how.folder, how.only_tells)?;
-            let disk = Disk {
-                image: &image,
-                layout,
-            };
-            return Ok(status.or(rescue_all(rt, &disk, how, progress)?));
-        }
+    if scan {
+        return rescue_scanned(rt, path, image, how, progress);
     }
-    Ok(status.or(rescue_scanned(rt, path, &image, how, progress)?))
+    match layout_for(rt.alloc(), image, first.layout)? {
+        Some(layout) => rescue_laid_out(rt, image, &layout, how, progress),
+        None => rescue_scanned(rt, path, image, how, progress),
+    }
+}
+
+/// Copies the files that the layout of an image finds.
+fn rescue_laid_out<'a, R: Files<File = File> + Clock + AllocGlobal + Print + Eprint>(
+    rt: &R,
+    image: &Image,
+    layout: &Layout,
+    how: How<'a>,
+    progress: &mut Progress,
+) -> Result<Status, Stop<'a>>
+    requires { FindsFiles image.now layout.now }
+{
+    take_folder(rt, how.folder, how.only_tells)?;
+    rescue_all(rt, &Disk { image, layout }, how, progress)
 }
 
 /// The layout by which files are found: the one that is known, or what INDEXF.SYS alone says.
