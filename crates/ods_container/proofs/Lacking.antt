@@ -1,5 +1,5 @@
 -- Files with blocks past the end of the host's file.
-use Rattle.std.proofs.Common.{◌≡◌, ℕ, Bool, true, false, MatchBool, ◌≤◌, List, length, take, inl, inr, refl, sym, ap, ◌∙◌, subst}
+use Rattle.std.proofs.Common.{◌≡◌, ℕ, Bool, true, false, MatchBool, ◌≤◌, List, length, take, inl, inr, refl, sym, subst}
 use Rattle.std.proofs.lemmas.List.{take_all}
 use Rattle.ods_space.specs.Files.{IsLayoutOf}
 use Rattle.ods_space.specs.Layout.{VolumeLayout}

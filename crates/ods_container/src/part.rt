@@ -10,7 +10,7 @@ use std::alloc::{AllocError, Global};
 
 /// Returns whether each file of the volume has its blocks among the first `count`. The volume of an image without a layout has no files. The error
 /// is for memory.
-#[tactic(auto, using(crate::proofs::Lacking::all_below, crate::proofs::Lacking::none_below))]
+#[tactic(auto, using(crate::proofs::Lacking::all_below))]
 pub fn has_all_blocks(alloc: Global, image: &Image, count: u32) -> Result<bool, AllocError>
     ensures { IfOk result (λ all. MatchBool all (HaveBlocksBelow image.now count) (¬ HaveBlocksBelow image.now count)) }
 {
