@@ -1,9 +1,15 @@
 -- What the texts of /proc specify: a mount, a mapping and the target of a link.
-use Rattle.std.specs.Prelude.{ℕ, ◌==◌, ◌&&◌, ◌||◌, Bool, not, List, codes}
+use Rattle.std.specs.Prelude.{◌≡◌, ℕ, ◌<◌, ◌≤◌, ◌==◌, ◌&&◌, ◌||◌, Bool, true, false, not, List, length, slice_index, codes}
 use Rattle.std.specs.List.{before_first, after_first, starts_with}
 
 abbrev pub is_blank : ℕ → Bool
 is_blank b = b == 32
+
+-- the first blank of a text is at n, or n is its length if there is none
+pub record IsFirstBlank (text : List ℕ) (n : ℕ) : Type 0 where
+  pub within : n ≤ length text
+  pub before : (k : ℕ) → k < n → is_blank (slice_index text k) ≡ false
+  pub found : n < length text → is_blank (slice_index text n) ≡ true
 
 -- the words of a line are what single blanks separate
 abbrev pub first_word : List ℕ → List ℕ

@@ -5,7 +5,7 @@ ghost use Rattle.fs_host.specs.Holders.{LacksLine, name_held, shown_holder};
 
 use crate::holders::{Holder, NAME};
 use crate::loop_devices::loop_over;
-use crate::looking::{Look, look_at};
+use crate::looking::{Look, Part, look_at};
 use crate::shown::Shown;
 use crate::sought::Sought;
 use crate::watch::Watch;
@@ -57,8 +57,8 @@ pub fn holder_of<R: Files<File = File> + Clock + AllocGlobal + Clone + Drop>(
         });
     }
     for _ in 0..TRIES {
-        let process = seen_holder(rt, sought, watch)?;
-        if keeps_open(rt, process, sought, watch) {
+        let (process, part) = seen_holder(rt, sought, watch)?;
+        if keeps_open(rt, process, part, sought, watch) {
             return Some(name_holder(rt, process));
         }
     }
@@ -69,13 +69,14 @@ pub fn holder_of<R: Files<File = File> + Clock + AllocGlobal + Clone + Drop>(
 fn keeps_open<R: Files<File = File> + Clock + AllocGlobal + Clone + Drop>(
     rt: &R,
     process: u32,
+    part: Part,
     sought: &Sought,
     watch: &mut Watch,
 ) -> bool {
     let mut pause = PAUSE;
     for _ in 0..LOOKS {
         rt.sleep(Duration::from_millis(pause));
-        if look_at(rt, process, sought, watch) == Look::Free {
+        if look_at(rt, process, part, sought, watch) == Look::Free {
             return false;
         }
         pause = pause.saturating_mul(2);
@@ -83,9 +84,25 @@ fn keeps_open<R: Files<File = File> + Clock + AllocGlobal + Clone + Drop>(
     true
 }
 
-/// A process other than this one that has the file open now. What cannot be looked at is counted.
+/// A process other than this one that has the file open now, by a descriptor or else by a mapping.
 fn seen_holder<R: Files<File = File> + Clock + AllocGlobal + Clone + Drop>(
     rt: &R,
+    sought: &Sought,
+    watch: &mut Watch,
+) -> Option<(u32, Part)> {
+    if let Some(process) = first_with(rt, Part::Descriptors, sought, watch) {
+        return Some((process, Part::Descriptors));
+    }
+    match first_with(rt, Part::Mappings, sought, watch) {
+        Some(process) => Some((process, Part::Mappings)),
+        None => None,
+    }
+}
+
+/// The first other process that has the file open in this part now. A process that cannot be looked at is counted.
+fn first_with<R: Files<File = File> + Clock + AllocGlobal + Clone + Drop>(
+    rt: &R,
+    part: Part,
     sought: &Sought,
     watch: &mut Watch,
 ) -> Option<u32> {
@@ -103,7 +120,7 @@ fn seen_holder<R: Files<File = File> + Clock + AllocGlobal + Clone + Drop>(
         let Ok(process) = entry.file_name().parse::<u32>() else {
             continue;
         };
-        match look_at(rt, process, sought, watch) {
+        match look_at(rt, process, part, sought, watch) {
             Look::Open => return Some(process),
             Look::Free => {}
             Look::Unseen => watch.pass(),

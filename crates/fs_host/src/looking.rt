@@ -23,23 +23,30 @@ pub enum Look {
     Unseen,
 }
 
-/// Looks at a process.
+/// Where a process may have the file open.
+#[derive(Clone, Copy)]
+pub enum Part {
+    Descriptors,
+    Mappings,
+}
+
+/// Looks at a part of a process.
 pub fn look_at<R: Files<File = File> + Clock + AllocGlobal + Clone + Drop>(
     rt: &R,
     process: u32,
+    part: Part,
     sought: &Sought,
     watch: &mut Watch,
 ) -> Look {
     let Ok(folder) = format!(in rt.alloc(); "/proc/{process}") else {
         return Look::Unseen;
     };
-    match look_at_descriptors(rt, folder.as_str(), sought, watch) {
-        Look::Free => {}
-        look => return look,
-    }
-    match look_at_threads(rt, folder.as_str(), sought, watch) {
-        Look::Free => look_at_mappings(rt, folder.as_str(), sought),
-        look => look,
+    match part {
+        Part::Descriptors => match look_at_descriptors(rt, folder.as_str(), sought, watch) {
+            Look::Free => look_at_threads(rt, folder.as_str(), sought, watch),
+            look => look,
+        },
+        Part::Mappings => look_at_mappings(rt, folder.as_str(), sought, watch),
     }
 }
 
@@ -144,8 +151,7 @@ fn is_same_file<R: Files<File = File>>(rt: &R, path: &str, sought: &Sought) -> b
     }
 }
 
-/// Looks at the descriptors of those threads of a process that have a table of their own: another number of descriptors. A process of
-/// which a thread waits for a device counts as unseen, since its mappings may not be readable without a wait.
+/// Looks at the descriptors of the threads of a process that have a table of their own: another number of descriptors.
 fn look_at_threads<R: Files<File = File> + Clock + AllocGlobal + Clone + Drop>(
     rt: &R,
     folder: &str,
@@ -159,31 +165,24 @@ fn look_at_threads<R: Files<File = File> + Clock + AllocGlobal + Clone + Drop>(
         return Look::Free;
     };
     let own = count_of(rt, folder);
-    let mut uncounted = 0u32;
-    let mut waits = false;
+    let mut left = THREADS;
     for entry in threads {
-        if watch.is_over(rt) {
-            return Look::Unseen;
-        }
         let Ok(entry) = entry else {
             continue;
         };
-        let Ok(thread) = format!(in rt.alloc(); "{folder}/task/{}", entry.file_name()) else {
+        let Ok(thread) = format!(in rt.alloc(); "{path}/{}", entry.file_name()) else {
             continue;
         };
-        waits = waits || is_waiting(rt, thread.as_str());
         let count = count_of(rt, thread.as_str());
-        if count == 0 {
-            uncounted = uncounted.saturating_add(1);
-        }
-        if count != own || (count == 0 && uncounted <= THREADS) {
+        if count != own || (count == 0 && left > 0) {
+            left = left.saturating_sub(1);
             match look_at_descriptors(rt, thread.as_str(), sought, watch) {
                 Look::Free => {}
                 look => return look,
             }
         }
     }
-    if waits { Look::Unseen } else { Look::Free }
+    Look::Free
 }
 
 /// The number of descriptors of the process or thread with this folder, which Linux tells from 6.2 on.
@@ -197,30 +196,19 @@ fn count_of<R: Files<File = File> + AllocGlobal>(rt: &R, folder: &str) -> u64 {
     }
 }
 
-/// Whether the thread with this folder waits for a device.
-fn is_waiting<R: Files<File = File> + AllocGlobal>(rt: &R, folder: &str) -> bool {
-    let Ok(path) = format!(in rt.alloc(); "{folder}/status") else {
-        return true;
-    };
-    let mut bytes = [0; FRONT];
-    let Some(lines) = front_of(rt, path.as_str(), &mut bytes) else {
-        return false;
-    };
-    match value_in(b"State:\t", lines) {
-        Some(state) => state.starts_with(b"D"),
-        None => false,
-    }
-}
-
-/// Looks at the mappings of a process.
-fn look_at_mappings<R: Files<File = File> + AllocGlobal>(
+/// Looks at the mappings of a process. While a thread of it waits for a device, to read them may be to wait with it.
+fn look_at_mappings<R: Files<File = File> + Clock + AllocGlobal + Clone + Drop>(
     rt: &R,
     folder: &str,
     sought: &Sought,
+    watch: &mut Watch,
 ) -> Look {
     let (Some(node), Some(device)) = (&sought.node, &sought.mapped) else {
         return Look::Free;
     };
+    if watch.is_over(rt) || has_waiting(rt, folder) {
+        return Look::Unseen;
+    }
     let Ok(path) = format!(in rt.alloc(); "{folder}/maps") else {
         return Look::Unseen;
     };
@@ -233,4 +221,38 @@ fn look_at_mappings<R: Files<File = File> + AllocGlobal>(
         }
     }
     Look::Free
+}
+
+/// Whether a thread of the process with this folder waits for a device.
+fn has_waiting<R: Files<File = File> + AllocGlobal + Clone + Drop>(rt: &R, folder: &str) -> bool {
+    let Ok(path) = format!(in rt.alloc(); "{folder}/task") else {
+        return true;
+    };
+    let Ok(threads) = fs::read_dir(rt, path.as_str()) else {
+        return false;
+    };
+    for entry in threads {
+        let Ok(entry) = entry else {
+            continue;
+        };
+        let Ok(about) = format!(in rt.alloc(); "{path}/{}/status", entry.file_name()) else {
+            return true;
+        };
+        if is_waiting(rt, about.as_str()) {
+            return true;
+        }
+    }
+    false
+}
+
+/// Whether the thread with this file waits for a device.
+fn is_waiting<R: Files<File = File>>(rt: &R, about: &str) -> bool {
+    let mut bytes = [0; FRONT];
+    let Some(lines) = front_of(rt, about, &mut bytes) else {
+        return false;
+    };
+    match value_in(b"State:\t", lines) {
+        Some(state) => state.starts_with(b"D"),
+        None => false,
+    }
 }

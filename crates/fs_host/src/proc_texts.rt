@@ -1,13 +1,15 @@
 //! What the texts of `/proc` specify: a descriptor, a mount, a mapping and the target of a link.
-ghost use Rattle.std.specs.Prelude.{◌≡◌, ◌≢◌, ◌++◌, ◌↔◌, ℕ, List, IsTrue, MatchOption};
-ghost use Rattle.std.specs.List.{position_or_len};
-ghost use Rattle.fs_host.specs.ProcTexts.{is_blank, first_word, later_words, third_word, fourth_word, fifth_word, may_be_disk_file};
+ghost use Rattle.std.specs.Prelude.{◌≡◌, ◌≢◌, ◌++◌, ◌↔◌, IsTrue, MatchOption, length, take};
+ghost use Rattle.fs_host.specs.ProcTexts.{IsFirstBlank, first_word, later_words, third_word, fourth_word, fifth_word, may_be_disk_file};
 
 /// The value of a line of `/proc/PID/fdinfo/N`, if the line begins with the key.
 pub fn value_of<'a>(key: &[u8], line: &'a [u8]) -> Option<&'a [u8]>
-    ensures { MatchOption result ((value : List ℕ) → line.now ≢ key.now ++ value) (λ value. line.now ≡ key.now ++ value.now) }
+    ensures { MatchOption result (take (length key.now) line.now ≢ key.now) (λ value. line.now ≡ key.now ++ value.now) }
 {
-    line.strip_prefix(key)
+    match line.strip_prefix(key) {
+        Some(value) => Some(value),
+        None => None,
+    }
 }
 
 /// The device of a mount, if the line of `/proc/PID/mountinfo` is about that mount.
@@ -58,7 +60,7 @@ fn after_blank(text: &[u8]) -> &[u8]
 
 /// The index of the first blank, or the length if there is none.
 fn blank_of(text: &[u8]) -> usize
-    ensures { result ≡ position_or_len is_blank text.now }
+    ensures { IsFirstBlank text.now result }
 {
     text.iter()
         .position(|byte| *byte == b' ')
