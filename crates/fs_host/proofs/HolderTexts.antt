@@ -29,7 +29,3 @@ unnamed_shown holder none =
 -- what is said of a process is said of a holder that is no device
 pub process_shown : (holder : Holder) (text : List ℕ) → holder.is_device ≡ false → text ≡ shown_process holder → text ≡ shown_holder holder
 process_shown holder text none e = e ∙ ap (λ b. if b then codes "device loop" ++ decimal holder.number else shown_process holder) (sym none)
-
--- and the name of a device of one that is
-pub device_shown : (holder : Holder) → holder.is_device ≡ true → codes "device loop" ++ decimal holder.number ≡ shown_holder holder
-device_shown holder is = ap (λ b. if b then codes "device loop" ++ decimal holder.number else shown_process holder) (sym is)

@@ -1,4 +1,4 @@
-use Rattle.std.proofs.Common.{◌≡◌, length, take, drop, ◌∙◌, sym, ap}
+use Rattle.std.proofs.Common.{◌≡◌, length, take, drop}
 use Rattle.std.proofs.lemmas.List.{take-append-drop}
 use Rattle.std.specs.Cmp.Lexicographic.{bytes_decides}
 use Rattle.fs_host.proofs.proc_texts.value_of.Goals as goal
