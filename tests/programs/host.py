@@ -4,6 +4,7 @@ import fcntl
 import os
 import pathlib
 import re
+import shutil
 import signal
 import subprocess
 import sys
@@ -145,6 +146,51 @@ def open_elsewhere(room: Disk, how: str) -> None:
         room.assertEqual(room.f11fs("--force", *MKDIR), (0, b"", b""), "--force")
     room.assertEqual(room.f11fs("--stamp", STAMP, "disk", "mkdir", "MORE"), (0, b"", b""), "a change of an image that was open")
 
+# A mapping of the image, without its descriptor.
+MAPPED = """import ctypes, os
+call = ctypes.CDLL(None).mmap
+call.restype, call.argtypes = ctypes.c_void_p, [ctypes.c_void_p, ctypes.c_size_t, ctypes.c_int, ctypes.c_int, ctypes.c_int, ctypes.c_long]
+held = os.open('disk', os.O_RDWR)
+call(None, 4096, 1, 1, held, 0)
+os.close(held)
+"""
+
+# A thread that has a table of descriptors of its own, with the image in it.
+THREADED = """import ctypes, os, threading
+opened = threading.Event()
+def hold():
+    ctypes.CDLL(None).unshare(0x400)
+    held = os.open('disk', os.O_RDWR)
+    opened.set()
+    threading.Event().wait()
+threading.Thread(target=hold, daemon=True).start()
+opened.wait()
+"""
+
+
+def held_by(room: Disk, words: str) -> None:
+    """A change of an image that a Python program has open without a descriptor of its own."""
+    with subprocess.Popen([sys.executable, "-c", f"{words}print('open', flush=True)\ninput()\nos._exit(0)"], cwd=room.folder, stdin=subprocess.PIPE,
+            stdout=subprocess.PIPE) as held:
+        held.stdout.readline()
+        status, out, err = room.f11fs(*MKDIR)
+        held.communicate(b"\n")
+    room.assertEqual((status, out), (3, b""), "a change of an image that is open")
+    room.fits(err, busy(held.pid), "the line")
+    assert room.is_untouched(), "the image was touched"
+    room.assertEqual(room.f11fs(*MKDIR), (0, b"", b""), "a change of an image that was open")
+
+
+# A monotonic clock on which three seconds pass between two looks.
+FAST_CLOCK = """#include <time.h>
+int clock_gettime(clockid_t clock, struct timespec *time) {
+    static long looks;
+    long status = syscall(SYS_clock_gettime, clock, time);
+    if (clock == CLOCK_MONOTONIC) time->tv_sec += 3 * looks++;
+    return status;
+}
+"""
+
 NO_SYNC = """int fsync(int file) {
     struct stat found;
     if (!fstat(file, &found) && S_ISDIR(found.st_mode)) { errno = EIO; return -1; }
@@ -208,6 +254,41 @@ class Host(Disk):
             held.communicate(b"\n")
         self.assertEqual(status, 3, "a change of an image that is open")
         self.fits(err, busy(held.pid, r"a\\x1b\[7mb"), "the line")
+
+    def test_image_that_another_process_maps(self) -> None:
+        held_by(self, MAPPED)
+
+    def test_image_that_a_thread_has_open(self) -> None:
+        held_by(self, THREADED)
+
+    def test_image_under_a_loop_device(self) -> None:
+        made = subprocess.run(["losetup", "-f", "--show", self.image], capture_output=True, text=True) if shutil.which("losetup") else None
+        if not made or made.returncode:
+            self.skipTest("no loop device can be made")
+        try:
+            status, out, err = self.f11fs(*MKDIR)
+        finally:
+            subprocess.run(["losetup", "-d", made.stdout.strip()], check=True)
+        line = f"f11fs: disk: device {made.stdout.strip().removeprefix('/dev/')} has it open; detach it there, or --force goes on\n"
+        self.assertEqual((status, out, err), (3, b"", line.encode()), "a change of an image under a loop device")
+        assert self.is_untouched(), "the image was touched"
+
+    def test_no_link_of_another_process_is_followed(self) -> None:
+        if not shutil.which("strace"):
+            self.skipTest("strace is not installed")
+        with open(self.folder / "other", "w+b") as other:
+            log = self.folder / "calls"
+            ran = subprocess.run(["strace", "-f", "-o", log, self.program, *MKDIR], cwd=self.folder, stdin=subprocess.DEVNULL, capture_output=True, timeout=120)
+            if not log.exists() or b"ptrace" in ran.stderr:
+                self.skipTest("strace may not trace")
+            calls = [line for line in log.read_text().splitlines() if f'"/proc/{os.getpid()}/fd/{other.fileno()}"' in line]
+        self.assertEqual(ran.returncode, 0, "a change")
+        assert calls and all("readlink" in call for call in calls), f"calls on a link: {calls}"
+
+    def test_search_that_takes_too_long(self) -> None:
+        status, out, err = self.f11fs(*MKDIR, env=preloaded(FAST_CLOCK))
+        self.assertEqual((status, out), (0, b""), "a change")
+        self.fits(err, re.compile(rb"f11fs: disk: [1-9][0-9]* processes could not be looked at in time; one of them may have it open\n"), "the line")
 
     def test_owner_is_given_by_descriptor(self) -> None:
         if os.geteuid() != 0:

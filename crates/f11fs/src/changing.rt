@@ -113,6 +113,7 @@ pub fn lock_image<'a, R: Host>(rt: &R, words: &Words<'a>) -> Result<(Locked, Ima
         Ok(locked) => locked,
         Err(fault) => return Err(Stop::Word(words.image, WordFault::Unsaved(fault))),
     };
+    say_unseen(rt, words.image, locked.unseen());
     let image = locked.read(rt.alloc(), words.blocks, layers_of(words.order));
     say_extent(rt, words.image, locked.extent(), false);
     let image = match image_of(rt, words.image, image) {
@@ -123,6 +124,16 @@ pub fn lock_image<'a, R: Host>(rt: &R, words: &Words<'a>) -> Result<(Locked, Ima
         Ok(false) => Ok((locked, image)),
         Ok(true) => Err(Stop::Word(words.image, WordFault::Lacking)),
         Err(_) => Err(Stop::from(AllocError)),
+    }
+}
+
+/// Says how many processes may have the image open, if the search for one ran out of time.
+fn say_unseen<R: Eprint>(rt: &R, path: &str, count: u32) {
+    if count > 0 {
+        let path = Shown(path);
+        let _ = eprintln!(rt;
+            "f11fs: {path}: {count} processes could not be looked at in time; one of them may have it open"
+        );
     }
 }
 

@@ -36,6 +36,10 @@ path_kept locked = string_bytes locked.path
 abbrev pub size_kept : Locked → ℕ
 size_kept locked = locked.mark.size
 
+-- how many processes may have it open that were not looked at
+abbrev pub unseen_kept : Locked → ℕ
+unseen_kept locked = locked.unseen
+
 -- everything is unchanged except the position in the file, and the volume on a floppy
 abbrev pub KeepsAll : Locked → Locked → Type 0
 KeepsAll old new =

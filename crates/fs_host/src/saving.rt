@@ -4,7 +4,7 @@ ghost use Rattle.std.specs.Fs.{metadata_len};
 ghost use Rattle.fs_host.specs.Faults.{may_end_opening, may_end_asking, may_end_locking, may_end_keeping, may_end_giving, may_end_leaving, may_end_saving, may_end_storing, may_end_copying, is_unsynced, may_be_wanting};
 ghost use Rattle.fs_host.specs.Found.{IsRemark, SaysShort};
 ghost use Rattle.fs_host.specs.Layers.{IsReadIn, IsLaidIn, IsUnfit, MayNotBeRead};
-ghost use Rattle.fs_host.specs.Kept.{bytes_kept, remark_kept, floppy_kept, is_floppy, mode_kept, force_kept, path_kept, size_kept, KeepsAll};
+ghost use Rattle.fs_host.specs.Kept.{bytes_kept, remark_kept, floppy_kept, is_floppy, mode_kept, force_kept, path_kept, size_kept, unseen_kept, KeepsAll};
 ghost use Rattle.fs_host.specs.Names.{IsReached};
 
 mod replacing;
@@ -17,8 +17,10 @@ use crate::host_fault::HostFault;
 use crate::in_use::holder_of;
 use crate::layers::{Layered, Layers, ReadFault, layered_in};
 use crate::marks::Mark;
-use crate::names::{follow_links, hidden_name};
+use crate::names::{follow_links, hidden_name, parts};
 use crate::new_file::paths_of;
+use crate::sought::Sought;
+use crate::watch::Watch;
 use crate::writing::{fault_of, sync_folder, write_new};
 use fs_saving::save;
 use ods_base::Image;
@@ -43,6 +45,8 @@ pub struct Locked {
     mode: u32,
     /// Whether another process may have it open.
     force: bool,
+    /// The number of processes that may have it open and could not be searched.
+    unseen: u32,
     /// The bytes after the volume that was read, and the remark on its length.
     behind: Vec<u8>,
     extent: Option<Extent>,
@@ -81,19 +85,27 @@ impl Locked {
             Ok(metadata) => metadata,
             Err(error) => return Err(SaveFault::Read(HostFault::of(&error))),
         };
-        let locked = Locked {
+        let mut locked = Locked {
             file,
             path,
             mark: Mark::of(&metadata),
             mode: metadata.mode() & MODE_BITS,
             force: force || !writes,
+            unseen: 0,
             behind: Vec::new(rt.alloc()),
             extent: None,
             floppy: None,
         };
         // Who had the lock before may have put another file under this name.
-        locked.ask_alone(rt)?;
+        locked.unseen = locked.ask_alone(rt)?;
         Ok(locked)
+    }
+
+    /// Returns the number of processes that could not be searched before the search for a process with the image open ran out of time.
+    pub fn unseen(&self) -> u32
+        ensures { result ≡ unseen_kept self.now }
+    {
+        self.unseen
     }
 
     /// Reads the volume in the locked image, with the number of blocks if it is given, and in the given order.
@@ -195,21 +207,26 @@ impl Locked {
         }
     }
 
-    /// That the file is as it was, and no other process has it open.
+    /// That the file is as it was, and no other process has it open. How many could not be looked at in time.
     #[tactic(auto, using(crate::proofs::MayEnd::changed_ends_asking, crate::proofs::MayEnd::is_not))]
     fn ask_alone<R: Files<File = File> + Clock + AllocGlobal + Clone + Drop>(
         &self,
         rt: &R,
-    ) -> Result<(), SaveFault>
+    ) -> Result<u32, SaveFault>
         ensures { IfErr result (λ fault. IsTrue (may_end_asking (force_kept self.now) fault)) }
     {
         let found = self.look_again(rt)?;
         if self.force {
-            return Ok(());
+            return Ok(0);
         }
-        match holder_of(rt, &found) {
+        let mut watch = Watch::begun(rt);
+        let (_, name) = parts(self.path.as_str());
+        let Some(sought) = Sought::of(rt, &self.file, &found, name) else {
+            return Ok(0);
+        };
+        match holder_of(rt, &sought, &mut watch) {
             Some(holder) => Err(SaveFault::InUse(holder)),
-            None => Ok(()),
+            None => Ok(watch.left_out()),
         }
     }
 
