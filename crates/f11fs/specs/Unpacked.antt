@@ -27,11 +27,16 @@ abbrev pub placing_told : Option (ℕ × ℕ) → Placing
 placing_told None = Anywhere
 placing_told (Some characteristics) = if nat_le 128 characteristics.0 then InOnePiece else Anywhere
 
+-- the time of a file by that of its member, or that of the run if the member has none since 1970
+abbrev pub IsMemberTime : Bool → List ℕ → Option ℕ → List ℕ → Type 0
+IsMemberTime said run None stamp = stamp ≡ run
+IsMemberTime said run (Some second) stamp = IsTimeOf said run second stamp
+
 -- the put file of an archive entry: below the specified directory, at its time, with its bytes and everything that its records specify
 pub record IsPackedFrom (said : Bool) (directory : Option (Bor (List ℕ))) (run : List ℕ) (wanted : Wanted) (packed : Packed) : Type 0 where
   pub path : packed.path.now ≡ below directory (entry_of wanted.found).path
   pub bytes : packed.bytes.now ≡ wanted.found.bytes.now
-  pub stamp : IsTimeOf said run wanted.found.mtime packed.stamp
+  pub stamp : IsMemberTime said run wanted.found.mtime packed.stamp
   pub attributes : packed.attributes ≡ wanted.told.attributes
   pub owner : packed.owner ≡ wanted.told.owner
   pub protection : packed.protection ≡ wanted.told.protection

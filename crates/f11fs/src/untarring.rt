@@ -1,6 +1,6 @@
 //! `untar`: the files of an archive of the host, put into a volume.
 ghost use Rattle.std.specs.Prelude.{◌≡◌, ◌*◌, ◌≤◌, false, is_some, length, not, IfErr, IfOk, OnOk, slice_get};
-ghost use Rattle.f11fs.specs.{Changed.IsRefusal, Dated.IsTimeOf, Unpacked.ArePutFrom, Unpacked.AreUntarred, Unpacked.IsPut, Unpacked.archive_among, Unpacked.directory_among, Unpacked.placing_told};
+ghost use Rattle.f11fs.specs.{Changed.IsRefusal, Unpacked.ArePutFrom, Unpacked.AreUntarred, Unpacked.IsMemberTime, Unpacked.IsPut, Unpacked.archive_among, Unpacked.directory_among, Unpacked.placing_told};
 
 use crate::changing::stop_failed;
 use crate::dating::time_at;
@@ -64,11 +64,14 @@ struct Times {
 }
 
 impl Times {
-    /// Returns the time of a file whose member has this time, in seconds since 1970.
-    fn of(&self, second: u64) -> Stamp
-        ensures { IsTimeOf (not (is_some self.now.zone)) self.now.run second result }
+    /// Returns the time of a file by the time of its member, in seconds since 1970; if the member has none, the time of the run.
+    fn of(&self, time: Option<u64>) -> Stamp
+        ensures { IsMemberTime (not (is_some self.now.zone)) self.now.run time result }
     {
-        time_at(&self.zone, second, self.run)
+        match time {
+            Some(second) => time_at(&self.zone, second, self.run),
+            None => self.run,
+        }
     }
 }
 
