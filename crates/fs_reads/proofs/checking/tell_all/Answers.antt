@@ -1,5 +1,7 @@
-use Rattle.std.proofs.Common.{rules, ◌≡◌, IfOk, ℕ, length, take, [], true, arith, inl, Result, Ok, Err}
+use Rattle.std.proofs.Common.{rules, ◌≡◌, IfOk, ℕ, length, take, [], true, arith, inl, IfSome, List, Option, Some, None, Result, Ok, Err}
 use Rattle.std.proofs.lemmas.List.{nil_from_length, length-take}
+use Rattle.ods_space.specs.Files.{IsLayoutOf}
+use Rattle.ods_space.specs.Layout.{VolumeLayout}
 use Rattle.ods_mount.specs.Faults.{IsSound}
 use Rattle.ods_shell.specs.declared.status.Status.{Status}
 use Rattle.ods_shell.specs.declared.status.Status.TheVariants as status
@@ -10,6 +12,14 @@ use Rattle.fs_reads.proofs.checking.tell_all.Goals as goal
 ends : {E Holds : Type 0} (r : Result Status E) → IfOk r (λ s. s ≡ status.Done) → Holds → IfOk r (EndsCheck Holds)
 ends (Ok s) done holds = inl (done, holds)
 ends (Err why) done holds = tt
+
+-- the layout that a check found is one of the image
+only_layout : (I : List (List ℕ)) (P : VolumeLayout → Type 0) (found : Option VolumeLayout) → IfSome found (λ L. IsLayoutOf I L × P L) → IfSome found (IsLayoutOf I)
+only_layout I P (Some L) both = both.0
+only_layout I P None none = tt
+
+pub tell_each-requires : goal.tell_each-requires
+tell_each-requires g c = only_layout c.args.image.now _ c.in_ok-checked.checked.layout c.in_ok-checked.ensures.layout
 
 pub returns-then-is_empty : goal.returns-then-is_empty
 returns-then-is_empty g c =
