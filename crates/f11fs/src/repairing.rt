@@ -1,13 +1,16 @@
 //! `repair`: repairs an image, also one that a mount refuses, and saves the result.
 ghost use Rattle.std.specs.Prelude.{◌≡◌, ◌⊎◌, IfOk, if◌then◌else◌};
 ghost use Rattle.ods_shell.specs.declared.status.Status.{Status as Code};
+ghost use Rattle.f11fs.specs.Saved.{EndsSaved};
 
 use crate::changing::{Finished, asker_of, lock_image, save_image, status_of};
 use crate::host::Host;
 use crate::mending::{Wishes, mend};
 use crate::repair_lines::Report;
+use fs_host::Locked;
 use fs_reads::{Stop, send, stop_at_own_output};
 use fs_words::{Repairs, Words};
+use ods_base::Image;
 use ods_shell::Status;
 
 /// The directory of lost files where none is said.
@@ -33,15 +36,36 @@ pub fn repair_image<'a, R: Host>(
     };
     let mut report = Report::new(rt.alloc());
     let image = mend(rt.alloc(), image, &wishes, &mut report)?;
-    let finished = if words.saving.only_tells {
-        Finished::Told(Status::Done)
-    } else {
-        save_image(rt, words, &mut locked, &image)?
-    };
-    match (send(rt, report.text.as_str()), finished) {
-        (Ok(_), finished) => Ok(status_of(finished).or(status_left(&report))),
-        (Err(Stop::Unwritten(why)), Finished::Saved(_)) => Err(Stop::SavedUnwritten(why)),
-        (Err(stop), _) => Err(stop),
+    let finished = save_mended(rt, words, &mut locked, &image)?;
+    match send(rt, report.text.as_str()) {
+        Ok(_) => Ok(status_of(finished).or(status_left(&report))),
+        Err(stop) => Err(unsent(finished, stop)),
+    }
+}
+
+/// Saves the image that comes of the repairs; with `-n` nothing is saved.
+fn save_mended<'a, R: Host>(
+    rt: &R,
+    words: &Words<'a>,
+    locked: &mut Locked,
+    image: &Image,
+) -> Result<Finished, Stop<'a>>
+    ensures { IfOk result EndsSaved }
+{
+    if words.saving.only_tells {
+        return Ok(Finished::Told(Status::Done));
+    }
+    match save_image(rt, words, locked, image) {
+        Ok(finished) => Ok(finished),
+        Err(stop) => Err(stop),
+    }
+}
+
+/// The end of repairs whose lines cannot be printed: it says so if the image is saved.
+fn unsent<'a>(finished: Finished, stop: Stop<'a>) -> Stop<'a> {
+    match (finished, stop) {
+        (Finished::Saved(_), Stop::Unwritten(why)) => Stop::SavedUnwritten(why),
+        (_, stop) => stop,
     }
 }
 

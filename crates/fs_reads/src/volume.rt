@@ -1,5 +1,5 @@
 //! The volume of an image in a file.
-ghost use Rattle.std.specs.Prelude.{◌≡◌, IfErr, IfOk, MatchBool, Ok, option_map};
+ghost use Rattle.std.specs.Prelude.{◌≡◌, IfErr, IfOk, MatchBool, Ok, Some, option_map};
 ghost use Rattle.ods_shell.specs.Remedies.{advice_words};
 ghost use Rattle.fs_reads.specs.{Advised.advice_for, Volumes.IsFaultOf, Volumes.IsPartThere, Volumes.LacksBlocks, Volumes.IsNoVolume, Volumes.IsNotMounted, Volumes.IsNotOpened, Volumes.IsNotRead, Volumes.IsNotReadIn, Volumes.look_in, Volumes.said_extent as extent_said};
 ghost use Rattle.fs_reads.specs.declared.volume.VolumeFault.{VolumeFault as Fault};
@@ -100,7 +100,17 @@ fn part_there(alloc: Global, image: Image, extent: Option<Extent>) -> Result<Ima
     ensures { IfOk result (IsPartThere extent image) }
 {
     match extent {
-        Some(Extent::Shorter(count, _)) => readable_part(alloc, image, count),
+        Some(extent) => part_by(alloc, image, extent),
+        None => Ok(image),
+    }
+}
+
+/// The part of an image that can be read, by this remark.
+fn part_by(alloc: Global, image: Image, extent: Extent) -> Result<Image, AllocError>
+    ensures { IfOk result (IsPartThere (Some extent) image) }
+{
+    match extent {
+        Extent::Shorter(count, _) => readable_part(alloc, image, count),
         _ => Ok(image),
     }
 }
@@ -114,7 +124,17 @@ pub fn lacks_blocks(
     ensures { IfOk result (λ lacks. MatchBool lacks (LacksBlocks extent image.now) (¬ LacksBlocks extent image.now)) }
 {
     match extent {
-        Some(Extent::Shorter(count, _)) => Ok(!has_all_blocks(alloc, image, count)?),
+        Some(extent) => lacks_by(alloc, image, extent),
+        None => Ok(false),
+    }
+}
+
+/// Whether an image ends before a block of a file, by this remark.
+fn lacks_by(alloc: Global, image: &Image, extent: Extent) -> Result<bool, AllocError>
+    ensures { IfOk result (λ lacks. MatchBool lacks (LacksBlocks (Some extent) image.now) (¬ LacksBlocks (Some extent) image.now)) }
+{
+    match extent {
+        Extent::Shorter(count, _) => Ok(!has_all_blocks(alloc, image, count)?),
         _ => Ok(false),
     }
 }

@@ -1,10 +1,7 @@
-use Rattle.std.proofs.Common.{◌≡◌, ◌∙◌, IfOk, Option, Some, ap, subst, sym}
+use Rattle.std.proofs.Common.{IfOk, Option, subst, sym}
 use Rattle.fs_host.specs.declared.containers.Extent.{Extent}
-use Rattle.fs_host.specs.declared.containers.Extent.TheVariants.{Shorter}
 use Rattle.fs_reads.specs.Volumes.{IsPartThere}
 use Rattle.fs_reads.proofs.volume.part_there.Goals as goal
 
-pub returns-in-Some-Shorter : goal.returns-in-Some-Shorter
-returns-in-Some-Shorter c =
-    let is : c.args.extent ≡ Some (Shorter c.in-Some-Shorter.count c.in-Some-Shorter.field-0-1) = c.in-Some-Shorter.is ∙ ap Some c.in-Some-Shorter.field-0-is in
-    subst (λ (e : Option Extent). IfOk c.readable_part.result (IsPartThere e c.args.image)) (sym is) c.readable_part.ensures
+pub returns-in-Some : goal.returns-in-Some
+returns-in-Some c = subst (λ (e : Option Extent). IfOk c.part_by.result (IsPartThere e c.args.image)) (sym c.in-Some.is) c.part_by.ensures
