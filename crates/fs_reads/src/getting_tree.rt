@@ -212,10 +212,8 @@ fn own_folder(
     if taken.contains(&said) {
         return format!(in alloc; "{said} #{number}");
     }
-    if taken
-        .insert(String::from_str(alloc, said.as_str())?)
-        .is_err()
-    {
+    let noted = String::from_str(alloc, said.as_str())?;
+    if taken.insert(noted).is_err() {
         return Err(AllocError);
     }
     Ok(said)
