@@ -1,9 +1,9 @@
-//! The file to which an image is written.
+//! The file that an image is written to.
 use std::io::Write;
 use std::rt::Files;
 use std::{fs, io};
 
-/// A file that is created, or truncated to 0 bytes, at its first written byte. Before that it is unchanged.
+/// A file that is made, or cut to nothing, at its first byte; before that it is untouched.
 #[derive(Drop)]
 pub struct OutFile<'a, R: Files> {
     files: &'a R,
@@ -12,7 +12,7 @@ pub struct OutFile<'a, R: Files> {
 }
 
 impl<'a, R: Files> OutFile<'a, R> {
-    /// Returns the file at this path, and does not open it.
+    /// The file at this path, untouched.
     pub fn new(files: &'a R, path: &'a str) -> OutFile<'a, R> {
         OutFile {
             files,

@@ -5,7 +5,6 @@ mod Finding
 mod MayEnd
 mod HiddenNames
 mod HolderTexts
-mod ProcCuts
 mod Failed
 mod Storing
 mod Ordered

@@ -4,7 +4,6 @@ pub mod Names
 pub mod Noted
 pub mod Texts
 pub mod Holders
-pub mod ProcTexts
 pub mod Found
 pub mod Layers
 pub mod Times

@@ -1,5 +1,4 @@
-//! A folder of the host with everything in it and below it. No contract of std states the contents of a folder: clauses state the results for the
-//! names that are read.
+//! A folder of the host with all that is in it and below it. No contract of std says what is in a folder: clauses say what is made of the names that are read.
 ghost use Rattle.std.specs.Prelude.{◌≡◌, ◌++◌, ◌∷◌, ◌↔◌, [], reverse, String as Text, IfErr, IfOk, IsTrue, OnOk, string_bytes};
 ghost use Rattle.std.specs.List.{All};
 ghost use Rattle.std.specs.declared.alloc.Global.{Global as HostMemory};
@@ -14,26 +13,26 @@ use std::fs;
 use std::fs::{File, Metadata};
 use std::rt::Files;
 
-/// The kind of a file in a tree.
+/// What stands at a path of a tree.
 #[derive(Clone, Copy, Debug, PartialEq, Eq)]
 pub enum TreeKind {
     /// A folder.
     Folder,
     /// A plain file.
     File,
-    /// Something else, such as a device or a link to nothing.
+    /// Something else, as a device or a link to nothing.
     Other,
-    /// A link to a folder that belongs to the tree, or that contains the tree.
+    /// A link to a folder that is of the tree, or that has the tree in it.
     OwnTree,
     /// A folder that cannot be read, for this reason.
     Unread(HostFault),
 }
 
-/// An entry of a tree, with its path in it. The path of a folder ends with a slash, but the tree itself has an empty path.
+/// What stands in a tree, by its path in it. That of a folder ends with a slash, but for the tree itself, which has an empty path.
 #[derive(Drop)]
 pub struct TreeEntry {
     pub path: String,
-    /// The index of its own name in the path, after the path of its folder.
+    /// Where its own name begins, behind the path of its folder.
     pub own: usize,
     pub kind: TreeKind,
 }
@@ -45,8 +44,7 @@ struct Pending {
     own: usize,
 }
 
-/// Lists everything in a folder and below it: first each folder itself, then its contents in the order of the names as bytes, and then the folders
-/// in it. Follows links.
+/// All that is in a folder and below it: first each folder itself, then what is in it, in the order of the names as bytes, and then the folders in it. Links are followed.
 pub fn list_tree<R: Files<File = File> + AllocGlobal + Clone + Drop>(
     rt: &R,
     root: &str,

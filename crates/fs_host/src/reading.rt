@@ -1,4 +1,4 @@
-//! Host files and streams, read as a whole if they are not too large.
+//! Files of the host and streams, read whole where they are not too large.
 ghost use Rattle.std.specs.Prelude.{◌≡◌, ◌≤◌, IfOk, IfErr, IfSome, IsTrue, vec_len};
 ghost use Rattle.fs_host.specs.Faults.{is_reason};
 
@@ -9,7 +9,8 @@ use std::fs::File;
 use std::io::Read;
 use std::rt::Files;
 
-/// Reads the bytes of a host file. A plain file of more than `most` bytes is refused before it is read, and any other file after `most` bytes.
+/// The bytes of a file of the host. A plain file of more than `most` bytes is refused before it is read, any other one behind
+/// that many.
 #[tactic(auto, using(crate::proofs::MayEnd::reason_given))]
 pub fn read_host<R: Files<File = File> + AllocGlobal>(
     rt: &R,
@@ -30,7 +31,7 @@ pub fn read_host<R: Files<File = File> + AllocGlobal>(
     read_some(rt.alloc(), &mut file, most)
 }
 
-/// Reads a reader up to its end. More than `most` bytes are refused.
+/// What a reader gives up to its end, where that is no more than `most` bytes.
 #[tactic(auto, using(crate::proofs::MayEnd::reason_given))]
 pub fn read_some<I: Read>(alloc: Global, reader: &mut I, most: u64) -> Result<Vec<u8>, HostFault>
     ensures all { IfOk result (λ bytes. IfSome (I.remaining reader.old) (λ all. bytes.items ≡ all)) }

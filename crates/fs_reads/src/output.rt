@@ -1,4 +1,4 @@
-//! The lines that a command prints: in pieces, so that a long list is not held in memory.
+//! What a command prints line by line: in pieces, so that a long list is not kept.
 ghost use Rattle.std.specs.Prelude.{◌≡◌, ◌<◌, ◌++◌, ◌⊎◌, [], true, false, IfOk, OnOk, string_bytes};
 ghost use Rattle.fs_reads.specs.Shown.{StaysSaid};
 ghost use Rattle.ods_shell.specs.declared.status.Status.{Status as Code};
@@ -12,7 +12,7 @@ use std::fmt::Display;
 /// From how many bytes on a piece goes out.
 const PIECE: usize = 32_768;
 
-/// A buffer of lines, or objects, for standard output.
+/// Lines, or objects, on their way to standard output.
 #[derive(Drop)]
 pub(crate) struct Output {
     alloc: Global,
@@ -22,7 +22,7 @@ pub(crate) struct Output {
 }
 
 impl Output {
-    /// Returns an output without lines.
+    /// No lines yet.
     pub fn new(alloc: Global, json: bool) -> Output
         ensures { (result.is_empty ≡ true) × (string_bytes result.text ≡ []) × (result.json ≡ json) }
     {
@@ -34,14 +34,14 @@ impl Output {
         }
     }
 
-    /// Returns whether no line was printed.
+    /// Whether no line was printed.
     pub fn is_empty(&self) -> bool
         ensures { result ≡ self.now.is_empty }
     {
         self.is_empty
     }
 
-    /// Prints a line, or an object with the line as the text of this name.
+    /// A line; as an object it is the text of this name.
     pub fn say<'a, R: Print, D: Display + Drop>(
         &mut self,
         rt: &R,
@@ -61,7 +61,7 @@ impl Output {
         }
     }
 
-    /// Prints a line about files, followed by their paths; or an object with the line as the text of this name, and the paths.
+    /// A line about files, with their paths behind it; as an object it is the text of this name, and has the paths.
     pub fn say_about<'a, R: Print, D: Display + Drop>(
         &mut self,
         rt: &R,
@@ -77,7 +77,7 @@ impl Output {
         self.push(rt, told.as_str())
     }
 
-    /// Prints how many lines are left out, if any, and these words after the number; or an object with the number of this name.
+    /// How many lines are left out, where there are some, with the words behind that number; as an object it is the number of this name.
     pub fn say_more<'a, R: Print>(
         &mut self,
         rt: &R,
@@ -100,7 +100,7 @@ impl Output {
         self.push(rt, line.as_str())
     }
 
-    /// Prints whole lines.
+    /// Whole lines.
     pub fn push<'a, R: Print>(&mut self, rt: &R, lines: &str) -> Result<Status, Stop<'a>>
         ensures said { self.new.is_empty ≡ false }
         ensures text { OnOk result ((string_bytes self.new.text ≡ string_bytes self.old.text ++ lines.now) ⊎ (string_bytes self.new.text ≡ [])) }
@@ -114,7 +114,7 @@ impl Output {
         self.end(rt)
     }
 
-    /// Sends the lines that were not sent yet.
+    /// What was not sent yet.
     pub fn end<'a, R: Print>(&mut self, rt: &R) -> Result<Status, Stop<'a>>
         ensures text { string_bytes self.new.text ≡ [] }
         ensures same { self.new.is_empty ≡ self.old.is_empty }

@@ -1,4 +1,4 @@
-//! Progress of a command on standard error, in a line that the next line overwrites.
+//! Progress of a command on standard error: how much of it is done, in a line that the next one is written over.
 ghost use Rattle.std.specs.Prelude.{◌≡◌, false};
 ghost use Rattle.fs_reads.specs.Shown.{IsUnseen};
 
@@ -10,17 +10,18 @@ const FIRST: u128 = 1_000;
 /// How many milliseconds lie between two lines.
 const BETWEEN: u128 = 200;
 
-/// The progress of a command. Its line is shorter than any line of a fault, and the cursor is at its start. Therefore a fault overwrites it.
+/// The progress of a command. Its line is shorter than any line of a fault, and the cursor stands at its start, so that a fault is
+/// written over it.
 #[derive(Drop)]
 pub struct Progress {
-    /// When the command began; `None` if no progress is shown.
+    /// When the command began; `None` where no progress is shown.
     start: Option<Instant>,
-    /// When the next line is shown, in milliseconds after the command began.
+    /// How many milliseconds after that the next line is shown.
     next: u128,
 }
 
 impl Progress {
-    /// Returns the progress of a command that begins. Nothing is ever shown unless `is_wanted`.
+    /// That of a command that begins; nothing is ever shown where none is wanted.
     pub fn begin(clock: &impl Clock, is_wanted: bool) -> Progress
         ensures { is_wanted ≡ false → IsUnseen result }
     {
@@ -32,7 +33,7 @@ impl Progress {
         Progress { start, next: FIRST }
     }
 
-    /// Returns the progress of a command that never shows any.
+    /// That of a command whose progress nobody sees.
     pub fn none() -> Progress
         ensures { IsUnseen result }
     {
@@ -42,7 +43,7 @@ impl Progress {
         }
     }
 
-    /// Shows that `done` parts of `all` are done, if the next line is due.
+    /// So many parts of all are done.
     pub fn show<R: Clock + Eprint>(&mut self, rt: &R, done: u64, all: u64)
         ensures { IsUnseen self.old → self.new ≡ self.old }
     {
@@ -61,7 +62,7 @@ impl Progress {
         let _ = eprint!(rt; "f11fs: {percent}%\r");
     }
 
-    /// Ends the command, and removes a line that is shown.
+    /// The command is done: a line that is shown is taken away.
     pub fn end<R: Eprint>(&self, rt: &R) {
         if self.next != FIRST {
             let _ = eprint!(rt; "           \r");

@@ -1,4 +1,4 @@
-//! The directories that a path of `tar` selects, whether it selects many files, and the archive folders of a file.
+//! Which directories a path of `tar` means, whether it means many files, and in which folders of the archive a file stands.
 ghost use Rattle.std.specs.Prelude.{◌≡◌, ℕ, List, IfOk, IfSome, IfNone, MatchBool, string_bytes};
 ghost use Rattle.std.specs.List.{All, Contains};
 ghost use Rattle.fs_reads.specs.Tars.{AreMeantBy, IsFolderOf, LeadsTo, is_pattern as pattern_said, means_many};
@@ -16,16 +16,16 @@ use ods_shell::{Directory, EntryPlace, Found, find_open, push_path};
 use ods_space::Disk;
 use std::alloc::{AllocError, Global};
 
-/// The selection of a path.
+/// What a path means.
 #[derive(Drop)]
 pub(crate) struct Meant {
-    /// Whether it selects all files of directories, or the files of a pattern.
+    /// Whether it means all files of directories, or those of a pattern.
     pub many: bool,
-    /// The directories; none if the path names a file by its ID.
+    /// The directories; none where it names a file by its ID.
     pub directories: Vec<Directory>,
 }
 
-/// Returns the selection of a path, past these closed directories.
+/// What a path means, past these closed directories.
 pub(crate) fn meant_by(
     alloc: Global,
     disk: &Disk<'_>,
@@ -78,7 +78,7 @@ fn is_pattern(files: &Option<Files<'_>>) -> bool
     }
 }
 
-/// Returns the folders of a file, with slashes between them. Its entry is in one of these directories.
+/// The folders on the way to a file, with slashes between them, by the directory among these in which its entry stands.
 pub(crate) fn folder_of(
     alloc: Global,
     directories: &[Directory],

@@ -1,14 +1,14 @@
-//! The reasons why bytes are not saved.
+//! Why bytes are not saved.
 
-/// The reason why bytes are not saved, with the fault of the host if it failed.
+/// Why bytes are not saved, with what the host says where it failed.
 #[derive(Clone, Copy, Debug, PartialEq, Eq)]
 pub enum Unsaved<E> {
-    /// The hidden file could not be made.
+    /// The hidden file is not made.
     Make(E),
-    /// The bytes could not be written or synced.
+    /// The bytes are not written, or not synced.
     Write(E),
-    /// The bytes that are read back differ from the written ones.
+    /// The bytes that are read back are not those that were written.
     Differs,
-    /// The hidden file could not be renamed.
+    /// The hidden file does not take the name.
     Rename(E),
 }

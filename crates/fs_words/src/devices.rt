@@ -66,7 +66,7 @@ const DEVICES: [Device<'static>; 13] = [
     },
 ];
 
-/// Returns how many blocks a volume on this device has. Small letters count as capitals.
+/// How many blocks a volume on this device has. Small letters are capitals.
 pub fn device_blocks(name: &str) -> Option<u32>
     ensures { result ≡ device_size name.now }
 {

@@ -1,11 +1,11 @@
-//! Counts of free blocks and of clear index bits, one for each block of the bitmaps. A volume keeps them next to its image, so that a search skips
-//! each bitmap block without free ones.
+//! Counts of free blocks and of clear index bits, one for each block of the bitmaps. A volume keeps them beside its
+//! image, so that a search skips each block of a bitmap that has nothing left.
 use crate::counting::{Bitmap, count_blocks, count_numbers, next_changed, recount, size_of};
 use ods_space::{Disk, Draft};
 use std::alloc::{AllocError, Global};
 use std::marker::Model;
 
-/// The number of free blocks that each block of the storage bitmap covers, and the number of clear bits in each block of the index bitmap.
+/// How many free blocks each block of the storage bitmap covers, and how many bits of each block of the index bitmap are clear.
 #[derive(Drop)]
 pub struct FreeCounts {
     blocks: Vec<u32>,
@@ -31,7 +31,7 @@ impl FreeCounts {
     ghost use Rattle.ods_alloc.specs.Counts.{counts_of, AreCountsAfter};
     ghost use Rattle.ods_space.specs.Disks.{on, seen};
 
-    /// Computes the counts of an image.
+    /// The counts of an image, made anew.
     pub fn of(alloc: Global, disk: &Disk<'_>) -> Result<FreeCounts, AllocError>
         requires { on IsLayoutOf disk.now }
         ensures { IfOk result (λ counts. counts ≡ seen counts_of disk.now) }
@@ -41,7 +41,8 @@ impl FreeCounts {
         Ok(FreeCounts { blocks, numbers })
     }
 
-    /// Returns the counts after a draft is applied, or `None` if it changes no block of either bitmap. Only the changed blocks are counted again.
+    /// The counts once a draft is applied; none where it changes no block of either bitmap. Only the blocks that it changes are
+    /// counted anew.
     pub fn after(&self, disk: &Disk<'_>, draft: &Draft) -> Result<Option<FreeCounts>, AllocError>
         requires layout { on IsLayoutOf disk.now }
         requires counts { self.now ≡ seen counts_of disk.now }
@@ -63,7 +64,7 @@ impl FreeCounts {
         Ok(Some(FreeCounts { blocks, numbers }))
     }
 
-    /// Returns the total number of free blocks.
+    /// How many blocks are free in all.
     pub fn total(&self) -> u32
         ensures { (I : List (List ℕ)) (L : VolumeLayout) → IsLayoutOf I L → self.now ≡ counts_of I L → result ≡ length (free_blocks I L) }
     {
@@ -74,7 +75,7 @@ impl FreeCounts {
         total
     }
 
-    /// Returns the number of free blocks that each block of the storage bitmap covers.
+    /// How many free blocks each block of the storage bitmap covers.
     pub fn as_slice(&self) -> &[u32]
         ensures { result.now ≡ self.now.blocks }
     {

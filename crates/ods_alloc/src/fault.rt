@@ -6,17 +6,17 @@ use ods_base::{Coded, Row};
 use std::alloc::AllocFailed;
 use thiserror::Error;
 
-/// The reason why there is no room for blocks or headers.
+/// Why there is no room for blocks or headers.
 #[derive(Clone, Copy, Debug, PartialEq, Eq, Error)]
 #[error("{}", self.name())]
 pub enum SpaceFault {
-    /// Fewer blocks are free than the request needs.
+    /// Fewer blocks are free than are wanted.
     VolumeFull,
-    /// Fewer file numbers are free than the request needs.
+    /// Fewer file numbers are free than are wanted.
     HeadersFull,
     /// The chain would have more than 256 headers.
     ChainFull,
-    /// The allocator refused memory.
+    /// Memory was refused.
     NoMemory,
 }
 

@@ -1,4 +1,4 @@
-//! All faults of an image, and its findings.
+//! What is wrong with an image beyond the first fault.
 #![tactic(auto)]
 
 mod add;

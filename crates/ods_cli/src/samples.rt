@@ -6,8 +6,7 @@ use ods_base::Uic;
 use ods_init::{Blueprint, Places, make_volume};
 use std::alloc::{AllocError, Global};
 
-/// Returns the bytes of a sample volume of 40 or 512 blocks. Its blocks from LBN 22 on are free, and each of their bytes is 0x5A. It fails only when
-/// out of memory.
+/// The bytes of a sample volume of 40 or 512 blocks. Its blocks from LBN 22 on are free, and hold old bytes.
 pub fn sample(alloc: Global, blocks: u32) -> Result<Vec<u8>, AllocError>
     requires { (blocks ≡ 40) ⊎ (blocks ≡ 512) }
     ensures blocks { IfOk result (λ bytes. IsSample blocks bytes.items) }

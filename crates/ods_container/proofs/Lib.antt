@@ -1,4 +1,3 @@
 pub mod Containers
 pub mod Sizes
 pub mod Sent
-pub mod Lacking

@@ -1,4 +1,3 @@
 pub mod Size
 pub mod Container
 pub mod Footer
-pub mod Part

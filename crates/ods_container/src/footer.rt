@@ -1,17 +1,17 @@
-//! The footer after a volume, by its first bytes.
+//! What stands behind a volume, by its first bytes.
 ghost use Rattle.std.specs.Prelude.{IfSome, IfNone};
 ghost use Rattle.ods_container.specs.Footer.{BeginsAs};
 
-/// A footer that an emulator stores after a volume.
+/// A footer that an emulator keeps behind a volume.
 #[derive(Clone, Copy, Debug, PartialEq, Eq)]
 pub enum Footer {
-    /// The footer of simh.
+    /// Of simh.
     Simh,
-    /// The footer of a VHD of fixed size.
+    /// Of a VHD of fixed size.
     Vhd,
 }
 
-/// Returns the footer that begins with these bytes, or `None` if there is no such footer.
+/// Which footer these bytes begin as.
 pub fn footer_of(behind: &[u8]) -> Option<Footer>
     ensures some { IfSome result (BeginsAs behind.now) }
     ensures none { IfNone result ((footer : Footer) → ¬ BeginsAs behind.now footer) }

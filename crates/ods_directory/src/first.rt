@@ -7,18 +7,18 @@ use crate::tags::Wanted;
 use crate::{DirBlocks, entry};
 use ods_base::Block;
 
-/// The kind of an entry to search for.
+/// What kind of entry is looked for.
 #[derive(Clone, Copy, Debug, PartialEq, Eq)]
 pub enum Kind {
-    /// An entry that names no file.
+    /// One that names no file.
     Empty,
-    /// An entry that names a file and is not valid.
+    /// One that names a file and is not good.
     Bad,
-    /// An entry that names a file.
+    /// One that names a file.
     Used,
 }
 
-/// The position of the first entry of a kind, as far as the pass has read.
+/// The position of the first entry of a kind, so far.
 #[derive(Clone, Copy, Debug, PartialEq, Eq)]
 pub struct First {
     pub kind: Kind,
@@ -26,7 +26,7 @@ pub struct First {
 }
 
 impl First {
-    /// Starts a search without a position.
+    /// No position so far.
     pub fn of(kind: Kind) -> First
         ensures { result ≡ record { kind = kind; position = None } }
     {
@@ -83,7 +83,7 @@ impl Pass for First {
     }
 }
 
-/// Returns the position of the first entry of this kind before the end mark, or `None` if there is none.
+/// The position of the first entry before the mark that is of the kind.
 pub fn first_entry<B: DirBlocks>(blocks: &B, mark: u64, kind: Kind) -> Option<u64>
     requires { mark ≤ 512 * length (B.blocks blocks.now) }
     ensures { IsFirst kind (entry_at (B.blocks blocks.now)) (mark / 16) result }

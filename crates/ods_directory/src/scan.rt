@@ -7,29 +7,29 @@ use crate::DirBlocks;
 use crate::tags::{Tags, Wanted, has_wanted};
 use ods_base::Block;
 
-/// The state of a pass over the entries, which reads one entry after another.
+/// What a pass over the entries collects, one entry after another.
 pub trait Pass {
     ghost use Rattle.std.specs.Prelude.{ℕ, ◌≡◌, ◌<◌, IsTrue};
     ghost use Rattle.ods_directory.specs.{Entry.Entry, Entry.entry_in, Tags.WantsNoOther};
 
-    /// The state after entry `k` of the directory.
+    /// What it is after entry `k` of the directory.
     ghost after: { Self → ℕ → Entry → Self };
 
-    /// Adds entry `k` of the directory, which is entry `at` of this block.
+    /// Takes entry `k` of the directory, which is entry `at` of this block.
     fn take(&mut self, block: &Block, at: usize, k: u64)
         requires { at < 32 }
         ensures { self.new ≡ after self.old k (entry_in block.now at) };
 
-    /// Returns true only if no further entry changes the state.
+    /// Whether no further entry changes it.
     fn is_done(&self) -> bool
         ensures { IsTrue result → (k : ℕ) (e : Entry) → after self.now k e ≡ self.now };
 
-    /// Returns the entries that may change the state. No other entry changes it.
+    /// Which entries may change it: no other does.
     fn wanted(&self) -> Wanted
         ensures { WantsNoOther after self.now result };
 }
 
-/// Passes over the entries before the end mark.
+/// Takes the entries before the mark.
 pub fn scan<B: DirBlocks, G: Pass>(blocks: &B, mark: u64, into: &mut G)
     requires { mark ≤ 512 * length (B.blocks blocks.now) }
     ensures after { into.new ≡ fold (λ s k. G.after s k (entry_at (B.blocks blocks.now) k)) into.old (range_with_len 0 (mark / 16)) }
@@ -110,7 +110,7 @@ fn scan_all<B: DirBlocks, G: Pass>(blocks: &B, mark: u64, into: &mut G)
     }
 }
 
-/// Returns the number of entries of block `i` before the end mark.
+/// How many entries of block `i` stand before the mark.
 pub fn entries_in(mark: u64, i: u32) -> usize
     ensures { result ≡ min (mark / 16 - 32 * i) 32 }
 {

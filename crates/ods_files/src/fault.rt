@@ -1,23 +1,23 @@
-//! The reasons why a file has no bytes, and why they were not written.
+//! Why a file has no bytes to be got out, and why they were not written.
 use ods_base::WriteFault;
 use ods_space::ChainFault;
 use thiserror::Error;
 
-/// The reason why a number has no body.
+/// Why a number has no blocks.
 #[derive(Clone, Copy, Debug, PartialEq, Eq, Error)]
 pub enum FileFault {
-    /// The number is not a file.
+    /// It is no file.
     #[error("NoSuchFile")]
     NoSuchFile,
-    /// The chain of the file is not whole, or the allocator refused memory.
+    /// Its chain is not whole, or memory was refused.
     #[error("{0}")]
     Chain(ChainFault),
 }
 
-/// The reason why the bytes of a file were not written, or not all.
+/// Why the bytes of a file were not written, or not all.
 #[derive(Clone, Copy, Debug, PartialEq, Eq, Error)]
 pub enum CopyFault {
-    /// The end of file is past the blocks. Nothing was written.
+    /// The end of file lies past the blocks. Nothing was written.
     #[error("EndPastBlocks")]
     EndPastBlocks,
     /// The writer failed.

@@ -1,10 +1,10 @@
-//! The forms in which a file is extracted.
+//! The forms in which a file is got out.
 
-/// The choice of the bytes of a file.
+/// Which bytes of a file are meant.
 #[derive(Clone, Copy, Debug, PartialEq, Eq)]
 pub enum Form {
-    /// The bytes up to the end of file, or all bytes if the attributes are zeros.
+    /// Up to the end of file; all where the attributes are zeros.
     Binary,
-    /// The bytes of all blocks.
+    /// Those of all blocks.
     Raw,
 }

@@ -1,4 +1,4 @@
-//! Why a header line cannot be made.
+//! Why there is no header line.
 ghost use Rattle.std.specs.Prelude.{◌≡◌};
 ghost use Rattle.ods_header.specs.{declared.fault.LineFault.TheVariants.NoMemory, Refusals.line_row};
 
@@ -7,13 +7,13 @@ use ods_base::{Coded, Row};
 use std::alloc::AllocError;
 use thiserror::Error;
 
-/// The reason why a header line cannot be made.
+/// Why there is no header line.
 #[derive(Clone, Copy, Debug, PartialEq, Eq, Error)]
 pub enum LineFault {
-    /// The block at the LBN of the header is not a valid header of this number.
+    /// The block at the header's place is no such header.
     #[error("{0}")]
     Header(HeaderFault),
-    /// The allocator refused memory.
+    /// A growth was refused.
     #[error("NoMemory")]
     NoMemory,
 }

@@ -1,4 +1,4 @@
-//! Volumes that can be made: their size, the LBNs of their structures, and their texts.
+//! Volumes that can be made: how large each is, where its structures lie, and what it says.
 use crate::{Label, Places};
 use ods_base::Uic;
 use ods_request::Stamp;
@@ -6,22 +6,22 @@ use ods_request::Stamp;
 /// A volume that can be made.
 #[derive(Clone, Copy)]
 pub struct Blueprint {
-    /// The number of blocks.
+    /// How many blocks it has.
     pub blocks: u32,
-    /// The LBNs and sizes of its structures.
+    /// Where its structures lie.
     pub places: Places,
     /// The owner of its reserved files.
     pub owner: Uic,
-    /// The label and the date of the volume. A bare volume has none, and stores only what a mount reads.
+    /// What it says to people and to RSX. A bare volume has none, and says only what a mount reads.
     pub details: Option<Details>,
-    /// The value of each byte of its free blocks.
+    /// Each byte of its free blocks.
     pub filling: u8,
 }
 
-/// The label and the date of a volume, for people and for RSX.
+/// What a volume says to people and to RSX.
 #[derive(Clone, Copy)]
 pub struct Details {
     pub label: Label,
-    /// The date and time of its creation.
+    /// When it was made.
     pub stamp: Stamp,
 }

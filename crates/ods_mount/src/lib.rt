@@ -1,4 +1,4 @@
-//! The complete check of an image.
+//! The whole check of an image.
 #![tactic(auto)]
 
 mod apart;

@@ -1,13 +1,13 @@
-//! Why a volume cannot be read from a container.
+//! Why no volume is read out of a container.
 use thiserror::Error;
 
-/// The reason why a volume cannot be read from a container.
+/// Why no volume is read out of a container.
 #[derive(Clone, Copy, Debug, PartialEq, Eq, Error)]
 pub enum OrderFault {
-    /// The container does not have the size of this order.
+    /// A container of this order has another size.
     #[error("OtherSize")]
     OtherSize,
-    /// The allocator refused memory.
+    /// A growth was refused.
     #[error("NoMemory")]
     NoMemory,
 }

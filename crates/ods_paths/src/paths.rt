@@ -1,4 +1,4 @@
-//! The meaning of the text of a path.
+//! What the text of a path says.
 ghost use Rattle.std.specs.Prelude.{◌∷◌, [], MatchResult};
 ghost use Rattle.std.specs.List.{after_last};
 ghost use Rattle.ods_text.specs.{Cuts.is, One.IsTheOne};
@@ -11,16 +11,16 @@ use crate::{BadPath, Files, Folder};
 use ods_base::FileId;
 use ods_text::{cut_at, cut_last, read_small};
 
-/// A parsed path: a file by its ID, or directories and, if the path specifies them, files in them.
+/// What a path says: a file by its ID, or directories and, where they are said, files in them.
 #[derive(Clone, Copy)]
 pub enum Path<'a> {
     /// The file with this ID.
     File(FileId),
-    /// Directories, and the files in them if the path selects some.
+    /// Directories, and files in them where the path names some.
     Within(Folder<'a>, Option<Files<'a>>),
 }
 
-/// Parses the text of a path. An error states the bad part of the text.
+/// What the text of a path says, or what is bad about it.
 pub fn parse_path(text: &[u8]) -> Result<Path<'_>, BadPath>
     ensures { MatchResult result (λ p. Says text.now (said p)) (IsBad text.now) }
 {

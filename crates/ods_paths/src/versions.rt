@@ -1,11 +1,11 @@
-//! The versions of a name that a path chooses.
+//! Which versions of a name a path chooses.
 ghost use Rattle.ods_text.specs.One.{IsTheOne};
 ghost use Rattle.ods_paths.specs.Numbers.{IsVersion, IsExact};
 
 use ods_base::LAST_VERSION;
 use ods_text::{is_text, read_small};
 
-/// The chosen versions of a name.
+/// Which versions of a name are chosen.
 #[derive(Clone, Copy, Debug, PartialEq, Eq)]
 pub enum Versions {
     /// This version, 1 to 32,767.
@@ -18,7 +18,7 @@ pub enum Versions {
     Every,
 }
 
-/// Reads the versions that the text after the `;` chooses.
+/// The versions that a text chooses, which stands behind the `;`.
 pub(crate) fn read_version(text: &[u8]) -> Option<Versions>
     ensures { IsTheOne (IsVersion text.now) result }
 {

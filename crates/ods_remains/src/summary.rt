@@ -1,16 +1,16 @@
-//! The facts of a deleted file.
+//! What is known of a deleted file.
 
-/// The facts of a deleted file, from its headers and the headers of all other deleted files.
+/// What is known of a deleted file by its headers, and by those of all others.
 #[derive(Clone, Copy, Debug)]
 pub struct Summary {
-    /// The number of blocks that its headers name, at most 2^32 - 1.
+    /// How many blocks its headers name, as far as 32 bits count.
     pub blocks: u32,
-    /// The number of these blocks that are used again, at most 2^32 - 1.
+    /// How many of these blocks are used again, as far as 32 bits count.
     pub used: u32,
-    /// The index of its first missing header, if one is missing. The first header has index 1.
+    /// The first of its headers that is missing, where the first of all is 1.
     pub missing: Option<u64>,
-    /// A deleted file that also names one of its blocks. It is the file itself if the file names a block twice and no other file names one.
+    /// A deleted file that names one of its blocks, too: itself, where it names a block twice and no other file names one.
     pub sharer: Option<u16>,
-    /// Whether no header is missing, and each block is free and named once, only by this file.
+    /// Whether no header is missing, and each block is free and named by this file alone and once.
     pub is_whole: bool,
 }

@@ -1,4 +1,4 @@
-//! Repairs of a volume. Each repair removes the faults of one kind, and changes nothing else.
+//! Repairs of a volume: what is wrong of one kind goes, and nothing else changes.
 #![tactic(auto)]
 
 mod asking;

@@ -1,4 +1,4 @@
-//! The answers to requests, and the entries of accepted requests in a list.
+//! What a request is answered, and the entry under which a list keeps an accepted request.
 ghost use Rattle.std.specs.Prelude.{◌≡◌, ◌↔◌, IsTrue, IfOk, OnErr};
 ghost use Rattle.ods_request.specs.Lines.{HasLines};
 
@@ -23,21 +23,21 @@ impl Model for Listing {
 }
 
 impl Listing {
-    /// Makes a listing of these lines. It allocates no memory.
+    /// The listing of these lines. It takes no memory.
     pub fn new(lines: Vec<Listed>) -> Listing
         ensures { result ≡ lines.items }
     {
         Listing { names: lines }
     }
 
-    /// Returns the lines.
+    /// The lines.
     pub fn names(&self) -> &[Listed]
         ensures { result.now ≡ self.now }
     {
         self.names.as_slice()
     }
 
-    /// Returns the lines and drops the listing. It allocates no memory.
+    /// Gives the lines back. It takes no memory.
     pub fn into_names(self) -> Vec<Listed>
         ensures { result.items ≡ self }
     {
@@ -45,7 +45,7 @@ impl Listing {
         names
     }
 
-    /// Returns an equal listing, in memory of its own.
+    /// An equal listing, in memory of its own.
     pub fn copy(&self) -> Result<Listing, AllocError>
         ensures { IfOk result (λ copy. copy ≡ self.now) }
     {
@@ -73,67 +73,67 @@ impl Eq for Listing {
     ghost laws = { lines_equivalence };
 }
 
-/// The kind of a file, as `Stat` returns it.
+/// What a file is, as `Stat` shows it.
 #[derive(Clone, Copy, PartialEq, Eq, Debug)]
 pub enum Kind {
-    /// A plain file with `blocks` blocks, and its 32 bytes of user attributes.
+    /// A file of this many blocks, with these 32 bytes of user attributes.
     Plain { blocks: u32, attributes: [u8; 32] },
-    /// A directory with `names` names.
+    /// A directory with this many names.
     Directory { names: u32 },
     /// INDEXF.SYS or BITMAP.SYS.
     System,
 }
 
-/// The facts that `Stat` returns about a file.
+/// What is shown of a file.
 #[derive(Clone, Copy, PartialEq, Eq, Debug)]
 pub struct Stat {
     pub file: FileId,
-    /// The ident area of its header: its name, version, revision and dates.
+    /// The ident area of its header: its name, its dates and its revision.
     pub ident: [u8; 46],
     pub owner: Uic,
-    /// The protection word: sixteen bits. A set bit denies.
+    /// The protection word: sixteen bits, of which a set one denies.
     pub protection: u16,
-    /// The user's byte of the characteristics.
+    /// The user's byte of the file's characteristics.
     pub user_char: u8,
-    /// The system's byte of the characteristics.
+    /// The system's byte of the file's characteristics.
     pub system_char: u8,
     pub kind: Kind,
 }
 
-/// The answer to an accepted request.
+/// What an accepted request is answered.
 #[derive(Drop, Debug, PartialEq, Eq)]
 pub enum Answer {
     /// Create: the ID of the new file.
     Created(FileId),
-    /// Extend: the new number of blocks of the file.
+    /// Extend: how many blocks the file has now.
     Extended(u32),
-    /// Truncate: the new number of blocks of the file.
+    /// Truncate: how many blocks the file has now.
     Truncated(u32),
-    /// Delete, Write and SetUser: no further data.
+    /// Delete, Write and SetUser.
     Done,
     /// Enter: the version under which the file was entered.
     Entered(u16),
-    /// LookUp: the file and the version.
+    /// LookUp: the file and the version that were found.
     Found(FileId, u16),
-    /// Remove: the file and the version of the removed name.
+    /// Remove: the file and the version whose name is gone.
     Removed(FileId, u16),
     /// Read: the block.
     Bytes(Block),
-    /// List: the lines of the directory.
+    /// List: the directory's lines.
     Names(Listing),
-    /// Stat: the facts about the file.
+    /// Stat: what is shown of the file.
     Info(Stat),
 }
 
 impl Answer {
-    /// Returns whether the two answers are equal, as `==` does.
+    /// Whether the other answer is this one. It is what `==` says.
     pub fn is_same(&self, other: &Answer) -> bool
         ensures { IsTrue result ↔ (self.now ≡ other.now) }
     {
         self == other
     }
 
-    /// Returns an equal answer. Only the lines of a directory need memory.
+    /// An equal answer. Only the lines of a directory take memory.
     pub fn copy(&self) -> Result<Answer, AllocError>
         ensures ok { IfOk result (λ copy. copy ≡ self.now) }
         ensures err { OnErr result (HasLines self.now) }
@@ -159,19 +159,19 @@ impl Answer {
 /// An accepted request with its answer.
 #[derive(Drop, Debug, PartialEq, Eq)]
 pub struct Entry {
-    /// The session that made the request.
+    /// The session that asked.
     pub session: u16,
-    /// The number that the caller assigned. The program assigns the line of its script.
+    /// The number that its caller gave it; the program gives the line of its script.
     pub nth: u32,
-    /// The user of the request.
+    /// The user for whom it asked.
     pub who: Uic,
-    /// The request, in compact form.
+    /// The request, in little room.
     pub request: CompactRequest,
     pub answer: Answer,
 }
 
 impl Entry {
-    /// Returns whether the two entries are equal.
+    /// Whether the other entry is this one.
     pub fn is_same(&self, other: &Entry) -> bool
         ensures { IsTrue result ↔ (self.now ≡ other.now) }
     {

@@ -1,34 +1,34 @@
-//! Refusals of requests, with their numbers and printed names.
+//! Refusals of requests, with the numbers and names under which they are printed.
 ghost use Rattle.ods_request.specs.Refusals.{refusal_row};
 
 use ods_base::{Coded, Row};
 use thiserror::Error;
 
-/// The reason why a request is refused. A refused request changes nothing.
+/// Why a request is refused. A refused request changes nothing.
 #[derive(Clone, Copy, PartialEq, Eq, Debug, Error)]
 pub enum Refusal {
-    /// The directory does not have the name, or not the picked version.
+    /// The directory has no such name, or not in the version picked.
     #[error("NoSuchName")]
     NoSuchName,
-    /// The directory already has the name in the given version.
+    /// The directory has the name in the version given.
     #[error("NameTaken")]
     NameTaken,
-    /// No version is given, and 32,767 is the highest version of the name.
+    /// 32,767 is the highest version of the name, and none is given.
     #[error("VersionsFull")]
     VersionsFull,
-    /// No file has this ID, which is a number and a sequence number.
+    /// No file has the ID: its number and its sequence number.
     #[error("NoSuchFile")]
     NoSuchFile,
-    /// The request needs to extend, truncate, delete or write one of files 1 to 5 or to set its attributes, or to read file 1 or 2.
+    /// Files 1 to 5 are never changed or deleted, and files 1 and 2 never read.
     #[error("Reserved")]
     Reserved,
-    /// The request requires a directory, and the file is not one.
+    /// A directory is wanted, and the file is another.
     #[error("NotADirectory")]
     NotADirectory,
     /// The file is a directory.
     #[error("IsDirectory")]
     IsDirectory,
-    /// A Create or an Extend of more than 65,535 blocks, an Extend of 0 blocks, or a Truncate to more blocks than the file has.
+    /// More than 65,535 blocks are asked for, or a file is to grow by none.
     #[error("BadCount")]
     BadCount,
     /// The protection word does not grant the right.
@@ -37,22 +37,22 @@ pub enum Refusal {
     /// The file has no block with this virtual block number.
     #[error("NoSuchBlock")]
     NoSuchBlock,
-    /// The directory still has names.
+    /// The directory has a name in it.
     #[error("NotEmpty")]
     NotEmpty,
-    /// The number of entries of the list has reached its limit.
+    /// The list has as many entries as its limit.
     #[error("ListFull")]
     ListFull,
-    /// The volume has fewer free blocks than the request needs.
+    /// The volume has fewer free blocks.
     #[error("VolumeFull")]
     VolumeFull,
-    /// The volume has fewer free file numbers than the request needs.
+    /// The volume has fewer free file numbers.
     #[error("HeadersFull")]
     HeadersFull,
     /// The file would have more than 256 headers.
     #[error("ChainFull")]
     ChainFull,
-    /// The allocator refused memory.
+    /// A growth of memory was refused.
     #[error("NoMemory")]
     NoMemory,
 }

@@ -6,7 +6,7 @@ ghost use Rattle.ods_script.specs.Spelling.{IsHex};
 use crate::spelled::Spelled;
 use ods_base::Block;
 
-/// Reads 1 to N bytes in hex, padded with zeros to N. Any other text gives `None`.
+/// The bytes that a text spells: 1 to N, with zeros behind them.
 pub fn read_hex<const N: usize>(text: &[u8]) -> Option<[u8; N]>
     ensures { IsTheOne (IsHex N text.now) result }
 {

@@ -1,4 +1,4 @@
-//! The verbs: the word of each, and the words that may follow it.
+//! The verbs: the word that each is written as, and what may stand behind it.
 ghost use Rattle.std.specs.Prelude.{◌≡◌, MatchOption, Some, None, IfOk};
 ghost use Rattle.ods_script.specs.declared.verbs.Verb.TheVariants.{Write as the_write};
 ghost use Rattle.ods_text.specs.One.{IsTheOne};
@@ -15,13 +15,13 @@ use std::sync::Arc;
 /// The word that a command begins with.
 #[derive(Clone, Copy, Debug, PartialEq, Eq)]
 pub enum Verb {
-    /// `USER`: sets the user of the next commands.
+    /// `USER`: sets the user that asks from here on.
     User,
     /// `CREATE`: makes a file.
     Create,
-    /// `EXTEND`: adds blocks to a file.
+    /// `EXTEND`: gives a file more blocks.
     Extend,
-    /// `TRUNCATE`: removes the last blocks of a file.
+    /// `TRUNCATE`: takes the last blocks of a file away.
     Truncate,
     /// `DELETE`: deletes a file.
     Delete,
@@ -37,11 +37,11 @@ pub enum Verb {
     Write,
     /// `LIST`: lists the names in a directory.
     List,
-    /// `STAT`: prints the facts of a file's header.
+    /// `STAT`: shows what a file's header says.
     Stat,
     /// `SETUSER`: sets the 32 bytes of user attributes of a file.
     SetUser,
-    /// `VIEW`: queries a view of the volume, by LOOK, READ or STAT.
+    /// `VIEW`: asks a query of a view of the volume, by LOOK, READ or STAT.
     View,
 }
 
@@ -68,7 +68,7 @@ fn read_verb(word: &[u8]) -> Option<Verb>
     }
 }
 
-/// Splits a text into its verb and the words after it.
+/// The verb that a text begins with, and the words behind it.
 pub(crate) fn split_verb(text: &[u8]) -> Option<(Verb, &[u8])>
     ensures { MatchOption result (IsTheOne (IsSplit text.now) None) (λ x. IsTheOne (IsSplit text.now) (Some (x.0, x.1.now))) }
 {
@@ -77,7 +77,7 @@ pub(crate) fn split_verb(text: &[u8]) -> Option<(Verb, &[u8])>
     Some((verb, args))
 }
 
-/// Returns the action of the words after a verb: a row for each verb. It fails only when out of memory.
+/// What the words behind a verb command: a row for each verb. The error is for memory.
 pub(crate) fn read_behind(alloc: Global, verb: Verb, args: &[u8]) -> Result<Action, AllocError>
     ensures { IfOk result (λ a. IsTheOne (Behind verb args.now) (said a)) }
 {

@@ -19,7 +19,8 @@ use std::sync::{Mutex, MutexGuard, Wait};
 /// How often a desk that is in use is tried before its lock is waited for, which is a sleep as soon as another session sleeps.
 const TRIES: u32 = 50;
 
-/// A session with its number, from 1, at a desk: its runtime, the gate, the allocator of its results, and the stamp of the files that it makes.
+/// A session with its number, from 1, at a desk: what it waits by, the gate, the allocator of what comes of it, and the stamp of the files
+/// that it makes.
 #[derive(Drop)]
 pub(crate) struct Session<'a, J: Naming, L: Ledger, G: Gate, R: Wait> {
     pub(crate) rt: &'a R,
@@ -30,21 +31,21 @@ pub(crate) struct Session<'a, J: Naming, L: Ledger, G: Gate, R: Wait> {
     pub(crate) stamp: Stamp,
 }
 
-/// What a command leaves for the next one: the user in force, and the value of `$`.
+/// What a command leaves to the next one: the user in force, and what `$` stands for.
 #[derive(Drop)]
 pub(crate) struct Context {
     pub(crate) who: Uic,
     pub(crate) last: Option<FileId>,
 }
 
-/// The belongings of a session: its viewer, and its share in the count of refusals because the list is full.
+/// Where a session sits: it has a viewer, and a share in the count of how often the list is said to be full.
 #[derive(Drop)]
 pub(crate) struct Chair<J: Naming, L: Ledger> {
     pub(crate) viewer: Viewer<J>,
     pub(crate) fulls: Share<L>,
 }
 
-/// The result of a session, and its share in that count.
+/// What comes of a session, and its share in that count.
 #[derive(Drop)]
 pub(crate) struct Sat<K, L: Ledger> {
     pub(crate) ended: Ended<K>,
@@ -165,8 +166,9 @@ impl<J: Naming, L: Ledger, G: Gate, R: Wait> Session<'_, J, L, G, R> {
         Ok(())
     }
 
-    /// Runs a script from its first command on, as user [1,1], with a viewer and a share of its own. The list of calls takes all its room first.
-    /// Memory is taken later only by the desk, the copies of directory names, the boxes of long answers, and the kept replies.
+    /// Obeys a script, from its first command on, as user [1,1], at a chair of its own. The list of
+    /// calls gets all its room before; what may want memory afterwards is what the desk takes, the copy
+    /// of a directory's names, the boxes of long answers, and what is kept of the replies.
     pub(crate) fn sit<K: Keep>(
         &self,
         chair: Chair<J, L>,

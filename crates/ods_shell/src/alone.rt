@@ -1,4 +1,4 @@
-//! The files that a path selects if it consists only of directories.
+//! What a path stands for that says directories alone, and no files in them.
 ghost use Rattle.std.specs.Prelude.{◌≡◌, ◌≢◌, ◌++◌, ◌∷◌, ℕ, List, [], None, Option, IfErr, IfOk, MatchBool, OnOk};
 ghost use Rattle.ods_paths.specs.Views.{folder as said_folder};
 ghost use Rattle.ods_shell.specs.Choosing.{AreThose};
@@ -17,28 +17,28 @@ use ods_paths::{Files, Folder, Versions};
 use ods_space::Disk;
 use std::alloc::{AllocError, Global};
 
-/// The selection of a path that consists only of directories.
+/// What directories alone stand for.
 #[derive(Clone, Copy, Debug, PartialEq, Eq)]
 pub enum Alone {
-    /// None: such a path is refused.
+    /// Nothing: such a path is refused.
     Refused,
-    /// The files in the directories, without the directories among them.
+    /// The files in them, but for the directories among these.
     Files,
     /// The files of the directories themselves.
     Themselves,
 }
 
-/// The defaults for a path.
+/// What a path means where it does not say it.
 #[derive(Clone, Copy)]
 pub struct Unsaid {
-    /// The versions of files; `None` if a path has to specify them.
+    /// The versions of files; `None` where a path has to say them.
     pub versions: Option<Versions>,
-    /// The selection of a path that consists only of directories.
+    /// What directories alone stand for.
     pub alone: Alone,
 }
 
 impl Unsaid {
-    /// Returns the highest version as the default, and this selection for a path that consists only of directories.
+    /// The highest version, and this of directories alone.
     pub fn highest(alone: Alone) -> Unsaid
         ensures { result ≡ highest alone }
     {
@@ -52,7 +52,7 @@ impl Unsaid {
 /// The name of the master directory.
 const MASTER_FILE: &[u8] = b"000000";
 
-/// Returns the files that a path selects if it consists only of directories, as `find_path` returns them.
+/// What directories alone stand for: as `find_path` finds it.
 pub(crate) fn find_alone(
     alloc: Global,
     disk: &Disk<'_>,

@@ -1,4 +1,4 @@
-//! The reason why a path selects no files, and the exit status for it.
+//! Why a path names no files, and the exit status for that.
 ghost use Rattle.ods_shell.specs.Found.{HasPathStatus};
 
 use crate::status::Status;
@@ -6,29 +6,29 @@ use ods_paths::BadPath;
 use std::alloc::{AllocError, AllocFailed};
 use thiserror::Error;
 
-/// The reason why a path selects no files.
+/// Why a path names no files.
 #[derive(Clone, Copy, Debug, PartialEq, Eq, Error)]
 pub enum PathFault {
-    /// The text is not a valid path.
+    /// The text is no path.
     #[error("{0}")]
     Bad(BadPath),
-    /// The path selects a directory and no file in it.
-    #[error("it is a directory: A/*.* selects all files in A, and A. is the file A with no type")]
+    /// A directory, and no file in it.
+    #[error("a directory, and no file in it: A/*.* are all files in A, A. is a file with no type")]
     NoName,
-    /// Versions are required, and the path specifies none.
-    #[error("the path has no version: give one, ';*' (in quotes) for all, or --newest")]
+    /// Versions are wanted, and the path says none.
+    #[error("no version is said: say ';*' (in quotes) for all, or --newest")]
     NoVersion,
-    /// The path is an ID, and the command lists names.
-    #[error("this command takes no ID; stat shows a file by its ID")]
+    /// An ID, where names are listed.
+    #[error("names are listed; stat shows a file by its ID")]
     IsId,
-    /// The path selects nothing.
-    #[error("no such file or directory")]
+    /// Nothing is there by this path.
+    #[error("nothing there")]
     Nothing,
-    /// The ID is not the ID of a file.
+    /// This ID is that of no file.
     #[error("no such file")]
     NoSuchFile,
     /// The allocator refused memory.
-    #[error("out of memory")]
+    #[error("no memory")]
     NoMemory,
 }
 
@@ -45,7 +45,7 @@ impl<T: Drop> From<AllocFailed<T>> for PathFault {
 }
 
 impl PathFault {
-    /// Returns the exit status of a command that is refused for this reason.
+    /// The exit status of a command that is refused so.
     pub fn status(&self) -> Status
         ensures { HasPathStatus self.now result }
     {

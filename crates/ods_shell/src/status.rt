@@ -1,29 +1,29 @@
-//! The exit status of a command.
+//! How a command ends.
 ghost use Rattle.std.specs.Prelude.{◌≡◌};
 ghost use Rattle.ods_shell.specs.Statuses.{status_number};
 
-/// The exit status of a command.
-/// No clause covers the status of each command; `tests/fs` checks it on the built program.
+/// How a command ends: the exit status of the program.
+/// No clause covers which command ends with which status; `tests/fs` checks that on the built program.
 #[derive(Clone, Copy, Debug, PartialEq, Eq)]
 pub enum Status {
-    /// The command did everything that was requested.
+    /// The command did all that it was asked for.
     Done,
     /// The image is refused.
     Image,
-    /// The arguments are wrong, or the path is not a valid path.
+    /// Wrong words, or a path that is none.
     Words,
-    /// A fault of the host: reading, writing, or out of memory.
+    /// The host: reading, writing, memory.
     Host,
-    /// The file is refused.
+    /// A file that is refused.
     Refused,
-    /// The path selects nothing.
+    /// Nothing there by this path.
     Nothing,
     /// `check` or `cmp` found something.
     Found,
 }
 
 impl Status {
-    /// Returns the number of the status.
+    /// The number of the status.
     pub fn code(&self) -> u8
         ensures { result ≡ status_number self.now }
     {
@@ -38,7 +38,7 @@ impl Status {
         }
     }
 
-    /// Returns this status, or `later` if this one is `Done`. So several faults end with the status of the first.
+    /// This one, or where nothing was wrong the other: several faults end with the status of the first.
     pub fn or(self, later: Status) -> Status
         ensures done { self ≡ Status.Done → result ≡ later }
         ensures fault { ¬ (self ≡ Status.Done) → result ≡ self }

@@ -1,4 +1,4 @@
-//! Why a chain is not whole, and why a layout cannot be read.
+//! Why a chain is not whole, and why there is no layout.
 ghost use Rattle.std.specs.Prelude.{◌≡◌};
 ghost use Rattle.ods_space.specs.Refusals.{chain_row};
 
@@ -6,16 +6,16 @@ use ods_base::{Coded, Row};
 use std::alloc::AllocError;
 use thiserror::Error;
 
-/// The reason why the chain of a file is not whole.
+/// Why the chain of a file is not whole.
 #[derive(Clone, Copy, Debug, PartialEq, Eq, Error)]
 pub enum ChainFault {
-    /// The link from one header of the chain to the next is broken.
+    /// A header of the chain does not go on as it says.
     #[error("BadChain")]
     BadChain,
-    /// A pointer maps this LBN, which the image lacks.
+    /// A pointer names this block, which the image lacks.
     #[error("OutsideVolume {0}")]
     OutsideVolume(u32),
-    /// The allocator refused memory.
+    /// Memory was refused.
     #[error("NoMemory")]
     NoMemory,
 }
@@ -42,16 +42,16 @@ impl From<AllocError> for ChainFault {
     }
 }
 
-/// The reason why a layout cannot be read.
+/// Why there is no layout.
 #[derive(Clone, Copy, Debug, PartialEq, Eq, Error)]
 pub enum LayoutFault {
-    /// The file with this number, 1 or 2, does not exist.
+    /// File 1 or 2, which this number says, does not exist.
     #[error("file {0} does not exist")]
     NoFile(u16),
-    /// The chain of the file with this number, 1 or 2, has this fault.
+    /// The chain of file 1 or 2, which this number says, has this fault.
     #[error("{1} {0}")]
     Chain(u16, ChainFault),
-    /// The allocator refused memory.
+    /// Memory was refused.
     #[error("NoMemory")]
     NoMemory,
 }

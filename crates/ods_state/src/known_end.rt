@@ -1,6 +1,6 @@
-//! Notes about a file that are kept from one request to the next.
+//! What is noted of a file from one request to the next.
 
-/// The end of a file's chain: the number of its headers, the number of blocks that they map, and the number of the last header.
+/// Where the chain of a file ends: how many headers it has, how many blocks they map, and the number of the last of them.
 #[derive(Clone, Copy)]
 pub struct KnownEnd {
     pub file: u16,

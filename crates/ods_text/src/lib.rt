@@ -1,4 +1,4 @@
-//! Texts: decimal and octal numbers, users, and splitting at a byte.
+//! Texts: numbers in decimal and in octal, users, and texts that are cut in two.
 #![tactic(auto)]
 
 mod cuts;

@@ -18,17 +18,17 @@ use std::alloc::Global;
 /// How the files of a tree are put.
 #[derive(Clone, Copy)]
 pub struct TreeForm {
-    /// The time of their creation.
+    /// When they are made.
     pub stamp: Stamp,
     /// The form of their bytes.
     pub form: PutForm,
-    /// Where their blocks are allocated.
+    /// Where their blocks stand.
     pub placing: Placing,
-    /// Their owner, if it differs from the requesting user.
+    /// Whose they are, where another is said than who asks.
     pub owner: Option<Uic>,
 }
 
-/// Returns the directory below which a tree is put. It is created, like with `mkdir`, if it does not exist.
+/// The directory below which a tree goes. It is made as `mkdir` makes it where it is not there.
 pub fn tree_root(
     alloc: Global,
     filing: &mut Filing,
@@ -52,7 +52,7 @@ fn root_at(alloc: Global, filing: &mut Filing, stamp: Stamp, to: &str) -> Result
     open_directory(alloc, filing.mounted(), to)
 }
 
-/// Ensures that the directories for the folders of a path exist below this one.
+/// Sees that the directories are there, below this one, that the folders of a path are.
 pub fn make_folders(
     alloc: Global,
     filing: &mut Filing,
@@ -83,7 +83,7 @@ fn folder_at(
     place_below(alloc, filing, stamp, dir, &names)
 }
 
-/// Puts a file of a tree below this directory, at the location in its path. Returns its remark, if there is one.
+/// Puts a file of a tree below this directory, where its path says; gives what is to be remarked, if anything.
 pub fn put_leaf(
     alloc: Global,
     filing: &mut Filing,

@@ -16,21 +16,21 @@ use ods_records::{
 use ods_request::Refusal;
 use std::alloc::Global;
 
-/// The bytes to write for a host file, and its attributes.
+/// What is written of a host file, and its attributes.
 #[derive(Drop)]
 pub(crate) struct Written<'a> {
     host: &'a [u8],
-    /// The records, if it is put as records.
+    /// The records, where it is put as such.
     records: Option<Vec<u8>>,
     pub attributes: [u8; 32],
-    /// Whether a last line without LF became a record.
+    /// A last line without LF became a record.
     pub is_completed: bool,
-    /// What the bytes lack to be put as records, if it is one thing, and no form is given.
+    /// What the bytes lack to be put as records, where it is one thing, and no form is said.
     pub near: Option<NearText>,
 }
 
 impl<'a> Written<'a> {
-    /// Returns the bytes to write.
+    /// The bytes.
     pub fn bytes(&self) -> &[u8]
         ensures { result.now ≡ bytes_of self.now }
     {
@@ -41,7 +41,7 @@ impl<'a> Written<'a> {
     }
 }
 
-/// Returns these bytes in a form. The attributes of a model file, if given, determine the form of the records.
+/// These bytes in a form; where the attributes of a file are given that is to be like, in the form of its records.
 pub(crate) fn write_host<'a>(
     alloc: Global,
     form: PutForm,
@@ -183,7 +183,7 @@ fn records_like(own: [u8; 32], like: &Option<[u8; 32]>) -> [u8; 32]
     }
 }
 
-/// Returns whether the last line has no LF.
+/// Whether the last line has no LF.
 pub(crate) fn lacks_last_lf(bytes: &[u8]) -> bool
     ensures { IsTrue result ↔ IsUnended bytes.now }
 {

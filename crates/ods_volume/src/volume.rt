@@ -1,4 +1,4 @@
-//! The volume: how it begins, and what it returns.
+//! The volume: how it begins, and what is shown of it.
 ghost use Rattle.std.specs.Prelude.{◌≡◌, ◌≤◌, [], length, IfOk, IfErr};
 ghost use Rattle.ods_alloc.specs.Counts.{free_counts};
 ghost use Rattle.ods_space.specs.Free.{free_blocks, free_numbers};
@@ -14,8 +14,9 @@ use ods_space::{Disk, Layout};
 use std::alloc::Global;
 use std::marker::Model;
 
-/// A sound volume that changes by requests, the image as it was mounted, and the list of accepted requests. The image shows the catalogue of the
-/// mounted image after the entries, applied in order. The list stays within its limit. No new file receives an ID of the catalogue's past.
+/// A sound volume that changes by requests, the image as it was mounted, and the list of the requests that were accepted. The image
+/// shows what the entries, one after another, make of the catalogue of the mounted image. The list stays within its limit. No new
+/// file gets an ID of the catalogue's past.
 #[derive(Drop)]
 pub struct Volume {
     pub(crate) mounted: FixedImage,
@@ -38,8 +39,8 @@ impl Model for Volume {
 
 impl Volume {
     ghost use Rattle.ods_space.specs.Disks.{on};
-    /// Returns the volume of a mounted image, with an empty list and the free blocks and numbers counted. It takes all the memory of the list, for
-    /// `limit` entries. When out of memory, it returns the mounted image with the error.
+    /// The mounted image and an empty list, with room for as many entries as the limit, and what is free counted. All the memory that
+    /// the list takes is taken here. After an error the mounted image comes back.
     pub fn new(alloc: Global, mounted: Mounted, limit: u32) -> Result<Volume, (Mounted, NoMemory)>
         requires low { 1 ≤ limit }
         requires high { limit ≤ 65536 }
@@ -66,35 +67,35 @@ impl Volume {
         })
     }
 
-    /// Returns the volume as it is now, and drops its list. It takes no memory.
+    /// The volume as it is now; its list is let go. It takes no memory.
     pub fn into_mounted(self) -> Mounted
         ensures { (result.image ≡ self.image) × (result.layout ≡ self.layout) }
     {
         self.sound.into_mounted()
     }
 
-    /// Each volume has a present catalogue.
+    /// Each volume has a catalogue now.
     pub fn present(&self)
         ensures { (C : Catalogue) × IsPresent self.now C }
     {
         let _ = &self.limit;
     }
 
-    /// Each volume is lawful.
+    /// What is true of each volume.
     pub fn is_lawful(&self)
         ensures { IsLawful self.now }
     {
         let _ = &self.limit;
     }
 
-    /// Returns the accepted requests, the oldest first.
+    /// The accepted requests, the oldest first.
     pub fn entries(&self) -> &Entries
         ensures { result.now.items ≡ self.now.entries }
     {
         &self.entries
     }
 
-    /// Returns the image as it is now. It is a version of the mounted image, and no fault holds for it.
+    /// The image now. It is a version of the mounted one, and no fault is true of it.
     pub fn image(&self) -> &Image
         ensures value { result.now ≡ self.now.image }
         ensures no_fault { IsSound self.now.image }
@@ -103,14 +104,14 @@ impl Volume {
         self.sound.mounted().image()
     }
 
-    /// Returns the layout of the image.
+    /// Where the image's structures lie.
     pub fn layout(&self) -> &Layout
         ensures { result.now ≡ self.now.layout }
     {
         self.sound.mounted().layout()
     }
 
-    /// Returns the image with its layout, as they are now.
+    /// The image with its layout, as they are now.
     pub fn disk(&self) -> Disk<'_>
         ensures image { result.image.now ≡ self.now.image }
         ensures layout { result.layout.now ≡ self.now.layout }
@@ -119,14 +120,14 @@ impl Volume {
         self.sound.disk()
     }
 
-    /// Returns the image as it was mounted.
+    /// The image as it was mounted.
     pub fn mounted(&self) -> &FixedImage
         ensures { result.now ≡ self.now.mounted }
     {
         &self.mounted
     }
 
-    /// Returns the highest number of entries of the list, from 1 to 65,536.
+    /// How many entries the list may have, from 1 to 65,536.
     pub fn limit(&self) -> u32
         ensures value { result ≡ self.now.limit }
         ensures low { 1 ≤ result }
@@ -135,22 +136,22 @@ impl Volume {
         self.limit
     }
 
-    /// Returns the number of free blocks.
+    /// How many blocks are free.
     pub fn free_count(&self) -> u32
         ensures { result ≡ length (free_blocks self.now.image self.now.layout) }
     {
         self.sound.free_count()
     }
 
-    /// Returns the number of free blocks that each block of the storage bitmap covers, in order. The storage control block is not counted. The counts
-    /// are kept, and equal new counts of the image.
+    /// How many free blocks each block of the storage bitmap covers, in order; the storage control block is not counted. The counts
+    /// are kept, and equal those that are made anew of the image.
     pub fn counts(&self) -> &[u32]
         ensures { result.now ≡ free_counts self.now.image self.now.layout }
     {
         self.sound.counts()
     }
 
-    /// Returns the number of free file numbers.
+    /// How many file numbers are free.
     pub fn number_count(&self) -> u32
         ensures { result ≡ length (free_numbers self.now.image self.now.layout) }
     {

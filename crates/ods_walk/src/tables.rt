@@ -1,4 +1,4 @@
-//! The result of a walk: its lines, and the table of the entered directories, by which each line has its path.
+//! What a walk found: its lines, and the table of the directories that were entered, by which each line has its path.
 ghost use Rattle.std.specs.Prelude.{◌≡◌, ◌++◌, IfOk, OnOk, length, reverse, slice_get};
 ghost use Rattle.std.specs.Option.{option_copied};
 ghost use Rattle.ods_walk.specs.Paths.{path_to};
@@ -7,22 +7,22 @@ use ods_base::{Listed, Name};
 use std::alloc::{AllocError, Global};
 use std::marker::Model;
 
-/// A line of a walk: an entry, and the index of its directory among the entered directories.
+/// A line of a walk: an entry, and in which directory it stands, by its place among those that were entered.
 #[derive(Clone, Copy, Debug, PartialEq, Eq)]
 pub struct Line {
     pub directory: usize,
     pub entry: Listed,
 }
 
-/// An entered directory: its number, the index of the directory with its entry, and its name there. The directory where the walk starts has index 0,
-/// and no such entry.
+/// A directory that was entered: its number, the place of the directory whose entry led to it, and the name there. The directory where the
+/// walk starts stands at place 0, and nothing leads to it.
 #[derive(Clone, Copy, Debug, PartialEq, Eq)]
 pub struct Entered {
     pub number: u16,
     pub from: Option<(usize, Name)>,
 }
 
-/// The result of a walk: the directories in the order in which they were entered, and the lines.
+/// What a walk found: the directories in the order in which they were entered, and the lines.
 #[derive(Drop, Debug)]
 pub struct Walk {
     pub(crate) directories: Vec<Entered>,
@@ -38,28 +38,28 @@ impl Model for Walk {
 }
 
 impl Walk {
-    /// Returns all lines, in order.
+    /// All lines, in order.
     pub fn lines(&self) -> &[Line]
         ensures { result.now ≡ self.now.lines }
     {
         self.lines.as_slice()
     }
 
-    /// Returns the number of entered directories.
+    /// How many directories were entered.
     pub fn directory_count(&self) -> usize
         ensures { result ≡ length self.now.directories }
     {
         self.directories.len()
     }
 
-    /// Returns the directory at this index, or `None` past the last one.
+    /// The directory at this place.
     pub fn directory(&self, place: usize) -> Option<&Entered>
         ensures { option_copied result ≡ slice_get self.now.directories place }
     {
         self.directories.get(place)
     }
 
-    /// Returns the names of the path from the start of the walk to the directory at this index. It fails only when out of memory.
+    /// The names of the directories that lead to this place from the one where the walk starts.
     pub fn path(&self, alloc: Global, place: usize) -> Result<Vec<Name>, AllocError>
         ensures { IfOk result (λ names. names.items ≡ path_to self.now.directories place) }
     {
