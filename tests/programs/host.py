@@ -269,7 +269,7 @@ class Host(Disk):
             status, out, err = self.f11fs(*MKDIR)
         finally:
             subprocess.run(["losetup", "-d", made.stdout.strip()], check=True)
-        line = f"f11fs: disk: device {made.stdout.strip().removeprefix('/dev/')} has it open; detach it there, or --force goes on\n"
+        line = f"f11fs: disk: device {made.stdout.strip().removeprefix('/dev/')} has it open; detach it there, or use --force\n"
         self.assertEqual((status, out, err), (3, b"", line.encode()), "a change of an image under a loop device")
         assert self.is_untouched(), "the image was touched"
 

@@ -74,12 +74,12 @@ def unpacks(room: Disk, data: bytes) -> Reader:
 def refused(room: Disk, data: bytes, *said: str, statuses: tuple[int, ...] = (5,)) -> None:
     """An archive is refused, one line says what, and nothing has changed."""
     (room.folder / "a.tar").write_bytes(data)
-    names = room.names()
+    names, image = room.names(), room.image.read_bytes()
     for words in (["untar", "a.tar"], ["untar", "a.tar", "[1,2]"]):
         ended, out, err = room.f11fs("--stamp", STAMP, "disk", *words)
         assert ended in statuses and out == b"", f"{words}: {ended}, {out!r}, {err!r}"
         assert err.count(b"\n") == 1 and all(text in err.decode() for text in said), f"{words}: {err!r}"
-        assert room.is_untouched(), "the image was touched"
+        assert room.image.read_bytes() == image, "the image was touched"
         room.assertEqual(room.names(), names, "files of the host")
 
 
